@@ -1,0 +1,265 @@
+-- How each line of a history changes a slot.
+use Rattle.std.proofs.Common.{◌≡◌, ℕ, ◌+◌, ◌<◌, ◌≤◌, Bool, true, false, List, [], ◌∷◌, ◌++◌, Option, Some, None, max, map, refl, sym, ◌∙◌, ap, arith, cond, ltb, eqb, ◌&&◌, ◌||◌, ⊎_elim}
+use Rattle.std.specs.List.{list_any}
+use Rattle.mencius_base.specs.declared.message.Message.{Message}
+use Rattle.mencius_base.specs.declared.message.Message.TheVariants.{Suggest, Skip, Accepted, Prepare, Promise, Propose, Learn}
+use Rattle.mencius_base.specs.declared.message.Value.{Value}
+use Rattle.mencius_base.specs.declared.message.Value.TheVariants.{Ticket}
+use Rattle.mencius_base.specs.declared.message.Vote.{Vote}
+use Rattle.mencius_base.specs.Members.{Membership, below, owner}
+use Rattle.mencius_base.specs.History.{Line, Submitted, Heard, Lost, Suspected, Retried, Done, Sent, Learned, History, earlier, greatest, oldest, heard, sent}
+use Rattle.coord_paxos.specs.Instance.{promised_by, promised, proposed_by, proposed, accepted_by, accepted, greater, vote_at, vote_of, vote, learned_by, learned, tried_by, trying, reported, promisers, accepters, is_promise, is_acceptance, highest_vote, vote_reported}
+use Rattle.coord_paxos.proofs.Lines.{max-zero, earlier-none, greater-none, greatest_quiet, oldest_quiet, oldest_stays, vote_of_same, accepted_small, greater_above}
+use Rattle.std.proofs.lemmas.Bool.{eq-eqb, ne_eqb, lt-ltb}
+use Rattle.std.specs.Prelude.{slice_get}
+use Rattle.coord_paxos.specs.Slot.{with_accept, with_promise}
+use Rattle.coord_paxos.proofs.Tally.{heard_more, or-true, tally_quiet, tally_more, votes_quiet, votes_more}
+use Rattle.coord_paxos.specs.SlotState.{SlotState}
+use Rattle.coord_paxos.specs.Reached.{if_own, slot_at}
+
+-- a line that says nothing of p's slot for i
+pub record IsQuiet (p i : ℕ) (l : Line) : Type 0 where
+  pub promised : promised_by p i l ≡ 0
+  pub proposed : (b : ℕ) → proposed_by i b l ≡ None
+  pub accepted : accepted_by p i l ≡ None
+  pub learned : learned_by p i l ≡ None
+  pub tried : tried_by p i l ≡ 0
+
+-- two slots with the same parts
+same_parts : (m n : Membership) (a b : ℕ) (c d : Option Vote) (e f : Option Value) (g h : ℕ) (i j : Option Vote) (k l : Option Value) (q r s t : List Bool)
+    → m ≡ n → a ≡ b → c ≡ d → e ≡ f → g ≡ h → i ≡ j → k ≡ l → q ≡ r → s ≡ t
+    → ◌≡◌ {A = SlotState}
+    (record { members = m; promised = a; vote = c; learned = e; trying = g; reported = i; proposal = k; promisers = q; accepters = s })
+    (record { members = n; promised = b; vote = d; learned = f; trying = h; reported = j; proposal = l; promisers = r; accepters = t })
+same_parts m n a b c d e f g h i j k l q r s t p1 p2 p3 p4 p5 p6 p7 p8 p9 = rw (p1, p2, p3, p4, p5, p6, p7, p8, p9)
+
+pub same_slot : (t u : SlotState) → t.members ≡ u.members → t.promised ≡ u.promised → t.vote ≡ u.vote → t.learned ≡ u.learned
+    → t.trying ≡ u.trying → t.reported ≡ u.reported → t.proposal ≡ u.proposal → t.promisers ≡ u.promisers → t.accepters ≡ u.accepters → t ≡ u
+same_slot t u = same_parts _ _ _ _ _ _ _ _ _ _ _ _ _ _ _ _ _ _
+
+-- p's slot for i, with the tallies of other messages heard
+abbrev pub slot_hearing : Membership → History → ℕ → ℕ → List Message → SlotState
+slot_hearing m w p i hs = record (slot_at m w p i) {
+  reported = highest_vote (map (vote_reported i (trying w p i)) hs);
+  promisers = map (λ (q : ℕ). list_any (is_promise i (trying w p i) q) hs) (below m.count);
+  accepters = map (λ (q : ℕ). list_any (is_acceptance i (trying w p i) q) hs) (below m.count);
+}
+
+-- a quiet line changes at most what was heard
+pub slot_at-unsaid : (m : Membership) (w : History) (l : Line) (p i : ℕ) → IsQuiet p i l → slot_at m (l ∷ w) p i ≡ slot_hearing m w p i (heard (l ∷ w) p)
+slot_at-unsaid m w l p i quiet =
+    let tried : trying (l ∷ w) p i ≡ trying w p i = greatest_quiet (tried_by p i) l w quiet.tried in
+    let proposals : (b : ℕ) → proposed (l ∷ w) i b ≡ proposed w i b = λ b. oldest_quiet (proposed_by i b) l w (quiet.proposed b) in
+    let acceptance : accepted (l ∷ w) p i ≡ accepted w p i = rw quiet.accepted (greater-none (accepted w p i)) in
+    same_slot _ _ refl
+    (greatest_quiet (promised_by p i) l w quiet.promised)
+    (ap (vote_of (l ∷ w) i) acceptance ∙ vote_of_same (l ∷ w) w i (accepted w p i) proposals)
+    (oldest_quiet (learned_by p i) l w quiet.learned)
+    tried
+    (ap (reported (l ∷ w) p i) tried)
+    (ap (λ (b : ℕ). if_own m p i b (proposed (l ∷ w) i b)) tried ∙ ap (if_own m p i (trying w p i)) (proposals (trying w p i)))
+    (ap (λ (b : ℕ). map (promisers (l ∷ w) p i b) (below m.count)) tried)
+    (ap (λ (b : ℕ). map (accepters (l ∷ w) p i b) (below m.count)) tried)
+
+pub slot_at-quiet : (m : Membership) (w : History) (l : Line) (p i : ℕ) → IsQuiet p i l → heard (l ∷ w) p ≡ heard w p → slot_at m (l ∷ w) p i ≡ slot_at m w p i
+slot_at-quiet m w l p i quiet deaf = slot_at-unsaid m w l p i quiet ∙ ap (slot_hearing m w p i) deaf
+
+quiet_heard : (k p i : ℕ) → IsQuiet p i (Heard k p)
+quiet_heard k p i = record { promised = refl; proposed = λ b. refl; accepted = refl; learned = refl; tried = refl }
+
+-- a message that counts in no tally of the ballot that p tries at i
+pub record IsUncounted (i b : ℕ) (x : Message) : Type 0 where
+  pub promise : (q : ℕ) → is_promise i b q x ≡ false
+  pub acceptance : (q : ℕ) → is_acceptance i b q x ≡ false
+  pub report : vote_reported i b x ≡ None
+
+pub slot_at-heard : (m : Membership) (w : History) (k p i : ℕ) (x : Message) → slice_get (sent w) k ≡ Some x
+    → IsUncounted i (trying w p i) x → slot_at m (Heard k p ∷ w) p i ≡ slot_at m w p i
+slot_at-heard m w k p i x e un =
+    slot_at-unsaid m w (Heard k p) p i (quiet_heard k p i) ∙ ap (slot_hearing m w p i) (heard_more w k p x e)
+    ∙ same_slot _ _ refl refl refl refl refl
+    (votes_quiet (vote_reported i (trying w p i)) (heard w p) x un.report)
+    refl
+    (tally_quiet (is_promise i (trying w p i)) (heard w p) x m.count un.promise)
+    (tally_quiet (is_acceptance i (trying w p i)) (heard w p) x m.count un.acceptance)
+
+-- an acceptance at the ballot that is tried
+pub slot_at-heard_acceptance : (m : Membership) (w : History) (k p i from : ℕ) → slice_get (sent w) k ≡ Some (Accepted from p i (trying w p i))
+    → slot_at m (Heard k p ∷ w) p i ≡ with_accept (slot_at m w p i) from
+slot_at-heard_acceptance m w k p i from e =
+    slot_at-unsaid m w (Heard k p) p i (quiet_heard k p i) ∙ ap (slot_hearing m w p i) (heard_more w k p _ e)
+    ∙ same_slot _ _ refl refl refl refl refl
+    (votes_quiet (vote_reported i (trying w p i)) (heard w p) _ refl)
+    refl
+    (tally_quiet (is_promise i (trying w p i)) (heard w p) _ m.count (λ q. refl))
+    (tally_more (is_acceptance i (trying w p i)) (heard w p) _ m.count from
+    (λ q. rw (eq-eqb i i refl, eq-eqb (trying w p i) (trying w p i) refl)))
+
+-- a promise of it
+pub slot_at-heard_promise : (m : Membership) (w : History) (k p i from : ℕ) (v : Option Vote) → slice_get (sent w) k ≡ Some (Promise from p i (trying w p i) v)
+    → slot_at m (Heard k p ∷ w) p i ≡ with_promise (slot_at m w p i) from v
+slot_at-heard_promise m w k p i from v e =
+    slot_at-unsaid m w (Heard k p) p i (quiet_heard k p i) ∙ ap (slot_hearing m w p i) (heard_more w k p _ e)
+    ∙ same_slot _ _ refl refl refl refl refl
+    (votes_more (vote_reported i (trying w p i)) (heard w p) _
+    ∙ rw (eq-eqb i i refl, eq-eqb (trying w p i) (trying w p i) refl))
+    refl
+    (tally_more (is_promise i (trying w p i)) (heard w p) _ m.count from
+    (λ q. rw (eq-eqb i i refl, eq-eqb (trying w p i) (trying w p i) refl)))
+    (tally_quiet (is_acceptance i (trying w p i)) (heard w p) _ m.count (λ q. refl))
+
+-- p accepts a value that was proposed
+pub slot_at-accepted : (m : Membership) (w : History) (p q i b : ℕ) (v : Value) → promised w p i ≤ b → proposed w i b ≡ Some v
+    → slot_at m (Sent (Accepted p q i b) ∷ w) p i ≡ record (slot_at m w p i) { promised = b; vote = Some (record { ballot = b; value = v }) }
+slot_at-accepted m w p q i b v high said =
+    let l : Line = Sent (Accepted p q i b) in
+    let tried : trying (l ∷ w) p i ≡ trying w p i = greatest_quiet (tried_by p i) l w refl in
+    let proposals : (c : ℕ) → proposed (l ∷ w) i c ≡ proposed w i c = λ c. oldest_quiet (proposed_by i c) l w refl in
+    let by : accepted_by p i l ≡ Some b = rw (eq-eqb p p refl, eq-eqb i i refl) in
+    let acceptance : accepted (l ∷ w) p i ≡ Some b = rw by (greater_above (accepted w p i) (promised w p i) b (accepted_small w p i) high) in
+    let promise : promised_by p i l ≡ b = rw (eq-eqb p p refl, eq-eqb i i refl) in
+    same_slot _ _ refl
+    (rw promise (omega arith))
+    (ap (vote_of (l ∷ w) i) acceptance ∙ ap (vote_at b) (proposals b ∙ said))
+    (oldest_quiet (learned_by p i) l w refl)
+    tried
+    (ap (reported (l ∷ w) p i) tried)
+    (ap (λ (c : ℕ). if_own m p i c (proposed (l ∷ w) i c)) tried ∙ ap (if_own m p i (trying w p i)) (proposals (trying w p i)))
+    (ap (λ (c : ℕ). map (promisers (l ∷ w) p i c) (below m.count)) tried)
+    (ap (λ (c : ℕ). map (accepters (l ∷ w) p i c) (below m.count)) tried)
+
+-- p's vote has a proposal
+pub record IsVoted (w : History) (p i : ℕ) : Type 0 where
+  pub proposal : (b : ℕ) → accepted w p i ≡ Some b → (v : Value) × (proposed w i b ≡ Some v)
+
+vote_stays : (w : History) (l : Line) (i : ℕ) (o : Option ℕ) → ((b : ℕ) → o ≡ Some b → (v : Value) × (proposed w i b ≡ Some v)) → vote_of (l ∷ w) i o ≡ vote_of w i o
+vote_stays w l i None said = refl
+vote_stays w l i (Some b) said =
+    ap (vote_at b) (oldest_stays (proposed_by i b) l w _ (said b refl).1 ∙ sym (said b refl).1)
+
+-- a line that may propose something at i, and else is quiet
+pub slot_at-proposing : (m : Membership) (w : History) (l : Line) (p i : ℕ) (o : Option Value) → IsVoted w p i
+    → promised_by p i l ≡ 0 → accepted_by p i l ≡ None → learned_by p i l ≡ None → tried_by p i l ≡ 0 → heard (l ∷ w) p ≡ heard w p
+    → if_own m p i (trying w p i) (proposed (l ∷ w) i (trying w p i)) ≡ o
+    → slot_at m (l ∷ w) p i ≡ record (slot_at m w p i) { proposal = o }
+slot_at-proposing m w l p i o voted unpromised unaccepted unlearned untried deaf said =
+    let tried : trying (l ∷ w) p i ≡ trying w p i = greatest_quiet (tried_by p i) l w untried in
+    let acceptance : accepted (l ∷ w) p i ≡ accepted w p i = rw unaccepted (greater-none (accepted w p i)) in
+    same_slot _ _ refl
+    (greatest_quiet (promised_by p i) l w unpromised)
+    (ap (vote_of (l ∷ w) i) acceptance ∙ vote_stays w l i (accepted w p i) voted.proposal)
+    (oldest_quiet (learned_by p i) l w unlearned)
+    tried
+    (ap (reported (l ∷ w) p i) tried ∙ ap (λ (hs : List Message). highest_vote (map (vote_reported i (trying w p i)) hs)) deaf)
+    (ap (λ (b : ℕ). if_own m p i b (proposed (l ∷ w) i b)) tried ∙ said)
+    (ap (λ (b : ℕ). map (promisers (l ∷ w) p i b) (below m.count)) tried
+    ∙ ap (λ (hs : List Message). map (λ (q : ℕ). list_any (is_promise i (trying w p i) q) hs) (below m.count)) deaf)
+    (ap (λ (b : ℕ). map (accepters (l ∷ w) p i b) (below m.count)) tried
+    ∙ ap (λ (hs : List Message). map (λ (q : ℕ). list_any (is_acceptance i (trying w p i) q) hs) (below m.count)) deaf)
+
+-- p proposes at the ballot that it tries
+pub slot_at-proposed : (m : Membership) (w : History) (p i b : ℕ) (v : Value) → IsVoted w p i → 0 < b → b ≡ trying w p i → proposed w i b ≡ None
+    → slot_at m (Sent (Propose p i b v) ∷ w) p i ≡ record (slot_at m w p i) { proposal = Some v }
+slot_at-proposed m w p i b v voted tried same unsaid =
+    slot_at-proposing m w (Sent (Propose p i b v)) p i (Some v) voted refl refl refl refl refl
+    (ap (λ (c : ℕ). if_own m p i c (proposed (Sent (Propose p i b v) ∷ w) i c)) (sym same)
+    ∙ rw (unsaid, eq-eqb i i refl, eq-eqb b b refl, lt-ltb 0 b tried, or-true (eqb (owner m i) p)))
+
+-- the owner suggests
+pub slot_at-suggested : (m : Membership) (w : History) (p i t : ℕ) → IsVoted w p i → owner m i ≡ p → trying w p i ≡ 0 → proposed w i 0 ≡ None
+    → slot_at m (Sent (Suggest p i t) ∷ w) p i ≡ record (slot_at m w p i) { proposal = Some (Ticket t) }
+slot_at-suggested m w p i t voted mine untried unsaid =
+    slot_at-proposing m w (Sent (Suggest p i t)) p i (Some (Ticket t)) voted refl refl refl refl refl
+    (ap (λ (c : ℕ). if_own m p i c (proposed (Sent (Suggest p i t) ∷ w) i c)) untried
+    ∙ rw (unsaid, eq-eqb i i refl, eq-eqb (owner m i) p mine))
+
+-- p promises
+pub slot_at-promised : (m : Membership) (w : History) (p q i b : ℕ) (v : Option Vote) → promised w p i ≤ b
+    → slot_at m (Sent (Promise p q i b v) ∷ w) p i ≡ record (slot_at m w p i) { promised = b }
+slot_at-promised m w p q i b v high =
+    let l : Line = Sent (Promise p q i b v) in
+    let tried : trying (l ∷ w) p i ≡ trying w p i = greatest_quiet (tried_by p i) l w refl in
+    let proposals : (c : ℕ) → proposed (l ∷ w) i c ≡ proposed w i c = λ c. oldest_quiet (proposed_by i c) l w refl in
+    let acceptance : accepted (l ∷ w) p i ≡ accepted w p i = greater-none (accepted w p i) in
+    let promise : promised_by p i l ≡ b = rw (eq-eqb p p refl, eq-eqb i i refl) in
+    same_slot _ _ refl
+    (rw promise (omega arith))
+    (ap (vote_of (l ∷ w) i) acceptance ∙ vote_of_same (l ∷ w) w i (accepted w p i) proposals)
+    (oldest_quiet (learned_by p i) l w refl)
+    tried
+    (ap (reported (l ∷ w) p i) tried)
+    (ap (λ (c : ℕ). if_own m p i c (proposed (l ∷ w) i c)) tried ∙ ap (if_own m p i (trying w p i)) (proposals (trying w p i)))
+    (ap (λ (c : ℕ). map (promisers (l ∷ w) p i c) (below m.count)) tried)
+    (ap (λ (c : ℕ). map (accepters (l ∷ w) p i c) (below m.count)) tried)
+
+-- p learns a value
+pub slot_at-learned : (m : Membership) (w : History) (p i : ℕ) (v : Value) → learned w p i ≡ None
+    → slot_at m (Learned p i v ∷ w) p i ≡ record (slot_at m w p i) { learned = Some v }
+slot_at-learned m w p i v unlearned =
+    let l : Line = Learned p i v in
+    let tried : trying (l ∷ w) p i ≡ trying w p i = greatest_quiet (tried_by p i) l w refl in
+    let proposals : (c : ℕ) → proposed (l ∷ w) i c ≡ proposed w i c = λ c. oldest_quiet (proposed_by i c) l w refl in
+    let acceptance : accepted (l ∷ w) p i ≡ accepted w p i = greater-none (accepted w p i) in
+    same_slot _ _ refl
+    (greatest_quiet (promised_by p i) l w refl)
+    (ap (vote_of (l ∷ w) i) acceptance ∙ vote_of_same (l ∷ w) w i (accepted w p i) proposals)
+    (rw (unlearned, eq-eqb p p refl, eq-eqb i i refl))
+    tried
+    (ap (reported (l ∷ w) p i) tried)
+    (ap (λ (c : ℕ). if_own m p i c (proposed (l ∷ w) i c)) tried ∙ ap (if_own m p i (trying w p i)) (proposals (trying w p i)))
+    (ap (λ (c : ℕ). map (promisers (l ∷ w) p i c) (below m.count)) tried)
+    (ap (λ (c : ℕ). map (accepters (l ∷ w) p i c) (below m.count)) tried)
+
+-- what p says of one instance is quiet for another
+both-false : (t : Bool) → (t && false) ≡ false
+both-false true = refl
+both-false false = refl
+
+pub quiet_accepted : (p q i b j : ℕ) → (j ≡ i → ⊥) → IsQuiet p j (Sent (Accepted p q i b))
+quiet_accepted p q i b j ne =
+    let other : (eqb p p && eqb i j) ≡ false = rw (ne_eqb i j (λ e. ne (sym e))) (both-false (eqb p p)) in
+    record { promised = rw other; proposed = λ c. refl; accepted = rw other; learned = refl; tried = refl }
+
+pub quiet_promise : (p q i b j : ℕ) (v : Option Vote) → (j ≡ i → ⊥) → IsQuiet p j (Sent (Promise p q i b v))
+quiet_promise p q i b j v ne =
+    let other : (eqb p p && eqb i j) ≡ false = rw (ne_eqb i j (λ e. ne (sym e))) (both-false (eqb p p)) in
+    record { promised = rw other; proposed = λ c. refl; accepted = refl; learned = refl; tried = refl }
+
+pub quiet_propose : (p i b j : ℕ) (v : Value) → (j ≡ i → ⊥) → IsQuiet p j (Sent (Propose p i b v))
+quiet_propose p i b j v ne =
+    let other : eqb i j ≡ false = ne_eqb i j (λ e. ne (sym e)) in
+    record { promised = refl; proposed = λ c. rw other; accepted = refl; learned = refl; tried = refl }
+
+pub quiet_suggest : (p i t j : ℕ) → (j ≡ i → ⊥) → IsQuiet p j (Sent (Suggest p i t))
+quiet_suggest p i t j ne =
+    let other : eqb i j ≡ false = ne_eqb i j (λ e. ne (sym e)) in
+    record { promised = refl; proposed = λ c. rw other; accepted = refl; learned = refl; tried = refl }
+
+pub quiet_learned : (p i j : ℕ) (v : Value) → (j ≡ i → ⊥) → IsQuiet p j (Learned p i v)
+quiet_learned p i j v ne =
+    let other : (eqb p p && eqb i j) ≡ false = rw (ne_eqb i j (λ e. ne (sym e))) (both-false (eqb p p)) in
+    record { promised = refl; proposed = λ c. refl; accepted = refl; learned = rw other; tried = refl }
+
+pub quiet_skip : (p q f s j : ℕ) → IsQuiet p j (Sent (Skip q f s))
+quiet_skip p q f s j = record { promised = refl; proposed = λ c. refl; accepted = refl; learned = refl; tried = refl }
+
+pub quiet_learn : (p q i j : ℕ) (v : Value) → IsQuiet p j (Sent (Learn q i v))
+quiet_learn p q i j v = record { promised = refl; proposed = λ c. refl; accepted = refl; learned = refl; tried = refl }
+
+-- p says that it learned a value, whatever it had learned
+pub slot_at-learning : (m : Membership) (w : History) (p i : ℕ) (v : Value)
+    → slot_at m (Learned p i v ∷ w) p i ≡ record (slot_at m w p i) { learned = earlier (learned w p i) (Some v) }
+slot_at-learning m w p i v =
+    let l : Line = Learned p i v in
+    let tried : trying (l ∷ w) p i ≡ trying w p i = greatest_quiet (tried_by p i) l w refl in
+    let proposals : (c : ℕ) → proposed (l ∷ w) i c ≡ proposed w i c = λ c. oldest_quiet (proposed_by i c) l w refl in
+    let acceptance : accepted (l ∷ w) p i ≡ accepted w p i = greater-none (accepted w p i) in
+    same_slot _ _ refl
+    (greatest_quiet (promised_by p i) l w refl)
+    (ap (vote_of (l ∷ w) i) acceptance ∙ vote_of_same (l ∷ w) w i (accepted w p i) proposals)
+    (rw (eq-eqb p p refl, eq-eqb i i refl))
+    tried
+    (ap (reported (l ∷ w) p i) tried)
+    (ap (λ (c : ℕ). if_own m p i c (proposed (l ∷ w) i c)) tried ∙ ap (if_own m p i (trying w p i)) (proposals (trying w p i)))
+    (ap (λ (c : ℕ). map (promisers (l ∷ w) p i c) (below m.count)) tried)
+    (ap (λ (c : ℕ). map (accepters (l ∷ w) p i c) (below m.count)) tried)

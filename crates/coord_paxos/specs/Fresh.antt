@@ -1,0 +1,22 @@
+-- A slot to which nothing happened.
+use Rattle.std.specs.Prelude.{false, Bool, List, None, replicate}
+use Rattle.mencius_base.specs.Members.{Membership}
+use Rattle.coord_paxos.specs.SlotState.{SlotState}
+
+-- one place for each server, none in the set
+abbrev pub nobody : Membership → List Bool
+nobody m = replicate m.count false
+
+-- a slot to which nothing happened
+abbrev pub new_slot : Membership → SlotState
+new_slot m = record {
+  members = m;
+  promised = 0;
+  vote = None;
+  learned = None;
+  trying = 0;
+  reported = None;
+  proposal = None;
+  promisers = nobody m;
+  accepters = nobody m;
+}

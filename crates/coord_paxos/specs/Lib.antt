@@ -1,0 +1,5 @@
+pub mod Instance
+pub mod SlotState
+pub mod Fresh
+pub mod Slot
+pub mod Reached

@@ -1,0 +1,29 @@
+-- What a slot holds, asked of the history.
+use Rattle.std.specs.Prelude.{ℕ, Bool, List, Option, Some, None, ◌==◌, nat_lt, if◌then◌else◌, ◌||◌, map}
+use Rattle.mencius_base.specs.declared.message.Value.{Value}
+use Rattle.mencius_base.specs.Members.{Membership, below, owner}
+use Rattle.mencius_base.specs.History.{History}
+use Rattle.coord_paxos.specs.Instance.{promised, vote, learned, trying, reported, proposed, promisers, accepters}
+use Rattle.coord_paxos.specs.SlotState.{SlotState}
+
+-- at ballot 0 only the owner proposes
+abbrev pub if_own : Membership → ℕ → ℕ → ℕ → Option Value → Option Value
+if_own m p i b v = if owner m i == p || nat_lt 0 b then v else None
+
+-- what p itself proposed at the ballot that it tries
+abbrev pub own_proposal : Membership → History → ℕ → ℕ → Option Value
+own_proposal m w p i = if_own m p i (trying w p i) (proposed w i (trying w p i))
+
+-- server p's slot for instance i
+abbrev pub slot_at : Membership → History → ℕ → ℕ → SlotState
+slot_at m w p i = record {
+  members = m;
+  promised = promised w p i;
+  vote = vote w p i;
+  learned = learned w p i;
+  trying = trying w p i;
+  reported = reported w p i (trying w p i);
+  proposal = own_proposal m w p i;
+  promisers = map (promisers w p i (trying w p i)) (below m.count);
+  accepters = map (accepters w p i (trying w p i)) (below m.count);
+}

@@ -1,0 +1,40 @@
+-- Which operations make a command, and which commands have one identity.
+use Rattle.std.specs.Prelude.{ℕ, Bool, List, [], length, Option, Some, None, ◌==◌, ◌&&◌, ◌||◌, not, nat_le, if◌then◌else◌}
+use Rattle.std.specs.List.{list_all}
+use Rattle.std.specs.Char.{is_ascii_alphanumeric}
+use Rattle.mencius_base.specs.declared.command.BadCommand.{BadCommand}
+use Rattle.mencius_base.specs.declared.command.BadCommand.TheVariants.{KeyByte, TextByte, KeyLength, TextLength}
+use Rattle.mencius_base.specs.declared.command.CommandId.{CommandId}
+use Rattle.mencius_base.specs.declared.command.Op.{Op}
+use Rattle.mencius_base.specs.declared.command.Op.TheVariants.{Set, Get, Del}
+
+-- a letter, a digit, `_`, `-` or `.`
+abbrev pub is_name_byte : ℕ → Bool
+is_name_byte b = is_ascii_alphanumeric b || b == 95 || b == 45 || b == 46
+
+unfoldable pub is_name : List ℕ → Bool
+is_name word = list_all is_name_byte word
+
+abbrev pub is_key_length : List ℕ → Bool
+is_key_length key = nat_le 1 (length key) && nat_le (length key) 64
+
+abbrev pub is_text_length : List ℕ → Bool
+is_text_length text = nat_le (length text) 256
+
+-- what is wrong with a key and a text: bytes first, then lengths
+abbrev pub bad_entry : List ℕ → List ℕ → Option BadCommand
+bad_entry key text =
+    if not (is_name key) then Some KeyByte
+    else (if not (is_name text) then Some TextByte
+    else (if not (is_key_length key) then Some KeyLength
+    else (if not (is_text_length text) then Some TextLength
+    else None)))
+
+-- the first thing that is wrong with an operation; nothing is wrong with an empty text
+abbrev pub bad_op : Op → Option BadCommand
+bad_op (Set key text) = bad_entry key text
+bad_op (Get key) = bad_entry key []
+bad_op (Del key) = bad_entry key []
+
+abbrev pub is_same_id : CommandId → CommandId → Bool
+is_same_id a b = a.client == b.client && a.number == b.number

@@ -1,0 +1,7 @@
+pub mod Members
+pub mod Request
+pub mod Command
+pub mod Message
+pub mod Refusal
+pub mod Outbox
+pub mod History

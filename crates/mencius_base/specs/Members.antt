@@ -1,0 +1,55 @@
+-- Who there is, who owns which instance, and who leads which ballot.
+use Rattle.std.specs.Prelude.{ℕ, ◌+◌, ◌-◌, ◌*◌, ◌/◌, ◌%◌, List, [], ◌∷◌, Option, Some, None, if◌then◌else◌, ◌==◌}
+use Rattle.std.specs.List.{range_with_len}
+
+-- the servers of a cluster
+pub record Membership : Type 0 where
+  pub count : ℕ
+
+-- more than half of them
+abbrev pub majority : Membership → ℕ
+majority m = m.count / 2 + 1
+
+-- the instances are owned in turn
+abbrev pub owner : Membership → ℕ → ℕ
+owner m i = i % m.count
+
+-- a server's least instance from a place on
+abbrev pub first_owned : Membership → ℕ → ℕ → ℕ
+first_owned m p from = from + (p + m.count - from % m.count) % m.count
+
+-- the ballot of a round that a server leads; the round of ballot 0 is 0
+abbrev pub ballot_of : Membership → ℕ → ℕ → ℕ
+ballot_of m round server = round * m.count + server
+
+abbrev pub round : Membership → ℕ → ℕ
+round m b = b / m.count
+
+abbrev pub leader : Membership → ℕ → ℕ → ℕ
+leader m b i = if b == 0 then owner m i else b % m.count
+
+-- the numbers below n, rising
+unfoldable pub below : ℕ → List ℕ
+below n = range_with_len 0 n
+
+-- the first of a list, if there is one
+abbrev pub first_item : List ℕ → Option ℕ
+first_item [] = None
+first_item (t ∷ ts) = Some t
+
+-- every instance there is, and the greatest number of messages and of events
+unfoldable pub instances : List ℕ
+instances = below 4096
+
+unfoldable pub most_messages : ℕ
+most_messages = 262144
+
+unfoldable pub most_events : ℕ
+most_events = 262144
+
+unfoldable pub most_rounds : ℕ
+most_rounds = 65535
+
+-- the greatest ballot of the greatest membership
+unfoldable pub greatest_ballot : ℕ
+greatest_ballot = 458751

@@ -1,0 +1,29 @@
+-- Where a message may go.
+use Rattle.std.specs.Prelude.{ℕ, Bool, true, Option, Some, None, ◌==◌, ◌&&◌, nat_lt}
+use Rattle.mencius_base.specs.declared.message.Message.{Message}
+use Rattle.mencius_base.specs.declared.message.Message.TheVariants.{Suggest, Skip, Accepted, Prepare, Promise, Propose, Learn}
+use Rattle.mencius_base.specs.Members.{Membership}
+
+-- Accepted and Promise go to one server, all others to every server
+abbrev pub goes_to : ℕ → Message → Bool
+goes_to d (Accepted from to inst ballot) = to == d
+goes_to d (Promise from to inst ballot vote) = to == d
+goes_to d _ = true
+
+abbrev pub is_for : ℕ → Option Message → Bool
+is_for d None = true
+is_for d (Some x) = goes_to d x
+
+-- its servers are members, its instance is one of the 4,096, and what has a first phase has a ballot above 0
+abbrev pub is_within : Membership → Message → Bool
+is_within m (Suggest from inst ticket) = nat_lt from m.count && nat_lt inst 4096
+is_within m (Skip from first stop) = (nat_lt from m.count && nat_lt first 4096) && nat_lt stop 4103
+is_within m (Accepted from to inst ballot) = (nat_lt from m.count && nat_lt to m.count) && nat_lt inst 4096
+is_within m (Prepare from inst ballot) = (nat_lt from m.count && nat_lt inst 4096) && nat_lt 0 ballot
+is_within m (Promise from to inst ballot vote) = ((nat_lt from m.count && nat_lt to m.count) && nat_lt inst 4096) && nat_lt 0 ballot
+is_within m (Propose from inst ballot value) = (nat_lt from m.count && nat_lt inst 4096) && nat_lt 0 ballot
+is_within m (Learn from inst value) = nat_lt from m.count && nat_lt inst 4096
+
+-- the message goes to server d, and all its numbers are within their limits
+abbrev pub is_addressed : Membership → ℕ → Message → Bool
+is_addressed m d x = nat_lt d m.count && (goes_to d x && is_within m x)

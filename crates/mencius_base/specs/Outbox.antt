@@ -1,0 +1,15 @@
+-- Messages that are about to be sent.
+use Rattle.std.specs.Prelude.{ℕ, ◌+◌, List, length, nat_lt, Option, Some, None, if◌then◌else◌}
+use Rattle.mencius_base.specs.declared.refusal.Refusal.{Refusal}
+use Rattle.mencius_base.specs.declared.refusal.Refusal.TheVariants.{MessagesFull}
+use Rattle.mencius_base.specs.declared.message.Message.{Message}
+
+-- the messages, how many there may be, and for how many more there is room already
+pub record Outgoing : Type 0 where
+  pub messages : List Message
+  pub limit : ℕ
+  pub room : ℕ
+
+-- that many more would be too many
+abbrev pub outbox_full : Outgoing → ℕ → Option Refusal
+outbox_full o extra = if nat_lt o.limit (length o.messages + extra) then Some MessagesFull else None

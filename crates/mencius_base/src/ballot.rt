@@ -1,0 +1,72 @@
+ghost use Rattle.std.specs.Prelude.{◌≡◌, ◌<◌, ◌≤◌, ◌↔◌, IsSome, IfSome};
+ghost use Rattle.mencius_base.specs.Members.{ballot_of, leader, round};
+
+use crate::members::Members;
+use std::marker::Model;
+
+/// The number of an attempt at an instance. Ballot 0 is the owner's own and needs no first phase;
+/// every other ballot is `round * n + server` with a round of 1 to 65,535 (OSDI 2008, section 4.1).
+#[derive(Clone, Copy, Debug, PartialEq, Eq, PartialOrd, Ord)]
+pub struct Ballot {
+    number: u32,
+}
+
+impl Model for Ballot {
+    ghost use Rattle.std.specs.Prelude.{ℕ, ◌≤◌};
+
+    ghost Value = { ℕ };
+
+    ghost view = { λ b. b.number };
+
+    // The greatest ballot of seven servers.
+    ghost invariant = { λ b. b.number ≤ 458751 };
+
+    ghost inverse = { λ n. record { number = n } };
+}
+
+impl Ballot {
+    /// The ballot of an instance's owner, below every other.
+    pub const OWNER: Ballot = Ballot { number: 0 };
+
+    /// The ballot of a round that a server leads; `None` unless the round is 1 to 65,535 and the
+    /// server is one of the members.
+    pub fn new(members: Members, round: u32, server: u8) -> Option<Ballot>
+        ensures valid { IsSome result ↔ ((1 ≤ round) × (round ≤ 65535) × (server < members.count)) }
+        ensures value { IfSome result (λ b. b ≡ ballot_of members round server) }
+    {
+        if round < 1 || round > 65535 || server >= members.count() {
+            return None;
+        }
+        Some(Ballot {
+            number: round * members.count() as u32 + server as u32,
+        })
+    }
+
+    /// The number, 0 for the owner's ballot. Ballots are ordered by it.
+    pub fn number(self) -> u32
+        ensures number { result ≡ self }
+        ensures small { result ≤ 458751 }
+    {
+        self.number
+    }
+
+    /// The round, 0 for the owner's ballot.
+    pub fn round(self, members: Members) -> u32
+        ensures round { result ≡ round members self }
+        ensures small { result ≤ 458751 }
+    {
+        self.number / members.count() as u32
+    }
+
+    /// The server that may propose at this ballot of an instance: its owner at ballot 0.
+    pub fn leader(self, members: Members, inst: u32) -> u8
+        ensures leader { result ≡ leader members self inst }
+        ensures member { result < members.count }
+    {
+        if self.number == 0 {
+            members.owner(inst)
+        } else {
+            (self.number % members.count() as u32) as u8
+        }
+    }
+}

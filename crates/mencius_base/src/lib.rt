@@ -1,0 +1,22 @@
+//! The words of the protocol: the members of a cluster and its ballots, what clients ask for, what
+//! servers send, what happens to a cluster, and why a call is refused.
+//!
+//! Nothing here decides anything. Each type keeps its own limits, so that the crates above never
+//! test them again.
+#![tactic(auto)]
+
+mod ballot;
+mod command;
+mod event;
+mod members;
+mod message;
+mod outbox;
+mod refusal;
+
+pub use ballot::Ballot;
+pub use command::{BadCommand, Command, CommandId, Key, Op, Text};
+pub use event::{Entry, Event};
+pub use members::Members;
+pub use message::{Message, Value, Vote};
+pub use outbox::Outbox;
+pub use refusal::{NoMemory, Refusal};

@@ -1,0 +1,79 @@
+ghost use Rattle.std.specs.Prelude.{◌≡◌, ℕ, ◌+◌, ◌<◌, ◌≤◌, ◌↔◌, IsSome, IfSome};
+ghost use Rattle.mencius_base.specs.Members.{first_owned, majority, owner};
+
+use std::marker::Model;
+
+/// The servers of a cluster, numbered from 0. They own the instances in turn (Mao, Junqueira and
+/// Marzullo, OSDI 2008, section 4.2: instances are assigned round-robin).
+#[derive(Clone, Copy, Debug, PartialEq, Eq)]
+pub struct Members {
+    count: u8,
+}
+
+impl Model for Members {
+    ghost use Rattle.std.specs.Prelude.{◌≤◌};
+    ghost use Rattle.mencius_base.specs.Members.{Membership};
+
+    ghost Value = { Membership };
+
+    ghost view = { λ m. record { count = m.count } };
+
+    ghost invariant = { λ m. (1 ≤ m.count) × (m.count ≤ 7) };
+
+    ghost inverse = { λ v. record { count = v.count } };
+}
+
+impl Members {
+    /// The members of a cluster of `n` servers; `None` unless `n` is 1 to 7.
+    pub fn new(n: u8) -> Option<Members>
+        ensures valid { IsSome result ↔ ((1 ≤ n) × (n ≤ 7)) }
+        ensures value { IfSome result (λ m. m.count ≡ n) }
+    {
+        if n < 1 || n > 7 {
+            return None;
+        }
+        Some(Members { count: n })
+    }
+
+    /// How many servers there are, 1 to 7.
+    pub fn count(self) -> u8
+        ensures count { result ≡ self.count }
+        ensures some { 1 ≤ result }
+        ensures few { result ≤ 7 }
+    {
+        self.count
+    }
+
+    /// The least number of servers that is more than half of them.
+    pub fn majority(self) -> u8
+        ensures { result ≡ majority self }
+    {
+        self.count / 2 + 1
+    }
+
+    /// The server that owns an instance, the only one that may suggest a command there.
+    pub fn owner(self, inst: u32) -> u8
+        ensures owner { result ≡ owner self inst }
+        ensures member { result < self.count }
+    {
+        (inst % self.count as u32) as u8
+    }
+
+    /// The least instance that `server` owns, not below `from`. The server is one of the members,
+    /// and `from` is at most 4,102.
+    #[tactic(auto, using(crate::proofs::Owned::first_owned_owner, crate::proofs::Owned::first_owned_least))]
+    pub fn first_owned(self, server: u8, from: u32) -> u32
+        requires member { server < self.count }
+        requires small { from ≤ 4102 }
+        ensures owned { owner self result ≡ server }
+        ensures above { from ≤ result }
+        ensures least { (i : ℕ) → from ≤ i → owner self i ≡ server → result ≤ i }
+
+        // The same by a formula, for whoever computes with it.
+        ensures place { result ≡ first_owned self server from }
+        ensures near { result < from + self.count }
+    {
+        let n = self.count as u32;
+        from + (server as u32 + n - from % n) % n
+    }
+}

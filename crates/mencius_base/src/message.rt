@@ -1,0 +1,114 @@
+ghost use Rattle.std.specs.Prelude.{◌≡◌};
+
+use crate::ballot::Ballot;
+use crate::members::Members;
+
+/// What an instance may decide: nothing, or a command by its ticket.
+#[derive(Clone, Copy, Debug, PartialEq, Eq)]
+pub enum Value {
+    Noop,
+    Ticket(u32),
+}
+
+/// What a server accepted last at an instance.
+#[derive(Clone, Copy, Debug, PartialEq, Eq)]
+pub struct Vote {
+    pub ballot: Ballot,
+    pub value: Value,
+}
+
+/// What a server sends. It is numbered in order of sending.
+#[derive(Clone, Copy, Debug, PartialEq, Eq)]
+pub enum Message {
+    Suggest {
+        from: u8,
+        inst: u32,
+        ticket: u32,
+    },
+    Skip {
+        from: u8,
+        first: u32,
+        stop: u32,
+    },
+    Accepted {
+        from: u8,
+        to: u8,
+        inst: u32,
+        ballot: Ballot,
+    },
+    Prepare {
+        from: u8,
+        inst: u32,
+        ballot: Ballot,
+    },
+    Promise {
+        from: u8,
+        to: u8,
+        inst: u32,
+        ballot: Ballot,
+        vote: Option<Vote>,
+    },
+    Propose {
+        from: u8,
+        inst: u32,
+        ballot: Ballot,
+        value: Value,
+    },
+    Learn {
+        from: u8,
+        inst: u32,
+        value: Value,
+    },
+}
+
+impl Message {
+    ghost use Rattle.mencius_base.specs.Message.{goes_to, is_addressed, is_within};
+
+    /// Whether the message may be delivered to a server: it goes to that server, which is one of
+    /// the members as are all servers that it names, its instance is at most 4,095 (the `stop` of a
+    /// Skip at most 4,102), and it is no Prepare, Promise or Propose at the owner's ballot.
+    pub fn is_for(&self, members: Members, server: u8) -> bool
+        ensures { result ≡ is_addressed members server self.now }
+    {
+        server < members.count() && self.goes_to(server) && self.is_within(members)
+    }
+
+    /// Whether the message goes to a server: Accepted and Promise have one addressee, all others
+    /// go to every server, the sender too.
+    pub fn goes_to(&self, server: u8) -> bool
+        ensures { result ≡ goes_to server self.now }
+    {
+        match *self {
+            Message::Accepted { to, .. } | Message::Promise { to, .. } => to == server,
+            _ => true,
+        }
+    }
+
+    // Whether its servers, its instance and its ballot are within their limits.
+    fn is_within(&self, members: Members) -> bool
+        ensures { result ≡ is_within members self.now }
+    {
+        let count = members.count();
+        match *self {
+            Message::Suggest { from, inst, .. } | Message::Learn { from, inst, .. } => {
+                from < count && inst < 4096
+            }
+            Message::Skip { from, first, stop } => from < count && first < 4096 && stop < 4103,
+            Message::Accepted { from, to, inst, .. } => from < count && to < count && inst < 4096,
+            Message::Prepare { from, inst, ballot }
+            | Message::Propose {
+                from,
+                inst,
+                ballot,
+                ..
+            } => from < count && inst < 4096 && 0 < ballot.number(),
+            Message::Promise {
+                from,
+                to,
+                inst,
+                ballot,
+                ..
+            } => from < count && to < count && inst < 4096 && 0 < ballot.number(),
+        }
+    }
+}

@@ -1,0 +1,104 @@
+ghost use Rattle.std.specs.Prelude.{◌≡◌, ◌+◌, ◌<◌, ◌≤◌, [], ◌∷◌, ◌++◌, length, OnOk, ◌==◌};
+ghost use Rattle.mencius_base.specs.Outbox.{outbox_full};
+ghost use Rattle.mencius_base.specs.Refusal.{IsRefusedFor};
+
+use crate::message::{Message, Vote};
+use crate::refusal::Refusal;
+use std::alloc::Global;
+use std::marker::Model;
+
+/// A list of messages with a greatest length.
+#[derive(Drop)]
+pub struct Outbox {
+    messages: Vec<Message>,
+    limit: u32,
+}
+
+impl Model for Outbox {
+    ghost use Rattle.std.specs.Prelude.{◌-◌, ◌≤◌, min, vec_len};
+    ghost use Rattle.std.specs.Vec.{vec_capacity};
+    ghost use Rattle.mencius_base.specs.Outbox.{Outgoing};
+
+    ghost Value = { Outgoing };
+
+    ghost view = { λ o. record { messages = o.messages.items; limit = o.limit; room = min (vec_capacity o.messages) o.limit - vec_len o.messages } };
+
+    ghost invariant = { λ o. vec_len o.messages ≤ o.limit };
+}
+
+impl Outbox {
+    /// An empty list.
+    pub fn new(alloc: Global, limit: u32) -> Outbox
+        ensures messages { result.messages ≡ [] }
+        ensures limit { result.limit ≡ limit }
+        ensures room { result.room ≡ 0 }
+    {
+        Outbox {
+            messages: Vec::new(alloc),
+            limit,
+        }
+    }
+
+    pub fn messages(&self) -> &[Message]
+        ensures { result.now ≡ self.now.messages }
+    {
+        self.messages.as_slice()
+    }
+
+    pub fn len(&self) -> u32
+        ensures count { result ≡ length self.now.messages }
+        ensures few { result ≤ self.now.limit }
+    {
+        let limit = self.limit;
+        prove!(self.messages.len() <= limit as usize);
+        self.messages.len() as u32
+    }
+
+    pub fn is_empty(&self) -> bool
+        ensures { result ≡ (length self.now.messages == 0) }
+    {
+        self.messages.is_empty()
+    }
+
+    pub fn limit(&self) -> u32
+        ensures { result ≡ self.now.limit }
+    {
+        self.limit
+    }
+
+    /// For how many messages there is room already.
+    pub fn room(&self) -> u32
+        ensures { result ≡ self.now.room }
+    {
+        self.messages.capacity().min(self.limit as usize) as u32 - self.messages.len() as u32
+    }
+
+    /// Makes room.
+    pub fn reserve(&mut self, extra: u32) -> Result<(), Refusal>
+        ensures messages { self.new.messages ≡ self.old.messages }
+        ensures limit { self.new.limit ≡ self.old.limit }
+        ensures room { OnOk result (extra ≤ self.new.room) }
+        ensures kept { self.old.room ≤ self.new.room }
+        ensures refusal { IsRefusedFor (outbox_full self.old extra) result }
+    {
+        if extra > self.limit - self.messages.len() as u32 {
+            return Err(Refusal::MessagesFull);
+        }
+        match self.messages.reserve(extra as usize) {
+            Ok(()) => Ok(()),
+            Err(_) => Err(Refusal::NoMemory),
+        }
+    }
+
+    /// Adds a message at the end.
+    pub fn push(&mut self, message: Message)
+        requires { 0 < self.old.room }
+        ensures messages { self.new.messages ≡ self.old.messages ++ message ∷ [] }
+        ensures limit { self.new.limit ≡ self.old.limit }
+        ensures room { self.new.room + 1 ≡ self.old.room }
+    {
+        // The check of a push looks for the types inside a message among those named here.
+        let _inside: Option<Vote> = None;
+        self.messages.push_reserved(message);
+    }
+}

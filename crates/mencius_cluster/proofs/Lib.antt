@@ -1,0 +1,10 @@
+pub mod Decisions
+pub mod Tickets
+pub mod Histories
+pub mod Moments
+pub mod Theorems
+pub mod Facts
+pub mod Later
+pub mod Longest
+pub mod Answered
+pub mod Rows

@@ -1,0 +1,41 @@
+-- The theorems, of journals.
+use Rattle.std.proofs.Common.{List, []}
+use Rattle.mencius_base.specs.declared.event.Event.{Event}
+use Rattle.mencius_base.specs.Members.{Membership}
+use Rattle.mencius_base.specs.History.{History}
+use Rattle.mencius_cluster.specs.Executed.{executed}
+use Rattle.mencius_cluster.specs.Laws.{IsCourse, Agreement, Learning, Comparing, Submitting, Once, Order}
+use Rattle.mencius_server.proofs.Lists.{get_in}
+use Rattle.mencius_server.proofs.Grown.{IsGrown}
+use Rattle.mencius_server.proofs.Journals.{grown_from}
+use Rattle.mencius_cluster.proofs.Moments.{moment_past}
+use Rattle.mencius_cluster.proofs.Decisions.{learned_decided}
+use Rattle.mencius_cluster.proofs.Tickets.{identity_once}
+use Rattle.mencius_cluster.proofs.Histories as histories
+
+pub course_grown : (m : Membership) (journal : List Event) (end : History) → IsCourse m journal end → IsGrown m end
+course_grown m journal end c = grown_from m journal [] end tt c.replays
+
+pub agreement : Agreement
+agreement m journal end w u c a b =
+    histories.one_value m c.some_server end (course_grown m journal end c) w u (moment_past m journal w end a c.replays) (moment_past m journal u end b c.replays)
+
+pub learning : Learning
+learning m journal w c = learned_decided m w (course_grown m journal w c)
+
+pub comparing : Comparing
+comparing m journal end w u c a b =
+    histories.histories_comparable m c.some_server end (course_grown m journal end c) w u (moment_past m journal w end a c.replays) (moment_past m journal u end b c.replays)
+
+pub submitting : Submitting
+submitting m journal w c s k t h = histories.history_submitted m c.some_server w (course_grown m journal w c) s t (get_in (executed w s) k t h)
+
+pub once : Once
+once m journal w c s j k t r x y h i a b e =
+    let g = course_grown m journal w c in
+    let same = identity_once m w g t r x y a b e in
+    histories.history_once m c.some_server w g s j k t h (rw (← same) at i)
+
+pub order : Order
+order m journal end w c a s r t front back late is =
+    histories.order m c.some_server w end (moment_past m journal w end a c.replays) (course_grown m journal end c) s r t front back late is

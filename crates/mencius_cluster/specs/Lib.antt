@@ -1,0 +1,3 @@
+pub mod Executed
+pub mod Laws
+pub mod Replies

@@ -1,0 +1,221 @@
+-- A loop over the slots that starts first phases at some.
+use Rattle.std.proofs.Common.{◌≡◌, ℕ, ◌+◌, ◌-◌, ◌*◌, ◌/◌, ◌<◌, ◌≤◌, Some, Result, Ok, Err, IfErr, Bool, true, false, cond, eqb, leb, List, [], ◌∷◌, ◌++◌, None, filter, length, get_or, map, max, min, refl, sym, ◌∙◌, ap, subst, arith, append-nil, append_assoc, ⊎_elim}
+use Rattle.std.specs.List.{count_by, list_any}
+use Rattle.std.specs.Prelude.{is_none, ◌&&◌}
+use Rattle.std.proofs.Math.Nat.{mul-le-mul_right}
+use Rattle.std.proofs.lemmas.List.{get_or_past, length-map, map-append}
+use Rattle.std.proofs.lemmas.List.Sums.{length-filter}
+use Rattle.std.proofs.lemmas.Bool.{and_left, and_parts, and_right, cases_Bool, cases_lt, eqb-true, lt-leb, ltb-false, ne_eqb}
+use Rattle.mencius_base.specs.declared.refusal.Refusal.{Refusal}
+use Rattle.mencius_base.specs.declared.refusal.Refusal.TheVariants.{NoMemory, NothingToRevoke, RoundsFull}
+use Rattle.mencius_base.specs.Outbox.{Outgoing, outbox_full}
+use Rattle.mencius_base.specs.Refusal.{IsRefusedFor}
+use Rattle.mencius_base.specs.Members.{first_item}
+use Rattle.mencius_base.specs.declared.message.Message.{Message}
+use Rattle.mencius_base.specs.declared.message.Message.TheVariants.{Prepare}
+use Rattle.mencius_base.specs.Members.{Membership, below, instances, owner}
+use Rattle.coord_paxos.proofs.Below.{any-filter, any-instances, count_by-below_le, count_by-below_more, count_by-below_none, filter-below_more, filter-below_none, filter-below_zero, get_or-map-instances, instances-below, length-map-instances, map-below_by, map-filter_same}
+use Rattle.coord_paxos.specs.SlotState.{SlotState}
+use Rattle.coord_paxos.specs.Fresh.{new_slot}
+use Rattle.coord_paxos.specs.Slot.{after_begin}
+use Rattle.mencius_server.specs.State.{FitsAt, IsServer, ServerState, padded, slot}
+use Rattle.mencius_server.specs.Machine.{after_suspect, ballot_after, is_revoked, is_round_full, is_suspected, prepare_for, round_after, slot_revoked, suspect_cause, suspect_sent}
+use Rattle.mencius_server.proofs.Keeps.{FitsAt-slot}
+use Rattle.mencius_server.proofs.SkipShows.{get_or-padded, length-padded}
+use Rattle.mencius_server.proofs.SlotLaws.{FitsAt-cond}
+
+-- the messages for the places before i that pass stand after those before
+pub record IsSentUpTo (f : ℕ → Message) (test : ℕ → Bool) (before after : List Message) (i : ℕ) : Type 0 where
+  pub sent : after ≡ before ++ map f (filter test (below i))
+
+pub sent_none : (f : ℕ → Message) (test : ℕ → Bool) (before : List Message) → IsSentUpTo f test before before 0
+sent_none f test before = record { sent = sym (ap (λ (xs : List ℕ). before ++ map f xs) (filter-below_zero test) ∙ append-nil before) }
+
+one_sent : (f : ℕ → Message) (i : ℕ) (b : Bool) → map f (cond b (i ∷ []) []) ≡ cond b (f i ∷ []) []
+one_sent f i true = refl
+one_sent f i false = refl
+
+pub sent_more : (f : ℕ → Message) (test : ℕ → Bool) (before after new all : List Message) (i : ℕ) → new ≡ cond (test i) (f i ∷ []) [] → all ≡ after ++ new
+    → IsSentUpTo f test before after i → IsSentUpTo f test before all (i + 1)
+sent_more f test before after new all i here pushed old = record {
+  sent =
+      pushed ∙ ap (λ (xs : List Message). xs ++ new) old.sent
+      ∙ append_assoc before (map f (filter test (below i))) new
+      ∙ ap (λ (xs : List Message). before ++ (map f (filter test (below i)) ++ xs)) (here ∙ sym (one_sent f i (test i)))
+      ∙ ap (λ (xs : List Message). before ++ xs)
+      (sym (map-append f (filter test (below i)) (cond (test i) (i ∷ []) [])) ∙ ap (map f) (sym (filter-below_more test i)));
+}
+
+-- there is room for the places from i on
+pub record HasRoomFrom (test : ℕ → Bool) (n room i : ℕ) : Type 0 where
+  pub enough : count_by test (below n) ≤ room + count_by test (below i)
+
+pub room_none : (test : ℕ → Bool) (n room : ℕ) → count_by test (below n) ≤ room → HasRoomFrom test n room 0
+room_none test n room h = record { enough = omega (arith, h) }
+
+-- the message for one slot, read where it stood at the start
+pub one_here : (m : Membership) (p q f i : ℕ) (t u : SlotState) (b : Bool) → t ≡ u → b ≡ is_revoked m q f i t
+    → cond b (Prepare p i (ballot_after m p t) ∷ []) [] ≡ cond (is_revoked m q f i u) (Prepare p i (ballot_after m p u) ∷ []) []
+one_here m p q f i t u b e h =
+    ap (λ (c : Bool). cond c (Prepare p i (ballot_after m p t) ∷ []) []) h
+    ∙ ap (λ (s : SlotState). cond (is_revoked m q f i s) (Prepare p i (ballot_after m p s) ∷ []) []) e
+
+pub room_here : (test : ℕ → Bool) (n room i : ℕ) → i < n → test i ≡ true → HasRoomFrom test n room i → 0 < room
+room_here test n room i within here has =
+    let more : count_by test (below (i + 1)) ≡ count_by test (below i) + 1 = count_by-below_more test i ∙ ap (λ (b : Bool). count_by test (below i) + cond b 1 0) here in
+    let all : count_by test (below (i + 1)) ≤ count_by test (below n) = count_by-below_le test (i + 1) n (omega arith) in
+    omega (arith, more, all, has.enough)
+
+pub room_more : (test : ℕ → Bool) (n room new i : ℕ) → new + cond (test i) 1 0 ≡ room → HasRoomFrom test n room i → HasRoomFrom test n new (i + 1)
+room_more test n room new i used has = record { enough = omega (arith, count_by-below_more test i, used, has.enough) }
+
+-- the new ballot is above the one that was tried
+pub tried_below : (m : Membership) (p : ℕ) (t : SlotState) → 1 ≤ m.count → t.trying < ballot_after m p t
+tried_below m p t some = above t.trying (t.promised / m.count) m.count p some where
+  above : (a c n p : ℕ) → 1 ≤ n → a < (max (a / n) c + 1) * n + p
+  above a c n p some =
+      let d : ℕ = a / n in
+      let grows : (a / n + 1) * n ≤ (max (a / n) c + 1) * n = mul-le-mul_right n (omega arith) in
+      let whole : a < (a / n + 1) * n = omega arith in
+      omega arith
+
+-- past the front nothing is covered
+uncovered : (m : Membership) (q front j : ℕ) (t : SlotState) → front < j → is_revoked m q front j t ≡ false
+uncovered m q front j t past = and_left _ _ (and_right _ _ (lt-leb j front past))
+
+module _ (m : Membership) (p f : ℕ) (old given : List SlotState) (now : ServerState) (q : ℕ)
+    (shown : record { members = m; id = p; front = f; slots = padded m old } ≡ now) (same : padded m given ≡ padded m old)
+    (few : length given ≤ 4096) (reach : min (f + 1) 4096 ≤ length given) where
+  before : (j : ℕ) → get_or given j (new_slot m) ≡ get_or (padded m old) j (new_slot m)
+  before j = sym (get_or-padded m given j) ∙ ap (λ (xs : List SlotState). get_or xs j (new_slot m)) same
+
+  abbrev covers : ℕ → Bool
+  covers j = is_revoked m q f j (get_or given j (new_slot m))
+
+  abbrev prepares : ℕ → Message
+  prepares j = Prepare p j (ballot_after m p (get_or given j (new_slot m)))
+
+  beyond : (j : ℕ) → length given ≤ j → j < length given + (4096 - length given) → covers j ≡ false
+  beyond j low high = uncovered m q f j (get_or given j (new_slot m)) (omega arith)
+
+  all_places : length given + (4096 - length given) ≡ 4096
+  all_places = omega arith
+
+  pub begin_rounds : ((j : ℕ) → j < 4096 → is_suspected now q j ≡ true → round_after now.members (slot now j) ≤ 65535)
+      → (j : ℕ) → j < length given → covers j ≡ true → round_after m (get_or given j (new_slot m)) ≤ 65535
+  begin_rounds =
+      subst (λ (s : ServerState). ((j : ℕ) → j < 4096 → is_suspected s q j ≡ true → round_after s.members (slot s j) ≤ 65535)
+      → (j : ℕ) → j < length given → covers j ≡ true → round_after m (get_or given j (new_slot m)) ≤ 65535) shown
+      (λ rounds j small covered. rw (before j) (rounds j (omega arith) (rw (← before j) covered)))
+
+  pub begin_counts : count_by covers (below (length given)) ≡ count_by (is_suspected now q) instances
+  begin_counts =
+      subst (λ (s : ServerState). count_by covers (below (length given)) ≡ count_by (is_suspected s q) instances) shown
+      (sym (ap (count_by covers) (instances-below ∙ ap below (sym all_places)) ∙ count_by-below_none covers (length given) (4096 - length given) beyond)
+      ∙ count_same covers (λ (j : ℕ). is_revoked m q f j (get_or (padded m old) j (new_slot m))) (λ j. ap (is_revoked m q f j) (before j)) instances)
+    where
+      count_same : (g h : ℕ → Bool) → ((j : ℕ) → g j ≡ h j) → (xs : List ℕ) → count_by g xs ≡ count_by h xs
+      count_same g h e xs = simp e
+
+  pub begin_sends : map prepares (filter covers (below (length given))) ≡ suspect_sent now q
+  begin_sends =
+      subst (λ (s : ServerState). map prepares (filter covers (below (length given))) ≡ suspect_sent s q) shown
+      (sym (ap (λ (xs : List ℕ). map prepares (filter covers xs)) (instances-below ∙ ap below (sym all_places))
+      ∙ ap (map prepares) (filter-below_none covers (length given) (4096 - length given) beyond))
+      ∙ map-filter_same prepares (λ (j : ℕ). Prepare p j (ballot_after m p (get_or (padded m old) j (new_slot m))))
+      covers (λ (j : ℕ). is_revoked m q f j (get_or (padded m old) j (new_slot m)))
+      (λ j. ap (λ (t : SlotState). Prepare p j (ballot_after m p t)) (before j)) (λ j. ap (is_revoked m q f j) (before j)) instances)
+
+  pub begin_shows : (new : List SlotState) → length new ≡ length given
+      → ((j : ℕ) → j < length given → get_or new j (new_slot m) ≡ slot_revoked m p q f j (get_or given j (new_slot m)))
+      → record { members = m; id = p; front = f; slots = padded m new } ≡ after_suspect now q
+  begin_shows new kept made =
+      subst (λ (s : ServerState). record { members = m; id = p; front = f; slots = padded m new } ≡ after_suspect s q) shown
+      (with_slots m p f _ _ (every ∙ ap (map made_at) (sym instances-below)))
+    where
+      with_slots : (m : Membership) (p f : ℕ) (xs ys : List SlotState) → xs ≡ ys
+          → ◌≡◌ {A = ServerState} (record { members = m; id = p; front = f; slots = xs }) (record { members = m; id = p; front = f; slots = ys })
+      with_slots m p f xs ys e = rw e
+
+      made_at : ℕ → SlotState
+      made_at j = slot_revoked m p q f j (get_or (padded m old) j (new_slot m))
+
+      here : (j : ℕ) → j < 4096 → get_or new j (new_slot m) ≡ slot_revoked m p q f j (get_or given j (new_slot m))
+      here j small =
+          ⊎_elim
+          (λ (within : j < length given). made j within)
+          (λ (past : length given ≤ j).
+          let none : length new ≤ j = omega arith in
+          let ahead : f < j = omega arith in
+          get_or_past new j (new_slot m) none
+          ∙ sym (ap (λ (b : Bool). cond b (after_begin (get_or given j (new_slot m)) (ballot_after m p (get_or given j (new_slot m)))) (get_or given j (new_slot m)))
+          (uncovered m q f j (get_or given j (new_slot m)) ahead)
+          ∙ get_or_past given j (new_slot m) past))
+          (cases_lt j (length given))
+
+      every : padded m new ≡ map made_at (below 4096)
+      every = map-below_by made_at (padded m new) 4096 (new_slot m) (length-padded m new (omega arith))
+          (λ j small. get_or-padded m new j ∙ here j small ∙ ap (slot_revoked m p q f j) (before j))
+
+abbrev slots_revoked : ServerState → ℕ → List SlotState
+slots_revoked s q = map (λ (j : ℕ). slot_revoked s.members s.id q s.front j (slot s j)) instances
+
+-- a server keeps what it keeps through a suspicion of another
+pub IsServer-suspect : (s : ServerState) (q : ℕ) → (s.id ≡ q → ⊥) → IsServer s → IsServer (after_suspect s q)
+IsServer-suspect s q other kept = record {
+  member = kept.member;
+  near = kept.near;
+  same = λ i. (fits i).same;
+  own = λ i. (fits i).own;
+  unsaid = λ i. (fits i).unsaid;
+}
+  where
+    begun : (i : ℕ) → is_revoked s.members q s.front i (slot s i) ≡ true → FitsAt s s.front i (after_begin (slot s i) (ballot_after s.members s.id (slot s i)))
+    begun i e =
+        let theirs : owner s.members i ≡ q = eqb-true _ _ (and_parts _ _ (and_parts _ _ e).0).0 in
+        record { same = kept.same i; own = λ mine. absurd (other (sym mine ∙ theirs)); unsaid = λ mine ahead. refl }
+
+    given : (i : ℕ) → FitsAt s s.front i (slot_revoked s.members s.id q s.front i (slot s i))
+    given i = FitsAt-cond s s.front i (is_revoked s.members q s.front i (slot s i)) _ (slot s i) (begun i) (FitsAt-slot s i kept)
+
+    fits : (i : ℕ) → FitsAt s s.front i (slot (after_suspect s q) i)
+    fits i =
+        ⊎_elim
+        (λ (small : i < 4096). subst (FitsAt s s.front i) (sym (get_or-map-instances _ i (new_slot s.members) small)) (given i))
+        (λ (past : 4096 ≤ i).
+        let none : length (slots_revoked s q) ≤ i = rw (length-map-instances (λ (j : ℕ). slot_revoked s.members s.id q s.front j (slot s j))) past in
+        subst (FitsAt s s.front i) (sym (get_or_past (slots_revoked s q) i (new_slot s.members) none))
+        (record { same = refl; own = λ mine. refl; unsaid = λ mine ahead. refl }))
+        (cases_lt i 4096)
+
+-- ---- why a suspicion is refused
+
+none_given : (g : ℕ → Bool) (xs : List ℕ) → is_none (first_item (filter g xs)) ≡ eqb (count_by g xs) 0
+none_given g xs = go (filter g xs) ∙ ap (λ (n : ℕ). eqb n 0) (length-filter g xs) where
+  go : (ys : List ℕ) → is_none (first_item ys) ≡ eqb (length ys) 0
+  go [] = refl
+  go (y ∷ ys) = sym (ne_eqb (length (y ∷ ys)) 0 (λ e. absurd (omega arith)))
+
+pub suspect_cause_is : (s : ServerState) (o : Outgoing) (q : ℕ) (b d : Bool) → eqb s.id q ≡ false → eqb (count_by (is_suspected s q) instances) 0 ≡ b
+    → list_any (is_round_full s) (filter (is_suspected s q) instances) ≡ d
+    → suspect_cause s o q ≡ cond b (Some NothingToRevoke) (cond d (Some RoundsFull) (outbox_full o (count_by (is_suspected s q) instances)))
+suspect_cause_is s o q b d other none full =
+    let many : length (suspect_sent s q) ≡ count_by (is_suspected s q) instances =
+    length-map (filter (is_suspected s q) instances) (prepare_for s) ∙ length-filter (is_suspected s q) instances in
+    rw (other, none_given (is_suspected s q) instances, none, full, many)
+
+pub rounds_small : (s : ServerState) (q : ℕ) → list_any (is_round_full s) (filter (is_suspected s q) instances) ≡ false
+    → (j : ℕ) → j < 4096 → is_suspected s q j ≡ true → round_after s.members (slot s j) ≤ 65535
+rounds_small s q none j small covered =
+    ⊎_elim
+    (λ (full : is_round_full s j ≡ true).
+    let some : list_any (λ (i : ℕ). is_suspected s q i && is_round_full s i) instances ≡ true =
+    any-instances (λ (i : ℕ). is_suspected s q i && is_round_full s i) j small (rw covered full) in
+    let no = sym (any-filter (is_suspected s q) (is_round_full s) instances) ∙ none in
+    absurd (cc))
+    (λ (room : is_round_full s j ≡ false). ltb-false 65535 (round_after s.members (slot s j)) room)
+    (cases_Bool (is_round_full s j))
+
+pub refused_memory : (r : Result (Unit {0}) Refusal) → IfErr r (λ e. e ≡ NoMemory) → IsRefusedFor None r
+refused_memory (Ok x) h = refl
+refused_memory (Err e) h = h

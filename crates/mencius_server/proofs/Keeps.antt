@@ -1,0 +1,83 @@
+-- What a server keeps, and how its list of slots is filled up.
+use Rattle.std.proofs.Common.{◌≡◌, ℕ, ◌+◌, ◌-◌, ◌<◌, ◌≤◌, List, [], ◌∷◌, ◌++◌, None, length, replicate, get_or, set, suc, refl, ap, sym, ◌∙◌, subst, arith, append_assoc, length-append, ⊎_elim}
+use Rattle.std.proofs.lemmas.List.{length-replicate, get_or-replicate, get_or-set_other, get_or_past, length-set, set-append_left, set_past}
+use Rattle.std.proofs.lemmas.Grind.{get_or-set_at}
+use Rattle.std.proofs.lemmas.Bool.{cases_eq, cases_lt, le-ltb}
+use Rattle.std.proofs.Common.{Result, Ok, Err, IfErr}
+use Rattle.mencius_base.specs.declared.refusal.Refusal.{Refusal}
+use Rattle.mencius_base.specs.declared.refusal.Refusal.TheVariants.{NoMemory}
+use Rattle.mencius_base.specs.Outbox.{Outgoing, outbox_full}
+use Rattle.mencius_base.specs.Refusal.{IsRefusedFor}
+use Rattle.mencius_base.specs.Members.{Membership, owner}
+use Rattle.coord_paxos.specs.SlotState.{SlotState}
+use Rattle.coord_paxos.specs.Fresh.{new_slot}
+use Rattle.mencius_server.specs.State.{ServerState, FitsAt, IsServer, new_server, padded, slot, with_slot_and_front}
+
+-- one more new slot is one of those that fill up
+pub padded-push : (m : Membership) (given : List SlotState) → length given < 4096 → padded m (given ++ new_slot m ∷ []) ≡ padded m given
+padded-push m given few =
+    let longer : length (given ++ new_slot m ∷ []) ≡ length given + 1 = simp length-append in
+    let less : 4096 - length given ≡ suc (4096 - (length given + 1)) = omega arith in
+    rw (longer, append_assoc, less)
+
+-- past the last slot there are new ones
+pub past-replicate : (n i : ℕ) (t : SlotState) → get_or (replicate n t) i t ≡ t
+past-replicate n i t =
+    ⊎_elim
+    (λ (within : i < n). get_or-replicate n i t t within)
+    (λ (past : n ≤ i). let none : length (replicate n t) ≤ i = simp length-replicate (omega arith) in get_or_past (replicate n t) i t none)
+    (cases_lt i n)
+
+-- a write to a given slot is a write to the filled up list
+pub padded-set : (m : Membership) (given : List SlotState) (i : ℕ) (t : SlotState) → i < length given → padded m (set given i t) ≡ set (padded m given) i t
+padded-set m given i t within = rw (length-set given i t, set-append_left)
+
+-- a new server keeps all this
+pub IsServer-new : (m : Membership) (p : ℕ) → p < m.count → m.count ≤ 7 → IsServer (new_server m p)
+IsServer-new m p member few = record {
+  member = member;
+  near = omega arith;
+  same = λ i. rw (past-replicate 4096 i (new_slot m));
+  own = λ i mine. rw (past-replicate 4096 i (new_slot m));
+  unsaid = λ i mine ahead. rw (past-replicate 4096 i (new_slot m));
+}
+
+-- a slot written where there are enough of them is a slot written for those who look
+pub put_shows : (m : Membership) (p f g : ℕ) (old given : List SlotState) (now : ServerState) (i : ℕ) (t : SlotState)
+    → record { members = m; id = p; front = f; slots = padded m old } ≡ now
+    → padded m given ≡ padded m old → i < length given
+    → record { members = m; id = p; front = g; slots = padded m (set given i t) } ≡ with_slot_and_front now i t g
+put_shows m p f g old given now i t shown same within = rw (← shown, padded-set m given i t within, same)
+
+-- what holds of the new slot and of the old ones holds after a write
+pub set_keeps : (P : SlotState → Type 0) (given : List SlotState) (i j : ℕ) (t d : SlotState) → (j ≡ i → P t) → P (get_or given j d) → P (get_or (set given i t) j d)
+set_keeps P given i j t d new old =
+    ⊎_elim
+    (λ (e : j ≡ i). ⊎_elim
+    (λ (within : i < length given). rw (get_or-set_at given i j t d e within) (new e))
+    (λ (past : length given ≤ i). rw (set_past given i t past) old)
+    (cases_lt i (length given)))
+    (λ (ne : j ≡ i → ⊥). rw (get_or-set_other given i j t d ne) old)
+    (cases_eq j i)
+
+pub IsServer-with_slot : (s : ServerState) (i : ℕ) (t : SlotState) (f : ℕ) → IsServer s → FitsAt s f i t → s.front ≤ f → f ≤ 4102
+    → IsServer (with_slot_and_front s i t f)
+IsServer-with_slot s i t f kept fits ahead near = record {
+  member = kept.member;
+  near = near;
+  same = λ j. set_keeps (λ (u : SlotState). u.members ≡ s.members) s.slots i j t (new_slot s.members) (λ e. fits.same) (kept.same j);
+  own = λ j mine. set_keeps (λ (u : SlotState). u.trying ≡ 0) s.slots i j t (new_slot s.members)
+      (λ e. fits.own (ap (owner s.members) (sym e) ∙ mine)) (kept.own j mine);
+  unsaid = λ j mine past. set_keeps (λ (u : SlotState). u.proposal ≡ None) s.slots i j t (new_slot s.members)
+      (λ e. fits.unsaid (ap (owner s.members) (sym e) ∙ mine) (subst (λ (k : ℕ). f ≤ k) e past))
+      (kept.unsaid j mine (omega arith));
+}
+
+-- what a server keeps holds of each of its slots
+pub FitsAt-slot : (s : ServerState) (i : ℕ) → IsServer s → FitsAt s s.front i (slot s i)
+FitsAt-slot s i kept = record { same = kept.same i; own = kept.own i; unsaid = kept.unsaid i }
+
+-- where nothing is sent, only memory may be wanting
+pub refused_for_memory : (o : Outgoing) (r : Result ℕ Refusal) → length o.messages ≤ o.limit → IfErr r (λ e. e ≡ NoMemory) → IsRefusedFor (outbox_full o 0) r
+refused_for_memory o (Ok n) few memory = rw (le-ltb o.limit (length o.messages + 0) (omega arith))
+refused_for_memory o (Err e) few memory = rw (le-ltb o.limit (length o.messages + 0) (omega arith)) memory

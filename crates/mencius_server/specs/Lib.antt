@@ -1,0 +1,6 @@
+pub mod Server
+pub mod Next
+pub mod Decided
+pub mod State
+pub mod Machine
+pub mod Reached
