@@ -26,3 +26,6 @@ pub mod Low
 pub mod Lookups
 pub mod Furthest
 pub mod Counts
+pub mod Enrolled
+pub mod Submitted
+pub mod Same

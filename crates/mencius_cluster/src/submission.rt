@@ -1,12 +1,17 @@
-ghost use Rattle.std.specs.Prelude.{◌≡◌, ◌==◌, OnOk, OnErr, IfErr};
+ghost use Rattle.std.specs.Prelude.{◌≡◌, ◌<◌, ◌==◌, [], ◌∷◌, ◌++◌, None, OnOk, OnErr, IfErr};
+ghost use Rattle.std.specs.Map.{lookup};
+ghost use Rattle.indexmap.specs.IndexMap.{spare};
+ghost use Rattle.mencius_base.specs.Command.{is_same_id};
+ghost use Rattle.mencius_cluster.specs.declared.submission.Answered.TheVariants.{Pending};
 ghost use Rattle.std.specs.FinMap as finite;
 ghost use Rattle.mencius_base.specs.declared.refusal.Refusal.TheVariants.{NoMemory};
 ghost use Rattle.map_exec.specs.State.{after_execution};
 ghost use Rattle.map_exec.specs.Store.{key_of};
 ghost use Rattle.mencius_cluster.specs.Answers.{bytes_in, first_reply};
 
+use indexmap::IndexMap;
 use map_exec::Executor;
-use mencius_base::{Command, Refusal};
+use mencius_base::{Command, CommandId, Refusal};
 
 /// Whether a command has its reply.
 #[derive(Drop)]
@@ -41,4 +46,21 @@ pub fn run(executor: &mut Executor, submission: &mut Submission, server: u8, tic
         submission.answer = Answered::Given(reply);
     }
     Ok(())
+}
+
+// Adds a command that has no reply yet, for which there is room.
+pub fn enroll(submissions: &mut IndexMap<CommandId, Submission>, command: Command, home: u8)
+    requires room { 0 < spare submissions.old }
+    requires new { lookup (is_same_id command.id) submissions.old.entries ≡ None }
+    ensures { submissions.new.entries ≡ submissions.old.entries ++ (command.id, record { command = command; home = home; answer = Pending }) ∷ [] }
+{
+    let id = command.id();
+    let submission = Submission {
+        command,
+        home,
+        answer: Answered::Pending,
+    };
+    let Ok(_) = submissions.insert(id, submission) else {
+        unreachable!();
+    };
 }
