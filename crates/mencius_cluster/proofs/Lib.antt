@@ -29,3 +29,6 @@ pub mod Counts
 pub mod Enrolled
 pub mod Submitted
 pub mod Same
+pub mod Replies
+pub mod Executions
+pub mod Performs
