@@ -20,7 +20,8 @@ pub struct Vote {
 }
 
 /// What a server sends. Messages are numbered from 0 in order of sending. Accepted and Promise go to
-/// one server, all others to every server, the sender too (OSDI 2008, sections 4.1 and 4.2).
+/// one server, all others to every server, the sender too (OSDI 2008, Coordinated Paxos, with its
+/// actions suggest, skip and revoke).
 #[derive(Clone, Copy, Debug, PartialEq, Eq)]
 pub enum Message {
     /// The owner of an instance proposes a command there, at its own ballot.
