@@ -7,4 +7,5 @@ pub mod Facts
 pub mod Later
 pub mod Longest
 pub mod Answered
-pub mod Rows
+pub mod Worked
+pub mod Traces
