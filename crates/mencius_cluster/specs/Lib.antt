@@ -1,3 +1,7 @@
 pub mod Executed
 pub mod Laws
 pub mod Replies
+pub mod State
+pub mod Answers
+pub mod Tables
+pub mod Inside

@@ -1,5 +1,5 @@
-use Rattle.mencius_cluster.proofs.Answered as theorem
-use Rattle.mencius_cluster.proofs.replies.Goals as goal
+use Rattle.mencius_cluster.proofs.Replying as theorem
+use Rattle.mencius_cluster.proofs.laws.replies.Goals as goal
 
 pub returns-clause-known : goal.returns-clause-known
 returns-clause-known c = theorem.known_law

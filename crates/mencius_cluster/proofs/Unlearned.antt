@@ -1,0 +1,28 @@
+-- A suspicion and a retry teach nothing.
+use Rattle.std.proofs.Common.{◌≡◌, ℕ, List, [], ◌∷◌, Option, Some, None, map, refl, ap, ◌∙◌, ◌+◌}
+use Rattle.std.proofs.lemmas.List.Sums.{sum_by-cons}
+use Rattle.std.specs.Prelude.{if◌then◌else◌}
+use Rattle.mencius_base.specs.declared.event.Event.TheVariants.{Suspect, Retry}
+use Rattle.mencius_base.specs.Members.{Membership}
+use Rattle.mencius_base.specs.History.{History}
+use Rattle.mencius_server.specs.Server.{free, suspects, waiting}
+use Rattle.mencius_server.specs.Next.{again, is_learning, learnings, lines, preparation, suggestion}
+use Rattle.mencius_base.specs.Members.{first_item}
+
+suggested : (p t : ℕ) (o : Option ℕ) → learnings (suggestion p o t) ≡ 0
+suggested p t None = refl
+suggested p t (Some k) = refl
+
+again_learns : (m : Membership) (w : History) (p : ℕ) (o : Option ℕ) → learnings (again m w p o) ≡ 0
+again_learns m w p None = refl
+again_learns m w p (Some t) = suggested p t (free m w p)
+
+pub retry_learns : (m : Membership) (w : History) (p : ℕ) → learnings (lines m w (Retry p)) ≡ 0
+retry_learns m w p = again_learns m w p (first_item (waiting w p))
+
+prepared : (m : Membership) (w : History) (p : ℕ) (is : List ℕ) → learnings (map (preparation m w p) is) ≡ 0
+prepared m w p [] = refl
+prepared m w p (i ∷ is) = prepared m w p is
+
+pub suspect_learns : (m : Membership) (w : History) (p q : ℕ) → learnings (lines m w (Suspect p q)) ≡ 0
+suspect_learns m w p q = prepared m w p (suspects m w p q)

@@ -1,0 +1,71 @@
+-- What the tables of a cluster hold.
+use Rattle.std.specs.Prelude.{◌≡◌, ℕ, ◌+◌, ◌<◌, ◌≤◌, Bool, List, [], ◌∷◌, ◌++◌, Option, Some, None, Ok, length, map, slice_get, IfSome, ◌==◌, ◌&&◌}
+use Rattle.std.specs.List.{filter_map, list_any}
+use Rattle.std.specs.Option.{option_map}
+use Rattle.mencius_base.specs.declared.command.Command.{Command}
+use Rattle.mencius_base.specs.declared.command.CommandId.{CommandId}
+use Rattle.mencius_base.specs.declared.event.Entry.{Entry}
+use Rattle.mencius_base.specs.declared.event.Entry.TheVariants.{Submit as Submit_entry, Deliver as Deliver_entry, Lose as Lose_entry, Suspect as Suspect_entry, Retry as Retry_entry, Execute as Execute_entry}
+use Rattle.mencius_base.specs.declared.event.Event.{Event}
+use Rattle.mencius_base.specs.declared.event.Event.TheVariants.{Submit, Deliver, Lose, Suspect, Retry, Execute}
+use Rattle.mencius_base.specs.Members.{Membership, below, most_events, most_messages}
+use Rattle.mencius_base.specs.Outbox.{Outgoing}
+use Rattle.mencius_base.specs.History.{History, events, sent, submitted}
+use Rattle.mencius_server.specs.Server.{done}
+use Rattle.mencius_server.specs.Next.{is_loss, replay}
+use Rattle.mencius_server.specs.State.{ServerState}
+use Rattle.mencius_server.specs.Reached.{server_at}
+use Rattle.map_exec.specs.State.{ExecutorState}
+use Rattle.mencius_cluster.specs.declared.submission.Submission.{Submission}
+use Rattle.mencius_cluster.specs.State.{entries_of, world_or_none}
+use Rattle.mencius_cluster.specs.Answers.{executor_at, reply_at, bytes_in}
+
+abbrev pub Row : Type 0
+Row = CommandId × Submission
+
+abbrev pub command_of : Row → Command
+command_of r = r.1.command
+
+-- the event of a stored entry, among these commands
+abbrev pub event_of : List Command → Entry → Option Event
+event_of cs (Submit_entry server ticket) = option_map (λ c. Submit server c) (slice_get cs ticket)
+event_of cs (Deliver_entry message server) = Some (Deliver message server)
+event_of cs (Lose_entry message server) = Some (Lose message server)
+event_of cs (Suspect_entry server suspected) = Some (Suspect server suspected)
+event_of cs (Retry_entry server) = Some (Retry server)
+event_of cs (Execute_entry server) = Some (Execute server)
+
+abbrev pub journal_of : List Row → List Entry → List Event
+journal_of rows entries = filter_map (event_of (map command_of rows)) entries
+
+-- every table of a cluster, as contracts see it
+pub record Tables : Type 0 where
+  pub servers : List ServerState
+  pub executors : List ExecutorState
+  pub done : List ℕ
+  pub messages : Outgoing
+  pub rows : List Row
+  pub is_lost : ℕ → ℕ → Bool
+  pub entries : List Entry
+
+-- the tables are the definition's in a history of these members
+pub record AreTables (m : Membership) (w : History) (t : Tables) : Type 0 where
+  pub servers : t.servers ≡ map (server_at m w) (below m.count)
+  pub executors : t.executors ≡ map (executor_at w) (below m.count)
+  pub done : t.done ≡ map (done w) (below m.count)
+  pub messages : t.messages.messages ≡ sent w
+  pub limit : t.messages.limit ≡ most_messages
+  pub commands : map (λ r. (r.1.command, r.1.home)) t.rows ≡ submitted w
+  pub ids : map (λ r. r.0) t.rows ≡ map (λ x. x.0.id) (submitted w)
+  pub replies : (k : ℕ) (r : Row) → slice_get t.rows k ≡ Some r → bytes_in r.1.answer ≡ reply_at w k r.1.command r.1.home
+  pub lost : (k d : ℕ) → t.is_lost k d ≡ list_any (is_loss k d) w
+  pub events : length t.entries ≡ events w
+
+-- the stored journal replays, and the tables are those of the history that it makes
+pub record IsCluster (m : Membership) (journal : List Event) (t : Tables) : Type 0 where
+  pub some : 1 ≤ m.count
+  pub few : m.count ≤ 7
+  pub room : length t.entries ≤ most_events
+  pub replays : replay m journal ≡ Ok (world_or_none (replay m journal))
+  pub stored : t.entries ≡ entries_of journal
+  pub tables : AreTables m (world_or_none (replay m journal)) t
