@@ -2,9 +2,12 @@
 #![tactic(auto)]
 
 mod fault;
+mod printed;
 mod read;
 mod source;
+mod standin;
 mod write;
 
 pub use fault::AppFault;
+pub use printed::report;
 pub use source::{Sink, Source, Std};
