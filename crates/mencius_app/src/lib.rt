@@ -4,6 +4,7 @@
 mod fault;
 mod printed;
 mod read;
+mod replaying;
 mod source;
 mod standin;
 mod write;
