@@ -1,6 +1,7 @@
 //! The edge of the program: what its input says, read exactly, and the faults that end a run.
 #![tactic(auto)]
 
+mod command_line;
 mod fault;
 mod printed;
 mod read;
@@ -9,6 +10,7 @@ mod source;
 mod standin;
 mod write;
 
+pub use command_line::{Task, exit_status, read_command_line};
 pub use fault::AppFault;
 pub use printed::report;
 pub use source::{Sink, Source, Std};
