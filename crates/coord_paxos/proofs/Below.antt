@@ -1,5 +1,5 @@
 -- Lists over the servers and over the instances.
-use Rattle.std.proofs.Common.{◌≡◌, ◌≢◌, ℕ, ◌+◌, ◌<◌, ◌≤◌, Bool, true, false, Option, Some, None, cond, zero, suc, add-zero, List, [], ◌∷◌, ◌++◌, map, length, filter, get_or, set, append-nil, ◌&&◌, ◌||◌, refl, sym, ◌∙◌, ap, arith, ⊎_elim}
+use Rattle.std.proofs.Common.{◌≡◌, ℕ, ◌+◌, ◌<◌, ◌≤◌, Bool, true, false, Option, Some, None, cond, zero, suc, add-zero, List, [], ◌∷◌, ◌++◌, map, length, filter, get_or, set, append-nil, ◌&&◌, ◌||◌, refl, sym, ◌∙◌, ap, arith, ⊎_elim}
 use Rattle.std.specs.Prelude.{replicate}
 use Rattle.std.specs.List.{count_by, filter_map, find, fold, list_any, range_with_len}
 use Rattle.std.proofs.lemmas.List.{length-set, length-replicate, get_or-replicate, get_or-set_other}

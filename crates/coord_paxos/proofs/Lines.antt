@@ -1,12 +1,9 @@
 -- What one more line changes in what the history says.
-use Rattle.std.proofs.Common.{◌≡◌, ℕ, ◌+◌, ◌<◌, ◌≤◌, Bool, true, false, List, [], ◌∷◌, ◌++◌, Option, Some, None, max, refl, sym, ◌∙◌, ap, arith, cond, ltb, eqb, ◌&&◌, ⊎_elim}
+use Rattle.std.proofs.Common.{◌≡◌, ℕ, ◌<◌, ◌≤◌, Bool, true, false, [], ◌∷◌, Option, Some, None, max, refl, ap, arith, cond, ltb, eqb, ◌&&◌, ⊎_elim}
 use Rattle.std.proofs.lemmas.Bool.{cases_lt, lt-ltb, le-ltb}
-use Rattle.mencius_base.specs.declared.message.Message.{Message}
-use Rattle.mencius_base.specs.declared.message.Value.{Value}
-use Rattle.mencius_base.specs.declared.message.Vote.{Vote}
 use Rattle.mencius_base.specs.declared.message.Message.TheVariants.{Suggest, Skip, Accepted, Prepare, Promise, Propose, Learn}
-use Rattle.mencius_base.specs.History.{Line, Submitted, Heard, Lost, Suspected, Retried, Done, Sent, Learned, History, earlier, greatest, oldest, heard, sent}
-use Rattle.coord_paxos.specs.Instance.{promised_by, promised, proposed_by, proposed, accepted_by, accepted, greater, vote_at, vote_of, vote, learned_by, learned, tried_by, trying}
+use Rattle.mencius_base.specs.History.{Line, Submitted, Heard, Lost, Suspected, Retried, Done, Sent, Learned, History, earlier, greatest, oldest}
+use Rattle.coord_paxos.specs.Instance.{promised_by, promised, proposed, accepted_by, accepted, greater, vote_at, vote_of, vote}
 
 pub max-zero : (n : ℕ) → max n 0 ≡ n
 max-zero n = omega arith

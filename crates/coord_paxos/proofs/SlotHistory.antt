@@ -1,14 +1,14 @@
 -- How each line of a history changes a slot.
-use Rattle.std.proofs.Common.{◌≡◌, ℕ, ◌+◌, ◌<◌, ◌≤◌, Bool, true, false, List, [], ◌∷◌, ◌++◌, Option, Some, None, max, map, refl, sym, ◌∙◌, ap, arith, cond, ltb, eqb, ◌&&◌, ◌||◌, ⊎_elim}
+use Rattle.std.proofs.Common.{◌≡◌, ℕ, ◌<◌, ◌≤◌, Bool, true, false, List, ◌∷◌, Option, Some, None, max, map, refl, sym, ◌∙◌, ap, arith, eqb, ◌&&◌}
 use Rattle.std.specs.List.{list_any}
 use Rattle.mencius_base.specs.declared.message.Message.{Message}
-use Rattle.mencius_base.specs.declared.message.Message.TheVariants.{Suggest, Skip, Accepted, Prepare, Promise, Propose, Learn}
+use Rattle.mencius_base.specs.declared.message.Message.TheVariants.{Suggest, Skip, Accepted, Promise, Propose, Learn}
 use Rattle.mencius_base.specs.declared.message.Value.{Value}
 use Rattle.mencius_base.specs.declared.message.Value.TheVariants.{Ticket}
 use Rattle.mencius_base.specs.declared.message.Vote.{Vote}
 use Rattle.mencius_base.specs.Members.{Membership, below, owner}
-use Rattle.mencius_base.specs.History.{Line, Submitted, Heard, Lost, Suspected, Retried, Done, Sent, Learned, History, earlier, greatest, oldest, heard, sent}
-use Rattle.coord_paxos.specs.Instance.{promised_by, promised, proposed_by, proposed, accepted_by, accepted, greater, vote_at, vote_of, vote, learned_by, learned, tried_by, trying, reported, promisers, accepters, is_promise, is_acceptance, highest_vote, vote_reported}
+use Rattle.mencius_base.specs.History.{Line, Heard, Sent, Learned, History, earlier, heard, sent}
+use Rattle.coord_paxos.specs.Instance.{promised_by, promised, proposed_by, proposed, accepted_by, accepted, greater, vote_at, vote_of, learned_by, learned, tried_by, trying, reported, promisers, accepters, is_promise, is_acceptance, highest_vote, vote_reported}
 use Rattle.coord_paxos.proofs.Lines.{max-zero, earlier-none, greater-none, greatest_quiet, oldest_quiet, oldest_stays, vote_of_same, accepted_small, greater_above}
 use Rattle.std.proofs.lemmas.Bool.{eq-eqb, ne_eqb, lt-ltb}
 use Rattle.std.specs.Prelude.{slice_get}
@@ -16,6 +16,7 @@ use Rattle.coord_paxos.specs.Slot.{with_accept, with_promise}
 use Rattle.coord_paxos.proofs.Tally.{heard_more, or-true, tally_quiet, tally_more, votes_quiet, votes_more}
 use Rattle.coord_paxos.specs.SlotState.{SlotState}
 use Rattle.coord_paxos.specs.Reached.{if_own, slot_at}
+pub use Rattle.coord_paxos.specs.Reached.{IsVoted}
 
 -- a line that says nothing of p's slot for i
 pub record IsQuiet (p i : ℕ) (l : Line) : Type 0 where
@@ -45,26 +46,39 @@ slot_hearing m w p i hs = record (slot_at m w p i) {
   accepters = map (λ (q : ℕ). list_any (is_acceptance i (trying w p i) q) hs) (below m.count);
 }
 
--- a quiet line changes at most what was heard
-pub slot_at-unsaid : (m : Membership) (w : History) (l : Line) (p i : ℕ) → IsQuiet p i l → slot_at m (l ∷ w) p i ≡ slot_hearing m w p i (heard (l ∷ w) p)
-slot_at-unsaid m w l p i quiet =
-    let tried : trying (l ∷ w) p i ≡ trying w p i = greatest_quiet (tried_by p i) l w quiet.tried in
-    let proposals : (b : ℕ) → proposed (l ∷ w) i b ≡ proposed w i b = λ b. oldest_quiet (proposed_by i b) l w (quiet.proposed b) in
-    let acceptance : accepted (l ∷ w) p i ≡ accepted w p i = rw quiet.accepted (greater-none (accepted w p i)) in
-    same_slot _ _ refl
-    (greatest_quiet (promised_by p i) l w quiet.promised)
-    (ap (vote_of (l ∷ w) i) acceptance ∙ vote_of_same (l ∷ w) w i (accepted w p i) proposals)
-    (oldest_quiet (learned_by p i) l w quiet.learned)
+-- a line that proposes nothing and tries nothing
+slot_at-saying : (m : Membership) (w : History) (l : Line) (p i : ℕ) → ((b : ℕ) → proposed_by i b l ≡ None) → tried_by p i l ≡ 0
+    → slot_at m (l ∷ w) p i ≡ record (slot_hearing m w p i (heard (l ∷ w) p)) {
+      promised = max (promised w p i) (promised_by p i l);
+      vote = vote_of w i (greater (accepted w p i) (accepted_by p i l));
+      learned = earlier (learned w p i) (learned_by p i l);
+    }
+slot_at-saying m w l p i unproposed untried =
+    let tried : trying (l ∷ w) p i ≡ trying w p i = greatest_quiet (tried_by p i) l w untried in
+    let proposals : (b : ℕ) → proposed (l ∷ w) i b ≡ proposed w i b = λ b. oldest_quiet (proposed_by i b) l w (unproposed b) in
+    same_slot _ _ refl refl
+    (vote_of_same (l ∷ w) w i (greater (accepted w p i) (accepted_by p i l)) proposals)
+    refl
     tried
     (ap (reported (l ∷ w) p i) tried)
     (ap (λ (b : ℕ). if_own m p i b (proposed (l ∷ w) i b)) tried ∙ ap (if_own m p i (trying w p i)) (proposals (trying w p i)))
     (ap (λ (b : ℕ). map (promisers (l ∷ w) p i b) (below m.count)) tried)
     (ap (λ (b : ℕ). map (accepters (l ∷ w) p i b) (below m.count)) tried)
 
+-- a quiet line changes at most what was heard
+pub slot_at-unsaid : (m : Membership) (w : History) (l : Line) (p i : ℕ) → IsQuiet p i l → slot_at m (l ∷ w) p i ≡ slot_hearing m w p i (heard (l ∷ w) p)
+slot_at-unsaid m w l p i quiet =
+    slot_at-saying m w l p i quiet.proposed quiet.tried
+    ∙ same_slot _ _ refl
+    (ap (max (promised w p i)) quiet.promised ∙ max-zero (promised w p i))
+    (ap (λ (o : Option ℕ). vote_of w i (greater (accepted w p i) o)) quiet.accepted ∙ ap (vote_of w i) (greater-none (accepted w p i)))
+    (ap (earlier (learned w p i)) quiet.learned ∙ earlier-none (learned w p i))
+    refl refl refl refl refl
+
 pub slot_at-quiet : (m : Membership) (w : History) (l : Line) (p i : ℕ) → IsQuiet p i l → heard (l ∷ w) p ≡ heard w p → slot_at m (l ∷ w) p i ≡ slot_at m w p i
 slot_at-quiet m w l p i quiet deaf = slot_at-unsaid m w l p i quiet ∙ ap (slot_hearing m w p i) deaf
 
-quiet_heard : (k p i : ℕ) → IsQuiet p i (Heard k p)
+pub quiet_heard : (k p i : ℕ) → IsQuiet p i (Heard k p)
 quiet_heard k p i = record { promised = refl; proposed = λ b. refl; accepted = refl; learned = refl; tried = refl }
 
 -- a message that counts in no tally of the ballot that p tries at i
@@ -113,24 +127,15 @@ pub slot_at-accepted : (m : Membership) (w : History) (p q i b : ℕ) (v : Value
     → slot_at m (Sent (Accepted p q i b) ∷ w) p i ≡ record (slot_at m w p i) { promised = b; vote = Some (record { ballot = b; value = v }) }
 slot_at-accepted m w p q i b v high said =
     let l : Line = Sent (Accepted p q i b) in
-    let tried : trying (l ∷ w) p i ≡ trying w p i = greatest_quiet (tried_by p i) l w refl in
-    let proposals : (c : ℕ) → proposed (l ∷ w) i c ≡ proposed w i c = λ c. oldest_quiet (proposed_by i c) l w refl in
     let by : accepted_by p i l ≡ Some b = rw (eq-eqb p p refl, eq-eqb i i refl) in
     let acceptance : accepted (l ∷ w) p i ≡ Some b = rw by (greater_above (accepted w p i) (promised w p i) b (accepted_small w p i) high) in
     let promise : promised_by p i l ≡ b = rw (eq-eqb p p refl, eq-eqb i i refl) in
-    same_slot _ _ refl
+    slot_at-saying m w l p i (λ c. refl) refl
+    ∙ same_slot _ _ refl
     (rw promise (omega arith))
-    (ap (vote_of (l ∷ w) i) acceptance ∙ ap (vote_at b) (proposals b ∙ said))
-    (oldest_quiet (learned_by p i) l w refl)
-    tried
-    (ap (reported (l ∷ w) p i) tried)
-    (ap (λ (c : ℕ). if_own m p i c (proposed (l ∷ w) i c)) tried ∙ ap (if_own m p i (trying w p i)) (proposals (trying w p i)))
-    (ap (λ (c : ℕ). map (promisers (l ∷ w) p i c) (below m.count)) tried)
-    (ap (λ (c : ℕ). map (accepters (l ∷ w) p i c) (below m.count)) tried)
-
--- p's vote has a proposal
-pub record IsVoted (w : History) (p i : ℕ) : Type 0 where
-  pub proposal : (b : ℕ) → accepted w p i ≡ Some b → (v : Value) × (proposed w i b ≡ Some v)
+    (ap (vote_of w i) acceptance ∙ ap (vote_at b) said)
+    (earlier-none (learned w p i))
+    refl refl refl refl refl
 
 vote_stays : (w : History) (l : Line) (i : ℕ) (o : Option ℕ) → ((b : ℕ) → o ≡ Some b → (v : Value) × (proposed w i b ≡ Some v)) → vote_of (l ∷ w) i o ≡ vote_of w i o
 vote_stays w l i None said = refl
@@ -178,37 +183,33 @@ pub slot_at-promised : (m : Membership) (w : History) (p q i b : ℕ) (v : Optio
     → slot_at m (Sent (Promise p q i b v) ∷ w) p i ≡ record (slot_at m w p i) { promised = b }
 slot_at-promised m w p q i b v high =
     let l : Line = Sent (Promise p q i b v) in
-    let tried : trying (l ∷ w) p i ≡ trying w p i = greatest_quiet (tried_by p i) l w refl in
-    let proposals : (c : ℕ) → proposed (l ∷ w) i c ≡ proposed w i c = λ c. oldest_quiet (proposed_by i c) l w refl in
-    let acceptance : accepted (l ∷ w) p i ≡ accepted w p i = greater-none (accepted w p i) in
     let promise : promised_by p i l ≡ b = rw (eq-eqb p p refl, eq-eqb i i refl) in
-    same_slot _ _ refl
+    slot_at-saying m w l p i (λ c. refl) refl
+    ∙ same_slot _ _ refl
     (rw promise (omega arith))
-    (ap (vote_of (l ∷ w) i) acceptance ∙ vote_of_same (l ∷ w) w i (accepted w p i) proposals)
-    (oldest_quiet (learned_by p i) l w refl)
-    tried
-    (ap (reported (l ∷ w) p i) tried)
-    (ap (λ (c : ℕ). if_own m p i c (proposed (l ∷ w) i c)) tried ∙ ap (if_own m p i (trying w p i)) (proposals (trying w p i)))
-    (ap (λ (c : ℕ). map (promisers (l ∷ w) p i c) (below m.count)) tried)
-    (ap (λ (c : ℕ). map (accepters (l ∷ w) p i c) (below m.count)) tried)
+    (ap (vote_of w i) (greater-none (accepted w p i)))
+    (earlier-none (learned w p i))
+    refl refl refl refl refl
+
+-- p says that it learned a value, whatever it had learned
+pub slot_at-learning : (m : Membership) (w : History) (p i : ℕ) (v : Value)
+    → slot_at m (Learned p i v ∷ w) p i ≡ record (slot_at m w p i) { learned = earlier (learned w p i) (Some v) }
+slot_at-learning m w p i v =
+    let l : Line = Learned p i v in
+    let by : learned_by p i l ≡ Some v = rw (eq-eqb p p refl, eq-eqb i i refl) in
+    slot_at-saying m w l p i (λ c. refl) refl
+    ∙ same_slot _ _ refl
+    (max-zero (promised w p i))
+    (ap (vote_of w i) (greater-none (accepted w p i)))
+    (ap (earlier (learned w p i)) by)
+    refl refl refl refl refl
 
 -- p learns a value
 pub slot_at-learned : (m : Membership) (w : History) (p i : ℕ) (v : Value) → learned w p i ≡ None
     → slot_at m (Learned p i v ∷ w) p i ≡ record (slot_at m w p i) { learned = Some v }
 slot_at-learned m w p i v unlearned =
-    let l : Line = Learned p i v in
-    let tried : trying (l ∷ w) p i ≡ trying w p i = greatest_quiet (tried_by p i) l w refl in
-    let proposals : (c : ℕ) → proposed (l ∷ w) i c ≡ proposed w i c = λ c. oldest_quiet (proposed_by i c) l w refl in
-    let acceptance : accepted (l ∷ w) p i ≡ accepted w p i = greater-none (accepted w p i) in
-    same_slot _ _ refl
-    (greatest_quiet (promised_by p i) l w refl)
-    (ap (vote_of (l ∷ w) i) acceptance ∙ vote_of_same (l ∷ w) w i (accepted w p i) proposals)
-    (rw (unlearned, eq-eqb p p refl, eq-eqb i i refl))
-    tried
-    (ap (reported (l ∷ w) p i) tried)
-    (ap (λ (c : ℕ). if_own m p i c (proposed (l ∷ w) i c)) tried ∙ ap (if_own m p i (trying w p i)) (proposals (trying w p i)))
-    (ap (λ (c : ℕ). map (promisers (l ∷ w) p i c) (below m.count)) tried)
-    (ap (λ (c : ℕ). map (accepters (l ∷ w) p i c) (below m.count)) tried)
+    slot_at-learning m w p i v
+    ∙ ap (λ (o : Option Value). record (slot_at m w p i) { learned = earlier o (Some v) }) unlearned
 
 -- what p says of one instance is quiet for another
 both-false : (t : Bool) → (t && false) ≡ false
@@ -245,21 +246,3 @@ quiet_skip p q f s j = record { promised = refl; proposed = λ c. refl; accepted
 
 pub quiet_learn : (p q i j : ℕ) (v : Value) → IsQuiet p j (Sent (Learn q i v))
 quiet_learn p q i j v = record { promised = refl; proposed = λ c. refl; accepted = refl; learned = refl; tried = refl }
-
--- p says that it learned a value, whatever it had learned
-pub slot_at-learning : (m : Membership) (w : History) (p i : ℕ) (v : Value)
-    → slot_at m (Learned p i v ∷ w) p i ≡ record (slot_at m w p i) { learned = earlier (learned w p i) (Some v) }
-slot_at-learning m w p i v =
-    let l : Line = Learned p i v in
-    let tried : trying (l ∷ w) p i ≡ trying w p i = greatest_quiet (tried_by p i) l w refl in
-    let proposals : (c : ℕ) → proposed (l ∷ w) i c ≡ proposed w i c = λ c. oldest_quiet (proposed_by i c) l w refl in
-    let acceptance : accepted (l ∷ w) p i ≡ accepted w p i = greater-none (accepted w p i) in
-    same_slot _ _ refl
-    (greatest_quiet (promised_by p i) l w refl)
-    (ap (vote_of (l ∷ w) i) acceptance ∙ vote_of_same (l ∷ w) w i (accepted w p i) proposals)
-    (rw (eq-eqb p p refl, eq-eqb i i refl))
-    tried
-    (ap (reported (l ∷ w) p i) tried)
-    (ap (λ (c : ℕ). if_own m p i c (proposed (l ∷ w) i c)) tried ∙ ap (if_own m p i (trying w p i)) (proposals (trying w p i)))
-    (ap (λ (c : ℕ). map (promisers (l ∷ w) p i c) (below m.count)) tried)
-    (ap (λ (c : ℕ). map (accepters (l ∷ w) p i c) (below m.count)) tried)

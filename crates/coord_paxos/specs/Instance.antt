@@ -1,13 +1,13 @@
 -- What a server knows of one instance, asked of the history.
-use Rattle.std.specs.Prelude.{ℕ, Bool, true, false, List, [], ◌∷◌, Option, Some, None, ◌==◌, nat_lt, if◌then◌else◌, ◌&&◌, is_none, is_some, map, nat_le}
+use Rattle.std.specs.Prelude.{ℕ, Bool, false, List, [], ◌∷◌, Option, Some, None, ◌==◌, nat_lt, if◌then◌else◌, ◌&&◌, map, nat_le}
 use Rattle.std.specs.List.{list_any, fold, count_by}
 use Rattle.mencius_base.specs.declared.message.Message.{Message}
-use Rattle.mencius_base.specs.declared.message.Message.TheVariants.{Suggest, Skip, Accepted, Prepare, Promise, Propose, Learn}
+use Rattle.mencius_base.specs.declared.message.Message.TheVariants.{Suggest, Accepted, Prepare, Promise, Propose}
 use Rattle.mencius_base.specs.declared.message.Value.{Value}
 use Rattle.mencius_base.specs.declared.message.Value.TheVariants.{Noop, Ticket}
 use Rattle.mencius_base.specs.declared.message.Vote.{Vote}
 use Rattle.mencius_base.specs.Members.{Membership, majority, below}
-use Rattle.mencius_base.specs.History.{Line, Submitted, Heard, Lost, Suspected, Retried, Done, Sent, Learned, History, greatest, oldest, heard, sent}
+use Rattle.mencius_base.specs.History.{Line, Sent, Learned, History, greatest, oldest, heard, sent}
 
 -- the ballot that a line commits server p to at instance i
 abbrev pub promised_by : ℕ → ℕ → Line → ℕ

@@ -3,3 +3,5 @@ pub mod SlotState
 pub mod Fresh
 pub mod Slot
 pub mod Reached
+pub mod Laws
+pub mod CallLaws

@@ -1,8 +1,7 @@
 -- One server's part in one instance, and what each call makes of it.
-use Rattle.std.specs.Prelude.{ℕ, ◌+◌, ◌/◌, Bool, true, false, List, [], ◌∷◌, Option, Some, None, ◌==◌, nat_lt, nat_le, if◌then◌else◌, ◌&&◌, is_none, is_some, length, replicate, slice_set}
+use Rattle.std.specs.Prelude.{ℕ, Bool, true, List, Option, Some, None, ◌==◌, nat_lt, nat_le, if◌then◌else◌, ◌&&◌, is_none, slice_set}
 use Rattle.std.specs.List.{count_by}
 use Rattle.mencius_base.specs.declared.message.Value.{Value}
-use Rattle.mencius_base.specs.declared.message.Value.TheVariants.{Noop, Ticket}
 use Rattle.mencius_base.specs.declared.message.Vote.{Vote}
 use Rattle.mencius_base.specs.Members.{Membership, majority}
 use Rattle.coord_paxos.specs.Instance.{higher_vote}

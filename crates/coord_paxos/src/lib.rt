@@ -1,4 +1,10 @@
-//! One server's part in one instance of Coordinated Paxos.
+//! One server's part in one instance of Coordinated Paxos: consensus where one server, the
+//! instance's owner, may propose a command without asking first, and every other server may only
+//! propose no-op, or what an earlier ballot may have chosen already (Mao, Junqueira and Marzullo,
+//! "Mencius", OSDI 2008, section 4).
+//!
+//! A [`Slot`] sends nothing and hears nothing. Its caller hands in what a message says and sends
+//! what the answer calls for. No call takes memory, and no call fails.
 #![tactic(auto)]
 
 ghost use Rattle.std.specs.Prelude.{◌≡◌, ◌<◌, ◌≤◌, ◌==◌, Some, None, is_none, nat_le};
@@ -10,15 +16,31 @@ ghost use Rattle.mencius_base.specs.declared.message.Value.TheVariants.{Ticket};
 use mencius_base::{Ballot, Members, Value, Vote};
 use std::marker::Model;
 
+pub mod laws;
+#[cfg(test)]
+mod tests;
+
 /// What an acceptor answers to a Prepare.
 #[derive(Clone, Copy, Debug, PartialEq, Eq)]
 pub enum Answer {
+    /// It will accept nothing below the ballot from now on, and reports what it accepted last.
     Promise(Option<Vote>),
+    /// It has learned the instance's value already, and no ballot is needed any more.
     Known(Value),
+    /// It promised this ballot or a greater one before, and says nothing.
     Silent,
 }
 
-/// What one server knows of one instance.
+// One truth value for each of the at most seven servers; places past the last server stay false.
+type Tally = [bool; 7];
+
+/// What one server knows of one instance, as acceptor, as proposer and as learner.
+///
+/// As acceptor: the greatest ballot that it promised or accepted, and its vote, which is what it
+/// accepted last. As proposer: the greatest ballot that it tries, and for that ballot alone the
+/// greatest vote reported to it, the value that it proposed, and who promised and who accepted. As
+/// learner: the value that it learned. It belongs to one server and one instance, and keeps the
+/// number of neither.
 #[derive(Drop)]
 pub struct Slot {
     members: Members,
@@ -28,8 +50,8 @@ pub struct Slot {
     trying: Ballot,
     reported: Option<Vote>,
     proposal: Option<Value>,
-    promisers: [bool; 7],
-    accepters: [bool; 7],
+    promisers: Tally,
+    accepters: Tally,
 }
 
 impl Model for Slot {
@@ -52,10 +74,12 @@ impl Model for Slot {
 }
 
 impl Slot {
-    /// A slot to which nothing happened.
+    /// The slot of an instance of which nothing was heard: nothing is promised, accepted, tried or
+    /// learned, and both tallies are empty.
     pub fn new(members: Members) -> Slot
         ensures { result ≡ new_slot members }
     {
+        // Read for its range: at most seven.
         let _few = members.count();
         Slot {
             members,
@@ -70,7 +94,8 @@ impl Slot {
         }
     }
 
-    /// Another slot that knows the same.
+    /// Another slot that knows the same, to try calls on before they are made for good. It stands
+    /// in for `clone`, whose trait lets a copy be refused for want of memory; this one never is.
     pub fn duplicate(&self) -> Slot
         ensures { result ≡ self.now }
     {
@@ -87,55 +112,58 @@ impl Slot {
         }
     }
 
-    /// The greatest ballot promised or accepted.
+    /// The greatest ballot promised or accepted here, `Ballot::OWNER` at the start. It only grows.
     pub fn promised(&self) -> Ballot
         ensures { result ≡ self.now.promised }
     {
         self.promised
     }
 
-    /// What was accepted last.
+    /// What was accepted here last, with its ballot: what a promise reports.
     pub fn vote(&self) -> Option<Vote>
         ensures { result ≡ self.now.vote }
     {
         self.vote
     }
 
+    /// The value that the instance decided, once it is known here. It never changes again.
     pub fn learned(&self) -> Option<Value>
         ensures { result ≡ self.now.learned }
     {
         self.learned
     }
 
-    /// The greatest ballot tried.
+    /// The greatest ballot that this server tries here, `Ballot::OWNER` until it starts a first
+    /// phase. Promises and acceptances count at this ballot alone.
     pub fn trying(&self) -> Ballot
         ensures { result ≡ self.now.trying }
     {
         self.trying
     }
 
-    /// What was proposed at the ballot that is tried.
+    /// What this server itself proposed at the ballot that it tries.
     pub fn proposal(&self) -> Option<Value>
         ensures { result ≡ self.now.proposal }
     {
         self.proposal
     }
 
-    /// Who promised the ballot that is tried.
+    /// Of whose promises of the ballot tried this server heard: one truth value for each server.
     pub fn promises(&self) -> &[bool]
         ensures { result.now ≡ self.now.promisers }
     {
         &self.promisers[..self.members.count() as usize]
     }
 
-    /// Who accepted at the ballot that is tried.
+    /// Of whose acceptances at the ballot tried this server heard: one truth value for each server.
     pub fn accepts(&self) -> &[bool]
         ensures { result.now ≡ self.now.accepters }
     {
         &self.accepters[..self.members.count() as usize]
     }
 
-    /// The owner's proposal.
+    /// Notes the owner's own proposal at ballot 0, which needs no first phase. Only the instance's
+    /// owner calls it, at most once, and never after `begin`.
     pub fn suggest(&mut self, ticket: u32)
         requires unsaid { self.old.proposal ≡ None }
         requires own { self.old.trying ≡ 0 }
@@ -144,6 +172,8 @@ impl Slot {
         self.proposal = Some(Value::Ticket(ticket));
     }
 
+    /// Answers a Prepare. A ballot above every one promised or accepted here is promised, unless
+    /// the value is known already; a ballot is never promised twice.
     pub fn prepare(&mut self, ballot: Ballot) -> Answer
         ensures answer { result ≡ prepare_answer self.old ballot }
         ensures after { self.new ≡ after_prepare self.old ballot }
@@ -151,18 +181,20 @@ impl Slot {
         if let Some(value) = self.learned {
             return Answer::Known(value);
         }
-        if ballot.number() <= self.promised.number() {
+        if ballot <= self.promised {
             return Answer::Silent;
         }
         self.promised = ballot;
         Answer::Promise(self.vote)
     }
 
+    /// Accepts a proposal, unless its ballot is below the one promised: whether it did. The same
+    /// proposal is accepted again as often as it comes, also where a value is learned.
     pub fn accept(&mut self, ballot: Ballot, value: Value) -> bool
         ensures answer { result ≡ nat_le self.old.promised ballot }
         ensures after { self.new ≡ after_accept self.old ballot value }
     {
-        if ballot.number() < self.promised.number() {
+        if ballot < self.promised {
             return false;
         }
         self.promised = ballot;
@@ -170,11 +202,13 @@ impl Slot {
         true
     }
 
-    /// Starts a first phase.
+    /// Starts the first phase of a ballot above all that were tried here. What was reported,
+    /// proposed and counted for the ballot before is forgotten.
     pub fn begin(&mut self, ballot: Ballot)
         requires { self.old.trying < ballot }
         ensures { self.new ≡ after_begin self.old ballot }
     {
+        // Read for its range: at most seven.
         let _few = self.members.count();
         self.trying = ballot;
         self.reported = None;
@@ -183,6 +217,7 @@ impl Slot {
         self.accepters = [false; 7];
     }
 
+    /// Learns the instance's value where none was learned: whether it did. The first value stays.
     pub fn learn(&mut self, value: Value) -> bool
         ensures answer { result ≡ is_none self.old.learned }
         ensures after { self.new ≡ after_learn self.old value }
@@ -194,14 +229,17 @@ impl Slot {
         true
     }
 
-    /// Counts a promise. A majority gives the value to propose, at most once a ballot.
+    /// Counts a server's promise and the vote that it reports, if it is of the ballot tried; any
+    /// other promise is ignored. Gives the value to propose once a majority of servers promised:
+    /// that of the greatest ballot reported, the first of equal ones, and no-op where no vote was
+    /// reported. It gives one at most once a ballot, and none where a value is learned.
     pub fn add_promise(&mut self, from: u8, ballot: Ballot, vote: Option<Vote>) -> Option<Value>
         requires tried { 0 < ballot }
         requires member { from < self.old.members.count }
         ensures answer { result ≡ promise_answer self.old from ballot vote }
         ensures after { self.new ≡ after_promise self.old from ballot vote }
     {
-        if ballot.number() != self.trying.number() {
+        if ballot != self.trying {
             return None;
         }
         self.note_promise(from, vote);
@@ -212,13 +250,15 @@ impl Slot {
         value
     }
 
-    /// Counts an acceptance. A majority gives the value that is learned, at most once.
+    /// Counts a server's acceptance, if it is at the ballot tried; any other is ignored. Gives the
+    /// value that is thereby learned, once a majority of servers accepted: what this server
+    /// proposed at that ballot. It gives one at most once, and none where a value is learned.
     pub fn add_accept(&mut self, from: u8, ballot: Ballot) -> Option<Value>
         requires { from < self.old.members.count }
         ensures answer { result ≡ accept_answer self.old from ballot }
         ensures after { self.new ≡ after_acceptance self.old from ballot }
     {
-        if ballot.number() != self.trying.number() {
+        if ballot != self.trying {
             return None;
         }
         self.note_accept(from);
@@ -280,7 +320,7 @@ fn higher(first: Option<Vote>, second: Option<Vote>) -> Option<Vote>
         (None, second) => second,
         (Some(first), None) => Some(first),
         (Some(first), Some(second)) => {
-            if first.ballot.number() < second.ballot.number() {
+            if first.ballot < second.ballot {
                 Some(second)
             } else {
                 Some(first)

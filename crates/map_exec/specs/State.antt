@@ -1,19 +1,20 @@
--- What contracts see of an executor.
+-- What contracts see of an executor: its map, and the tickets of what it executed.
 use Rattle.std.specs.Prelude.{ℕ, List, [], ◌∷◌, ◌++◌, refl}
 use Rattle.std.specs.Coded.{Coded, code_by, coded×, coded_list, coded_ℕ}
 use Rattle.std.specs.FinMap as finite
 use Rattle.mencius_base.specs.declared.command.Command.{Command}
 use Rattle.map_exec.specs.Store.{Store, apply}
 
--- its map, and the tickets that it after_execution
 pub record ExecutorState : Type 0 where
   pub store : Store
   pub history : List ℕ
 
+-- an executor is stored as the pair of its map and its history
 abbrev pub executor_code : Coded ExecutorState
 executor_code =
     code_by (Store × List ℕ) (coded× (finite.code (coded_list coded_ℕ) (coded_list coded_ℕ)) (coded_list coded_ℕ))
     (λ x. (x.store, x.history)) (λ p. record { store = p.0; history = p.1 }) (λ _. refl)
 
+-- the executor after one more command, with its ticket
 abbrev pub after_execution : ExecutorState → Command → ℕ → ExecutorState
 after_execution x c t = record { store = apply x.store c.op; history = x.history ++ t ∷ [] }

@@ -5,7 +5,8 @@ use crate::members::Members;
 use std::marker::Model;
 
 /// The number of an attempt at an instance. Ballot 0 is the owner's own and needs no first phase;
-/// every other ballot is `round * n + server` with a round of 1 to 65,535 (OSDI 2008, section 4.1).
+/// every other ballot is `round * n + server` with a round of 1 to 65,535. (That the coordinator starts
+/// with the least ballot is Coordinated Paxos, OSDI 2008; how the others are numbered is our choice.)
 #[derive(Clone, Copy, Debug, PartialEq, Eq, PartialOrd, Ord)]
 pub struct Ballot {
     number: u32,

@@ -15,9 +15,9 @@ pub struct CommandId {
 }
 
 /// The key of a map's entry, as its bytes. Whether they make a good key is for [`Command::new`].
-#[derive(Debug, Drop)]
+#[derive(Clone, Debug, Drop)]
 pub struct Key {
-    text: String,
+    name: String,
 }
 
 impl Model for Key {
@@ -26,35 +26,35 @@ impl Model for Key {
 
     ghost Value = { List ℕ };
 
-    ghost view = { λ k. string_bytes k.text };
+    ghost view = { λ k. string_bytes k.name };
 }
 
 impl Key {
     /// A key of this text, which it takes as it is.
-    pub fn new(text: String) -> Key
-        ensures { result ≡ string_bytes text }
+    pub fn new(name: String) -> Key
+        ensures { result ≡ string_bytes name }
     {
-        Key { text }
+        Key { name }
     }
 
     /// The text of the key.
     pub fn as_str(&self) -> &str
         ensures { result.now ≡ self.now }
     {
-        self.text.as_str()
+        self.name.as_str()
     }
 
     /// The text that the key was made of.
     pub fn into_string(self) -> String
         ensures { string_bytes result ≡ self }
     {
-        let Key { text } = self;
-        text
+        let Key { name } = self;
+        name
     }
 }
 
 /// The text of a map's entry, as its bytes. Whether they make a good text is for [`Command::new`].
-#[derive(Debug, Drop)]
+#[derive(Clone, Debug, Drop)]
 pub struct Text {
     text: String,
 }
@@ -93,7 +93,7 @@ impl Text {
 }
 
 /// What a command does to the map.
-#[derive(Debug, Drop)]
+#[derive(Clone, Debug, Drop)]
 pub enum Op {
     /// Binds the key to the text. The reply is the former text of the key.
     Set { key: Key, text: Text },
@@ -118,7 +118,7 @@ pub enum BadCommand {
 
 /// What a client asks for, once. Its key has 1 to 64 bytes and its text at most 256, each an ASCII
 /// letter, a digit, `_`, `-` or `.`.
-#[derive(Debug, Drop)]
+#[derive(Clone, Debug, Drop)]
 pub struct Command {
     id: CommandId,
     op: Op,

@@ -3,8 +3,8 @@ ghost use Rattle.mencius_base.specs.Members.{first_owned, majority, owner};
 
 use std::marker::Model;
 
-/// The servers of a cluster, numbered from 0. They own the instances in turn (Mao, Junqueira and
-/// Marzullo, OSDI 2008, section 4.2: instances are assigned round-robin).
+/// The servers of a cluster, numbered from 0. They own the instances in turn, round-robin, as in
+/// Mencius (Mao, Junqueira and Marzullo, OSDI 2008).
 #[derive(Clone, Copy, Debug, PartialEq, Eq)]
 pub struct Members {
     count: u8,

@@ -3,10 +3,12 @@ ghost use Rattle.std.specs.Prelude.{◌≡◌};
 use crate::ballot::Ballot;
 use crate::members::Members;
 
-/// What an instance may decide: nothing, or a command by its ticket.
+/// What an instance may decide: nothing, or a command.
 #[derive(Clone, Copy, Debug, PartialEq, Eq)]
 pub enum Value {
+    /// No command: the instance is passed over.
     Noop,
+    /// The command of this ticket, which is its place among all submitted commands, from 0.
     Ticket(u32),
 }
 
@@ -17,30 +19,37 @@ pub struct Vote {
     pub value: Value,
 }
 
-/// What a server sends. It is numbered in order of sending.
+/// What a server sends. Messages are numbered from 0 in order of sending. Accepted and Promise go to
+/// one server, all others to every server, the sender too (OSDI 2008, Coordinated Paxos, with its
+/// actions suggest, skip and revoke).
 #[derive(Clone, Copy, Debug, PartialEq, Eq)]
 pub enum Message {
+    /// The owner of an instance proposes a command there, at its own ballot.
     Suggest {
         from: u8,
         inst: u32,
         ticket: u32,
     },
+    /// A server gives up its own instances from `first` up to `stop`, without `stop`.
     Skip {
         from: u8,
         first: u32,
         stop: u32,
     },
+    /// A server accepted what was proposed at a ballot.
     Accepted {
         from: u8,
         to: u8,
         inst: u32,
         ballot: Ballot,
     },
+    /// A server begins a first phase: it asks for promises and for former votes.
     Prepare {
         from: u8,
         inst: u32,
         ballot: Ballot,
     },
+    /// A server promises to accept nothing below a ballot, and tells its vote.
     Promise {
         from: u8,
         to: u8,
@@ -48,12 +57,14 @@ pub enum Message {
         ballot: Ballot,
         vote: Option<Vote>,
     },
+    /// The leader of a ballot proposes a value there.
     Propose {
         from: u8,
         inst: u32,
         ballot: Ballot,
         value: Value,
     },
+    /// A server tells what an instance decided.
     Learn {
         from: u8,
         inst: u32,

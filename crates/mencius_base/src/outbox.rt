@@ -7,7 +7,8 @@ use crate::refusal::Refusal;
 use std::alloc::Global;
 use std::marker::Model;
 
-/// A list of messages with a greatest length.
+/// Messages that were sent, in order, up to a greatest number. Room for more is reserved before it is
+/// used, so that a caller which reserved it can no longer fail.
 #[derive(Drop)]
 pub struct Outbox {
     messages: Vec<Message>,
@@ -27,7 +28,7 @@ impl Model for Outbox {
 }
 
 impl Outbox {
-    /// An empty list.
+    /// No messages yet, and at most `limit` ever. It takes no memory.
     pub fn new(alloc: Global, limit: u32) -> Outbox
         ensures messages { result.messages ≡ [] }
         ensures limit { result.limit ≡ limit }
@@ -39,12 +40,14 @@ impl Outbox {
         }
     }
 
+    /// The messages, the oldest first.
     pub fn messages(&self) -> &[Message]
         ensures { result.now ≡ self.now.messages }
     {
         self.messages.as_slice()
     }
 
+    /// How many messages there are.
     pub fn len(&self) -> u32
         ensures count { result ≡ length self.now.messages }
         ensures few { result ≤ self.now.limit }
@@ -54,26 +57,29 @@ impl Outbox {
         self.messages.len() as u32
     }
 
+    /// Whether there are none.
     pub fn is_empty(&self) -> bool
         ensures { result ≡ (length self.now.messages == 0) }
     {
         self.messages.is_empty()
     }
 
+    /// How many messages there may be.
     pub fn limit(&self) -> u32
         ensures { result ≡ self.now.limit }
     {
         self.limit
     }
 
-    /// For how many messages there is room already.
+    /// How many messages can be pushed before room has to be reserved again.
     pub fn room(&self) -> u32
         ensures { result ≡ self.now.room }
     {
         self.messages.capacity().min(self.limit as usize) as u32 - self.messages.len() as u32
     }
 
-    /// Makes room.
+    /// Makes room for `extra` more messages. It is refused with `MessagesFull` where they would pass
+    /// the limit, and else with `NoMemory` alone; the messages stay as they are either way.
     pub fn reserve(&mut self, extra: u32) -> Result<(), Refusal>
         ensures messages { self.new.messages ≡ self.old.messages }
         ensures limit { self.new.limit ≡ self.old.limit }
@@ -90,7 +96,7 @@ impl Outbox {
         }
     }
 
-    /// Adds a message at the end.
+    /// Adds a message at the end. Room for it was reserved before.
     pub fn push(&mut self, message: Message)
         requires { 0 < self.old.room }
         ensures messages { self.new.messages ≡ self.old.messages ++ message ∷ [] }

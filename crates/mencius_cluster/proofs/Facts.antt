@@ -1,20 +1,19 @@
 -- The facts that agreement stands on, of every reached history.
-use Rattle.std.proofs.Common.{◌≡◌, ℕ, ◌<◌, ◌≤◌, true, ◌&&◌, eqb, List, [], ◌∷◌, ◌++◌, inl, inr, refl, sym, ◌∙◌, arith, Option, Some, None, lt-ltb, eqb-true}
-use Rattle.std.proofs.lemmas.Bool.{cases_lt, cases_Bool, and_parts}
+use Rattle.std.proofs.Common.{◌≡◌, ℕ, ◌<◌, ◌≤◌, true, List, [], ◌∷◌, ◌++◌, inl, inr, refl, arith, Option, Some}
 use Rattle.mencius_base.specs.declared.message.Message.TheVariants.{Suggest, Skip, Accepted, Prepare, Promise, Propose}
 use Rattle.mencius_base.specs.declared.message.Value.{Value}
 use Rattle.mencius_base.specs.declared.message.Value.TheVariants.{Noop}
 use Rattle.mencius_base.specs.declared.message.Vote.{Vote}
 use Rattle.mencius_base.specs.Members.{Membership, owner}
-use Rattle.mencius_base.specs.History.{Line, Sent, History, greatest}
-use Rattle.coord_paxos.specs.Instance.{proposed, proposed_by, tried_by}
+use Rattle.mencius_base.specs.History.{Line, Sent, History}
+use Rattle.coord_paxos.specs.Instance.{proposed}
 use Rattle.coord_paxos.specs.Instance.{IsMajority}
 use Rattle.mencius_server.specs.Next.{IsReached}
 use Rattle.mencius_server.specs.Decided.{IsSkipped, IsDecided}
 use Rattle.coord_paxos.specs.Instance.{has_accepted}
 use Rattle.mencius_server.proofs.Lists.{IsIn}
-use Rattle.mencius_server.proofs.Grown.{IsGrown, MayAccept, MayPromise, IsAsked, MayPropose, in_past, right_at}
-use Rattle.mencius_server.proofs.State.{promise_within, oldest_none, same_two}
+use Rattle.mencius_server.proofs.Grown.{IsGrown, MayAccept, IsAsked, MayPropose, in_past, right_at}
+use Rattle.mencius_server.proofs.State.{promise_within}
 use Rattle.mencius_server.proofs.Journals.{reached_grown}
 use Rattle.mencius_server.proofs.Sources.{acceptance_asked, promise_asked, propose_ballot, propose_once}
 use Rattle.mencius_server.proofs.Paxos as paxos

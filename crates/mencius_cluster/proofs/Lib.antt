@@ -6,8 +6,9 @@ pub mod Theorems
 pub mod Facts
 pub mod Later
 pub mod Longest
+pub mod Worked
+pub mod Traces
 pub mod Replying
-pub mod Rows
 pub mod Worlds
 pub mod Journals
 pub mod Told

@@ -1,0 +1,325 @@
+-- The slot after the lines of each call is what the call leaves.
+use Rattle.std.proofs.Common.{◌≡◌, ◌≢◌, ℕ, ◌<◌, ◌≤◌, Bool, true, false, List, [], ◌∷◌, Option, Some, None, map, refl, sym, ◌∙◌, ap, arith, cond, leb, ltb, eqb, ◌&&◌, ◌||◌, ⊎_elim}
+use Rattle.std.specs.Prelude.{Contains, is_none, slice_get}
+use Rattle.std.specs.List.{fold, list_any}
+use Rattle.std.proofs.lemmas.Bool.{cases_lt, eq-eqb, eqb-true, leb-true, lt-ltb, le-ltb, ltb-true, ne_eqb}
+use Rattle.mencius_base.specs.declared.message.Message.{Message}
+use Rattle.mencius_base.specs.declared.message.Message.TheVariants.{Suggest, Skip, Accepted, Prepare, Promise, Propose, Learn}
+use Rattle.mencius_base.specs.declared.message.Value.{Value}
+use Rattle.mencius_base.specs.declared.message.Vote.{Vote}
+use Rattle.mencius_base.specs.Members.{Membership, below, owner}
+use Rattle.mencius_base.specs.History.{Line, Heard, Sent, Learned, History, earlier, followed_by, heard, sent}
+use Rattle.coord_paxos.specs.Instance.{accepted, accepters, greater, higher_vote, highest_vote, is_acceptance, is_promise, learned, promised, promisers, proposed, proposed_by, reported, tried_by, trying, value_or_noop, vote, vote_of, vote_reported}
+use Rattle.coord_paxos.specs.SlotState.{SlotState}
+use Rattle.coord_paxos.specs.Fresh.{new_slot}
+use Rattle.coord_paxos.specs.Slot.{accept_answer, after_accept, after_acceptance, after_begin, after_learn, after_prepare, after_promise, answer_of, is_majority, learning, prepare_answer, promise_answer, proposing, to_learn, to_propose, with_accept, with_promise}
+use Rattle.coord_paxos.specs.Reached.{IsUntried, IsVoted, if_own, slot_at}
+use Rattle.coord_paxos.specs.Laws.{accept_lines, counts, decision_due, decision_lines, prepare_lines, proposal_due, proposal_lines, touches}
+use Rattle.coord_paxos.specs.declared.Answer.TheVariants.{Promise as Promised, Silent}
+use Rattle.coord_paxos.proofs.Below.{count_by-map, map-below_constant, map-below_same}
+use Rattle.coord_paxos.proofs.Lines.{earlier-none, greater-none, max-zero, greatest_quiet, oldest_quiet, vote_of_same}
+use Rattle.coord_paxos.proofs.Reports.{Stands-heard, any_again, higher_vote-stands}
+use Rattle.coord_paxos.proofs.SlotHistory.{IsQuiet, IsUncounted, quiet_heard, quiet_learn, same_slot, slot_at-accepted, slot_at-heard, slot_at-heard_acceptance, slot_at-heard_promise, slot_at-learned, slot_at-learning, slot_at-promised, slot_at-proposed, slot_at-proposing, slot_at-quiet, slot_at-unsaid, slot_hearing}
+use Rattle.coord_paxos.proofs.Tally.{heard_more, or-true, votes_more}
+
+-- ---- nothing
+
+nothing_owned : (c : Bool) → ◌≡◌ {A = Option Value} (cond c None None) None
+nothing_owned true = refl
+nothing_owned false = refl
+
+pub slot_at-empty : (m : Membership) (p i : ℕ) → slot_at m [] p i ≡ new_slot m
+slot_at-empty m p i = same_slot _ _ refl refl refl refl refl refl (nothing_owned _)
+    (sym (map-below_constant _ m.count false (λ q h. refl))) (sym (map-below_constant _ m.count false (λ q h. refl)))
+
+-- ---- prepare
+
+module _ (m : Membership) (w : History) (p q i b : ℕ) where
+  abbrev promised_at : SlotState
+  promised_at = record (slot_at m w p i) { promised = b }
+
+  prepared_unlearned : (c : Bool) → ltb (promised w p i) b ≡ c
+      → slot_at m (followed_by w (prepare_lines p q i b (cond c (Promised (vote w p i)) Silent))) p i ≡ cond c promised_at (slot_at m w p i)
+  prepared_unlearned true above = let over : promised w p i < b = ltb-true _ _ above in slot_at-promised m w p q i b (vote w p i) (omega arith)
+  prepared_unlearned false below = refl
+
+  prepared_knowing : (o : Option Value) → slot_at m (followed_by w (prepare_lines p q i b (answer_of (slot_at m w p i) b o))) p i
+      ≡ cond (is_none o && ltb (promised w p i) b) promised_at (slot_at m w p i)
+  prepared_knowing None = prepared_unlearned (ltb (promised w p i) b) refl
+  prepared_knowing (Some v) = slot_at-quiet m w (Sent (Learn p i v)) p i (quiet_learn p p i i v) refl
+
+  pub prepared : slot_at m (followed_by w (prepare_lines p q i b (prepare_answer (slot_at m w p i) b))) p i ≡ after_prepare (slot_at m w p i) b
+  prepared = prepared_knowing (learned w p i)
+
+-- ---- accept
+
+module _ (m : Membership) (w : History) (p q i b : ℕ) (v : Value) (said : proposed w i b ≡ Some v) where
+  accepted_or_not : (c : Bool) → leb (promised w p i) b ≡ c
+      → slot_at m (followed_by w (accept_lines p q i b c)) p i
+      ≡ cond c (record (slot_at m w p i) { promised = b; vote = Some (record { ballot = b; value = v }) }) (slot_at m w p i)
+  accepted_or_not true high = slot_at-accepted m w p q i b v (leb-true _ _ high) said
+  accepted_or_not false low = refl
+
+  pub accepts : slot_at m (followed_by w (accept_lines p q i b (leb (promised w p i) b))) p i ≡ after_accept (slot_at m w p i) b v
+  accepts = accepted_or_not (leb (promised w p i) b) refl
+
+-- ---- learn
+
+learning_once : (s : SlotState) (v : Value) (o : Option Value) → s.learned ≡ o
+    → record s { learned = earlier o (Some v) } ≡ cond (is_none o) (record s { learned = Some v }) s
+learning_once s v None e = refl
+learning_once s v (Some u) e = ap (λ (o : Option Value). record s { learned = o }) (sym e)
+
+pub learns : (m : Membership) (w : History) (p i : ℕ) (v : Value) → slot_at m (Learned p i v ∷ w) p i ≡ after_learn (slot_at m w p i) v
+learns m w p i v = slot_at-learning m w p i v ∙ learning_once (slot_at m w p i) v (learned w p i) refl
+
+-- ---- begin
+
+-- p's slot for i, were b the ballot that it tries
+abbrev slot_trying : Membership → History → ℕ → ℕ → ℕ → SlotState
+slot_trying m w p i b = record (slot_at m w p i) {
+  trying = b;
+  reported = reported w p i b;
+  proposal = if_own m p i b (proposed w i b);
+  promisers = map (promisers w p i b) (below m.count);
+  accepters = map (accepters w p i b) (below m.count);
+}
+
+slot_at-tried : (m : Membership) (w : History) (p i b : ℕ) → trying w p i < b → slot_at m (Sent (Prepare p i b) ∷ w) p i ≡ slot_trying m w p i b
+slot_at-tried m w p i b above =
+    let l : Line = Sent (Prepare p i b) in
+    let by : tried_by p i l ≡ b = rw (eq-eqb p p refl, eq-eqb i i refl) in
+    let tried : trying (l ∷ w) p i ≡ b = rw by (omega arith) in
+    let proposals : (c : ℕ) → proposed (l ∷ w) i c ≡ proposed w i c = λ c. oldest_quiet (proposed_by i c) l w refl in
+    same_slot _ _ refl
+    (max-zero (promised w p i))
+    (ap (vote_of (l ∷ w) i) (greater-none (accepted w p i)) ∙ vote_of_same (l ∷ w) w i (accepted w p i) proposals)
+    (earlier-none (learned w p i))
+    tried
+    (ap (reported (l ∷ w) p i) tried)
+    (ap (λ (c : ℕ). if_own m p i c (proposed (l ∷ w) i c)) tried ∙ ap (if_own m p i b) (proposals b))
+    (ap (λ (c : ℕ). map (promisers (l ∷ w) p i c) (below m.count)) tried)
+    (ap (λ (c : ℕ). map (accepters (l ∷ w) p i c) (below m.count)) tried)
+
+-- of what was not promised nothing is reported
+report_of : (i b : ℕ) (x : Message) → ((q : ℕ) → is_promise i b q x ≡ false) → vote_reported i b x ≡ None
+report_of i b (Promise from to inst ballot reports) none = either (eqb inst i && eqb ballot b) (none from)
+  where
+    either : (c : Bool) → (c && eqb from from) ≡ false → cond c reports None ≡ None
+    either true e = let itself : eqb from from ≡ true = eq-eqb from from refl in absurd (cc)
+    either false e = refl
+report_of i b (Suggest from inst ticket) none = refl
+report_of i b (Skip from first stop) none = refl
+report_of i b (Accepted from to inst ballot) none = refl
+report_of i b (Prepare from inst ballot) none = refl
+report_of i b (Propose from inst ballot value) none = refl
+report_of i b (Learn from inst value) none = refl
+
+neither : (a b : Bool) → (a || b) ≡ false → (a ≡ false) × (b ≡ false)
+neither false b e = (refl, e)
+neither true b e = absurd (cc)
+
+unreported : (i b : ℕ) (hs : List Message) → ((q : ℕ) → list_any (is_promise i b q) hs ≡ false) → highest_vote (map (vote_reported i b) hs) ≡ None
+unreported i b [] none = refl
+unreported i b (x ∷ hs) none =
+    ap (λ (o : Option Vote). fold higher_vote o (map (vote_reported i b) hs)) (report_of i b x (λ q. (neither (is_promise i b q x) (list_any (is_promise i b q) hs) (none q)).0))
+    ∙ unreported i b hs (λ q. (neither (is_promise i b q x) (list_any (is_promise i b q) hs) (none q)).1)
+
+pub begins : (m : Membership) (w : History) (p i b : ℕ) → trying w p i < b → IsUntried w p i b
+    → slot_at m (Sent (Prepare p i b) ∷ w) p i ≡ after_begin (slot_at m w p i) b
+begins m w p i b above untried =
+    slot_at-tried m w p i b above
+    ∙ same_slot _ _ refl refl refl refl refl
+    (unreported i b (heard w p) untried.unpromised)
+    (ap (if_own m p i b) untried.unsaid ∙ nothing_owned _)
+    (sym (map-below_constant (promisers w p i b) m.count false (λ q h. untried.unpromised q)))
+    (sym (map-below_constant (accepters w p i b) m.count false (λ q h. untried.unaccepted q)))
+
+-- ---- add_promise
+
+-- p's own proposal at a ballot above 0, or at ballot 0 of its own instance
+owned : (m : Membership) (p i b : ℕ) (o : Option Value) → (b ≡ 0 → owner m i ≡ p) → if_own m p i b o ≡ o
+owned m p i b o mine =
+    ⊎_elim
+    (λ (tried : 0 < b). rw (lt-ltb 0 b tried, or-true (eqb (owner m i) p)))
+    (λ (untried : b ≤ 0). let zero : b ≡ 0 = omega arith in rw (eq-eqb (owner m i) p (mine zero)))
+    (cases_lt 0 b)
+
+pub to_propose-slot_at : (m : Membership) (u : History) (p i b : ℕ) → 0 < b → b ≡ trying u p i → to_propose (slot_at m u p i) ≡ proposal_due m u p i b
+to_propose-slot_at m u p i b tried same =
+    ap (λ (c : ℕ). cond
+    ((is_none (learned u p i) && is_none (if_own m p i c (proposed u i c))) && is_majority m (map (promisers u p i c) (below m.count)))
+    (Some (value_or_noop (reported u p i c))) None) (sym same)
+    ∙ rw (owned m p i b (proposed u i b) (λ zero. absurd (omega arith)), count_by-map (promisers u p i b) (below m.count))
+
+pub to_learn-slot_at : (m : Membership) (u : History) (p i b : ℕ) → (b ≡ 0 → owner m i ≡ p) → b ≡ trying u p i
+    → to_learn (slot_at m u p i) ≡ decision_due m u p i b
+to_learn-slot_at m u p i b mine same =
+    ap (λ (c : ℕ). cond
+    (is_none (learned u p i) && is_majority m (map (accepters u p i c) (below m.count)))
+    (if_own m p i c (proposed u i c)) None) (sym same)
+    ∙ rw (owned m p i b (proposed u i b) mine, count_by-map (accepters u p i b) (below m.count))
+
+voted_later : (w : History) (l : Line) (p i : ℕ) → IsQuiet p i l → IsVoted w p i → IsVoted (l ∷ w) p i
+voted_later w l p i quiet voted = record {
+  proposal = λ b e.
+      let before = voted.proposal b (sym (ap (greater (accepted w p i)) quiet.accepted ∙ greater-none (accepted w p i)) ∙ e) in
+      (before.0, oldest_quiet (proposed_by i b) l w (quiet.proposed b) ∙ before.1);
+}
+
+uncounted_promise : (from to i b j c : ℕ) (v : Option Vote) → (eqb i j && eqb b c) ≡ false → IsUncounted j c (Promise from to i b v)
+uncounted_promise from to i b j c v other = record { promise = λ q. rw other; acceptance = λ q. refl; report = rw other }
+
+uncounted_acceptance : (from to i b j c : ℕ) → (eqb i j && eqb b c) ≡ false → IsUncounted j c (Accepted from to i b)
+uncounted_acceptance from to i b j c other = record { promise = λ q. refl; acceptance = λ q. rw other; report = refl }
+
+-- what is due says that nothing was proposed, and what is decided that nothing was learned
+due_unsaid : (l o : Option Value) (c : Bool) (x v : Value) → cond ((is_none l && is_none o) && c) (Some x) None ≡ Some v → o ≡ None
+due_unsaid None None c x v e = refl
+due_unsaid None (Some u) c x v e = absurd (cc)
+due_unsaid (Some u) o c x v e = absurd (cc)
+
+decided_unlearned : (l : Option Value) (c : Bool) (o : Option Value) (v : Value) → cond (is_none l && c) o None ≡ Some v → l ≡ None
+decided_unlearned None c o v e = refl
+decided_unlearned (Some u) c o v e = absurd (cc)
+
+module _ (m : Membership) (w : History) (k p i from b : ℕ) (v : Option Vote) (e : slice_get (sent w) k ≡ Some (Promise from p i b v)) where
+  tried_still : trying (Heard k p ∷ w) p i ≡ trying w p i
+  tried_still = greatest_quiet (tried_by p i) (Heard k p) w refl
+
+  promise_heard : b ≡ trying w p i → slot_at m (Heard k p ∷ w) p i ≡ with_promise (slot_at m w p i) from v
+  promise_heard same = slot_at-heard_promise m w k p i from v (e ∙ ap (λ (c : ℕ). Some (Promise from p i c v)) same)
+
+  pub promise_answered : 0 < b → b ≡ trying w p i → promise_answer (slot_at m w p i) from b v ≡ proposal_due m (Heard k p ∷ w) p i b
+  promise_answered tried same =
+      ap (λ (c : Bool). cond c (to_propose (with_promise (slot_at m w p i) from v)) None) (eq-eqb b (trying w p i) same)
+      ∙ ap to_propose (sym (promise_heard same))
+      ∙ to_propose-slot_at m (Heard k p ∷ w) p i b tried (same ∙ sym tried_still)
+
+  promise_proposed : 0 < b → IsVoted w p i → b ≡ trying w p i → (o : Option Value) → to_propose (with_promise (slot_at m w p i) from v) ≡ o
+      → slot_at m (followed_by (Heard k p ∷ w) (proposal_lines p i b o)) p i ≡ proposing (with_promise (slot_at m w p i) from v) o
+  promise_proposed tried voted same None due = promise_heard same
+  promise_proposed tried voted same (Some x) due =
+      let mine : b ≡ 0 → owner m i ≡ p = λ zero. absurd (omega arith) in
+      let unproposed : if_own m p i (trying w p i) (proposed w i (trying w p i)) ≡ None = due_unsaid _ _ _ _ x due in
+      let unsaid : proposed w i b ≡ None =
+      sym (owned m p i b (proposed w i b) mine)
+      ∙ ap (λ (c : ℕ). if_own m p i c (proposed w i c)) same ∙ unproposed in
+      slot_at-proposed m (Heard k p ∷ w) p i b x (voted_later w (Heard k p) p i (quiet_heard k p i) voted) tried
+      (same ∙ sym tried_still)
+      (oldest_quiet (proposed_by i b) (Heard k p) w refl ∙ unsaid)
+      ∙ ap (λ (s : SlotState). record s { proposal = Some x }) (promise_heard same)
+
+  pub promise_counted : 0 < b → IsVoted w p i
+      → slot_at m (followed_by (Heard k p ∷ w) (proposal_lines p i b (promise_answer (slot_at m w p i) from b v))) p i
+      ≡ after_promise (slot_at m w p i) from b v
+  promise_counted tried voted = either (eqb b (trying w p i)) refl
+    where
+      either : (c : Bool) → eqb b (trying w p i) ≡ c
+          → slot_at m (followed_by (Heard k p ∷ w) (proposal_lines p i b (cond c (to_propose (with_promise (slot_at m w p i) from v)) None))) p i
+          ≡ cond c (proposing (with_promise (slot_at m w p i) from v) (to_propose (with_promise (slot_at m w p i) from v))) (slot_at m w p i)
+      either true at = promise_proposed tried voted (eqb-true _ _ at) (to_propose (with_promise (slot_at m w p i) from v)) refl
+      either false at =
+          slot_at-heard m w k p i _ e
+          (uncounted_promise from p i b i (trying w p i) v (ap (λ (c : Bool). eqb i i && c) at ∙ rw (eq-eqb i i refl)))
+
+-- ---- add_accept
+
+module _ (m : Membership) (w : History) (k p i from b : ℕ) (e : slice_get (sent w) k ≡ Some (Accepted from p i b)) where
+  acceptance_heard : b ≡ trying w p i → slot_at m (Heard k p ∷ w) p i ≡ with_accept (slot_at m w p i) from
+  acceptance_heard same = slot_at-heard_acceptance m w k p i from (e ∙ ap (λ (c : ℕ). Some (Accepted from p i c)) same)
+
+  pub acceptance_answered : (b ≡ 0 → owner m i ≡ p) → b ≡ trying w p i
+      → accept_answer (slot_at m w p i) from b ≡ decision_due m (Heard k p ∷ w) p i b
+  acceptance_answered mine same =
+      ap (λ (c : Bool). cond c (to_learn (with_accept (slot_at m w p i) from)) None) (eq-eqb b (trying w p i) same)
+      ∙ ap to_learn (sym (acceptance_heard same))
+      ∙ to_learn-slot_at m (Heard k p ∷ w) p i b mine (same ∙ sym (greatest_quiet (tried_by p i) (Heard k p) w refl))
+
+  acceptance_decided : b ≡ trying w p i → (o : Option Value) → to_learn (with_accept (slot_at m w p i) from) ≡ o
+      → slot_at m (followed_by (Heard k p ∷ w) (decision_lines p i o)) p i ≡ learning (with_accept (slot_at m w p i) from) o
+  acceptance_decided same None due = acceptance_heard same
+  acceptance_decided same (Some x) due =
+      let unlearned : learned w p i ≡ None = decided_unlearned _ _ _ x due in
+      slot_at-quiet m (Learned p i x ∷ Heard k p ∷ w) (Sent (Learn p i x)) p i (quiet_learn p p i i x) refl
+      ∙ slot_at-learned m (Heard k p ∷ w) p i x (ap (λ (o : Option Value). earlier o None) unlearned)
+      ∙ ap (λ (s : SlotState). record s { learned = Some x }) (acceptance_heard same)
+
+  pub acceptance_counted :
+      slot_at m (followed_by (Heard k p ∷ w) (decision_lines p i (accept_answer (slot_at m w p i) from b))) p i
+      ≡ after_acceptance (slot_at m w p i) from b
+  acceptance_counted = either (eqb b (trying w p i)) refl
+    where
+      either : (c : Bool) → eqb b (trying w p i) ≡ c
+          → slot_at m (followed_by (Heard k p ∷ w) (decision_lines p i (cond c (to_learn (with_accept (slot_at m w p i) from)) None))) p i
+          ≡ cond c (learning (with_accept (slot_at m w p i) from) (to_learn (with_accept (slot_at m w p i) from))) (slot_at m w p i)
+      either true at = acceptance_decided (eqb-true _ _ at) (to_learn (with_accept (slot_at m w p i) from)) refl
+      either false at =
+          slot_at-heard m w k p i _ e
+          (uncounted_acceptance from p i b i (trying w p i) (ap (λ (c : Bool). eqb i i && c) at ∙ rw (eq-eqb i i refl)))
+
+-- ---- every other line
+
+untouched_quiet : (p i : ℕ) (l : Line) → touches p i l ≡ false → IsQuiet p i l
+untouched_quiet p i (Sent (Suggest from inst ticket)) e = record { promised = refl; proposed = λ b. rw e; accepted = refl; learned = refl; tried = refl }
+untouched_quiet p i (Sent (Accepted from to inst ballot)) e = record { promised = rw e; proposed = λ b. refl; accepted = rw e; learned = refl; tried = refl }
+untouched_quiet p i (Sent (Prepare from inst ballot)) e = record { promised = refl; proposed = λ b. refl; accepted = refl; learned = refl; tried = rw e }
+untouched_quiet p i (Sent (Promise from to inst ballot reports)) e = record { promised = rw e; proposed = λ b. refl; accepted = refl; learned = refl; tried = refl }
+untouched_quiet p i (Sent (Propose from inst ballot value)) e = record { promised = refl; proposed = λ b. rw e; accepted = refl; learned = refl; tried = refl }
+untouched_quiet p i (Learned server inst value) e = record { promised = refl; proposed = λ b. refl; accepted = refl; learned = rw e; tried = refl }
+untouched_quiet p i l e = record { promised = refl; proposed = λ b. refl; accepted = refl; learned = refl; tried = refl }
+
+untouched_heard : (w : History) (p i : ℕ) (l : Line) → touches p i l ≡ false → heard (l ∷ w) p ≡ heard w p
+untouched_heard w p i (Heard message server) e = rw e
+untouched_heard w p i l e = refl
+
+pub untouched : (m : Membership) (w : History) (p i : ℕ) (l : Line) → touches p i l ≡ false → slot_at m (l ∷ w) p i ≡ slot_at m w p i
+untouched m w p i l e = slot_at-quiet m w l p i (untouched_quiet p i l e) (untouched_heard w p i l e)
+
+counts_nothing : (i b : ℕ) (x : Message) → counts i b x ≡ false → IsUncounted i b x
+counts_nothing i b (Promise from to inst ballot reports) e = uncounted_promise from to inst ballot i b reports e
+counts_nothing i b (Accepted from to inst ballot) e = uncounted_acceptance from to inst ballot i b e
+counts_nothing i b (Suggest from inst ticket) e = record { promise = λ q. refl; acceptance = λ q. refl; report = refl }
+counts_nothing i b (Skip from first stop) e = record { promise = λ q. refl; acceptance = λ q. refl; report = refl }
+counts_nothing i b (Prepare from inst ballot) e = record { promise = λ q. refl; acceptance = λ q. refl; report = refl }
+counts_nothing i b (Propose from inst ballot value) e = record { promise = λ q. refl; acceptance = λ q. refl; report = refl }
+counts_nothing i b (Learn from inst value) e = record { promise = λ q. refl; acceptance = λ q. refl; report = refl }
+
+pub uncounted : (m : Membership) (w : History) (k p i : ℕ) (x : Message) → slice_get (sent w) k ≡ Some x → counts i (trying w p i) x ≡ false
+    → slot_at m (Heard k p ∷ w) p i ≡ slot_at m w p i
+uncounted m w k p i x e none = slot_at-heard m w k p i x e (counts_nothing i (trying w p i) x none)
+
+-- a line that proposes nothing at the ballot that p tries
+still_proposed : (w : History) (l : Line) (i b : ℕ) → proposed_by i b l ≡ None → proposed (l ∷ w) i b ≡ proposed w i b
+still_proposed w l i b none = oldest_quiet (proposed_by i b) l w none
+
+pub proposal_elsewhere : (m : Membership) (w : History) (p q i b : ℕ) (v : Value) → IsVoted w p i → b ≢ trying w p i
+    → slot_at m (Sent (Propose q i b v) ∷ w) p i ≡ slot_at m w p i
+proposal_elsewhere m w p q i b v voted other =
+    slot_at-proposing m w (Sent (Propose q i b v)) p i _ voted refl refl refl refl refl
+    (ap (if_own m p i (trying w p i))
+    (still_proposed w (Sent (Propose q i b v)) i (trying w p i) (rw (eq-eqb i i refl, ne_eqb b (trying w p i) other))))
+
+pub suggestion_elsewhere : (m : Membership) (w : History) (p q i ticket : ℕ) → IsVoted w p i → owner m i ≢ p
+    → slot_at m (Sent (Suggest q i ticket) ∷ w) p i ≡ slot_at m w p i
+suggestion_elsewhere m w p q i ticket voted other =
+    slot_at-proposing m w (Sent (Suggest q i ticket)) p i _ voted refl refl refl refl refl
+    (⊎_elim
+    (λ (tried : 0 < trying w p i). ap (if_own m p i (trying w p i))
+    (still_proposed w (Sent (Suggest q i ticket)) i (trying w p i)
+    (rw (eq-eqb i i refl, ne_eqb (trying w p i) 0 (λ zero. absurd (omega arith))))))
+    (λ (untried : trying w p i ≤ 0). rw (ne_eqb (owner m i) p other, le-ltb 0 (trying w p i) untried))
+    (cases_lt 0 (trying w p i)))
+
+-- ---- repeats
+
+pub message_twice : (m : Membership) (w : History) (k p i : ℕ) (x : Message) → slice_get (sent w) k ≡ Some x → Contains (heard w p) x
+    → slot_at m (Heard k p ∷ w) p i ≡ slot_at m w p i
+message_twice m w k p i x e before =
+    slot_at-unsaid m w (Heard k p) p i (quiet_heard k p i) ∙ ap (slot_hearing m w p i) (heard_more w k p x e)
+    ∙ same_slot _ _ refl refl refl refl refl
+    (votes_more (vote_reported i (trying w p i)) (heard w p) x
+    ∙ higher_vote-stands _ _ (Stands-heard (vote_reported i (trying w p i)) (heard w p) x before))
+    refl
+    (map-below_same _ _ m.count false (λ q h. any_again (is_promise i (trying w p i) q) (heard w p) x before))
+    (map-below_same _ _ m.count false (λ q h. any_again (is_acceptance i (trying w p i) q) (heard w p) x before))

@@ -1,0 +1,99 @@
+-- Schedules worked by hand, and what the definitions make of them. Each is computed whole: it shows
+-- that the definitions say what the protocol means, and that histories with decisions exist.
+use Rattle.std.proofs.Common.{◌≡◌, ℕ, List, [], ◌∷◌, ◌++◌, Result, Ok, Err, refl, length, map}
+use Rattle.mencius_base.specs.declared.command.Command.{Command}
+use Rattle.mencius_base.specs.declared.command.Op.TheVariants.{Set}
+use Rattle.mencius_base.specs.declared.event.Event.{Event}
+use Rattle.mencius_base.specs.declared.event.Event.TheVariants.{Submit, Deliver, Suspect, Retry, Execute}
+use Rattle.mencius_base.specs.declared.refusal.Refusal.{Refusal}
+use Rattle.mencius_base.specs.Members.{Membership, below, instances, most_messages, most_events, most_rounds}
+use Rattle.mencius_base.specs.History.{History, events, sent}
+use Rattle.mencius_server.specs.Server.{front, done}
+use Rattle.mencius_server.specs.Next.{replay}
+use Rattle.mencius_cluster.specs.Executed.{executed}
+
+abbrev one : Membership
+one = record { count = 1 }
+
+abbrev pub three : Membership
+three = record { count = 3 }
+
+-- client 1 binds the key `a` to the text `x`
+abbrev pub set_a : Command
+set_a = record { id = record { client = 1; number = 0 }; op = Set (97 ∷ []) (120 ∷ []) }
+
+-- how many messages and events there were, and of each server its front, how many instances it executed and its history
+abbrev report : Membership → Result History Refusal → ℕ × ℕ × List (ℕ × ℕ × List ℕ)
+report m (Err r) = (0, 0, [])
+report m (Ok w) = (length (sent w), events w, map (λ s. (front m w s, done w s, executed w s)) (below m.count))
+
+-- the only server is a majority
+abbrev one_server : List Event
+one_server = Submit 0 set_a ∷ Deliver 0 0 ∷ Deliver 1 0 ∷ Execute 0 ∷ []
+
+report-one_server : report one (replay one one_server) ≡ (3, 4, (1, 1, 0 ∷ []) ∷ [])
+unfolding below instances most_messages most_events most_rounds
+report-one_server = refl
+
+-- a command that nobody suspects
+abbrev pub one_command : List Event
+one_command = Submit 0 set_a ∷ Deliver 0 1 ∷ Deliver 0 0 ∷ Deliver 1 0 ∷ Deliver 2 0 ∷ Execute 0 ∷ []
+
+report-one_command : report three (replay three one_command) ≡ (4, 6, (3, 1, 0 ∷ []) ∷ (1, 0, []) ∷ (2, 0, []) ∷ [])
+unfolding below instances most_messages most_events most_rounds
+report-one_command = refl
+
+-- two servers give up their instances before a suggestion
+abbrev pub skip_before_a_suggestion : List Event
+skip_before_a_suggestion =
+    Submit 2 set_a ∷ Deliver 0 0 ∷ Deliver 0 1 ∷ Deliver 1 2 ∷ Deliver 3 2 ∷ Deliver 2 2 ∷ Deliver 4 2
+    ∷ Execute 2 ∷ Execute 2 ∷ Execute 2 ∷ []
+
+report-skip_before_a_suggestion : report three (replay three skip_before_a_suggestion) ≡ (6, 10, (3, 0, []) ∷ (4, 0, []) ∷ (5, 3, 0 ∷ []) ∷ [])
+unfolding below instances most_messages most_events most_rounds
+report-skip_before_a_suggestion = refl
+
+-- a server that is wrongly suspected: the revoker hears of the command and has to propose it
+abbrev pub wrong_suspicion_keeps_the_command : List Event
+wrong_suspicion_keeps_the_command =
+    Submit 0 set_a ∷ Deliver 0 2 ∷ Suspect 1 0 ∷ Deliver 2 1 ∷ Deliver 2 2 ∷ Deliver 3 1 ∷ Deliver 4 1 ∷ Deliver 5 1
+    ∷ Deliver 5 2 ∷ Deliver 6 1 ∷ Deliver 7 1 ∷ Execute 1 ∷ Deliver 8 0 ∷ Execute 0 ∷ []
+
+report-wrong_suspicion_keeps_the_command : report three (replay three wrong_suspicion_keeps_the_command)
+    ≡ (9, 14, (3, 1, 0 ∷ []) ∷ (1, 1, 0 ∷ []) ∷ (2, 0, []) ∷ [])
+unfolding below instances most_messages most_events most_rounds
+report-wrong_suspicion_keeps_the_command = refl
+
+-- a suggestion comes where no-op is decided: nobody answers it, and it is suggested again
+abbrev pub late_suggestion_where_noop_is_decided : List Event
+late_suggestion_where_noop_is_decided =
+    Suspect 1 0 ∷ Deliver 0 1 ∷ Deliver 0 2 ∷ Deliver 1 1 ∷ Deliver 2 1 ∷ Deliver 3 1 ∷ Deliver 3 2 ∷ Deliver 4 1
+    ∷ Deliver 5 1 ∷ Submit 0 set_a ∷ Deliver 7 1 ∷ Deliver 7 2 ∷ Deliver 6 0 ∷ Retry 0 ∷ []
+
+report-late_suggestion_where_noop_is_decided : report three (replay three late_suggestion_where_noop_is_decided)
+    ≡ (9, 14, (6, 0, []) ∷ (1, 0, []) ∷ (2, 0, []) ∷ [])
+unfolding below instances most_messages most_events most_rounds
+report-late_suggestion_where_noop_is_decided = refl
+
+-- and there, further on, it is decided
+abbrev pub late_suggestion_decided_further_on : List Event
+late_suggestion_decided_further_on =
+    late_suggestion_where_noop_is_decided
+    ++ (Deliver 8 0 ∷ Deliver 8 1 ∷ Deliver 8 2 ∷ Deliver 10 0 ∷ Deliver 12 0 ∷ Deliver 9 0 ∷ Deliver 11 0
+    ∷ Execute 0 ∷ Execute 0 ∷ Execute 0 ∷ Execute 0 ∷ [])
+
+report-late_suggestion_decided_further_on : report three (replay three late_suggestion_decided_further_on)
+    ≡ (15, 25, (6, 4, 0 ∷ []) ∷ (4, 0, []) ∷ (5, 0, []) ∷ [])
+unfolding below instances most_messages most_events most_rounds
+report-late_suggestion_decided_further_on = refl
+
+-- two servers revoke one instance at once: the greater ballot goes on
+abbrev pub duelling_revokers : List Event
+duelling_revokers =
+    Suspect 1 0 ∷ Suspect 2 0 ∷ Deliver 0 1 ∷ Deliver 0 0 ∷ Deliver 2 1 ∷ Deliver 3 1 ∷ Deliver 1 0 ∷ Deliver 4 0
+    ∷ Deliver 4 1 ∷ Deliver 1 1 ∷ Deliver 5 2 ∷ Deliver 7 2 ∷ Deliver 8 0 ∷ Deliver 8 1 ∷ Deliver 9 2 ∷ Deliver 10 2
+    ∷ Deliver 11 1 ∷ Execute 1 ∷ Execute 2 ∷ []
+
+report-duelling_revokers : report three (replay three duelling_revokers) ≡ (12, 19, (0, 0, []) ∷ (1, 1, []) ∷ (2, 1, []) ∷ [])
+unfolding below instances most_messages most_events most_rounds
+report-duelling_revokers = refl
