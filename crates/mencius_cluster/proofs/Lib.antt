@@ -2,10 +2,11 @@ pub mod Decisions
 pub mod Tickets
 pub mod Histories
 pub mod Moments
-pub mod Theorems
 pub mod Facts
 pub mod Later
+pub mod Furthest
 pub mod Longest
-pub mod Answered
+pub mod Replying
+pub mod Theorems
 pub mod Worked
 pub mod Traces

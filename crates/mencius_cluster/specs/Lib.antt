@@ -1,3 +1,4 @@
 pub mod Executed
+pub mod Replying
+pub mod Answers
 pub mod Laws
-pub mod Replies

@@ -1,5 +1,5 @@
 use Rattle.mencius_cluster.proofs.Theorems as theorem
-use Rattle.mencius_cluster.proofs.once.Goals as goal
+use Rattle.mencius_cluster.proofs.laws.once.Goals as goal
 
 pub returns-clause-submitted : goal.returns-clause-submitted
 returns-clause-submitted c = theorem.submitting

@@ -1,5 +1,5 @@
 use Rattle.mencius_cluster.proofs.Theorems as theorem
-use Rattle.mencius_cluster.proofs.agreement.Goals as goal
+use Rattle.mencius_cluster.proofs.laws.agreement.Goals as goal
 
 pub returns-clause-values : goal.returns-clause-values
 returns-clause-values c = theorem.agreement
