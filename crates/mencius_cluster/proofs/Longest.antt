@@ -9,6 +9,7 @@ use Rattle.mencius_cluster.proofs.Furthest.{longest_is}
 use Rattle.mencius_cluster.proofs.Histories.{histories_comparable}
 use Rattle.mencius_cluster.proofs.Later.{history_grows, shorter_begins}
 
+-- the longest is no longer than its server's later history, and that no longer than the later longest
 pub longest_grows : (m : Membership) (w end : History) → 1 ≤ m.count → IsPast w end → IsGrown m end
     → IsPrefix (executed w (longest_at m w)) (executed end (longest_at m end))
 longest_grows m w end few past g =

@@ -24,6 +24,7 @@ pub record IsPlace (A : Type 0) (p : A → Bool) (xs : List A) (k : ℕ) : Type 
   pub passes : p item ≡ true
   pub first : (j : ℕ) (x : A) → slice_get xs j ≡ Some x → p x ≡ true → k ≤ j
 
+-- a place after the first
 mapped : (o : Option ℕ) (k : ℕ) → option_map suc o ≡ Some k → (j : ℕ) × (o ≡ Some j) × (k ≡ suc j)
 mapped None k h = absurd (cc)
 mapped (Some j) k h = (j, refl, cc)
@@ -37,6 +38,7 @@ place_next : {A : Type 0} (p : A → Bool) (x : A) (xs : List A) (i k : ℕ) →
 place_next p x xs i k e miss s =
     rw e (record { item = s.item; there = s.there; passes = s.passes; first = λ j y a b. later_place p x xs i miss s.first j y a b })
 
+-- `place_of` answers the first place of an item that passes
 place_is : {A : Type 0} (p : A → Bool) (xs : List A) (k : ℕ) → place_of p xs ≡ Some k → IsPlace A p xs k
 place_is p [] k h = absurd (cc)
 place_is p (x ∷ xs) k h =
@@ -53,6 +55,7 @@ mapped_none : (o : Option ℕ) → option_map suc o ≡ None → o ≡ None
 mapped_none None h = refl
 mapped_none (Some k) h = absurd (cc)
 
+-- and none exactly where no item passes
 no_place : {A : Type 0} (p : A → Bool) (xs : List A) → place_of p xs ≡ None → list_any p xs ≡ false
 no_place p [] h = refl
 no_place p (x ∷ xs) h =
@@ -69,6 +72,7 @@ some_place p (x ∷ xs) h =
 
 -- ---- the reply
 
+-- who has the identity of a third has the identity of each other
 same_ids : (a b id : CommandId) → is_same_id a id ≡ true → is_same_id b id ≡ true → is_same_id a b ≡ true
 same_ids a b id h k =
     let r = and_parts (eqb a.client id.client) (eqb a.number id.number) h in
@@ -101,6 +105,7 @@ module _ (m : Membership) (few : 1 ≤ m.count) (w : History) (g : IsGrown m w) 
       let p = history_once m few w g a.home a.place b.place a.ticket a.there there in
       a.is ∙ (rw (parts.0, parts.1, p) (sym b.is))
 
+  -- a reply is not given and awaited at once
   not_both : (r : Option (List ℕ)) → IsReply w id r → IsPending w id → ⊥
   not_both r a b =
       let s = same_submission a.ticket b.ticket (a.command, a.home) (b.command, b.home) a.given b.given a.same b.same in
@@ -179,6 +184,7 @@ module _ (m : Membership) (few : 1 ≤ m.count) (w : History) (g : IsGrown m w) 
   something t x a s h =
       none_in is_id x (submitted w) (no_place is_id (submitted w) (none_for (place_of is_id (submitted w)) refl h)) (get_in (submitted w) t x a) s
 
+  -- of the three answers, a reply or a pending command leaves one
   by_cases : (o : Option Reply) → reply_of w id ≡ o → (t : ℕ) (x : Submission) → slice_get (submitted w) t ≡ Some x → is_same_id x.0.id id ≡ true
       → ((r : Option (List ℕ)) → IsReply w id r → o ≡ Some (Is r)) × (IsPending w id → o ≡ Some NotYet)
   by_cases None e t x a s = absurd (something t x a s e)

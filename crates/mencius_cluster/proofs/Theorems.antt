@@ -16,6 +16,7 @@ use Rattle.mencius_cluster.proofs.Later as later
 use Rattle.mencius_cluster.proofs.Longest as longest
 use Rattle.mencius_cluster.proofs.Replying as replying
 
+-- in what a journal makes each line had its right to come
 pub course_grown : (m : Membership) (journal : List Event) (end : History) → IsCourse m journal end → IsGrown m end
 course_grown m journal end c = grown_from m journal [] end tt c.replays
 
