@@ -1,5 +1,5 @@
 -- What a cluster answers, asked of the history.
-use Rattle.std.specs.Prelude.{ℕ, List, Option, Some, None, nat_lt, if◌then◌else◌, string_bytes}
+use Rattle.std.specs.Prelude.{ℕ, Option, Some, None, nat_lt, if◌then◌else◌, string_bytes}
 use Rattle.std.specs.Option.{option_map}
 use Rattle.mencius_base.specs.Members.{Membership}
 use Rattle.mencius_cluster.specs.declared.submission.Answered.{Answered}
