@@ -24,13 +24,16 @@ use Rattle.mencius_cluster.proofs.Told.{IsTold}
 
 -- ---- plain lists
 
+-- a table whose rows stay the same
 pub row_kept : {X : Type 0} (f g : ℕ → X) (n : ℕ) (xs : List X) → xs ≡ map f (below n) → ((k : ℕ) → k < n → f k ≡ g k) → xs ≡ map g (below n)
 row_kept f g n xs h same = h ∙ map-below_same f g n (f 0) same
 
+-- there is no number below 0
 pub below-zero : below 0 ≡ []
 unfolding below
 below-zero = refl
 
+-- two functions that agree below n give the same there
 pub filter_map-below_same : {X : Type 0} (f g : ℕ → Option X) (n : ℕ) → ((k : ℕ) → k < n → f k ≡ g k) → filter_map f (below n) ≡ filter_map g (below n)
 filter_map-below_same f g zero same = ap (filter_map f) below-zero ∙ sym (ap (filter_map g) below-zero)
 filter_map-below_same {X} f g (suc n) same =
@@ -40,6 +43,7 @@ filter_map-below_same {X} f g (suc n) same =
     ∙ ap (λ (o : Option X). filter_map g (below n) ++ cons_option o []) (same n (omega arith))
     ∙ sym (ap (filter_map g) more ∙ filter_map-append g (below n) (n ∷ []))
 
+-- what stands in the first part stands in the whole
 pub slice_get-append : {X : Type 0} (xs ys : List X) (k : ℕ) → k < length xs → slice_get (xs ++ ys) k ≡ slice_get xs k
 slice_get-append [] ys k h = absurd (omega arith)
 slice_get-append (x ∷ xs) ys zero h = refl
@@ -47,6 +51,7 @@ slice_get-append (x ∷ xs) ys (suc k) h = slice_get-append xs ys k (omega arith
 
 -- ---- tickets of commands that are there
 
+-- all are below n
 abbrev pub AreBelow : ℕ → List ℕ → Type 0
 AreBelow n [] = Unit {0}
 AreBelow n (t ∷ ts) = (t < n) × AreBelow n ts
@@ -69,11 +74,13 @@ ticket_told None t h = absurd (cc)
 ticket_told (Some Noop) t h = absurd (cc)
 ticket_told (Some (Ticket u)) t h = let same : u ≡ t = cc in ap (λ (x : ℕ). Some (Ticket x)) same
 
+-- every executed ticket was submitted
 pub history-below : (m : Membership) (w : History) (s : ℕ) → IsTold m w → AreBelow (length (submitted w)) (executed w s)
 history-below m w s told = below_all (length (submitted w)) (λ i. ticket_of (learned w s i)) (below (done w s)) (λ i t h. told.ticketed s i t (ticket_told (learned w s i) t h))
 
 -- ---- what an event leaves
 
+-- the history of a server that executes nothing
 pub history_kept : (m : Membership) (w : History) (e : Event) (s : ℕ) → IsTold m w → is_done s (head e) ≡ 0 → executed (with_event m w e) s ≡ executed w s
 history_kept m w e s told none =
     let same : done (with_event m w e) s ≡ done w s = done-event m w e s ∙ ap (λ n. done w s + n) none ∙ add-zero (done w s) in
@@ -86,6 +93,7 @@ command_kept m w e t h =
     ap (λ xs. option_map (λ (x : Command × ℕ). x.0) (slice_get xs t)) (submitted-event m w e)
     ∙ ap (option_map (λ (x : Command × ℕ). x.0)) (slice_get-append (submitted w) (option_to_list (command_in (head e))) t h)
 
+-- the commands of submitted tickets
 pub commands_kept : (m : Membership) (w : History) (e : Event) (ts : List ℕ) → AreBelow (length (submitted w)) ts → commands_of (with_event m w e) ts ≡ commands_of w ts
 commands_kept m w e [] h = refl
 commands_kept m w e (t ∷ ts) h =
@@ -95,6 +103,7 @@ commands_kept m w e (t ∷ ts) h =
 abbrev state_of : List Command → List ℕ → ExecutorState
 state_of cs h = record { store = store_after cs; history = h }
 
+-- the executor of a server that executes nothing
 pub executor_kept : (m : Membership) (w : History) (e : Event) (s : ℕ) → IsTold m w → is_done s (head e) ≡ 0 → executor_at (with_event m w e) s ≡ executor_at w s
 executor_kept m w e s told none =
     ap (λ h. state_of (commands_of (with_event m w e) h) h) (history_kept m w e s told none)
@@ -110,6 +119,7 @@ reply_from_kept m w e c home (Some k) told none =
     ap (λ h. Reply_of (commands_of (with_event m w e) (take k h)) c) (history_kept m w e home told none)
     ∙ ap (λ cs. Reply_of cs c) (commands_kept m w e (take k (executed w home)) (below_take _ k _ (history-below m w home told)))
 
+-- the reply of a command whose home executes nothing
 pub reply_kept : (m : Membership) (w : History) (e : Event) (t : ℕ) (c : Command) (home : ℕ) → IsTold m w → is_done home (head e) ≡ 0
     → reply_at (with_event m w e) t c home ≡ reply_at w t c home
 reply_kept m w e t c home told none =

@@ -17,6 +17,7 @@ pub record IsTold (m : Membership) (w : History) : Type 0 where
   pub executed : (s i : ℕ) → i < done w s → (v : Value) × (learned w s i ≡ Some v)
   pub ticketed : (s i t : ℕ) → learned w s i ≡ Some (Ticket t) → t < length (submitted w)
 
+-- both hold of every reached history
 pub told : (m : Membership) (w : History) → IsReached m w → IsTold m w
 told m w reached =
     let g = reached_grown m w reached in

@@ -12,6 +12,7 @@ suggested : (p t : ℕ) (o : Option ℕ) → learnings (suggestion p o t) ≡ 0
 suggested p t None = refl
 suggested p t (Some k) = refl
 
+-- a submission
 pub submit_learns : (m : Membership) (w : History) (p : ℕ) (c : Command) → learnings (lines m w (Submit p c)) ≡ 0
 submit_learns m w p c = suggested p (length (submitted w)) (free m w p)
 
@@ -19,6 +20,7 @@ again_learns : (m : Membership) (w : History) (p : ℕ) (o : Option ℕ) → lea
 again_learns m w p None = refl
 again_learns m w p (Some t) = suggested p t (free m w p)
 
+-- a retry
 pub retry_learns : (m : Membership) (w : History) (p : ℕ) → learnings (lines m w (Retry p)) ≡ 0
 retry_learns m w p = again_learns m w p (first_item (waiting w p))
 
@@ -26,5 +28,6 @@ prepared : (m : Membership) (w : History) (p : ℕ) (is : List ℕ) → learning
 prepared m w p [] = refl
 prepared m w p (i ∷ is) = prepared m w p is
 
+-- a suspicion
 pub suspect_learns : (m : Membership) (w : History) (p q : ℕ) → learnings (lines m w (Suspect p q)) ≡ 0
 suspect_learns m w p q = prepared m w p (suspects m w p q)

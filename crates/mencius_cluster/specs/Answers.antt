@@ -15,5 +15,6 @@ bytes_in (Given text) = Is (option_map string_bytes text)
 abbrev pub of_member : {A : Type 0} → Membership → ℕ → Option A → Option A
 of_member m s o = if nat_lt s m.count then o else None
 
+-- the same, where there always is an answer
 abbrev pub if_member : {A : Type 0} → Membership → ℕ → A → Option A
 if_member m s x = of_member m s (Some x)

@@ -5,9 +5,11 @@ use Rattle.mencius_cluster.specs.declared.cluster.Cluster.TheInside.{Inside}
 use Rattle.mencius_cluster.specs.State.{ClusterState}
 use Rattle.mencius_cluster.specs.Tables.{Tables, IsCluster, journal_of}
 
+-- one message and one server
 abbrev pub same_loss : ℕ × ℕ → ℕ × ℕ → Bool
 same_loss x y = x.0 == y.0 && x.1 == y.1
 
+-- the tables among the fields
 abbrev pub tables_in : Inside → Tables
 tables_in c = record {
   servers = c.servers.items;
@@ -19,8 +21,10 @@ tables_in c = record {
   entries = c.journal.items;
 }
 
+-- the members and the journal among the fields
 abbrev pub state_in : Inside → ClusterState
 state_in c = record { members = c.members; journal = journal_of c.submissions.entries c.journal.items }
 
+-- what every cluster keeps
 abbrev pub IsSound : Inside → Type 0
 IsSound c = IsCluster c.members (journal_of c.submissions.entries c.journal.items) (tables_in c)

@@ -20,9 +20,11 @@ use Rattle.mencius_cluster.specs.declared.submission.Submission.{Submission}
 use Rattle.mencius_cluster.specs.State.{entries_of, world_or_none}
 use Rattle.mencius_cluster.specs.Answers.{executor_at, reply_at, bytes_in}
 
+-- an identity, with what is stored of its command
 abbrev pub Row : Type 0
 Row = CommandId × Submission
 
+-- the command of a row
 abbrev pub command_of : Row → Command
 command_of r = r.1.command
 
@@ -39,6 +41,7 @@ event_of cs (Suspect_entry server suspected) = Some (Suspect server suspected)
 event_of cs (Retry_entry server) = Some (Retry server)
 event_of cs (Execute_entry server) = Some (Execute server)
 
+-- the events of the stored entries
 abbrev pub journal_of : List Row → List Entry → List Event
 journal_of rows entries = filter_map (event_of (map command_of rows)) entries
 
