@@ -13,4 +13,5 @@ mod write;
 pub use command_line::{Task, exit_status, read_command_line};
 pub use fault::AppFault;
 pub use printed::report;
+pub use replaying::replay;
 pub use source::{Sink, Source, Std};
