@@ -1,10 +1,15 @@
 //! The edge of the program: what its input says, read exactly, and the faults that end a run.
 #![tactic(auto)]
 
+mod event;
 mod fault;
+mod judged;
 mod read;
+mod scenario;
 mod source;
+mod words;
 mod write;
 
 pub use fault::AppFault;
+pub use scenario::{Scenario, read_scenario};
 pub use source::{Sink, Source, Std};
