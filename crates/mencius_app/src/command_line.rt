@@ -14,7 +14,8 @@ pub enum Task {
     Replay,
 }
 
-const ABOUT: &str = "An executable reference of Mencius, the replicated state machine for wide area networks";
+const ABOUT: &str =
+    "An executable reference of Mencius, the replicated state machine for wide area networks";
 
 const LONG_ABOUT: &str = "\
 An executable reference of Mencius, the replicated state machine for wide area networks
@@ -32,7 +33,8 @@ Example:
 `mencius help replay` says what goes in and what comes out. The folder examples/ has
 schedules to try, and docs/FORMATS.md describes their format.";
 
-const REPLAY_ABOUT: &str = "Steps a new cluster through the scenario on standard input and prints a report";
+const REPLAY_ABOUT: &str =
+    "Steps a new cluster through the scenario on standard input and prints a report";
 
 const REPLAY_LONG_ABOUT: &str = "\
 Steps a new cluster through the scenario on standard input and prints a report
