@@ -6,10 +6,12 @@ mod fault;
 mod judged;
 mod read;
 mod scenario;
+mod sink;
 mod source;
 mod words;
 mod write;
 
 pub use fault::AppFault;
 pub use scenario::{Scenario, read_scenario};
-pub use source::{Sink, Source, Std};
+pub use sink::Sink;
+pub use source::{Source, Std};
