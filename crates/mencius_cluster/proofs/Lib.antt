@@ -27,3 +27,9 @@ pub mod Low
 pub mod Lookups
 pub mod Furthest
 pub mod Counts
+pub mod Enrolled
+pub mod Submitted
+pub mod Same
+pub mod Replies
+pub mod Executions
+pub mod Performs

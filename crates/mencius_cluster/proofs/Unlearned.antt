@@ -1,10 +1,11 @@
--- A suspicion and a retry teach nothing.
-use Rattle.std.proofs.Common.{◌≡◌, ℕ, List, [], ◌∷◌, Option, Some, None, map, refl, ap, ◌∙◌, ◌+◌}
+-- A submission, a suspicion and a retry teach nothing.
+use Rattle.std.proofs.Common.{◌≡◌, ℕ, List, [], ◌∷◌, Option, Some, None, length, map, refl, ap, ◌∙◌, ◌+◌}
 use Rattle.std.proofs.lemmas.List.Sums.{sum_by-cons}
 use Rattle.std.specs.Prelude.{if◌then◌else◌}
-use Rattle.mencius_base.specs.declared.event.Event.TheVariants.{Suspect, Retry}
+use Rattle.mencius_base.specs.declared.event.Event.TheVariants.{Submit, Suspect, Retry}
+use Rattle.mencius_base.specs.declared.command.Command.{Command}
 use Rattle.mencius_base.specs.Members.{Membership}
-use Rattle.mencius_base.specs.History.{History}
+use Rattle.mencius_base.specs.History.{History, submitted}
 use Rattle.mencius_server.specs.Server.{free, suspects, waiting}
 use Rattle.mencius_server.specs.Next.{again, is_learning, learnings, lines, preparation, suggestion}
 use Rattle.mencius_base.specs.Members.{first_item}
@@ -12,6 +13,9 @@ use Rattle.mencius_base.specs.Members.{first_item}
 suggested : (p t : ℕ) (o : Option ℕ) → learnings (suggestion p o t) ≡ 0
 suggested p t None = refl
 suggested p t (Some k) = refl
+
+pub submit_learns : (m : Membership) (w : History) (p : ℕ) (c : Command) → learnings (lines m w (Submit p c)) ≡ 0
+submit_learns m w p c = suggested p (length (submitted w)) (free m w p)
 
 again_learns : (m : Membership) (w : History) (p : ℕ) (o : Option ℕ) → learnings (again m w p o) ≡ 0
 again_learns m w p None = refl

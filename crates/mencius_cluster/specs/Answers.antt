@@ -66,9 +66,3 @@ longest_below w best s = if nat_lt (length (executed w best)) (length (executed 
 
 abbrev pub longest_at : Membership → History → ℕ
 longest_at m w = fold (longest_below w) 0 (below m.count)
-
--- the reply that stays: the first one that the home gave
-abbrev pub first_reply : Bool → Reply → Option (List ℕ) → Reply
-first_reply true NotYet text = Is text
-first_reply true (Is old) text = Is old
-first_reply false r text = r

@@ -5,3 +5,4 @@ pub mod State
 pub mod Answers
 pub mod Tables
 pub mod Inside
+pub mod Performed

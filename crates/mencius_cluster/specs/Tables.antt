@@ -26,6 +26,10 @@ Row = CommandId × Submission
 abbrev pub command_of : Row → Command
 command_of r = r.1.command
 
+-- the command and its home
+abbrev pub submission_of : Row → Command × ℕ
+submission_of r = (r.1.command, r.1.home)
+
 -- the event of a stored entry, among these commands
 abbrev pub event_of : List Command → Entry → Option Event
 event_of cs (Submit_entry server ticket) = option_map (λ c. Submit server c) (slice_get cs ticket)
@@ -55,7 +59,7 @@ pub record AreTables (m : Membership) (w : History) (t : Tables) : Type 0 where
   pub done : t.done ≡ map (done w) (below m.count)
   pub messages : t.messages.messages ≡ sent w
   pub limit : t.messages.limit ≡ most_messages
-  pub commands : map (λ r. (r.1.command, r.1.home)) t.rows ≡ submitted w
+  pub commands : map submission_of t.rows ≡ submitted w
   pub ids : map (λ r. r.0) t.rows ≡ map (λ x. x.0.id) (submitted w)
   pub replies : (k : ℕ) (r : Row) → slice_get t.rows k ≡ Some r → bytes_in r.1.answer ≡ reply_at w k r.1.command r.1.home
   pub lost : (k d : ℕ) → t.is_lost k d ≡ list_any (is_loss k d) w

@@ -1,12 +1,18 @@
-ghost use Rattle.std.specs.Prelude.{◌≡◌, ◌==◌, OnOk, OnErr, IfErr};
+ghost use Rattle.std.specs.Prelude.{◌≡◌, ◌<◌, ◌==◌, [], ◌∷◌, ◌++◌, None, OnOk, OnErr, IfErr};
+ghost use Rattle.std.specs.Map.{lookup};
+ghost use Rattle.indexmap.specs.IndexMap.{index_map_len, spare};
+ghost use Rattle.mencius_base.specs.Command.{is_same_id};
+ghost use Rattle.mencius_cluster.specs.declared.submission.Answered.TheVariants.{Pending};
 ghost use Rattle.std.specs.FinMap as finite;
 ghost use Rattle.mencius_base.specs.declared.refusal.Refusal.TheVariants.{NoMemory};
 ghost use Rattle.map_exec.specs.State.{after_execution};
 ghost use Rattle.map_exec.specs.Store.{key_of};
-ghost use Rattle.mencius_cluster.specs.Answers.{bytes_in, first_reply};
+ghost use Rattle.mencius_cluster.specs.Answers.{bytes_in};
+ghost use Rattle.mencius_cluster.specs.Performed.{IsPerformed, IsTicketBelow, first_reply};
 
+use indexmap::IndexMap;
 use map_exec::Executor;
-use mencius_base::{Command, Refusal};
+use mencius_base::{Command, CommandId, Refusal, Value};
 
 /// Whether a command has its reply.
 #[derive(Drop)]
@@ -23,18 +29,56 @@ pub struct Submission {
     pub answer: Answered,
 }
 
-// Executes a command at a server, and keeps the reply that its home gives first.
-pub fn run(executor: &mut Executor, submission: &mut Submission, server: u8, ticket: u32) -> Result<(), Refusal>
+// Adds a command that has no reply yet, for which there is room.
+pub fn enroll(submissions: &mut IndexMap<CommandId, Submission>, command: Command, home: u8)
+    requires room { 0 < spare submissions.old }
+    requires new { lookup (is_same_id command.id) submissions.old.entries ≡ None }
+    ensures { submissions.new.entries ≡ submissions.old.entries ++ (command.id, record { command = command; home = home; answer = Pending }) ∷ [] }
+{
+    let id = command.id();
+    let submission = Submission {
+        command,
+        home,
+        answer: Answered::Pending,
+    };
+    let Ok(_) = submissions.insert(id, submission) else {
+        unreachable!();
+    };
+}
+
+// Executes what a server learned next. Of a command the reply is kept that its home gives first.
+pub fn perform(
+    executor: &mut Executor,
+    submissions: &mut IndexMap<CommandId, Submission>,
+    server: u8,
+    value: Value,
+) -> Result<(), Refusal>
+    requires { IsTicketBelow (index_map_len submissions.old) value }
+    ensures done { OnOk result (IsPerformed server value executor.old executor.new submissions.old.entries submissions.new.entries) }
+    ensures executor { OnErr result (executor.new ≡ executor.old) }
+    ensures rows { OnErr result (submissions.new.entries ≡ submissions.old.entries) }
+    ensures memory { IfErr result (λ r. r ≡ NoMemory) }
+{
+    match value {
+        Value::Noop => Ok(()),
+        Value::Ticket(ticket) => {
+            let (_, submission) = submissions.pair_mut(ticket as usize);
+            run(executor, submission, server, ticket)
+        }
+    }
+}
+
+// Executes a command.
+fn run(executor: &mut Executor, submission: &mut Submission, server: u8, ticket: u32) -> Result<(), Refusal>
     ensures executed { OnOk result (executor.new ≡ after_execution executor.old submission.old.command ticket) }
     ensures command { submission.new.command ≡ submission.old.command }
     ensures home { submission.new.home ≡ submission.old.home }
     ensures answer { OnOk result (bytes_in submission.new.answer ≡ first_reply (submission.old.home == server) (bytes_in submission.old.answer) (finite.get executor.old.store (key_of submission.old.command.op))) }
-    ensures err { OnErr result ((executor.new ≡ executor.old) × (submission.new.answer ≡ submission.old.answer)) }
+    ensures executor { OnErr result (executor.new ≡ executor.old) }
+    ensures submission { OnErr result (submission.new ≡ submission.old) }
     ensures memory { IfErr result (λ r. r ≡ NoMemory) }
 {
-    let Ok(reply) = executor.execute(&submission.command, ticket) else {
-        return Err(Refusal::NoMemory);
-    };
+    let reply = executor.execute(&submission.command, ticket)?;
     if submission.home == server
         && let Answered::Pending = submission.answer
     {

@@ -1,0 +1,38 @@
+-- What an execution does to a server's executor and to the stored commands.
+use Rattle.std.specs.Prelude.{◌≡◌, ℕ, Bool, true, false, List, Option, Some, None, slice_get, ◌==◌, ◌<◌}
+use Rattle.std.specs.FinMap as finite
+use Rattle.indexmap.specs.IndexMap.{set_value_at}
+use Rattle.mencius_base.specs.declared.message.Value.{Value}
+use Rattle.mencius_base.specs.declared.message.Value.TheVariants.{Noop, Ticket}
+use Rattle.map_exec.specs.State.{ExecutorState, after_execution}
+use Rattle.map_exec.specs.Store.{key_of}
+use Rattle.mencius_cluster.specs.declared.submission.Submission.{Submission}
+use Rattle.mencius_cluster.specs.Answers.{Reply, NotYet, Is, bytes_in}
+use Rattle.mencius_cluster.specs.Tables.{Row}
+
+-- the reply that stays: the first one that the home gave
+abbrev pub first_reply : Bool → Reply → Option (List ℕ) → Reply
+first_reply true NotYet text = Is text
+first_reply true (Is old) text = Is old
+first_reply false r text = r
+
+-- server s executed the command of ticket t: x became y, and the command's row has the reply if s is its home
+pub record IsExecution (s t : ℕ) (x y : ExecutorState) (old new : List Row) : Type 0 where
+  pub row : Row
+  pub there : slice_get old t ≡ Some row
+  pub executor : y ≡ after_execution x row.1.command t
+  pub submission : Submission
+  pub rows : new ≡ set_value_at old t submission
+  pub command : submission.command ≡ row.1.command
+  pub home : submission.home ≡ row.1.home
+  pub answer : bytes_in submission.answer ≡ first_reply (row.1.home == s) (bytes_in row.1.answer) (finite.get x.store (key_of row.1.command.op))
+
+-- server s executed a value
+abbrev pub IsPerformed : ℕ → Value → ExecutorState → ExecutorState → List Row → List Row → Type 0
+IsPerformed s Noop x y old new = (y ≡ x) × (new ≡ old)
+IsPerformed s (Ticket t) x y old new = IsExecution s t x y old new
+
+-- the ticket of a value, if it has one, is below n
+abbrev pub IsTicketBelow : ℕ → Value → Type 0
+IsTicketBelow n Noop = Unit {0}
+IsTicketBelow n (Ticket t) = t < n
