@@ -12,7 +12,6 @@ mod replaying;
 mod scenario;
 mod sink;
 mod source;
-mod standin;
 mod words;
 mod write;
 
