@@ -1,4 +1,4 @@
--- Fact 5, and that two decided values of one instance are equal.
+-- Decisions last, what is learned is decided, and two decided values of one instance are equal.
 use Rattle.std.proofs.Common.{◌≡◌, ℕ, ◌<◌, ◌≤◌, true, ◌&&◌, List, [], ◌∷◌, ◌++◌, inl, inr, refl, sym, ◌∙◌, Some, eqb, leb, ltb, eqb-true, leb-true, ltb-true}
 use Rattle.std.proofs.lemmas.Bool.{cases_order, and_parts}
 use Rattle.mencius_base.specs.declared.message.Message.{Message}
@@ -13,10 +13,10 @@ use Rattle.coord_paxos.specs.Instance.{has_accepted}
 use Rattle.mencius_server.proofs.Lists.{IsIn, any_in, in_any, majority_more}
 use Rattle.mencius_server.proofs.Grown.{IsGrown, MayLearn}
 use Rattle.mencius_server.proofs.State.{proposed_more, acceptance_more, sent_in, in_sent, start_in, learned_in}
-use Rattle.mencius_server.proofs.Paxos.{fact_4, origin}
+use Rattle.mencius_server.proofs.Paxos.{chosen_above, origin}
 use Rattle.mencius_server.proofs.Owners.{skip_free}
 
--- the owner's Skip that covers i
+-- a Skip of i's owner that covers i
 pub record SkipOf (m : Membership) (w : History) (i : ℕ) : Type 0 where
   pub first : ℕ
   pub stop : ℕ
@@ -24,6 +24,7 @@ pub record SkipOf (m : Membership) (w : History) (i : ℕ) : Type 0 where
   pub from : first ≤ i
   pub to : i < stop
 
+-- a message that gives i up is such a Skip
 skip_message : (m : Membership) (w : History) (i : ℕ) (x : Message) → IsIn (Sent x) w → gives_up m i x ≡ true → SkipOf m w i
 skip_message m w i (Skip from first stop) h e =
     let r = and_parts (eqb from (owner m i) && leb first i) (ltb i stop) e in
@@ -32,21 +33,25 @@ skip_message m w i (Skip from first stop) h e =
     record { first = first; stop = stop; skip = rw same at h; from = leb-true first i s.1; to = ltb-true i stop r.1 }
 skip_message m w i _ h e = absurd (cc)
 
-pub skip_of : (m : Membership) (w : History) (i : ℕ) → IsSkipped m w i → SkipOf m w i
+-- where i is skipped, there is one
+skip_of : (m : Membership) (w : History) (i : ℕ) → IsSkipped m w i → SkipOf m w i
 skip_of m w i h =
     let r = any_in (gives_up m i) (sent w) h in
     skip_message m w i r.0 (sent_in r.0 w r.1) r.2
 
+-- a later line leaves what is skipped
 skipped_more : (m : Membership) (l : Line) (w : History) (i : ℕ) → IsSkipped m w i → IsSkipped m (l ∷ w) i
 skipped_more m l w i h =
     let r = any_in (gives_up m i) (sent w) h in
     in_any (gives_up m i) r.0 (sent (l ∷ w)) (in_sent r.0 (l ∷ w) (inr (sent_in r.0 w r.1))) r.2
 
+-- a later line leaves what is decided
 pub decided_more : (m : Membership) (l : Line) (w : History) (i : ℕ) (v : Value) → IsDecided m w i v → IsDecided m (l ∷ w) i v
 decided_more m l w i v (inl c) =
     inl (c.0, proposed_more l w i c.0 v c.1, majority_more m (has_accepted w i c.0) (has_accepted (l ∷ w) i c.0) (acceptance_more l w i c.0) c.2)
 decided_more m l w i v (inr s) = inr (skipped_more m l w i s.0, s.1)
 
+-- and so do all later lines
 pub decided_past : (m : Membership) (ls : List Line) (w : History) (i : ℕ) (v : Value) → IsDecided m w i v → IsDecided m (ls ++ w) i v
 decided_past m [] w i v h = h
 decided_past m (l ∷ ls) w i v h = decided_more m l (ls ++ w) i v (decided_past m ls w i v h)
@@ -68,23 +73,23 @@ agreement m w few g i v x (inl c) (inl d) =
     elim (cases_order c.0 d.0) [
       | inl e ↦ let s = c.1 in let t = rw (← e) at d.1 in cc
       | inr o ↦ elim o [
-        | inl lt ↦ sym (fact_4 m w g i c.0 v c.1 c.2 d.0 x lt d.1)
-        | inr gt ↦ fact_4 m w g i d.0 x d.1 d.2 c.0 v gt c.1
+        | inl lt ↦ sym (chosen_above m w g i c.0 v c.1 c.2 d.0 x lt d.1)
+        | inr gt ↦ chosen_above m w g i d.0 x d.1 d.2 c.0 v gt c.1
       ]
     ]
 agreement m w few g i v x (inl c) (inr s) = skipped_noop m w few g i c.0 v s.0 c.1 ∙ sym s.1
 agreement m w few g i v x (inr s) (inl c) = s.1 ∙ sym (skipped_noop m w few g i c.0 x s.0 c.1)
 agreement m w few g i v x (inr s) (inr t) = s.1 ∙ sym t.1
 
--- fact 5
+-- what was learned, and what a Learn message tells, is decided
 pub record AreDecided (m : Membership) (w : History) : Type 0 where
   pub lines : (p i : ℕ) (v : Value) → IsIn (Learned p i v) w → IsDecided m w i v
   pub messages : (p i : ℕ) (v : Value) → IsIn (Sent (Learn p i v)) w → IsDecided m w i v
 
-pub fact_5 : (m : Membership) (w : History) → IsGrown m w → AreDecided m w
-fact_5 m [] g = record { lines = λ p i v h. absurd h; messages = λ p i v h. absurd h }
-fact_5 m (l ∷ w) g =
-    let before = fact_5 m w g.0 in
+pub all_decided : (m : Membership) (w : History) → IsGrown m w → AreDecided m w
+all_decided m [] g = record { lines = λ p i v h. absurd h; messages = λ p i v h. absurd h }
+all_decided m (l ∷ w) g =
+    let before = all_decided m w g.0 in
     record {
       lines =
           λ p i v h. elim h [
@@ -104,4 +109,4 @@ fact_5 m (l ∷ w) g =
 
 -- every learned value is decided
 pub learned_decided : (m : Membership) (w : History) → IsGrown m w → (p i : ℕ) (v : Value) → learned w p i ≡ Some v → IsDecided m w i v
-learned_decided m w g p i v h = (fact_5 m w g).lines p i v (learned_in w p i v h)
+learned_decided m w g p i v h = (all_decided m w g).lines p i v (learned_in w p i v h)

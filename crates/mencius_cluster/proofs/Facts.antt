@@ -1,6 +1,6 @@
--- The facts that agreement stands on, of every reached history.
+-- The six facts that agreement stands on, each of every reached history.
 use Rattle.std.proofs.Common.{◌≡◌, ℕ, ◌<◌, ◌≤◌, true, List, [], ◌∷◌, ◌++◌, inl, inr, refl, arith, Option, Some}
-use Rattle.mencius_base.specs.declared.message.Message.TheVariants.{Suggest, Skip, Accepted, Prepare, Promise, Propose}
+use Rattle.mencius_base.specs.declared.message.Message.TheVariants.{Suggest, Skip, Accepted, Promise, Propose}
 use Rattle.mencius_base.specs.declared.message.Value.{Value}
 use Rattle.mencius_base.specs.declared.message.Value.TheVariants.{Noop}
 use Rattle.mencius_base.specs.declared.message.Vote.{Vote}
@@ -12,15 +12,15 @@ use Rattle.mencius_server.specs.Next.{IsReached}
 use Rattle.mencius_server.specs.Decided.{IsSkipped, IsDecided}
 use Rattle.coord_paxos.specs.Instance.{has_accepted}
 use Rattle.mencius_server.proofs.Lists.{IsIn}
-use Rattle.mencius_server.proofs.Grown.{IsGrown, MayAccept, IsAsked, MayPropose, in_past, right_at}
+use Rattle.mencius_server.proofs.Grown.{IsGrown, MayAccept, MayPropose, in_past, right_at}
 use Rattle.mencius_server.proofs.State.{promise_within}
 use Rattle.mencius_server.proofs.Journals.{reached_grown}
-use Rattle.mencius_server.proofs.Sources.{acceptance_asked, promise_asked, propose_ballot, propose_once}
 use Rattle.mencius_server.proofs.Paxos as paxos
 use Rattle.mencius_server.proofs.Owners as owners
 use Rattle.mencius_cluster.proofs.Decisions as decisions
 use Rattle.mencius_cluster.proofs.Tickets as tickets
 
+-- the acceptances that came after a promise
 later_acceptance : (m : Membership) (newer : List Line) (older : History) (q to i b : ℕ) (v : Option Vote) → IsGrown m (newer ++ Sent (Promise q to i b v) ∷ older)
     → (c t : ℕ) → IsIn (Sent (Accepted q t i c)) newer → b ≤ c
 later_acceptance m [] older q to i b v g c t h = absurd h
@@ -35,41 +35,36 @@ module _ (m : Membership) (few : 1 ≤ m.count) (w : History) (r : IsReached m w
   grown : IsGrown m w
   grown = reached_grown m w r
 
-  -- after a promise, nothing below it is accepted
-  pub fact_1 : (newer : List Line) (older : History) (q to i b : ℕ) (v : Option Vote) → w ≡ newer ++ Sent (Promise q to i b v) ∷ older
+  -- 1. after a promise at a ballot, its sender accepts nothing below the ballot
+  pub no_acceptance_below_promise : (newer : List Line) (older : History) (q to i b : ℕ) (v : Option Vote) → w ≡ newer ++ Sent (Promise q to i b v) ∷ older
       → (c t : ℕ) → IsIn (Sent (Accepted q t i c)) newer → b ≤ c
-  fact_1 newer older q to i b v e c t h = later_acceptance m newer older q to i b v (rw e at grown) c t h
+  no_acceptance_below_promise newer older q to i b v e c t h = later_acceptance m newer older q to i b v (rw e at grown) c t h
 
-  -- a majority promised before a proposal, and it has the highest vote reported
-  pub fact_2 : (newer : List Line) (older : History) (p i b : ℕ) (v : Value) → w ≡ newer ++ Sent (Propose p i b v) ∷ older → MayPropose m older p i b v
-  fact_2 newer older p i b v e = right_at m newer (Sent (Propose p i b v)) older (rw e at grown)
+  -- 2. before a proposal a majority promised its ballot, and it has the value of the greatest vote that was
+  -- heard of, or no-op
+  pub proposal_by_majority : (newer : List Line) (older : History) (p i b : ℕ) (v : Value) → w ≡ newer ++ Sent (Propose p i b v) ∷ older → MayPropose m older p i b v
+  proposal_by_majority newer older p i b v e = right_at m newer (Sent (Propose p i b v)) older (rw e at grown)
 
-  pub proposal_once : (p q i b : ℕ) (v x : Value) → IsIn (Sent (Propose p i b v)) w → IsIn (Sent (Propose q i b x)) w → (p ≡ q) × (v ≡ x)
-  proposal_once p q i b v x h k = propose_once m w grown p q i b v x h k
+  -- 3. an instance has one suggestion at most
+  pub one_suggestion : (p q i t u : ℕ) → IsIn (Sent (Suggest p i t)) w → IsIn (Sent (Suggest q i u)) w → (p ≡ q) × (t ≡ u)
+  one_suggestion p q i t u h k = owners.suggest_once m w few grown p q i t u h k
 
-  pub proposal_ballot : (p i b : ℕ) (v : Value) → IsIn (Sent (Propose p i b v)) w → (m.count ≤ b) × (owner m b ≡ p)
-  proposal_ballot p i b v h = propose_ballot m w grown p i b v h
+  -- and none where its owner skipped it
+  pub no_suggestion_where_skipped : (first stop q i t : ℕ) → first ≤ i → i < stop → IsIn (Sent (Skip (owner m i) first stop)) w → IsIn (Sent (Suggest q i t)) w → ⊥
+  no_suggestion_where_skipped first stop q i t from to h k = owners.skip_free m w few grown (owner m i) first stop q i t refl from to h k
 
-  pub accepted_asked : (q to i b : ℕ) → IsIn (Sent (Accepted q to i b)) w → IsAsked w to i b
-  accepted_asked q to i b h = acceptance_asked m w grown q to i b h
+  -- 4. where a value is chosen at a ballot, every proposal at a greater ballot has it
+  pub chosen_is_proposed_above : (i c b : ℕ) (v x : Value) → proposed w i c ≡ Some v → IsMajority m (has_accepted w i c) ≡ true → c < b → proposed w i b ≡ Some x → x ≡ v
+  chosen_is_proposed_above i c b v x start chosen lt h = paxos.chosen_above m w grown i c v start chosen b x lt h
 
-  pub promised_asked : (q to i b : ℕ) (v : Option Vote) → IsIn (Sent (Promise q to i b v)) w → IsIn (Sent (Prepare to i b)) w
-  promised_asked q to i b v h = promise_asked m w grown q to i b v h
+  -- and where the owner skipped an instance, every proposal there is no-op
+  pub skipped_is_proposed_noop : (i b : ℕ) (x : Value) → IsSkipped m w i → proposed w i b ≡ Some x → x ≡ Noop
+  skipped_is_proposed_noop i b x s h = decisions.skipped_noop m w few grown i b x s h
 
-  pub fact_3_once : (p q i t u : ℕ) → IsIn (Sent (Suggest p i t)) w → IsIn (Sent (Suggest q i u)) w → (p ≡ q) × (t ≡ u)
-  fact_3_once p q i t u h k = owners.suggest_once m w few grown p q i t u h k
+  -- 5. each value that was learned, or stands in a Learn message, is decided
+  pub learned_is_decided : decisions.AreDecided m w
+  learned_is_decided = decisions.all_decided m w grown
 
-  pub fact_3_skipped : (first stop q i t : ℕ) → first ≤ i → i < stop → IsIn (Sent (Skip (owner m i) first stop)) w → IsIn (Sent (Suggest q i t)) w → ⊥
-  fact_3_skipped first stop q i t from to h k = owners.skip_free m w few grown (owner m i) first stop q i t refl from to h k
-
-  pub fact_4_chosen : (i c b : ℕ) (v x : Value) → proposed w i c ≡ Some v → IsMajority m (has_accepted w i c) ≡ true → c < b → proposed w i b ≡ Some x → x ≡ v
-  fact_4_chosen i c b v x start chosen lt h = paxos.fact_4 m w grown i c v start chosen b x lt h
-
-  pub fact_4_skipped : (i b : ℕ) (x : Value) → IsSkipped m w i → proposed w i b ≡ Some x → x ≡ Noop
-  fact_4_skipped i b x s h = decisions.skipped_noop m w few grown i b x s h
-
-  pub fact_5 : decisions.AreDecided m w
-  fact_5 = decisions.fact_5 m w grown
-
-  pub fact_6 : (p q i j t : ℕ) → i < j → IsIn (Sent (Suggest p i t)) w → IsIn (Sent (Suggest q j t)) w → IsDecided m w i Noop
-  fact_6 p q i j t lt h k = tickets.fact_6 m w few grown p q i j t lt h k
+  -- 6. a ticket that was suggested twice lost the first time: no-op is decided at the lower instance
+  pub suggested_twice_lost_first : (p q i j t : ℕ) → i < j → IsIn (Sent (Suggest p i t)) w → IsIn (Sent (Suggest q j t)) w → IsDecided m w i Noop
+  suggested_twice_lost_first p q i j t lt h k = tickets.suggested_twice m w few grown p q i j t lt h k

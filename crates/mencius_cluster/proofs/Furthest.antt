@@ -1,5 +1,5 @@
 -- The longest history, and the least server that has it.
-use Rattle.std.proofs.Common.{◌≡◌, ℕ, zero, suc, ◌+◌, ◌-◌, ◌<◌, ◌≤◌, Bool, true, false, cond, ltb, ltb-true, ltb-false, fold, inl, inr, refl, sym, ap, subst, ◌∙◌, arith, [], ◌∷◌, length}
+use Rattle.std.proofs.Common.{◌≡◌, ℕ, zero, suc, ◌+◌, ◌-◌, ◌<◌, ◌≤◌, cond, ltb, ltb-true, ltb-false, fold, inl, inr, refl, sym, ap, subst, ◌∙◌, arith, [], ◌∷◌, length}
 use Rattle.std.proofs.lemmas.Bool.{cases_Bool, cases_lt, le-ltb, lt-ltb}
 use Rattle.std.proofs.lemmas.List.Sums.{fold-append}
 use Rattle.mencius_base.specs.Members.{Membership, below}
@@ -28,7 +28,8 @@ one_further f n b h =
               | inl k ↦ omega (arith, h.longest s k, more)
               | inr k ↦ let same : s ≡ n = omega arith in subst (λ x. f s ≤ f x) same (omega arith)
             ];
-            least = λ s lt. omega (arith, h.longest s lt, more) })
+            least = λ s lt. omega (arith, h.longest s lt, more);
+          })
       | inr e ↦
           let less = ltb-false (f b) (f n) e in
           rw e (record {
@@ -37,7 +38,8 @@ one_further f n b h =
               | inl k ↦ h.longest s k
               | inr k ↦ let same : n ≡ s = omega arith in subst (λ x. f x ≤ f b) same less
             ];
-            least = h.least })
+            least = h.least;
+          })
     ]
 
 furthest : (f : ℕ → ℕ) (n : ℕ) → IsFurthest f n (fold (further f) 0 (below n))
@@ -46,9 +48,9 @@ furthest f zero = record { member = omega arith; longest = λ s h. absurd (omega
 furthest f (suc n) =
     let next : suc n ≡ n + 1 = omega arith in
     let more : fold (further f) 0 (below (n + 1)) ≡ further f (fold (further f) 0 (below n)) n =
-          ap (fold (further f) 0) (below-more n) ∙ fold-append (further f) 0 (below n) (n ∷ []) in
+    ap (fold (further f) 0) (below-more n) ∙ fold-append (further f) 0 (below n) (n ∷ []) in
     subst (λ k. IsFurthest f k (fold (further f) 0 (below k))) (sym next)
-      (subst (IsFurthest f (n + 1)) (sym more) (one_further f n (fold (further f) 0 (below n)) (furthest f n)))
+    (subst (IsFurthest f (n + 1)) (sym more) (one_further f n (fold (further f) 0 (below n)) (furthest f n)))
 
 -- a further server
 pub longest-more : (w : History) (n : ℕ) → fold (longest_below w) 0 (below (n + 1)) ≡ longest_below w (fold (longest_below w) 0 (below n)) n

@@ -1,4 +1,4 @@
--- What servers execute: comparable, once, in order.
+-- Histories: of any two one begins the other, each command stands once, and later commands stand later.
 use Rattle.std.proofs.Common.{◌≡◌, ℕ, zero, suc, ◌+◌, ◌<◌, ◌≤◌, eqb, List, [], ◌∷◌, ◌++◌, length, ◌⊎◌, inl, inr, refl, sym, ap, ◌∙◌, arith, Option, Some, None, slice_get, append-nil, append_assoc, eqb-true, filter_map}
 use Rattle.std.specs.List.{cons_option}
 use Rattle.std.proofs.lemmas.Bool.{cases_lt, cases_Bool}
@@ -21,6 +21,7 @@ use Rattle.mencius_cluster.proofs.Tickets.{decided_once, decided_submitted, get_
 
 -- ---- what was executed was learned
 
+-- a line is an execution by s, or leaves its count
 done_line : (s : ℕ) (l : Line) → (is_done s l ≡ 0) ⊎ ((is_done s l ≡ 1) × (l ≡ Done s))
 done_line s (Done server) =
     elim (cases_Bool (eqb server s)) [
@@ -29,6 +30,7 @@ done_line s (Done server) =
     ]
 done_line s _ = inl refl
 
+-- an instance that s executed it had learned
 pub executed_learned : (m : Membership) (w : History) → IsGrown m w → (s i : ℕ) → i < done w s → (v : Value) × (learned w s i ≡ Some v)
 executed_learned m [] g s i lt = absurd (omega arith)
 executed_learned m (l ∷ w) g s i lt =
@@ -46,14 +48,17 @@ executed_learned m (l ∷ w) g s i lt =
 
 -- ---- tickets of the first n instances, over plain functions
 
+-- f is what a server learned at each instance
 abbrev pub tickets : (ℕ → Option Value) → ℕ → List ℕ
 tickets f n = filter_map (λ i. ticket_of (f i)) (below n)
 
+-- one more instance adds at most one ticket, at the end
 tickets_more : (f : ℕ → Option Value) (n : ℕ) → tickets f (suc n) ≡ tickets f n ++ filter_map (λ i. ticket_of (f i)) (n ∷ [])
 tickets_more f n = ap (filter_map (λ i. ticket_of (f i))) below_suc ∙ filter_map-append (λ i. ticket_of (f i)) (below n) (n ∷ []) where
   below_suc : below (suc n) ≡ below n ++ n ∷ []
   below_suc = let e : suc n ≡ n + 1 = omega arith in ap below e ∙ below-more n
 
+-- who learned the same executes the same
 pub tickets_same : (f g : ℕ → Option Value) (n : ℕ) → ((i : ℕ) → i < n → f i ≡ g i) → tickets f n ≡ tickets g n
 unfolding below
 tickets_same f g zero h = refl
@@ -61,6 +66,7 @@ tickets_same f g (suc n) h =
     let last = h n (omega arith) in
     rw (tickets_more f n, tickets_more g n, tickets_same f g n (λ i lt. h i (omega arith)), last)
 
+-- who executes fewer instances is at a beginning
 pub tickets_prefix : (f : ℕ → Option Value) (n k : ℕ) → n ≤ k → IsPrefix (tickets f n) (tickets f k)
 unfolding below
 tickets_prefix f n zero le = let e : n ≡ 0 = omega arith in rw e ([], refl)
@@ -73,6 +79,7 @@ tickets_prefix f n (suc k) le =
       | inr ge ↦ let e : n ≡ suc k = omega (arith, ge, le) in rw e ([], sym (append-nil (tickets f (suc k))))
     ]
 
+-- who agree where both learned have comparable lists
 comparable : (f g : ℕ → Option Value) (n k : ℕ) → ((i : ℕ) → i < n → i < k → f i ≡ g i) → IsComparable (tickets f n) (tickets g k)
 comparable f g n k h =
     elim (cases_lt n k) [
@@ -80,6 +87,7 @@ comparable f g n k h =
       | inr ge ↦ inr (rw (sym (tickets_same f g k (λ i a. h i (omega arith) a))) (tickets_prefix f k n ge))
     ]
 
+-- a ticket in the list was learned at some instance
 ticket_in : (o : Option Value) (t : ℕ) → IsIn t (cons_option (ticket_of o) []) → o ≡ Some (Ticket t)
 ticket_in None t h = absurd h
 ticket_in (Some Noop) t h = absurd h
@@ -99,6 +107,7 @@ in_tickets f (suc n) t h =
 abbrev pub IsOnce : List ℕ → Type 0
 IsOnce xs = (j k t : ℕ) → slice_get xs j ≡ Some t → slice_get xs k ≡ Some t → j ≡ k
 
+-- an item that is new at the end leaves each at one place
 once_push : (xs : List ℕ) (x : ℕ) → IsOnce xs → (IsIn x xs → ⊥) → IsOnce (xs ++ x ∷ [])
 once_push xs x h new j k t a b =
     elim (get_push xs x t j a) [
@@ -117,6 +126,7 @@ once_more xs None h new = rw append-nil h
 once_more xs (Some Noop) h new = rw append-nil h
 once_more xs (Some (Ticket t)) h new = once_push xs t h (new t refl)
 
+-- where no ticket is learned at two instances, none stands twice
 tickets_once : (f : ℕ → Option Value) (n : ℕ) → ((i j t : ℕ) → f i ≡ Some (Ticket t) → f j ≡ Some (Ticket t) → i ≡ j) → IsOnce (tickets f n)
 unfolding below
 tickets_once f zero h = λ j k t a b. absurd (cc)
@@ -127,10 +137,12 @@ tickets_once f (suc n) h =
 
 -- ---- a list that lacks t begins what stands before t
 
+-- comparable lists that have a first item have the same one
 heads : (x y : ℕ) (xs ys : List ℕ) → IsComparable (x ∷ xs) (y ∷ ys) → (x ≡ y) × IsComparable xs ys
 heads x y xs ys (inl p) = let e = p.1 in (cc, inl (p.0, cc))
 heads x y xs ys (inr p) = let e = p.1 in (cc, inr (p.0, cc))
 
+-- of comparable lists the one without t is the part before t, or begins it
 pub begins_before : (xs front back : List ℕ) (t : ℕ) → IsComparable xs (front ++ t ∷ back) → (IsIn t xs → ⊥) → IsPrefix xs front
 begins_before [] front back t c new = (front, refl)
 begins_before (x ∷ xs) [] back t c new = absurd (new (inl (sym (heads x t xs back c).0)))
@@ -142,16 +154,18 @@ begins_before (x ∷ xs) (a ∷ front) back t c new =
 -- ---- the theorems, over histories of one course
 
 module _ (m : Membership) (few : 1 ≤ m.count) (end : History) (g : IsGrown m end) where
+  -- what was learned at a moment is decided in the end
   learned_end : (w : History) → IsPast w end → (s i : ℕ) (v : Value) → learned w s i ≡ Some v → IsDecided m end i v
   learned_end w past s i v h =
       let d = learned_decided m w (past_grown m w end past g) s i v h in
       rw past.is (decided_past m past.since w i v d)
 
+  -- two values decided at two moments are decided in the end, and there they agree
   pub one_value : (w u : History) → IsPast w end → IsPast u end → (i : ℕ) (v x : Value) → IsDecided m w i v → IsDecided m u i x → v ≡ x
   one_value w u a b i v x h k =
       agreement m end few g i v x (rw a.is (decided_past m a.since w i v h)) (rw b.is (decided_past m b.since u i x k))
 
-  -- histories are comparable
+  -- two servers that executed an instance learned the same there
   pub histories_comparable : (w u : History) → IsPast w end → IsPast u end → (s r : ℕ) → IsComparable (executed w s) (executed u r)
   histories_comparable w u a b s r =
       comparable (learned w s) (learned u r) (done w s) (done u r)
@@ -162,18 +176,19 @@ module _ (m : Membership) (few : 1 ≤ m.count) (end : History) (g : IsGrown m e
       x.1 ∙ (ap Some e ∙ sym y.1))
 
 module _ (m : Membership) (few : 1 ≤ m.count) (w : History) (g : IsGrown m w) where
-  -- each command stands once
+  -- each ticket was submitted
   pub history_submitted : (s t : ℕ) → IsIn t (executed w s) → t < length (submitted w)
   history_submitted s t h =
       let r = in_tickets (learned w s) (done w s) t h in
       decided_submitted m w g r.0 t (learned_decided m w g s r.0 (Ticket t) r.2)
 
+  -- and stands once, since it is decided at one instance
   pub history_once : (s : ℕ) → IsOnce (executed w s)
   history_once s =
       tickets_once (learned w s) (done w s)
       (λ i j t h k. decided_once m w few g i j t (learned_decided m w g s i (Ticket t) h) (learned_decided m w g s j (Ticket t) k))
 
--- later commands stand later
+-- what is submitted after a history was executed stands behind all of it
 pub order : (m : Membership) → 1 ≤ m.count → (w end : History) → IsPast w end → IsGrown m end → (s r t : ℕ) (front back : List ℕ)
     → length (submitted w) ≤ t → executed end r ≡ front ++ t ∷ back → IsPrefix (executed w s) front
 order m few w end past g s r t front back late is =

@@ -1,5 +1,5 @@
 -- What an event leaves of what was executed and replied.
-use Rattle.std.proofs.Common.{◌≡◌, ℕ, ◌+◌, ◌<◌, ◌≤◌, zero, suc, Bool, true, false, cond, List, [], ◌∷◌, ◌++◌, Option, Some, None, map, length, take, slice_get, refl, sym, ap, ◌∙◌, append-nil, arith, filter_map, option_map, fold, add-zero}
+use Rattle.std.proofs.Common.{◌≡◌, ℕ, ◌+◌, ◌<◌, zero, suc, List, [], ◌∷◌, ◌++◌, Option, Some, None, map, length, take, slice_get, refl, sym, ap, ◌∙◌, arith, filter_map, option_map, add-zero}
 use Rattle.std.specs.List.{cons_option}
 use Rattle.std.specs.Prelude.{◌==◌}
 use Rattle.std.proofs.lemmas.List.Elements.{filter_map-append}
@@ -8,7 +8,7 @@ use Rattle.mencius_base.specs.declared.event.Event.{Event}
 use Rattle.mencius_base.specs.declared.message.Value.{Value}
 use Rattle.mencius_base.specs.declared.message.Value.TheVariants.{Noop, Ticket}
 use Rattle.mencius_base.specs.Members.{Membership, below}
-use Rattle.mencius_base.specs.History.{Line, Done, History, command_in, option_to_list, submitted}
+use Rattle.mencius_base.specs.History.{History, command_in, option_to_list, submitted}
 use Rattle.coord_paxos.specs.Instance.{learned}
 use Rattle.mencius_server.specs.Server.{done, is_done}
 use Rattle.mencius_server.specs.Next.{head}
@@ -36,9 +36,9 @@ filter_map-below_same f g zero same = ap (filter_map f) below-zero ∙ sym (ap (
 filter_map-below_same {X} f g (suc n) same =
     let more : below (suc n) ≡ below n ++ n ∷ [] = (let s : suc n ≡ n + 1 = omega arith in ap below s) ∙ below-more n in
     ap (filter_map f) more ∙ filter_map-append f (below n) (n ∷ [])
-      ∙ ap (λ xs. xs ++ cons_option (f n) []) (filter_map-below_same f g n (λ k h. same k (omega arith)))
-      ∙ ap (λ (o : Option X). filter_map g (below n) ++ cons_option o []) (same n (omega arith))
-      ∙ sym (ap (filter_map g) more ∙ filter_map-append g (below n) (n ∷ []))
+    ∙ ap (λ xs. xs ++ cons_option (f n) []) (filter_map-below_same f g n (λ k h. same k (omega arith)))
+    ∙ ap (λ (o : Option X). filter_map g (below n) ++ cons_option o []) (same n (omega arith))
+    ∙ sym (ap (filter_map g) more ∙ filter_map-append g (below n) (n ∷ []))
 
 pub slice_get-append : {X : Type 0} (xs ys : List X) (k : ℕ) → k < length xs → slice_get (xs ++ ys) k ≡ slice_get xs k
 slice_get-append [] ys k h = absurd (omega arith)
@@ -78,19 +78,19 @@ pub history_kept : (m : Membership) (w : History) (e : Event) (s : ℕ) → IsTo
 history_kept m w e s told none =
     let same : done (with_event m w e) s ≡ done w s = done-event m w e s ∙ ap (λ n. done w s + n) none ∙ add-zero (done w s) in
     ap (λ n. filter_map (λ i. ticket_of (learned (with_event m w e) s i)) (below n)) same
-      ∙ filter_map-below_same _ _ (done w s)
-          (λ i h. let r = told.executed s i h in ap ticket_of (learned-event m w e s i r.0 r.1 ∙ sym r.1))
+    ∙ filter_map-below_same _ _ (done w s)
+    (λ i h. let r = told.executed s i h in ap ticket_of (learned-event m w e s i r.0 r.1 ∙ sym r.1))
 
 command_kept : (m : Membership) (w : History) (e : Event) (t : ℕ) → t < length (submitted w) → command_at (with_event m w e) t ≡ command_at w t
 command_kept m w e t h =
     ap (λ xs. option_map (λ (x : Command × ℕ). x.0) (slice_get xs t)) (submitted-event m w e)
-      ∙ ap (option_map (λ (x : Command × ℕ). x.0)) (slice_get-append (submitted w) (option_to_list (command_in (head e))) t h)
+    ∙ ap (option_map (λ (x : Command × ℕ). x.0)) (slice_get-append (submitted w) (option_to_list (command_in (head e))) t h)
 
 pub commands_kept : (m : Membership) (w : History) (e : Event) (ts : List ℕ) → AreBelow (length (submitted w)) ts → commands_of (with_event m w e) ts ≡ commands_of w ts
 commands_kept m w e [] h = refl
 commands_kept m w e (t ∷ ts) h =
     ap (λ o. cons_option o (commands_of (with_event m w e) ts)) (command_kept m w e t h.0)
-      ∙ ap (cons_option (command_at w t)) (commands_kept m w e ts h.1)
+    ∙ ap (cons_option (command_at w t)) (commands_kept m w e ts h.1)
 
 abbrev state_of : List Command → List ℕ → ExecutorState
 state_of cs h = record { store = store_after cs; history = h }
@@ -98,7 +98,7 @@ state_of cs h = record { store = store_after cs; history = h }
 pub executor_kept : (m : Membership) (w : History) (e : Event) (s : ℕ) → IsTold m w → is_done s (head e) ≡ 0 → executor_at (with_event m w e) s ≡ executor_at w s
 executor_kept m w e s told none =
     ap (λ h. state_of (commands_of (with_event m w e) h) h) (history_kept m w e s told none)
-      ∙ ap (λ cs. state_of cs (executed w s)) (commands_kept m w e (executed w s) (history-below m w s told))
+    ∙ ap (λ cs. state_of cs (executed w s)) (commands_kept m w e (executed w s) (history-below m w s told))
 
 abbrev Reply_of : List Command → Command → Reply
 Reply_of cs c = Is (out cs c)
@@ -108,10 +108,10 @@ reply_from_kept : (m : Membership) (w : History) (e : Event) (c : Command) (home
 reply_from_kept m w e c home None told none = refl
 reply_from_kept m w e c home (Some k) told none =
     ap (λ h. Reply_of (commands_of (with_event m w e) (take k h)) c) (history_kept m w e home told none)
-      ∙ ap (λ cs. Reply_of cs c) (commands_kept m w e (take k (executed w home)) (below_take _ k _ (history-below m w home told)))
+    ∙ ap (λ cs. Reply_of cs c) (commands_kept m w e (take k (executed w home)) (below_take _ k _ (history-below m w home told)))
 
 pub reply_kept : (m : Membership) (w : History) (e : Event) (t : ℕ) (c : Command) (home : ℕ) → IsTold m w → is_done home (head e) ≡ 0
     → reply_at (with_event m w e) t c home ≡ reply_at w t c home
 reply_kept m w e t c home told none =
     ap (λ h. reply_from (with_event m w e) c home (place_of (λ u. u == t) h)) (history_kept m w e home told none)
-      ∙ reply_from_kept m w e c home (place_of (λ u. u == t) (executed w home)) told none
+    ∙ reply_from_kept m w e c home (place_of (λ u. u == t) (executed w home)) told none

@@ -1,4 +1,4 @@
--- What only grows, and that a command has one reply (over the definitions).
+-- What only grows: what a server learned and executed, and so its history.
 use Rattle.std.proofs.Common.{◌≡◌, ℕ, ◌≤◌, List, [], ◌∷◌, ◌++◌, length, inl, inr, sym, ap, ◌∙◌, arith, Some, length-append, append-nil}
 use Rattle.std.proofs.lemmas.List.{nil_from_length}
 use Rattle.mencius_base.specs.declared.message.Value.{Value}
@@ -11,10 +11,12 @@ use Rattle.mencius_server.proofs.Grown.{IsGrown, IsPast, past_grown}
 use Rattle.mencius_server.proofs.State.{learned_more}
 use Rattle.mencius_cluster.proofs.Histories.{tickets_prefix, tickets_same, executed_learned}
 
+-- what was learned stays
 learned_past : (ls : List Line) (w : History) (p i : ℕ) (v : Value) → learned w p i ≡ Some v → learned (ls ++ w) p i ≡ Some v
 learned_past [] w p i v h = h
 learned_past (l ∷ ls) w p i v h = learned_more l (ls ++ w) p i v (learned_past ls w p i v h)
 
+-- what was executed stays
 done_past : (ls : List Line) (w : History) (s : ℕ) → done w s ≤ done (ls ++ w) s
 done_past [] w s = omega arith
 done_past (l ∷ ls) w s = omega (arith, done_past ls w s)

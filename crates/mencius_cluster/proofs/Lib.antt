@@ -2,13 +2,14 @@ pub mod Decisions
 pub mod Tickets
 pub mod Histories
 pub mod Moments
-pub mod Theorems
 pub mod Facts
 pub mod Later
+pub mod Furthest
 pub mod Longest
+pub mod Replying
+pub mod Theorems
 pub mod Worked
 pub mod Traces
-pub mod Replying
 pub mod Worlds
 pub mod Journals
 pub mod Told
@@ -25,7 +26,6 @@ pub mod Took
 pub mod Unlearned
 pub mod Low
 pub mod Lookups
-pub mod Furthest
 pub mod Counts
 pub mod Enrolled
 pub mod Submitted

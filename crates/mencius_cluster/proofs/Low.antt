@@ -1,5 +1,5 @@
 -- What is learned is learned at an instance that there is.
-use Rattle.std.proofs.Common.{◌≡◌, ℕ, zero, suc, ◌+◌, ◌<◌, ◌≤◌, Bool, true, false, cond, List, [], ◌∷◌, ◌++◌, Option, Some, None, map, filter, inl, inr, refl, sym, arith, Ok, slice_get, eqb, ltb, leb, ◌&&◌, ap, ◌∙◌}
+use Rattle.std.proofs.Common.{◌≡◌, ℕ, zero, suc, ◌+◌, ◌<◌, ◌≤◌, Bool, true, false, cond, List, [], ◌∷◌, ◌++◌, Option, Some, None, map, filter, inl, inr, refl, sym, arith, Ok, slice_get, eqb, ltb, leb, ap, ◌∙◌}
 use Rattle.std.specs.Prelude.{is_none}
 use Rattle.std.specs.List.{range_with_len}
 use Rattle.std.proofs.lemmas.Bool.{cases_Bool, cases_lt}
@@ -11,8 +11,8 @@ use Rattle.mencius_base.specs.declared.message.Message.TheVariants.{Suggest, Ski
 use Rattle.mencius_base.specs.declared.message.Value.{Value}
 use Rattle.mencius_base.specs.declared.message.Value.TheVariants.{Noop}
 use Rattle.mencius_base.specs.Members.{Membership, below, first_item, instances}
-use Rattle.mencius_base.specs.History.{Line, Submitted, Heard, Lost, Suspected, Retried, Done, Sent, Learned, History, followed_by, sent, submitted}
-use Rattle.coord_paxos.specs.Instance.{IsMajority, accepters, learned, promised, proposed, trying}
+use Rattle.mencius_base.specs.History.{Line, Heard, Sent, Learned, History, followed_by, sent}
+use Rattle.coord_paxos.specs.Instance.{learned, promised, proposed}
 use Rattle.mencius_server.specs.Server.{free, front, suspects, waiting}
 use Rattle.mencius_server.specs.Next.{IsReached, again, decision, delivery, head, is_given_up, lines, next, on_message, preparation, promise, suggestion}
 use Rattle.coord_paxos.specs.Fresh.{new_slot}
@@ -133,7 +133,8 @@ low_next m few w v e all h =
     let n = next_is m w v e h in
     record {
       reached = reached_next m w v e all.reached h;
-      low = rw n.is at (low_followed (head e ∷ lines m w e) w all.low (low_head e, low_lines m few w e all.reached)) }
+      low = rw n.is at (low_followed (head e ∷ lines m w e) w all.low (low_head e, low_lines m few w e all.reached));
+    }
 
 -- what is learned is learned at one of the 4,096 instances
 pub learned_small : (m : Membership) → m.count ≤ 7 → (w : History) → IsReached m w → (p i : ℕ) (v : Value) → learned w p i ≡ Some v → i < 4096
@@ -148,7 +149,7 @@ learned_in_slot m few w reached p i =
       | inl small ↦ ap (λ (t : SlotState). t.learned) (slot-server_at m w p i small)
       | inr past ↦
           ap (λ (t : SlotState). t.learned) (get_or_past (map (slot_at m w p) instances) i (new_slot m) (omega (arith, length-map-instances (slot_at m w p))))
-            ∙ sym (unlearned (learned w p i) refl past)
+          ∙ sym (unlearned (learned w p i) refl past)
     ]
   where
     unlearned : (o : Option Value) → learned w p i ≡ o → 4096 ≤ i → o ≡ None

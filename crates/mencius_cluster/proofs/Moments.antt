@@ -8,5 +8,6 @@ use Rattle.mencius_server.proofs.Grown.{IsPast}
 use Rattle.mencius_server.proofs.Journals.{past_from, rest}
 use Rattle.mencius_cluster.specs.Laws.{IsMoment}
 
+-- the history of a moment begins the history that the whole journal makes
 pub moment_past : (m : Membership) (journal : List Event) (w v : History) → IsMoment m journal w → replay m journal ≡ Ok v → IsPast w v
 moment_past m journal w v a h = past_from m a.after w v (rest m a.before a.after [] w v a.replays (rw a.splits at h))

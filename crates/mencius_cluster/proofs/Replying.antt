@@ -1,5 +1,5 @@
--- Which reply a command has, over the definitions.
-use Rattle.std.proofs.Common.{◌≡◌, ℕ, zero, suc, ◌≤◌, Bool, true, false, eqb, eqb-true, eq-eqb, List, [], ◌∷◌, take, inl, inr, refl, sym, ap, ◌∙◌, arith, Option, Some, None, slice_get, option_map, ◌↔◌}
+-- Which reply a command has: the first place of a ticket, and the three answers of `reply_of`.
+use Rattle.std.proofs.Common.{◌≡◌, ℕ, zero, suc, ◌≤◌, Bool, true, false, eqb, eqb-true, eq-eqb, List, [], ◌∷◌, inl, inr, refl, sym, ap, ◌∙◌, arith, Option, Some, None, slice_get, option_map, ◌↔◌}
 use Rattle.std.specs.List.{list_any}
 use Rattle.std.proofs.lemmas.Bool.{cases_Bool, and_parts, or_parts}
 use Rattle.std.proofs.lemmas.Option.{some_pair_parts}
@@ -8,21 +8,23 @@ use Rattle.mencius_base.specs.Members.{Membership}
 use Rattle.mencius_base.specs.History.{History, submitted}
 use Rattle.mencius_base.specs.Command.{is_same_id}
 use Rattle.mencius_cluster.specs.Executed.{executed}
-use Rattle.mencius_cluster.specs.Replies.{out, commands, IsReply, Given, place_of, answer_at, answer_of, answer_for, reply_of, Known, Replied, Replied_once}
+use Rattle.mencius_cluster.specs.Replying.{Reply, NotYet, Is, place_of, reply_from, reply_of_place, reply_of}
+use Rattle.mencius_cluster.specs.Laws.{IsReply, IsPending, IsSubmitted}
 use Rattle.mencius_server.proofs.Lists.{none_in, get_in}
 use Rattle.mencius_server.proofs.Grown.{IsGrown}
 use Rattle.mencius_cluster.proofs.Histories.{history_once}
 use Rattle.mencius_cluster.proofs.Tickets.{identity_once, Submission}
-use Rattle.mencius_cluster.proofs.Theorems.{course_grown}
 
 -- ---- the first place
 
+-- k is the first place of an item that passes
 pub record IsPlace (A : Type 0) (p : A → Bool) (xs : List A) (k : ℕ) : Type 0 where
   pub item : A
   pub there : slice_get xs k ≡ Some item
   pub passes : p item ≡ true
   pub first : (j : ℕ) (x : A) → slice_get xs j ≡ Some x → p x ≡ true → k ≤ j
 
+-- a place after the first
 mapped : (o : Option ℕ) (k : ℕ) → option_map suc o ≡ Some k → (j : ℕ) × (o ≡ Some j) × (k ≡ suc j)
 mapped None k h = absurd (cc)
 mapped (Some j) k h = (j, refl, cc)
@@ -36,6 +38,7 @@ place_next : {A : Type 0} (p : A → Bool) (x : A) (xs : List A) (i k : ℕ) →
 place_next p x xs i k e miss s =
     rw e (record { item = s.item; there = s.there; passes = s.passes; first = λ j y a b. later_place p x xs i miss s.first j y a b })
 
+-- `place_of` answers the first place of an item that passes
 place_is : {A : Type 0} (p : A → Bool) (xs : List A) (k : ℕ) → place_of p xs ≡ Some k → IsPlace A p xs k
 place_is p [] k h = absurd (cc)
 place_is p (x ∷ xs) k h =
@@ -52,6 +55,7 @@ mapped_none : (o : Option ℕ) → option_map suc o ≡ None → o ≡ None
 mapped_none None h = refl
 mapped_none (Some k) h = absurd (cc)
 
+-- and none exactly where no item passes
 no_place : {A : Type 0} (p : A → Bool) (xs : List A) → place_of p xs ≡ None → list_any p xs ≡ false
 no_place p [] h = refl
 no_place p (x ∷ xs) h =
@@ -68,6 +72,7 @@ some_place p (x ∷ xs) h =
 
 -- ---- the reply
 
+-- who has the identity of a third has the identity of each other
 same_ids : (a b id : CommandId) → is_same_id a id ≡ true → is_same_id b id ≡ true → is_same_id a b ≡ true
 same_ids a b id h k =
     let r = and_parts (eqb a.client id.client) (eqb a.number id.number) h in
@@ -77,25 +82,43 @@ same_ids a b id h k =
     rw (eq-eqb a.client b.client c, eq-eqb a.number b.number n)
 
 module _ (m : Membership) (few : 1 ≤ m.count) (w : History) (g : IsGrown m w) (id : CommandId) where
-  -- the submission and the place are those of the reply
-  pub reply_once : (x y : Option (List ℕ)) → IsReply w id x → IsReply w id y → x ≡ y
-  reply_once x y a b =
-      let t = identity_once m w g a.ticket b.ticket (a.command, a.home) (b.command, b.home) a.given b.given (same_ids a.command.id b.command.id id a.same b.same) in
-      let u = rw (← t) at b.given in
-      let e : Some (a.command, a.home) ≡ Some (b.command, b.home) = sym a.given ∙ u in
-      let parts = some_pair_parts a.command b.command a.home b.home e in
-      let there : slice_get (executed w a.home) b.place ≡ Some a.ticket = rw (parts.1, t) b.there in
-      let p = history_once m few w g a.home a.place b.place a.ticket a.there there in
-      a.is ∙ (rw (parts.0, parts.1, p) (sym b.is))
-
   abbrev is_id : Submission → Bool
   is_id x = is_same_id x.0.id id
 
+  abbrev is_ticket : ℕ → ℕ → Bool
+  is_ticket t u = eqb u t
+
+  -- one submission has this identity
+  same_submission : (t u : ℕ) (x y : Submission) → slice_get (submitted w) t ≡ Some x → slice_get (submitted w) u ≡ Some y
+      → is_same_id x.0.id id ≡ true → is_same_id y.0.id id ≡ true → (t ≡ u) × (x ≡ y)
+  same_submission t u x y a b h k =
+      let e = identity_once m w g t u x y a b (same_ids x.0.id y.0.id id h k) in
+      let c = rw (← e) at b in
+      (e, cc)
+
+  -- it stands at one place of its home's history, so it has one reply
+  pub reply_once : (x y : Option (List ℕ)) → IsReply w id x → IsReply w id y → x ≡ y
+  reply_once x y a b =
+      let s = same_submission a.ticket b.ticket (a.command, a.home) (b.command, b.home) a.given b.given a.same b.same in
+      let parts = some_pair_parts a.command b.command a.home b.home (ap Some s.1) in
+      let there : slice_get (executed w a.home) b.place ≡ Some a.ticket = rw (parts.1, s.0) b.there in
+      let p = history_once m few w g a.home a.place b.place a.ticket a.there there in
+      a.is ∙ (rw (parts.0, parts.1, p) (sym b.is))
+
+  -- a reply is not given and awaited at once
+  not_both : (r : Option (List ℕ)) → IsReply w id r → IsPending w id → ⊥
+  not_both r a b =
+      let s = same_submission a.ticket b.ticket (a.command, a.home) (b.command, b.home) a.given b.given a.same b.same in
+      let parts = some_pair_parts a.command b.command a.home b.home (ap Some s.1) in
+      b.absent a.place (rw (← parts.1, ← s.0) a.there)
+
+  -- ---- what `reply_of` answers is so
+
   given_at : (t : ℕ) (x : Submission) (o : Option ℕ) (r : Option (List ℕ)) → slice_get (submitted w) t ≡ Some x → is_same_id x.0.id id ≡ true
-      → place_of (λ u. eqb u t) (executed w x.1) ≡ o → answer_at w x.0 x.1 o ≡ Given r → IsReply w id r
+      → place_of (is_ticket t) (executed w x.1) ≡ o → reply_from w x.0 x.1 o ≡ Is r → IsReply w id r
   given_at t x None r a s e h = absurd (cc)
   given_at t x (Some k) r a s e h =
-      let p = place_is (λ u. eqb u t) (executed w x.1) k e in
+      let p = place_is (is_ticket t) (executed w x.1) k e in
       let same = eqb-true p.item t p.passes in
       record {
         ticket = t;
@@ -109,57 +132,79 @@ module _ (m : Membership) (few : 1 ≤ m.count) (w : History) (g : IsGrown m w) 
         is = cc;
       }
 
-  found_at : (o : Option ℕ) (r : Option (List ℕ)) → place_of is_id (submitted w) ≡ o → answer_for w o ≡ Some (Given r) → IsReply w id r
-  found_at None r e h = absurd (cc)
-  found_at (Some t) r e h =
+  pending_at : (t : ℕ) (x : Submission) (o : Option ℕ) → slice_get (submitted w) t ≡ Some x → is_same_id x.0.id id ≡ true
+      → place_of (is_ticket t) (executed w x.1) ≡ o → reply_from w x.0 x.1 o ≡ NotYet → IsPending w id
+  pending_at t x (Some k) a s e h = absurd (cc)
+  pending_at t x None a s e h =
+      record {
+        ticket = t;
+        command = x.0;
+        home = x.1;
+        given = a;
+        same = s;
+        absent = λ k there. none_in (is_ticket t) t (executed w x.1) (no_place (is_ticket t) (executed w x.1) e) (get_in (executed w x.1) k t there) (eq-eqb t t refl);
+      }
+
+  given_for : (o : Option ℕ) (r : Option (List ℕ)) → place_of is_id (submitted w) ≡ o → reply_of_place w o ≡ Some (Is r) → IsReply w id r
+  given_for None r e h = absurd (cc)
+  given_for (Some t) r e h =
       let p = place_is is_id (submitted w) t e in
       let k = rw p.there at h in
-      given_at t p.item (place_of (λ u. eqb u t) (executed w p.item.1)) r p.there p.passes refl (cc)
+      given_at t p.item (place_of (is_ticket t) (executed w p.item.1)) r p.there p.passes refl (cc)
 
-  none_at : (o : Option ℕ) → place_of is_id (submitted w) ≡ o → answer_for w o ≡ None → o ≡ None
-  none_at None e h = refl
-  none_at (Some t) e h =
+  pending_for : (o : Option ℕ) → place_of is_id (submitted w) ≡ o → reply_of_place w o ≡ Some NotYet → IsPending w id
+  pending_for None e h = absurd (cc)
+  pending_for (Some t) e h =
+      let p = place_is is_id (submitted w) t e in
+      let k = rw p.there at h in
+      pending_at t p.item (place_of (is_ticket t) (executed w p.item.1)) p.there p.passes refl (cc)
+
+  none_for : (o : Option ℕ) → place_of is_id (submitted w) ≡ o → reply_of_place w o ≡ None → o ≡ None
+  none_for None e h = refl
+  none_for (Some t) e h =
       let p = place_is is_id (submitted w) t e in
       let k = rw p.there at h in
       absurd (cc)
 
-  pub known : (reply_of w id ≡ None) ↔ (list_any is_id (submitted w) ≡ false)
-  known = (
-    (λ h. no_place is_id (submitted w) (none_at (place_of is_id (submitted w)) refl h)),
-    (λ h. rw (some_place is_id (submitted w) h)),
+  -- ---- and what is so it answers
+
+  not_true : (b : Bool) → (b ≡ true → ⊥) → b ≡ false
+  not_true true h = absurd (h refl)
+  not_true false h = refl
+
+  -- no reply exactly where the identity was never submitted
+  pub unknown : (reply_of w id ≡ None) ↔ (IsSubmitted w id → ⊥)
+  unknown = (
+    (λ h s. let n = no_place is_id (submitted w) (none_for (place_of is_id (submitted w)) refl h) in let t : list_any is_id (submitted w) ≡ true = s in absurd (cc)),
+    (λ h. rw (some_place is_id (submitted w) (not_true (list_any is_id (submitted w)) h))),
   )
 
-  -- where the ticket stands in the home's history, the answer is a reply
-  answered : (x : Submission) (t k : ℕ) (o : Option ℕ) → slice_get (executed w x.1) k ≡ Some t → place_of (λ u. eqb u t) (executed w x.1) ≡ o
-      → (r : Option (List ℕ)) × (answer_at w x.0 x.1 o ≡ Given r)
-  answered x t k None h e = absurd (none_in (λ u. eqb u t) t (executed w x.1) (no_place (λ u. eqb u t) (executed w x.1) e) (get_in (executed w x.1) k t h) (eq-eqb t t refl))
-  answered x t k (Some j) h e = (out (commands w (take j (executed w x.1))) x.0, refl)
+  -- of a submitted identity there is a reply, if only a pending one
+  something : (t : ℕ) (x : Submission) → slice_get (submitted w) t ≡ Some x → is_same_id x.0.id id ≡ true → reply_of w id ≡ None → ⊥
+  something t x a s h =
+      none_in is_id x (submitted w) (no_place is_id (submitted w) (none_for (place_of is_id (submitted w)) refl h)) (get_in (submitted w) t x a) s
 
-  found : (r : Option (List ℕ)) → IsReply w id r → (o : Option ℕ) → place_of is_id (submitted w) ≡ o → (y : Option (List ℕ)) × (answer_for w o ≡ Some (Given y))
-  found r a None e = absurd (none_in is_id (a.command, a.home) (submitted w) (no_place is_id (submitted w) e) (get_in (submitted w) a.ticket (a.command, a.home) a.given) a.same)
-  found r a (Some t) e =
-      let p = place_is is_id (submitted w) t e in
-      let same = identity_once m w g t a.ticket p.item (a.command, a.home) p.there a.given (same_ids p.item.0.id a.command.id id p.passes a.same) in
-      let x : p.item ≡ (a.command, a.home) = (let b = rw (← same) at a.given in let c = sym p.there ∙ b in cc) in
-      let home = ap (λ (y : Submission). y.1) x in
-      let there : slice_get (executed w p.item.1) a.place ≡ Some t = rw (home, same) a.there in
-      let r = answered p.item t a.place (place_of (λ u. eqb u t) (executed w p.item.1)) there refl in
-      (r.0, ap (answer_of w t) p.there ∙ ap Some r.1)
+  -- of the three answers, a reply or a pending command leaves one
+  by_cases : (o : Option Reply) → reply_of w id ≡ o → (t : ℕ) (x : Submission) → slice_get (submitted w) t ≡ Some x → is_same_id x.0.id id ≡ true
+      → ((r : Option (List ℕ)) → IsReply w id r → o ≡ Some (Is r)) × (IsPending w id → o ≡ Some NotYet)
+  by_cases None e t x a s = absurd (something t x a s e)
+  by_cases (Some NotYet) e t x a s =
+      let p = pending_for (place_of is_id (submitted w)) refl e in
+      ((λ r k. absurd (not_both r k p)), (λ k. refl))
+  by_cases (Some (Is y)) e t x a s =
+      let p = given_for (place_of is_id (submitted w)) y refl e in
+      ((λ r k. ap (λ z. Some (Is z)) (reply_once y r p k)), (λ k. absurd (not_both y p k)))
 
-  pub replied : (r : Option (List ℕ)) → (reply_of w id ≡ Some (Given r)) ↔ IsReply w id r
+  -- a reply is given exactly where there is one
+  pub replied : (r : Option (List ℕ)) → (reply_of w id ≡ Some (Is r)) ↔ IsReply w id r
   replied r = (
-    (λ h. found_at (place_of is_id (submitted w)) r refl h),
-    (λ a.
-        let f = found r a (place_of is_id (submitted w)) refl in
-        let b = found_at (place_of is_id (submitted w)) f.0 refl f.1 in
-        f.1 ∙ ap (λ y. Some (Given y)) (reply_once f.0 r b a)),
+    (λ h. given_for (place_of is_id (submitted w)) r refl h),
+    (λ a. (by_cases (reply_of w id) refl a.ticket (a.command, a.home) a.given a.same).0 r a),
   )
 
-pub known_law : Known
-known_law m journal w c id = known m c.some_server w (course_grown m journal w c) id
-
-pub replied_law : Replied
-replied_law m journal w c id r = replied m c.some_server w (course_grown m journal w c) id r
-
-pub once_law : Replied_once
-once_law m journal w c id r x a b = reply_once m c.some_server w (course_grown m journal w c) id r x a b
+  -- and pending exactly where the home has not executed the command
+  pub awaited : (reply_of w id ≡ Some NotYet) ↔ IsPending w id
+  awaited = (
+    (λ h. pending_for (place_of is_id (submitted w)) refl h),
+    (λ a. (by_cases (reply_of w id) refl a.ticket (a.command, a.home) a.given a.same).1 a),
+  )

@@ -1,10 +1,10 @@
--- The theorems, of journals.
+-- The laws: each theorem said of the moments of a journal that replays.
 use Rattle.std.proofs.Common.{List, []}
 use Rattle.mencius_base.specs.declared.event.Event.{Event}
 use Rattle.mencius_base.specs.Members.{Membership}
 use Rattle.mencius_base.specs.History.{History}
 use Rattle.mencius_cluster.specs.Executed.{executed}
-use Rattle.mencius_cluster.specs.Laws.{IsCourse, Agreement, Learning, Comparing, Submitting, Once, Order}
+use Rattle.mencius_cluster.specs.Laws.{IsCourse, Agreement, Learning, Comparing, Submitting, Once, Order, Unknown, Replied, Awaited, OneReply, Growing, LongestGrowing}
 use Rattle.mencius_server.proofs.Lists.{get_in}
 use Rattle.mencius_server.proofs.Grown.{IsGrown}
 use Rattle.mencius_server.proofs.Journals.{grown_from}
@@ -12,7 +12,11 @@ use Rattle.mencius_cluster.proofs.Moments.{moment_past}
 use Rattle.mencius_cluster.proofs.Decisions.{learned_decided}
 use Rattle.mencius_cluster.proofs.Tickets.{identity_once}
 use Rattle.mencius_cluster.proofs.Histories as histories
+use Rattle.mencius_cluster.proofs.Later as later
+use Rattle.mencius_cluster.proofs.Longest as longest
+use Rattle.mencius_cluster.proofs.Replying as replying
 
+-- in what a journal makes each line had its right to come
 pub course_grown : (m : Membership) (journal : List Event) (end : History) → IsCourse m journal end → IsGrown m end
 course_grown m journal end c = grown_from m journal [] end tt c.replays
 
@@ -39,3 +43,21 @@ once m journal w c s j k t r x y h i a b e =
 pub order : Order
 order m journal end w c a s r t front back late is =
     histories.order m c.some_server w end (moment_past m journal w end a c.replays) (course_grown m journal end c) s r t front back late is
+
+pub unknown : Unknown
+unknown m journal w c id = replying.unknown m c.some_server w (course_grown m journal w c) id
+
+pub replied : Replied
+replied m journal w c id r = replying.replied m c.some_server w (course_grown m journal w c) id r
+
+pub awaited : Awaited
+awaited m journal w c id = replying.awaited m c.some_server w (course_grown m journal w c) id
+
+pub one_reply : OneReply
+one_reply m journal w c id r x a b = replying.reply_once m c.some_server w (course_grown m journal w c) id r x a b
+
+pub growing : Growing
+growing m journal end w c a s = later.history_grows m w end (moment_past m journal w end a c.replays) (course_grown m journal end c) s
+
+pub longest_growing : LongestGrowing
+longest_growing m journal end w c a = longest.longest_grows m w end c.some_server (moment_past m journal w end a c.replays) (course_grown m journal end c)

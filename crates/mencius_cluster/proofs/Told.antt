@@ -1,5 +1,5 @@
 -- Facts of reached histories on which the cluster stands.
-use Rattle.std.proofs.Common.{◌≡◌, ℕ, ◌<◌, Some, None, Option, length, slice_get}
+use Rattle.std.proofs.Common.{◌≡◌, ℕ, ◌<◌, Some, length}
 use Rattle.mencius_base.specs.declared.message.Value.{Value}
 use Rattle.mencius_base.specs.declared.message.Value.TheVariants.{Ticket}
 use Rattle.mencius_base.specs.Members.{Membership}
@@ -22,4 +22,5 @@ told m w reached =
     let g = reached_grown m w reached in
     record {
       executed = executed_learned m w g;
-      ticketed = λ s i t h. decided_submitted m w g i t (learned_decided m w g s i (Ticket t) h) }
+      ticketed = λ s i t h. decided_submitted m w g i t (learned_decided m w g s i (Ticket t) h);
+    }

@@ -1,13 +1,11 @@
 -- A submission, a suspicion and a retry teach nothing.
-use Rattle.std.proofs.Common.{◌≡◌, ℕ, List, [], ◌∷◌, Option, Some, None, length, map, refl, ap, ◌∙◌, ◌+◌}
-use Rattle.std.proofs.lemmas.List.Sums.{sum_by-cons}
-use Rattle.std.specs.Prelude.{if◌then◌else◌}
+use Rattle.std.proofs.Common.{◌≡◌, ℕ, List, [], ◌∷◌, Option, Some, None, length, map, refl}
 use Rattle.mencius_base.specs.declared.event.Event.TheVariants.{Submit, Suspect, Retry}
 use Rattle.mencius_base.specs.declared.command.Command.{Command}
 use Rattle.mencius_base.specs.Members.{Membership}
 use Rattle.mencius_base.specs.History.{History, submitted}
 use Rattle.mencius_server.specs.Server.{free, suspects, waiting}
-use Rattle.mencius_server.specs.Next.{again, is_learning, learnings, lines, preparation, suggestion}
+use Rattle.mencius_server.specs.Next.{again, learnings, lines, preparation, suggestion}
 use Rattle.mencius_base.specs.Members.{first_item}
 
 suggested : (p t : ℕ) (o : Option ℕ) → learnings (suggestion p o t) ≡ 0

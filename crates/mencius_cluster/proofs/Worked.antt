@@ -1,8 +1,11 @@
 -- Schedules worked by hand, and what the definitions make of them. Each is computed whole: it shows
 -- that the definitions say what the protocol means, and that histories with decisions exist.
-use Rattle.std.proofs.Common.{◌≡◌, ℕ, List, [], ◌∷◌, ◌++◌, Result, Ok, Err, refl, length, map}
+use Rattle.std.proofs.Common.{◌≡◌, ℕ, List, [], ◌∷◌, ◌++◌, Option, Some, None, Result, Ok, Err, refl, ap, ◌∙◌, length, map, nat_cmp}
+use Rattle.std.specs.Cmp.Lexicographic.{slice_cmp, nat_list_cmp_total}
+use Rattle.std.specs.FinMap as finite
+use Rattle.std.specs.FinMap.{get-empty, get-insert}
 use Rattle.mencius_base.specs.declared.command.Command.{Command}
-use Rattle.mencius_base.specs.declared.command.Op.TheVariants.{Set}
+use Rattle.mencius_base.specs.declared.command.Op.TheVariants.{Set, Get}
 use Rattle.mencius_base.specs.declared.event.Event.{Event}
 use Rattle.mencius_base.specs.declared.event.Event.TheVariants.{Submit, Deliver, Suspect, Retry, Execute}
 use Rattle.mencius_base.specs.declared.refusal.Refusal.{Refusal}
@@ -10,7 +13,9 @@ use Rattle.mencius_base.specs.Members.{Membership, below, instances, most_messag
 use Rattle.mencius_base.specs.History.{History, events, sent}
 use Rattle.mencius_server.specs.Server.{front, done}
 use Rattle.mencius_server.specs.Next.{replay}
+use Rattle.map_exec.specs.Store.{store_after}
 use Rattle.mencius_cluster.specs.Executed.{executed}
+use Rattle.mencius_cluster.specs.Replying.{Reply, NotYet, Is, reply_of, longest_at}
 
 abbrev one : Membership
 one = record { count = 1 }
@@ -97,3 +102,60 @@ duelling_revokers =
 report-duelling_revokers : report three (replay three duelling_revokers) ≡ (12, 19, (0, 0, []) ∷ (1, 1, []) ∷ (2, 1, []) ∷ [])
 unfolding below instances most_messages most_events most_rounds
 report-duelling_revokers = refl
+
+-- ---- replies
+
+-- the empty map holds nothing at the key `a`
+nothing : finite.get (store_after []) (97 ∷ []) ≡ None
+nothing = get-empty {X = List ℕ} (slice_cmp nat_cmp) (97 ∷ [])
+
+-- and after the first command it holds `x` there
+text_x : finite.get (store_after (set_a ∷ [])) (97 ∷ []) ≡ Some (120 ∷ [])
+text_x = get-insert nat_list_cmp_total (store_after []) (97 ∷ []) (120 ∷ []) (97 ∷ [])
+
+-- the reply of client 1's first command
+abbrev reply_in : Result History Refusal → Option Reply
+reply_in (Err r) = None
+reply_in (Ok w) = reply_of w (record { client = 1; number = 0 })
+
+-- executed by its home: nothing stood at the key
+reply-one_command : reply_in (replay three one_command) ≡ Some (Is None)
+unfolding below instances most_messages most_events most_rounds
+reply-one_command = ap (λ o. Some (Is o)) nothing
+
+-- suggested again, and executed by nobody
+reply-late_suggestion_where_noop_is_decided : reply_in (replay three late_suggestion_where_noop_is_decided) ≡ Some NotYet
+unfolding below instances most_messages most_events most_rounds
+reply-late_suggestion_where_noop_is_decided = refl
+
+-- executed further on
+reply-late_suggestion_decided_further_on : reply_in (replay three late_suggestion_decided_further_on) ≡ Some (Is None)
+unfolding below instances most_messages most_events most_rounds
+reply-late_suggestion_decided_further_on = ap (λ o. Some (Is o)) nothing
+
+-- nobody submitted it
+reply-duelling_revokers : reply_in (replay three duelling_revokers) ≡ None
+unfolding below instances most_messages most_events most_rounds
+reply-duelling_revokers = refl
+
+-- a command that reads what another server's command wrote, and is answered at its own home
+abbrev get_a : Command
+get_a = record { id = record { client = 2; number = 0 }; op = Get (97 ∷ []) }
+
+abbrev get_at_another_server : List Event
+get_at_another_server =
+    Submit 0 set_a ∷ Deliver 0 0 ∷ Deliver 0 1 ∷ Deliver 1 0 ∷ Deliver 2 0 ∷ Execute 0 ∷ Submit 1 get_a ∷ Deliver 4 0
+    ∷ Deliver 4 1 ∷ Deliver 5 1 ∷ Deliver 6 1 ∷ Deliver 3 1 ∷ Execute 1 ∷ Execute 1 ∷ []
+
+report-get_at_another_server : report three (replay three get_at_another_server) ≡ (8, 14, (3, 1, 0 ∷ []) ∷ (4, 2, 0 ∷ 1 ∷ []) ∷ (2, 0, []) ∷ [])
+unfolding below instances most_messages most_events most_rounds
+report-get_at_another_server = refl
+
+abbrev replies_and_longest : Result History Refusal → List (Option Reply) × ℕ
+replies_and_longest (Err r) = ([], 0)
+replies_and_longest (Ok w) =
+    (reply_of w (record { client = 1; number = 0 }) ∷ reply_of w (record { client = 2; number = 0 }) ∷ [], longest_at three w)
+
+replies-get_at_another_server : replies_and_longest (replay three get_at_another_server) ≡ (Some (Is None) ∷ Some (Is (Some (120 ∷ []))) ∷ [], 1)
+unfolding below instances most_messages most_events most_rounds
+replies-get_at_another_server = ap (λ o. (Some (Is o) ∷ Some (Is (finite.get (store_after (set_a ∷ [])) (97 ∷ []))) ∷ [], 1)) nothing ∙ ap (λ o. (Some (Is None) ∷ Some (Is o) ∷ [], 1)) text_x

@@ -1,68 +1,19 @@
 -- What a cluster answers, asked of the history.
-use Rattle.std.specs.Prelude.{◌≡◌, ℕ, suc, Bool, true, false, List, [], ◌∷◌, Option, Some, None, slice_get, ◌==◌, nat_lt, if◌then◌else◌, length, map, take, string_bytes}
-use Rattle.std.specs.List.{filter_map, fold}
+use Rattle.std.specs.Prelude.{ℕ, Option, Some, None, nat_lt, if◌then◌else◌, string_bytes}
 use Rattle.std.specs.Option.{option_map}
-use Rattle.mencius_base.specs.declared.command.Command.{Command}
-use Rattle.mencius_base.specs.declared.command.CommandId.{CommandId}
-use Rattle.mencius_base.specs.Members.{Membership, below}
-use Rattle.mencius_base.specs.History.{History, submitted}
-use Rattle.mencius_base.specs.Command.{is_same_id}
-use Rattle.mencius_cluster.specs.Executed.{executed}
-use Rattle.map_exec.specs.Store.{out, store_after}
-use Rattle.map_exec.specs.State.{ExecutorState}
+use Rattle.mencius_base.specs.Members.{Membership}
 use Rattle.mencius_cluster.specs.declared.submission.Answered.{Answered}
 use Rattle.mencius_cluster.specs.declared.submission.Answered.TheVariants.{Pending, Given}
+pub use Rattle.mencius_cluster.specs.Replying.{Reply, NotYet, Is, command_at, commands_of, executor_at, place_of, reply_from, reply_at, reply_of_place, reply_of, longest_below, longest_at}
 
--- the commands of these tickets
-abbrev pub command_at : History → ℕ → Option Command
-command_at w t = option_map (λ x. x.0) (slice_get (submitted w) t)
-
-abbrev pub commands_of : History → List ℕ → List Command
-commands_of w ts = filter_map (command_at w) ts
-
--- the executor of a server
-abbrev pub executor_at : History → ℕ → ExecutorState
-executor_at w s = record { store = store_after (commands_of w (executed w s)); history = executed w s }
-
-pub data Reply : Type 0 where
-  NotYet : Reply
-  Is : (text : Option (List ℕ)) → Reply
-
--- the place of the first item that passes
-abbrev pub place_of : {A : Type 0} → (A → Bool) → List A → Option ℕ
-place_of p [] = None
-place_of p (x ∷ xs) = if p x then Some 0 else option_map suc (place_of p xs)
-
-abbrev pub reply_from : History → Command → ℕ → Option ℕ → Reply
-reply_from w c home None = NotYet
-reply_from w c home (Some k) = Is (out (commands_of w (take k (executed w home))) c)
-
--- what the home's map held when the home first executed the ticket
-abbrev pub reply_at : History → ℕ → Command → ℕ → Reply
-reply_at w t c home = reply_from w c home (place_of (λ u. u == t) (executed w home))
-
--- the bytes of a stored reply
+-- a stored reply, its text as bytes
 abbrev pub bytes_in : Answered → Reply
 bytes_in Pending = NotYet
 bytes_in (Given text) = Is (option_map string_bytes text)
 
-abbrev pub reply_of_place : History → Option ℕ → Option Reply
-reply_of_place w None = None
-reply_of_place w (Some t) = option_map (λ x. reply_at w t x.0 x.1) (slice_get (submitted w) t)
-
--- the reply of an identity, where it was submitted
-abbrev pub reply_of : History → CommandId → Option Reply
-reply_of w id = reply_of_place w (place_of (λ x. is_same_id x.0.id id) (submitted w))
-
-abbrev pub if_member : {A : Type 0} → Membership → ℕ → A → Option A
-if_member m s x = if nat_lt s m.count then Some x else None
-
+-- an answer about a server, where there is one of that number
 abbrev pub of_member : {A : Type 0} → Membership → ℕ → Option A → Option A
 of_member m s o = if nat_lt s m.count then o else None
 
--- the least server whose history is the longest among those below n
-abbrev pub longest_below : History → ℕ → ℕ → ℕ
-longest_below w best s = if nat_lt (length (executed w best)) (length (executed w s)) then s else best
-
-abbrev pub longest_at : Membership → History → ℕ
-longest_at m w = fold (longest_below w) 0 (below m.count)
+abbrev pub if_member : {A : Type 0} → Membership → ℕ → A → Option A
+if_member m s x = of_member m s (Some x)

@@ -1,4 +1,4 @@
--- What the servers executed.
+-- What the servers executed: each one's history is a list of tickets.
 use Rattle.std.specs.Prelude.{◌≡◌, ◌⊎◌, ℕ, List, ◌++◌}
 use Rattle.std.specs.List.{filter_map}
 use Rattle.mencius_base.specs.Members.{below}
@@ -6,12 +6,14 @@ use Rattle.mencius_base.specs.History.{History}
 use Rattle.coord_paxos.specs.Instance.{learned}
 use Rattle.mencius_server.specs.Server.{done, ticket_of}
 
--- the tickets that s executed, in order
+-- the tickets that s learned at the instances that it executed, in order
 abbrev pub executed : History → ℕ → List ℕ
 executed w s = filter_map (λ i. ticket_of (learned w s i)) (below (done w s))
 
+-- xs begins ys
 abbrev pub IsPrefix : List ℕ → List ℕ → Type 0
 IsPrefix xs ys = (rest : List ℕ) × (ys ≡ xs ++ rest)
 
+-- one of them begins the other
 abbrev pub IsComparable : List ℕ → List ℕ → Type 0
 IsComparable xs ys = IsPrefix xs ys ⊎ IsPrefix ys xs

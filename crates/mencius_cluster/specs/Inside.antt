@@ -1,5 +1,5 @@
 -- How the fields of a cluster are seen.
-use Rattle.std.specs.Prelude.{◌≡◌, ℕ, Bool, List, ◌&&◌, ◌==◌}
+use Rattle.std.specs.Prelude.{ℕ, Bool, ◌&&◌, ◌==◌}
 use Rattle.std.specs.HashSet.{contains}
 use Rattle.mencius_cluster.specs.declared.cluster.Cluster.TheInside.{Inside}
 use Rattle.mencius_cluster.specs.State.{ClusterState}
@@ -16,7 +16,8 @@ tables_in c = record {
   messages = c.messages;
   rows = c.submissions.entries;
   is_lost = λ k d. contains same_loss c.lost (k, d);
-  entries = c.journal.items }
+  entries = c.journal.items;
+}
 
 abbrev pub state_in : Inside → ClusterState
 state_in c = record { members = c.members; journal = journal_of c.submissions.entries c.journal.items }

@@ -1,29 +1,35 @@
--- What holds of every journal that replays.
-use Rattle.std.specs.Prelude.{◌≡◌, ℕ, ◌<◌, ◌≤◌, List, ◌∷◌, ◌++◌, length, Some, Ok, slice_get, IsTrue}
+-- What holds of every journal that replays, for every number of servers.
+use Rattle.std.specs.Prelude.{◌≡◌, ℕ, ◌<◌, ◌≤◌, List, ◌∷◌, ◌++◌, take, length, Option, Some, None, Ok, slice_get, IsTrue, ◌↔◌}
+use Rattle.std.specs.List.{list_any}
 use Rattle.mencius_base.specs.declared.event.Event.{Event}
 use Rattle.mencius_base.specs.declared.command.Command.{Command}
+use Rattle.mencius_base.specs.declared.command.CommandId.{CommandId}
 use Rattle.mencius_base.specs.declared.message.Value.{Value}
 use Rattle.mencius_base.specs.Members.{Membership}
 use Rattle.mencius_base.specs.History.{History, submitted}
 use Rattle.coord_paxos.specs.Instance.{learned}
+use Rattle.map_exec.specs.Store.{out}
 use Rattle.mencius_server.specs.Next.{replay}
 use Rattle.mencius_base.specs.Command.{is_same_id}
 use Rattle.mencius_server.specs.Decided.{IsDecided}
 use Rattle.mencius_cluster.specs.Executed.{executed, IsPrefix, IsComparable}
+use Rattle.mencius_cluster.specs.Replying.{NotYet, Is, commands_of, longest_at, reply_of}
 
--- the history when the journal had come some way
+-- the journal of these servers makes the history `end`
+pub record IsCourse (m : Membership) (journal : List Event) (end : History) : Type 0 where
+  pub some_server : 1 ≤ m.count
+  pub replays : replay m journal ≡ Ok end
+
+-- w is the history when the journal had come some way
 pub record IsMoment (m : Membership) (journal : List Event) (w : History) : Type 0 where
   pub before : List Event
   pub after : List Event
   pub splits : journal ≡ before ++ after
   pub replays : replay m before ≡ Ok w
 
--- the journal makes the history `end`
-pub record IsCourse (m : Membership) (journal : List Event) (end : History) : Type 0 where
-  pub some_server : 1 ≤ m.count
-  pub replays : replay m journal ≡ Ok end
+-- ---- agreement
 
--- two decided values of one instance are equal, at any two moments
+-- two decided values of one instance are equal, also at two different moments
 abbrev pub Agreement : Type 0
 Agreement =
     (m : Membership) (journal : List Event) (end w u : History) → IsCourse m journal end → IsMoment m journal w → IsMoment m journal u
@@ -35,13 +41,15 @@ Learning =
     (m : Membership) (journal : List Event) (w : History) → IsCourse m journal w
     → (s i : ℕ) (v : Value) → learned w s i ≡ Some v → IsDecided m w i v
 
--- of two histories, at any two moments, one begins the other
+-- of the histories of any two servers, at any two moments, one begins the other
 abbrev pub Comparing : Type 0
 Comparing =
     (m : Membership) (journal : List Event) (end w u : History) → IsCourse m journal end → IsMoment m journal w → IsMoment m journal u
     → (s r : ℕ) → IsComparable (executed w s) (executed u r)
 
--- each ticket in a history was submitted
+-- ---- once
+
+-- each ticket in a history was submitted by then
 abbrev pub Submitting : Type 0
 Submitting =
     (m : Membership) (journal : List Event) (w : History) → IsCourse m journal w
@@ -54,8 +62,77 @@ Once =
     → (s j k t r : ℕ) (x y : Command × ℕ) → slice_get (executed w s) j ≡ Some t → slice_get (executed w s) k ≡ Some r
     → slice_get (submitted w) t ≡ Some x → slice_get (submitted w) r ≡ Some y → IsTrue (is_same_id x.0.id y.0.id) → j ≡ k
 
--- a history begins all that stands, in a later one, before a command that was submitted after it
+-- ---- order
+
+-- where a command is submitted after some server had a history, and a later history of any server holds
+-- the command, the former begins what stands before the command in the latter
 abbrev pub Order : Type 0
 Order =
     (m : Membership) (journal : List Event) (end w : History) → IsCourse m journal end → IsMoment m journal w
     → (s r t : ℕ) (front back : List ℕ) → length (submitted w) ≤ t → executed end r ≡ front ++ t ∷ back → IsPrefix (executed w s) front
+
+-- ---- replies
+
+-- the command of this identity stands first at this place of its home's history, and the reply is what a
+-- map that only executes the commands before it holds at its key
+pub record IsReply (w : History) (id : CommandId) (reply : Option (List ℕ)) : Type 0 where
+  pub ticket : ℕ
+  pub command : Command
+  pub home : ℕ
+  pub place : ℕ
+  pub given : slice_get (submitted w) ticket ≡ Some (command, home)
+  pub same : IsTrue (is_same_id command.id id)
+  pub there : slice_get (executed w home) place ≡ Some ticket
+  pub first : (j : ℕ) → slice_get (executed w home) j ≡ Some ticket → place ≤ j
+  pub is : reply ≡ out (commands_of w (take place (executed w home))) command
+
+-- the command of this identity stands nowhere in its home's history
+pub record IsPending (w : History) (id : CommandId) : Type 0 where
+  pub ticket : ℕ
+  pub command : Command
+  pub home : ℕ
+  pub given : slice_get (submitted w) ticket ≡ Some (command, home)
+  pub same : IsTrue (is_same_id command.id id)
+  pub absent : (k : ℕ) → slice_get (executed w home) k ≡ Some ticket → ⊥
+
+-- a command of this identity was submitted
+abbrev pub IsSubmitted : History → CommandId → Type 0
+IsSubmitted w id = IsTrue (list_any (λ (x : Command × ℕ). is_same_id x.0.id id) (submitted w))
+
+-- there is no reply exactly for an identity that was never submitted
+abbrev pub Unknown : Type 0
+Unknown =
+    (m : Membership) (journal : List Event) (w : History) → IsCourse m journal w
+    → (id : CommandId) → (reply_of w id ≡ None) ↔ (IsSubmitted w id → ⊥)
+
+-- a reply is given exactly where the home's history has the command
+abbrev pub Replied : Type 0
+Replied =
+    (m : Membership) (journal : List Event) (w : History) → IsCourse m journal w
+    → (id : CommandId) (r : Option (List ℕ)) → (reply_of w id ≡ Some (Is r)) ↔ IsReply w id r
+
+-- and is pending exactly where the command was submitted, and its home has not executed it
+abbrev pub Awaited : Type 0
+Awaited =
+    (m : Membership) (journal : List Event) (w : History) → IsCourse m journal w
+    → (id : CommandId) → (reply_of w id ≡ Some NotYet) ↔ IsPending w id
+
+-- a command has at most one reply
+abbrev pub OneReply : Type 0
+OneReply =
+    (m : Membership) (journal : List Event) (w : History) → IsCourse m journal w
+    → (id : CommandId) (r x : Option (List ℕ)) → IsReply w id r → IsReply w id x → r ≡ x
+
+-- ---- growth
+
+-- a server's history begins each of its later ones
+abbrev pub Growing : Type 0
+Growing =
+    (m : Membership) (journal : List Event) (end w : History) → IsCourse m journal end → IsMoment m journal w
+    → (s : ℕ) → IsPrefix (executed w s) (executed end s)
+
+-- the longest history begins each later longest one
+abbrev pub LongestGrowing : Type 0
+LongestGrowing =
+    (m : Membership) (journal : List Event) (end w : History) → IsCourse m journal end → IsMoment m journal w
+    → IsPrefix (executed w (longest_at m w)) (executed end (longest_at m end))

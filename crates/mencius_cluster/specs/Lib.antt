@@ -1,8 +1,8 @@
 pub mod Executed
-pub mod Laws
-pub mod Replies
-pub mod State
+pub mod Replying
 pub mod Answers
+pub mod Laws
+pub mod State
 pub mod Tables
 pub mod Inside
 pub mod Performed

@@ -1,5 +1,5 @@
 -- What an execution does to a server's executor and to the stored commands.
-use Rattle.std.specs.Prelude.{◌≡◌, ℕ, Bool, true, false, List, Option, Some, None, slice_get, ◌==◌, ◌<◌}
+use Rattle.std.specs.Prelude.{◌≡◌, ℕ, Bool, true, false, List, Option, Some, slice_get, ◌==◌, ◌<◌}
 use Rattle.std.specs.FinMap as finite
 use Rattle.indexmap.specs.IndexMap.{set_value_at}
 use Rattle.mencius_base.specs.declared.message.Value.{Value}

@@ -1,28 +1,56 @@
+//! What holds of every cluster, whatever was lost, repeated, reordered or wrongly suspected.
+//!
+//! The functions do nothing when they run. Each one's contract is a theorem about the definitions
+//! that the contracts of the cluster and of its servers cite: about `replay`, the history that a
+//! journal of events makes, for every number of servers and every journal that replays. A moment is
+//! the history that a beginning of the journal makes, and the history of a server is the list of
+//! the commands that it executed.
+//!
+//! Servers do not forget what they knew, only sent messages are delivered, and the members are
+//! fixed. Nothing is said of progress: no theorem says that a command is ever decided. The proof is
+//! told in `docs/AGREEMENT.md`.
 
-ghost use Rattle.mencius_cluster.specs.Replies.{Known, Replied, Replied_once};
-ghost use Rattle.mencius_cluster.specs.Laws.{Agreement, Learning, Comparing, Submitting, Once, Order};
+ghost use Rattle.mencius_cluster.specs.Laws.{Agreement, Learning, Comparing, Submitting, Once, Order, Unknown, Replied, Awaited, OneReply, Growing, LongestGrowing};
 
-/// Decided values agree, learned ones are decided, and histories begin one another.
+/// Any two decided values of an instance are equal, also at two different moments; whatever a
+/// server learned is decided; and of the histories of any two servers, at any two moments, one
+/// begins the other.
+///
+/// A value is decided where a majority accepted it at one ballot, or where it is no-op and the
+/// instance's owner gave the instance up.
 pub fn agreement()
     ensures values { Agreement }
     ensures learned { Learning }
     ensures histories { Comparing }
 {}
 
-/// A command was submitted and is executed once.
+/// Each command in a history was submitted by then, and no identity stands there twice, also where
+/// a command was suggested more than once.
 pub fn once()
     ensures submitted { Submitting }
     ensures once { Once }
 {}
 
-/// A command that is submitted later is executed later.
+/// A command that is submitted after some server had a history stands, in each later history that
+/// holds it, behind the whole of that history.
 pub fn order()
     ensures { Order }
 {}
 
-/// Which reply a command has.
+/// The reply of an identity is none exactly where the identity was never submitted. It is given
+/// exactly where the history of the command's home holds the command, and is then what a map that
+/// executes that history alone, one command after the other, answers it at its first place there.
+/// It is pending everywhere else, and a command has at most one reply.
 pub fn replies()
-    ensures known { Known }
-    ensures replied { Replied }
-    ensures once { Replied_once }
+    ensures unknown { Unknown }
+    ensures given { Replied }
+    ensures pending { Awaited }
+    ensures once { OneReply }
+{}
+
+/// Histories only grow: a server's history begins each of its later ones, and the longest history
+/// begins each later longest one, whichever server has it.
+pub fn growth()
+    ensures histories { Growing }
+    ensures longest { LongestGrowing }
 {}

@@ -11,17 +11,19 @@ ghost use Rattle.mencius_cluster.specs.Answers.{bytes_in};
 ghost use Rattle.mencius_cluster.specs.Performed.{IsPerformed, IsTicketBelow, first_reply};
 
 use indexmap::IndexMap;
-use map_exec::Executor;
+use map_exec::{Executor, Reply};
 use mencius_base::{Command, CommandId, Refusal, Value};
 
-/// Whether a command has its reply.
-#[derive(Drop)]
+/// Whether a submitted command has its reply.
+#[derive(Debug, Drop)]
 pub enum Answered {
+    /// The server that it was submitted at has not executed it yet.
     Pending,
-    Given(Option<String>),
+    /// What the map of that server held at the command's key when it first executed the command.
+    Given(Reply),
 }
 
-/// A command that was submitted, the server that it was submitted at, and its reply.
+// A submitted command, the server that it was submitted at, and whether it has its reply.
 #[derive(Drop)]
 pub struct Submission {
     pub command: Command,
@@ -46,7 +48,7 @@ pub fn enroll(submissions: &mut IndexMap<CommandId, Submission>, command: Comman
     };
 }
 
-// Executes what a server learned next. Of a command the reply is kept that its home gives first.
+// Executes a value at a server: nothing for no-op, and the command of a ticket.
 pub fn perform(
     executor: &mut Executor,
     submissions: &mut IndexMap<CommandId, Submission>,
@@ -68,8 +70,13 @@ pub fn perform(
     }
 }
 
-// Executes a command.
-fn run(executor: &mut Executor, submission: &mut Submission, server: u8, ticket: u32) -> Result<(), Refusal>
+// Executes a command, and keeps its reply if this is its home and it has none yet.
+fn run(
+    executor: &mut Executor,
+    submission: &mut Submission,
+    server: u8,
+    ticket: u32,
+) -> Result<(), Refusal>
     ensures executed { OnOk result (executor.new ≡ after_execution executor.old submission.old.command ticket) }
     ensures command { submission.new.command ≡ submission.old.command }
     ensures home { submission.new.home ≡ submission.old.home }

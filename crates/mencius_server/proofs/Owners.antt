@@ -1,4 +1,4 @@
--- Fact 3: each instance has at most one Suggest, by its owner, and none where its owner skipped it.
+-- An owner's front: each instance has at most one Suggest, by its owner, and none where its owner skipped it.
 use Rattle.std.proofs.Common.{◌≡◌, ℕ, ◌+◌, ◌<◌, ◌≤◌, [], ◌∷◌, inl, inr, sym, ◌∙◌, arith}
 use Rattle.mencius_base.specs.declared.message.Message.TheVariants.{Suggest, Skip}
 use Rattle.mencius_base.specs.Members.{Membership, owner}

@@ -1,4 +1,5 @@
--- Facts 1, 2 and 4: of one instance, in any history that grew line by line.
+-- One instance of Paxos, in any history that grew line by line: what a promise rules out, why a proposal is
+-- safe, and that a chosen value is proposed at every greater ballot.
 use Rattle.std.proofs.Common.{◌≡◌, ℕ, zero, suc, ◌<◌, ◌≤◌, Bool, true, [], ◌∷◌, ◌⊎◌, inl, inr, refl, ◌∙◌, arith, Option, Some, None}
 use Rattle.std.proofs.lemmas.Bool.{cases_lt}
 use Rattle.mencius_base.specs.declared.message.Message.TheVariants.{Accepted, Promise, Propose}
@@ -19,12 +20,13 @@ abbrev pub Backed : History → ℕ → ℕ → Option Vote → Type 0
 Backed w i b None = Unit {0}
 Backed w i b (Some u) = (u.ballot < b) × (proposed w i u.ballot ≡ Some u.value)
 
--- fact 1, of a promise by q at (i, b) with this vote
+-- a promise by q at (i, b) with this vote: whatever q accepted below b, the vote's ballot is none of the lesser
 pub record IsKept (w : History) (q i b : ℕ) (v : Option Vote) : Type 0 where
   pub covers : (to c : ℕ) → IsIn (Sent (Accepted q to i c)) w → c < b → Reaches v c
   pub backed : Backed w i b v
 
--- fact 2, of a proposal of v at (i, b)
+-- a proposal of v at (i, b): a majority accepts nothing below b any more, and v is the value of the greatest
+-- vote of theirs, or no-op where they have none
 pub record IsSafe (m : Membership) (w : History) (i b : ℕ) (v : Value) : Type 0 where
   pub among : ℕ → Bool
   pub majority : IsMajority m among ≡ true
@@ -42,6 +44,7 @@ backed_from : (w : History) (i b : ℕ) (h : Option Vote) → ((u : Vote) → h 
 backed_from w i b None f = tt
 backed_from w i b (Some u) f = f u refl
 
+-- a vote that covers a ballot is covered by each vote that is not less
 reaches_through : (v h : Option Vote) (c : ℕ) → Reaches v c → ((u : Vote) → v ≡ Some u → Reaches h u.ballot) → Reaches h c
 reaches_through None h c r f = absurd r
 reaches_through (Some u) None c r f = f u refl
@@ -77,17 +80,18 @@ vote_kept m w g q i b (Some x) e a =
       backed = rw (e, p.1) (omega (arith, s, a), p.1);
     }
 
-pub fact_1 : (m : Membership) (w : History) → IsGrown m w → (q to i b : ℕ) (v : Option Vote) → IsIn (Sent (Promise q to i b v)) w → IsKept w q i b v
-fact_1 m [] g q to i b v h = absurd h
-fact_1 m (l ∷ w) g q to i b v (inl e) =
+-- nothing is accepted below a promise, but what its vote covers
+pub promise_covers : (m : Membership) (w : History) → IsGrown m w → (q to i b : ℕ) (v : Option Vote) → IsIn (Sent (Promise q to i b v)) w → IsKept w q i b v
+promise_covers m [] g q to i b v h = absurd h
+promise_covers m (l ∷ w) g q to i b v (inl e) =
     let may : MayPromise w q to i b v = rw (← e) at g.1 in
     let k : IsKept w q i b v = rw may.is (vote_kept m w g.0 q i b (accepted w q i) refl may.above) in
     record {
       covers = λ t c h lt. elim h [ inl x ↦ absurd (cc) | inr x ↦ k.covers t c x lt ];
       backed = backed_more l w i b v k.backed;
     }
-fact_1 m (l ∷ w) g q to i b v (inr h) =
-    let k = fact_1 m w g.0 q to i b v h in
+promise_covers m (l ∷ w) g q to i b v (inr h) =
+    let k = promise_covers m w g.0 q to i b v h in
     let s = promise_within w q to i b v h in
     record {
       covers =
@@ -98,6 +102,7 @@ fact_1 m (l ∷ w) g q to i b v (inr h) =
       backed = backed_more l w i b v k.backed;
     }
 
+-- and stays safe
 safe_more : (m : Membership) (l : Line) (w : History) (i b : ℕ) (v : Value) → May m w l → IsSafe m w i b v → IsSafe m (l ∷ w) i b v
 safe_more m l w i b v may s =
     record {
@@ -114,6 +119,7 @@ safe_more m l w i b v may s =
       is = s.is;
     }
 
+-- a proposal is safe when it is made
 safe_at : (m : Membership) (w : History) (p i b : ℕ) (v : Value) → IsGrown m w → MayPropose m w p i b v → IsSafe m w i b v
 safe_at m w p i b v g may =
     record {
@@ -124,24 +130,25 @@ safe_at m w p i b v g may =
       covers =
           λ q to c a h lt.
           let p = may.promised q a in
-          reaches_through p.vote may.highest c ((fact_1 m w g q p.to i b p.vote p.promise).covers to c h lt) p.within;
+          reaches_through p.vote may.highest c ((promise_covers m w g q p.to i b p.vote p.promise).covers to c h lt) p.within;
       backed =
           backed_from w i b may.highest
-          (λ u e. let r = may.reported u e in (fact_1 m w g r.0 r.1 i b (Some u) r.2).backed);
+          (λ u e. let r = may.reported u e in (promise_covers m w g r.0 r.1 i b (Some u) r.2).backed);
       is = may.is;
     }
 
-pub fact_2 : (m : Membership) (w : History) → IsGrown m w → (p i b : ℕ) (v : Value) → IsIn (Sent (Propose p i b v)) w → IsSafe m w i b v
-fact_2 m [] g p i b v h = absurd h
-fact_2 m (l ∷ w) g p i b v (inl e) =
+-- every proposal is safe by a majority
+pub propose_safe : (m : Membership) (w : History) → IsGrown m w → (p i b : ℕ) (v : Value) → IsIn (Sent (Propose p i b v)) w → IsSafe m w i b v
+propose_safe m [] g p i b v h = absurd h
+propose_safe m (l ∷ w) g p i b v (inl e) =
     let may : MayPropose m w p i b v = rw (← e) at g.1 in
     safe_more m l w i b v g.1 (safe_at m w p i b v g.0 may)
-fact_2 m (l ∷ w) g p i b v (inr h) = safe_more m l w i b v g.1 (fact_2 m w g.0 p i b v h)
+propose_safe m (l ∷ w) g p i b v (inr h) = safe_more m l w i b v g.1 (propose_safe m w g.0 p i b v h)
 
 proposal_safe : (m : Membership) (w : History) → IsGrown m w → (i b : ℕ) (v : Value) → 0 < b → proposed w i b ≡ Some v → IsSafe m w i b v
-proposal_safe m w g i b v pos h = let r = proposal_in w i b v pos h in fact_2 m w g r.0 i b v r.1
+proposal_safe m w g i b v pos h = let r = proposal_in w i b v pos h in propose_safe m w g r.0 i b v r.1
 
--- from the ballot c on, where v was chosen
+-- where v was chosen at ballot c: every proposal at a greater ballot has v
 module _ (m : Membership) (w : History) (g : IsGrown m w) (i c : ℕ) (v : Value) (start : proposed w i c ≡ Some v) (chosen : IsMajority m (has_accepted w i c) ≡ true) where
   above : (b : ℕ) (x : Value) (h : Option Vote) → Reaches h c → Backed w i b h → x ≡ value_or_noop h
       → ((d : ℕ) (y : Value) → d < b → c < d → proposed w i d ≡ Some y → y ≡ v) → x ≡ v
@@ -152,17 +159,17 @@ module _ (m : Membership) (w : History) (g : IsGrown m w) (i c : ℕ) (v : Value
         | inr ge ↦ let e : u.ballot ≡ c = omega (arith, r, ge) in let s = k.1 in cc
       ]
 
-  pub fact_4_below : (n b : ℕ) (x : Value) → b ≤ n → c < b → proposed w i b ≡ Some x → x ≡ v
-  fact_4_below zero b x le lt h = absurd (omega arith)
-  fact_4_below (suc n) b x le lt h =
+  pub chosen_above_to : (n b : ℕ) (x : Value) → b ≤ n → c < b → proposed w i b ≡ Some x → x ≡ v
+  chosen_above_to zero b x le lt h = absurd (omega arith)
+  chosen_above_to (suc n) b x le lt h =
       let s = proposal_safe m w g i b x (omega arith) h in
       let q = majorities_meet m s.among (has_accepted w i c) s.majority chosen in
       let a = acceptance_in w i c q.0 q.2 in
       above b x s.highest (s.covers q.0 a.0 c q.1 a.1 lt) s.backed s.is
-      (λ d y below past. fact_4_below n d y (omega (arith, below, le)) past)
+      (λ d y below past. chosen_above_to n d y (omega (arith, below, le)) past)
 
-  pub fact_4 : (b : ℕ) (x : Value) → c < b → proposed w i b ≡ Some x → x ≡ v
-  fact_4 b x lt h = fact_4_below b b x (omega arith) lt h
+  pub chosen_above : (b : ℕ) (x : Value) → c < b → proposed w i b ≡ Some x → x ≡ v
+  chosen_above b x lt h = chosen_above_to b b x (omega arith) lt h
 
 module _ (m : Membership) (w : History) (g : IsGrown m w) (i : ℕ) where
   under : (b : ℕ) (x : Value) (h : Option Vote) → Backed w i b h → x ≡ value_or_noop h

@@ -1,11 +1,14 @@
-use Rattle.mencius_cluster.proofs.Replying as theorem
+use Rattle.mencius_cluster.proofs.Theorems as theorem
 use Rattle.mencius_cluster.proofs.laws.replies.Goals as goal
 
-pub returns-clause-known : goal.returns-clause-known
-returns-clause-known c = theorem.known_law
+pub returns-clause-unknown : goal.returns-clause-unknown
+returns-clause-unknown c = theorem.unknown
 
-pub returns-clause-replied : goal.returns-clause-replied
-returns-clause-replied c = theorem.replied_law
+pub returns-clause-given : goal.returns-clause-given
+returns-clause-given c = theorem.replied
+
+pub returns-clause-pending : goal.returns-clause-pending
+returns-clause-pending c = theorem.awaited
 
 pub returns-clause-once : goal.returns-clause-once
-returns-clause-once c = theorem.once_law
+returns-clause-once c = theorem.one_reply

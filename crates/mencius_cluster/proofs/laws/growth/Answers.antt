@@ -1,0 +1,8 @@
+use Rattle.mencius_cluster.proofs.Theorems as theorem
+use Rattle.mencius_cluster.proofs.laws.growth.Goals as goal
+
+pub returns-clause-histories : goal.returns-clause-histories
+returns-clause-histories c = theorem.growing
+
+pub returns-clause-longest : goal.returns-clause-longest
+returns-clause-longest c = theorem.longest_growing
