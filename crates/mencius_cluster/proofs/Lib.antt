@@ -10,3 +10,4 @@ pub mod Replying
 pub mod Theorems
 pub mod Worked
 pub mod Traces
+pub mod Refused
