@@ -60,17 +60,18 @@ within w = (w.version == 1) && (nat_le 1 w.servers && nat_le w.servers 7) && lis
 unfoldable pub json_of : List ℕ → Option Data
 json_of bytes = if is_utf8 bytes then read bytes else None
 
-abbrev pub json_answer : Option Data → Result Data AppFault
-json_answer None = Err NotJson
-json_answer (Some d) = Ok d
+abbrev pub or_not_json : Option Data → Result Data AppFault
+or_not_json None = Err NotJson
+or_not_json (Some d) = Ok d
 
-abbrev pub answer_of : Result Data AppFault → Result Written AppFault
-answer_of (Err f) = Err f
-answer_of (Ok d) = judged within (written_of d)
+-- what is written in the value that there is
+abbrev pub written_there : Result Data AppFault → Result Written AppFault
+written_there (Err f) = Err f
+written_there (Ok d) = judged within (written_of d)
 
--- what the bytes say
+-- what the bytes say, or the fault that they have
 abbrev pub scenario : List ℕ → Result Written AppFault
-scenario bytes = answer_of (json_answer (json_of bytes))
+scenario bytes = written_there (or_not_json (json_of bytes))
 
 -- what a scenario that was read says
 abbrev pub written_in : code.Scenario → Written
