@@ -1,4 +1,4 @@
-use Rattle.std.proofs.Common.{◌≡◌, ℕ, ◌<◌, ◌≤◌, Some, arith, sym, ◌∙◌}
+use Rattle.std.proofs.Common.{◌≡◌, Some, arith, sym, ◌∙◌}
 use Rattle.coord_paxos.proofs.Below.{first_item-instances, first_item-instances_none}
 use Rattle.mencius_server.specs.Machine.{waits_at}
 use Rattle.mencius_server.proofs.Server.first_waiting.Goals as goal

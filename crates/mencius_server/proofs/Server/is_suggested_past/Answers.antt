@@ -1,4 +1,4 @@
-use Rattle.std.proofs.Common.{◌≡◌, ℕ, ◌<◌, ◌≤◌, ⊎_elim, Bool, arith, false, ltb, refl, sym, true, ◌&&◌}
+use Rattle.std.proofs.Common.{◌≡◌, ◌<◌, ◌≤◌, ⊎_elim, Bool, arith, false, ltb, refl, sym, true, ◌&&◌}
 use Rattle.std.proofs.lemmas.Bool.{cases_eq, le-ltb, lt-ltb}
 use Rattle.coord_paxos.proofs.Below.{any-instances, any-instances_none}
 use Rattle.mencius_server.specs.Machine.{is_suggested_past, is_ticket, suggested_at}
