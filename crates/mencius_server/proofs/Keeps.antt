@@ -75,7 +75,19 @@ IsServer-with_slot s i t f kept fits ahead near = record {
 
 -- what a server keeps holds of each of its slots
 pub FitsAt-slot : (s : ServerState) (i : ℕ) → IsServer s → FitsAt s s.front i (slot s i)
-FitsAt-slot s i kept = record { same = kept.same i; own = kept.own i; unsaid = kept.unsaid i }
+FitsAt-slot s i kept = record { stays = λ known. known; same = kept.same i; own = kept.own i; unsaid = kept.unsaid i }
+
+-- what a server keeps of one slot
+pub record KeepsAt (s : ServerState) (i : ℕ) (t : SlotState) : Type 0 where
+  pub same : t.members ≡ s.members
+  pub own : owner s.members i ≡ s.id → t.trying ≡ 0
+  pub unsaid : owner s.members i ≡ s.id → s.front ≤ i → t.proposal ≡ None
+
+pub KeepsAt-fits : (s : ServerState) (i : ℕ) (t : SlotState) → FitsAt s s.front i t → KeepsAt s i t
+KeepsAt-fits s i t fits = record { same = fits.same; own = fits.own; unsaid = fits.unsaid }
+
+pub KeepsAt-new : (s : ServerState) (i : ℕ) → KeepsAt s i (new_slot s.members)
+KeepsAt-new s i = record { same = refl; own = λ mine. refl; unsaid = λ mine ahead. refl }
 
 -- where nothing is sent, only memory may be wanting
 pub refused_for_memory : (o : Outgoing) (r : Result ℕ Refusal) → length o.messages ≤ o.limit → IfErr r (λ e. e ≡ NoMemory) → IsRefusedFor (outbox_full o 0) r

@@ -11,6 +11,8 @@ pub mod Submits
 pub mod HearsSkip
 pub mod Empty
 pub mod Begins
+pub mod Gaps
+pub mod Invariant
 pub mod Suspects
 pub mod Others
 pub mod Lists

@@ -12,7 +12,7 @@ use Rattle.coord_paxos.specs.Fresh.{new_slot}
 use Rattle.coord_paxos.specs.Slot.{after_learn}
 use Rattle.mencius_server.specs.State.{FitsAt, IsServer, ServerState, padded, slot}
 use Rattle.mencius_server.specs.Machine.{after_skip, given_count, is_given, is_skipped, slot_given}
-use Rattle.mencius_server.proofs.Keeps.{FitsAt-slot, past-replicate}
+use Rattle.mencius_server.proofs.Keeps.{FitsAt-slot, KeepsAt, KeepsAt-fits, KeepsAt-new, past-replicate}
 use Rattle.mencius_server.proofs.SlotLaws.{FitsAt-same, SameAttempt, SameAttempt-cond, SameAttempt-learn, SameAttempt-self}
 
 -- filling up with new slots shows nothing new
@@ -102,12 +102,12 @@ IsServer-skip s q first stop kept = record {
         (SameAttempt-cond (is_skipped s.members q first stop i) (slot s i) _ (slot s i) (SameAttempt-learn (slot s i) Noop) (SameAttempt-self (slot s i)))
         (FitsAt-slot s i kept)
 
-    fits : (i : ℕ) → FitsAt s s.front i (slot (after_skip s q first stop) i)
+    fits : (i : ℕ) → KeepsAt s i (slot (after_skip s q first stop) i)
     fits i =
         ⊎_elim
-        (λ (small : i < 4096). subst (FitsAt s s.front i) (sym (get_or-map-instances _ i (new_slot s.members) small)) (given i))
+        (λ (small : i < 4096). subst (KeepsAt s i) (sym (get_or-map-instances _ i (new_slot s.members) small)) (KeepsAt-fits s i _ (given i)))
         (λ (past : 4096 ≤ i).
         let none : length (slots_given s q first stop) ≤ i = rw (length-map-instances (λ (j : ℕ). slot_given s.members q first stop j (slot s j))) past in
-        subst (FitsAt s s.front i) (sym (get_or_past (slots_given s q first stop) i (new_slot s.members) none))
-        (record { same = refl; own = λ mine. refl; unsaid = λ mine ahead. refl }))
+        subst (KeepsAt s i) (sym (get_or_past (slots_given s q first stop) i (new_slot s.members) none))
+        (KeepsAt-new s i))
         (cases_lt i 4096)

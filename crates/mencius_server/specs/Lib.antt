@@ -2,5 +2,6 @@ pub mod Server
 pub mod Next
 pub mod Decided
 pub mod State
+pub mod Kept
 pub mod Machine
 pub mod Reached

@@ -79,6 +79,8 @@ impl Server {
     }
 
     fn hear_skip(&mut self, from: u8, first: u32, stop: u32) -> Result<u32, Refusal>
+        requires member { from < self.old.members.count }
+        requires small { first < 4096 }
         ensures after { OnOk result (self.new ≡ after_skip self.old from first stop) }
         ensures learned { IfOk result (λ n. n ≡ given_count self.old from first stop) }
         ensures err { OnErr result (self.new ≡ self.old) }
@@ -276,39 +278,23 @@ impl Server {
     }
 }
 
-// Learns no-op at each given instance that is given up, and counts those that were not learned.
+// Learns no-op at each instance that a Skip gives up, and counts those that were not learned.
 fn learn_noops(slots: &mut Vec<Slot>, members: Members, from: u8, first: u32, stop: u32) -> u32
-    requires { vec_len slots.old ≤ 4096 }
+    requires few { vec_len slots.old ≤ 4096 }
+    requires member { from < members.count }
+    requires near { first ≤ 4102 }
     ensures len { vec_len slots.new ≡ vec_len slots.old }
     ensures slots { (j : ℕ) → j < vec_len slots.old
         → slice_index_or slots.new.items j (new_slot members) ≡ slot_given members from first stop j (slice_index_or slots.old.items j (new_slot members)) }
     ensures count { result ≡ count_by (λ j. is_given members from first stop j (slice_index_or slots.old.items j (new_slot members))) (below (vec_len slots.old)) }
 {
+    let end = slots.len().min(stop as usize);
     let mut count = 0;
-    for inst in 0..slots.len() {
-        let is_given_up = is_skipped(members, from, first, stop, inst as u32);
-        let slot = &mut slots[inst];
-        count += learn_noop(slot, is_given_up);
+    let mut inst = members.first_owned(from, first);
+    while (inst as usize) < end {
+        let slot = &mut slots[inst as usize];
+        count += u32::from(slot.learn(Value::Noop));
+        inst = members.first_owned(from, inst + 1);
     }
     count
-}
-
-// The instance is one that a Skip gives up.
-fn is_skipped(members: Members, from: u8, first: u32, stop: u32, inst: u32) -> bool
-    ensures { result ≡ is_skipped members from first stop inst }
-{
-    members.owner(inst) == from && first <= inst && inst < stop
-}
-
-// Learns no-op where that is asked, and counts it where it is new.
-fn learn_noop(slot: &mut Slot, is_given_up: bool) -> u32
-    ensures after { slot.new ≡ (if is_given_up then after_learn slot.old Noop else slot.old) }
-    ensures count { result ≡ (if is_given_up && is_none slot.old.learned then 1 else 0) }
-    ensures small { result ≤ 1 }
-{
-    if is_given_up && slot.learn(Value::Noop) {
-        1
-    } else {
-        0
-    }
 }

@@ -1,11 +1,12 @@
 //! One server of Mencius.
 #![tactic(auto)]
 
-ghost use Rattle.mencius_base.specs.Members.{below, instances};
+ghost use Rattle.mencius_base.specs.Members.{owner};
 ghost use Rattle.mencius_base.specs.declared.refusal.Refusal.TheVariants.{NoMemory};
 ghost use Rattle.mencius_server.specs.Reached.{server_at};
 ghost use Rattle.mencius_server.specs.State.{FitsAt, padded, slot, with_slot, with_slot_and_front};
-ghost use Rattle.std.specs.Prelude.{◌≡◌, ◌+◌, ◌<◌, ◌≤◌, [], OnOk, OnErr, IfOk, IfErr, ℕ, vec_len};
+ghost use Rattle.coord_paxos.specs.SlotState.{SlotState};
+ghost use Rattle.std.specs.Prelude.{◌≡◌, false, is_none, length, slice_index_or, ◌+◌, ◌<◌, ◌≤◌, [], OnOk, OnErr, IfOk, IfErr, ℕ, vec_len};
 
 use coord_paxos::{Answer, Slot};
 use mencius_base::{Ballot, Members, Message, Outbox, Refusal, Value, Vote};
@@ -25,17 +26,20 @@ pub struct Server {
     id: u8,
     front: u32,
     slots: Vec<Slot>,
+    // Every instance below this one is learned.
+    learned_below: u32,
 }
 
 impl Model for Server {
-    ghost use Rattle.std.specs.Prelude.{ℕ, ◌≤◌, vec_len};
-    ghost use Rattle.mencius_server.specs.State.{IsServer, ServerState, padded};
+    ghost use Rattle.std.specs.Prelude.{vec_len};
+    ghost use Rattle.mencius_server.specs.Kept.{IsKept};
+    ghost use Rattle.mencius_server.specs.State.{ServerState, padded};
 
     ghost Value = { ServerState };
 
     ghost view = { λ s. record { members = s.members; id = s.id; front = s.front; slots = padded s.members s.slots.items } };
 
-    ghost invariant = { λ s. (vec_len s.slots ≤ 4096) × IsServer (record { members = s.members; id = s.id; front = s.front; slots = padded s.members s.slots.items }) };
+    ghost invariant = { λ s. IsKept (record { members = s.members; id = s.id; front = s.front; slots = padded s.members s.slots.items }) (vec_len s.slots) s.learned_below };
 }
 
 impl Server {
@@ -51,6 +55,7 @@ impl Server {
             id,
             front: id as u32,
             slots: Vec::new(alloc),
+            learned_below: 0,
         })
     }
 
@@ -84,6 +89,27 @@ impl Server {
         }
     }
 
+    // A server's least instance from a place on.
+    fn next_of(&self, server: u8, from: u32) -> u32
+        requires member { server < self.now.members.count }
+        requires small { from ≤ 4102 }
+        ensures own { owner self.now.members result ≡ server }
+        ensures above { from ≤ result }
+        ensures least { (i : ℕ) → from ≤ i → owner self.now.members i ≡ server → result ≤ i }
+    {
+        self.members.first_owned(server, from)
+    }
+
+    // The least own instance from a place on.
+    fn next_own(&self, from: u32) -> u32
+        requires { from ≤ 4102 }
+        ensures own { owner self.now.members result ≡ self.now.id }
+        ensures above { from ≤ result }
+        ensures least { (i : ℕ) → from ≤ i → owner self.now.members i ≡ self.now.id → result ≤ i }
+    {
+        self.members.first_owned(self.id, from)
+    }
+
     // Writes a slot and the front.
     fn put(&mut self, inst: u32, slot: Slot, front: u32) -> Result<(), Refusal>
         requires small { inst < 4096 }
@@ -97,6 +123,7 @@ impl Server {
         grow_to(&mut self.slots, self.members, inst as usize + 1)?;
         self.slots[inst as usize] = slot;
         self.front = front;
+        self.learned_below = learned_from(&self.slots, self.learned_below);
         Ok(())
     }
 
@@ -119,6 +146,7 @@ fn grow_to(slots: &mut Vec<Slot>, members: Members, wanted: usize) -> Result<(),
     requires few { vec_len slots.old ≤ 4096 }
     ensures reach { OnOk result (wanted ≤ vec_len slots.new) }
     ensures few { vec_len slots.new ≤ 4096 }
+    ensures more { vec_len slots.old ≤ vec_len slots.new }
     ensures same { padded members slots.new.items ≡ padded members slots.old.items }
     ensures memory { IfErr result (λ r. r ≡ NoMemory) }
 {
@@ -132,4 +160,18 @@ fn grow_to(slots: &mut Vec<Slot>, members: Members, wanted: usize) -> Result<(),
         slots.push_reserved(Slot::new(members));
     }
     Ok(())
+}
+
+// The least place from a given one on whose slot has learned nothing, or the end.
+fn learned_from(slots: &[Slot], from: u32) -> u32
+    requires few { length slots.now ≤ 4096 }
+    requires within { from ≤ length slots.now }
+    ensures within { result ≤ length slots.now }
+    ensures known { (d : SlotState) (j : ℕ) → from ≤ j → j < result → is_none (slice_index_or slots.now j d).learned ≡ false }
+{
+    let mut inst = from;
+    while (inst as usize) < slots.len() && slots[inst as usize].learned().is_some() {
+        inst += 1;
+    }
+    inst
 }

@@ -2,7 +2,7 @@
 ghost use Rattle.coord_paxos.specs.Fresh.{new_slot};
 ghost use Rattle.coord_paxos.specs.Slot.{after_begin};
 ghost use Rattle.mencius_base.specs.History.{History, sent};
-ghost use Rattle.mencius_base.specs.Members.{below, instances};
+ghost use Rattle.mencius_base.specs.Members.{below, instances, owner};
 ghost use Rattle.mencius_base.specs.Refusal.{IsRefusedFor};
 ghost use Rattle.mencius_base.specs.declared.event.Event.TheVariants.{Suspect};
 ghost use Rattle.mencius_base.specs.declared.message.Message.TheVariants.{Prepare};
@@ -11,7 +11,7 @@ ghost use Rattle.mencius_server.specs.Machine.{IsUndone, after_suspect, ballot_a
 ghost use Rattle.mencius_server.specs.Reached.{IsAt, IsStep, refusal_of};
 ghost use Rattle.mencius_server.specs.State.{slot};
 ghost use Rattle.std.specs.List.{count_by, filter, list_any};
-ghost use Rattle.std.specs.Prelude.{◌≡◌, ◌+◌, ◌<◌, ◌≤◌, [], ◌∷◌, ◌++◌, ◌==◌, OnOk, OnErr, IfErr, if◌then◌else◌, Some, ℕ, slice_index_or, map, true, ◌&&◌, vec_len};
+ghost use Rattle.std.specs.Prelude.{◌≡◌, false, is_none, min, ◌+◌, ◌<◌, ◌≤◌, [], ◌∷◌, ◌++◌, ◌==◌, OnOk, OnErr, IfErr, if◌then◌else◌, Some, ℕ, slice_index_or, map, true, ◌&&◌, vec_len};
 
 use crate::{Server, grow_to};
 use coord_paxos::Slot;
@@ -33,6 +33,7 @@ impl Server {
     }
 
     fn revoke(&mut self, suspected: u8, out: &mut Outbox) -> Result<(), Refusal>
+        requires { suspected < self.old.members.count }
         ensures sent { OnOk result (out.new.messages ≡ out.old.messages ++ suspect_sent self.old suspected) }
         ensures after { OnOk result (self.new ≡ after_suspect self.old suspected) }
         ensures limit { out.new.limit ≡ out.old.limit }
@@ -55,6 +56,7 @@ impl Server {
 
     // Starts the first phases, where there is room for their messages.
     fn begin_all(&mut self, suspected: u8, out: &mut Outbox) -> Result<(), Refusal>
+        requires suspected { suspected < self.old.members.count }
         requires other { self.old.id ≡ suspected → ⊥ }
         requires rounds { (j : ℕ) → j < 4096 → is_suspected self.old suspected j ≡ true → round_after self.old.members (slot self.old j) ≤ 65535 }
         requires room { count_by (is_suspected self.old suspected) instances ≤ out.old.room }
@@ -64,7 +66,8 @@ impl Server {
         ensures err { OnErr result (IsUndone self.old self.new out.old out.new) }
         ensures memory { IfErr result (λ r. r ≡ NoMemory) }
     {
-        let reach = (self.front + 1).min(4096) as usize;
+        let first = self.first_open(suspected);
+        let reach = self.reach() as usize;
         grow_to(&mut self.slots, self.members, reach)?;
         begin_slots(
             &mut self.slots,
@@ -72,59 +75,67 @@ impl Server {
             self.id,
             suspected,
             self.front,
+            first,
             out,
         );
         Ok(())
     }
 
+    // A server's least instance from which on a suspicion may cover some.
+    fn first_open(&self, suspected: u8) -> u32
+        requires { suspected < self.now.members.count }
+        ensures own { owner self.now.members result ≡ suspected }
+        ensures known { (j : ℕ) → j < result → is_suspected self.now suspected j ≡ false }
+    {
+        self.next_of(suspected, self.learned_below)
+    }
+
+    // A suspicion covers instances below this one.
+    fn reach(&self) -> u32
+        ensures { result ≡ min (self.now.front + 1) 4096 }
+    {
+        (self.front + 1).min(4096)
+    }
+
     // How many instances a suspicion covers.
     fn count_suspected(&self, suspected: u8) -> u32
+        requires { suspected < self.now.members.count }
         ensures count { result ≡ count_by (is_suspected self.now suspected) instances }
         ensures small { result ≤ 4096 }
     {
+        let end = self.reach();
         let mut count = 0;
-        for inst in 0..4096 {
-            count += u32::from(self.is_suspected(suspected, inst));
+        let mut inst = self.first_open(suspected);
+        while inst < end {
+            count += u32::from(self.learned(inst).is_none());
+            inst = self.next_of(suspected, inst + 1);
         }
         count
     }
 
     // There is no further round at some instance that a suspicion covers.
     fn has_full_round(&self, suspected: u8) -> bool
+        requires { suspected < self.now.members.count }
         ensures { result ≡ list_any (is_round_full self.now) (filter (is_suspected self.now suspected) instances) }
     {
-        for inst in 0..4096 {
-            if self.is_stuck(suspected, inst) {
+        let end = self.reach();
+        let mut inst = self.first_open(suspected);
+        while inst < end {
+            if self.is_stuck(inst) {
                 return true;
             }
+            inst = self.next_of(suspected, inst + 1);
         }
         false
     }
 
-    fn is_stuck(&self, suspected: u8, inst: u32) -> bool
-        ensures { result ≡ (is_suspected self.now suspected inst && is_round_full self.now inst) }
+    // Nothing was learned at the instance, and there is no further round.
+    fn is_stuck(&self, inst: u32) -> bool
+        ensures { result ≡ (is_none (slot self.now inst).learned && is_round_full self.now inst) }
     {
-        self.is_suspected(suspected, inst) && self.is_round_full(inst)
+        let slot = self.read(inst);
+        slot.learned().is_none() && round_after(self.members, &slot) > 65535
     }
-
-    fn is_suspected(&self, suspected: u8, inst: u32) -> bool
-        ensures { result ≡ is_suspected self.now suspected inst }
-    {
-        is_revoked(self.members, suspected, self.front, inst, &self.read(inst))
-    }
-
-    fn is_round_full(&self, inst: u32) -> bool
-        ensures { result ≡ is_round_full self.now inst }
-    {
-        round_after(self.members, &self.read(inst)) > 65535
-    }
-}
-
-// A suspicion covers the instance of a slot.
-fn is_revoked(members: Members, suspected: u8, front: u32, inst: u32, slot: &Slot) -> bool
-    ensures { result ≡ is_revoked members suspected front inst slot.now }
-{
-    members.owner(inst) == suspected && inst <= front && slot.learned().is_none()
 }
 
 // One above the rounds that were tried and promised.
@@ -144,10 +155,14 @@ fn begin_slots(
     id: u8,
     suspected: u8,
     front: u32,
+    first: u32,
     out: &mut Outbox,
 )
     requires few { vec_len slots.old ≤ 4096 }
     requires member { id < members.count }
+    requires suspected { suspected < members.count }
+    requires first { owner members first ≡ suspected }
+    requires known { (j : ℕ) → j < first → is_revoked members suspected front j (slice_index_or slots.old.items j (new_slot members)) ≡ false }
     requires rounds { (j : ℕ) → j < vec_len slots.old → is_revoked members suspected front j (slice_index_or slots.old.items j (new_slot members)) ≡ true
         → round_after members (slice_index_or slots.old.items j (new_slot members)) ≤ 65535 }
     requires room { count_by (λ j. is_revoked members suspected front j (slice_index_or slots.old.items j (new_slot members))) (below (vec_len slots.old)) ≤ out.old.room }
@@ -158,31 +173,26 @@ fn begin_slots(
         (filter (λ j. is_revoked members suspected front j (slice_index_or slots.old.items j (new_slot members))) (below (vec_len slots.old))) }
     ensures limit { out.new.limit ≡ out.old.limit }
 {
-    for inst in 0..slots.len() {
-        let slot = &mut slots[inst];
-        let is_covered = is_revoked(members, suspected, front, inst as u32, slot);
-        begin_slot(slot, members, id, inst as u32, is_covered, out);
+    let end = slots.len().min(front as usize + 1);
+    let mut inst = first;
+    while (inst as usize) < end {
+        let slot = &mut slots[inst as usize];
+        begin_slot(slot, members, id, inst, out);
+        inst = members.first_owned(suspected, inst + 1);
     }
 }
 
-// Starts a first phase where that is asked.
-fn begin_slot(
-    slot: &mut Slot,
-    members: Members,
-    id: u8,
-    inst: u32,
-    is_covered: bool,
-    out: &mut Outbox,
-)
+// Starts a first phase at a slot where nothing was learned.
+fn begin_slot(slot: &mut Slot, members: Members, id: u8, inst: u32, out: &mut Outbox)
     requires member { id < members.count }
-    requires rounds { is_covered ≡ true → round_after members slot.old ≤ 65535 }
-    requires room { is_covered ≡ true → 0 < out.old.room }
-    ensures after { slot.new ≡ (if is_covered then after_begin slot.old (ballot_after members id slot.old) else slot.old) }
-    ensures sent { out.new.messages ≡ out.old.messages ++ (if is_covered then Prepare id inst (ballot_after members id slot.old) ∷ [] else []) }
-    ensures room { out.new.room + (if is_covered then 1 else 0) ≡ out.old.room }
+    requires rounds { is_none slot.old.learned ≡ true → round_after members slot.old ≤ 65535 }
+    requires room { is_none slot.old.learned ≡ true → 0 < out.old.room }
+    ensures after { slot.new ≡ (if is_none slot.old.learned then after_begin slot.old (ballot_after members id slot.old) else slot.old) }
+    ensures sent { out.new.messages ≡ out.old.messages ++ (if is_none slot.old.learned then Prepare id inst (ballot_after members id slot.old) ∷ [] else []) }
+    ensures room { out.new.room + (if is_none slot.old.learned then 1 else 0) ≡ out.old.room }
     ensures limit { out.new.limit ≡ out.old.limit }
 {
-    if !is_covered {
+    if slot.learned().is_some() {
         return;
     }
     let round = round_after(members, slot);

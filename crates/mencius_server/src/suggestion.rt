@@ -54,10 +54,12 @@ impl Server {
         ensures place { result ≡ free_at self.now }
         ensures fits { IfSome result (λ k. (k < 4096) × (owner self.now.members k ≡ self.now.id) × (self.now.front ≤ k)) }
     {
-        for inst in self.front..4096 {
-            if self.members.owner(inst) == self.id && self.learned(inst).is_none() {
+        let mut inst = self.next_own(self.front);
+        while inst < 4096 {
+            if self.learned(inst).is_none() {
                 return Some(inst);
             }
+            inst = self.next_own(inst + 1);
         }
         None
     }
