@@ -1,5 +1,5 @@
 -- A loop over the slots that starts first phases at some.
-use Rattle.std.proofs.Common.{◌≡◌, ℕ, ◌+◌, ◌-◌, ◌*◌, ◌/◌, ◌<◌, ◌≤◌, Some, Result, Ok, Err, IfErr, Bool, true, false, cond, eqb, leb, List, [], ◌∷◌, ◌++◌, None, filter, length, get_or, map, max, min, refl, sym, ◌∙◌, ap, subst, arith, append-nil, append_assoc, ⊎_elim}
+use Rattle.std.proofs.Common.{◌≡◌, ℕ, ◌+◌, ◌-◌, ◌*◌, ◌/◌, ◌<◌, ◌≤◌, Some, Result, Ok, Err, IfErr, Bool, true, false, cond, eqb, List, [], ◌∷◌, ◌++◌, None, filter, length, get_or, map, max, min, refl, sym, ◌∙◌, ap, subst, arith, append-nil, append_assoc, ⊎_elim}
 use Rattle.std.specs.List.{count_by, list_any}
 use Rattle.std.specs.Prelude.{is_none, ◌&&◌}
 use Rattle.std.proofs.Math.Nat.{mul-le-mul_right}
@@ -182,19 +182,19 @@ IsServer-suspect s q other kept = record {
     begun : (i : ℕ) → is_revoked s.members q s.front i (slot s i) ≡ true → FitsAt s s.front i (after_begin (slot s i) (ballot_after s.members s.id (slot s i)))
     begun i e =
         let theirs : owner s.members i ≡ q = eqb-true _ _ (and_parts _ _ (and_parts _ _ e).0).0 in
-        record { stays = λ known. known; same = kept.same i; own = λ mine. absurd (other (sym mine ∙ theirs)); unsaid = λ mine ahead. refl }
+        record { stays = λ known. known; said = λ mine. absurd (other (sym mine ∙ theirs)); same = kept.same i; own = λ mine. absurd (other (sym mine ∙ theirs)); unsaid = λ mine ahead. refl }
 
     given : (i : ℕ) → FitsAt s s.front i (slot_revoked s.members s.id q s.front i (slot s i))
     given i = FitsAt-cond s s.front i (is_revoked s.members q s.front i (slot s i)) _ (slot s i) (begun i) (FitsAt-slot s i kept)
 
-    fits : (i : ℕ) → KeepsAt s i (slot (after_suspect s q) i)
+    fits : (i : ℕ) → KeepsAt s s.front i (slot (after_suspect s q) i)
     fits i =
         ⊎_elim
-        (λ (small : i < 4096). subst (KeepsAt s i) (sym (get_or-map-instances _ i (new_slot s.members) small)) (KeepsAt-fits s i _ (given i)))
+        (λ (small : i < 4096). subst (KeepsAt s s.front i) (sym (get_or-map-instances _ i (new_slot s.members) small)) (KeepsAt-fits s s.front i _ (given i)))
         (λ (past : 4096 ≤ i).
         let none : length (slots_revoked s q) ≤ i = rw (length-map-instances (λ (j : ℕ). slot_revoked s.members s.id q s.front j (slot s j))) past in
-        subst (KeepsAt s i) (sym (get_or_past (slots_revoked s q) i (new_slot s.members) none))
-        (KeepsAt-new s i))
+        subst (KeepsAt s s.front i) (sym (get_or_past (slots_revoked s q) i (new_slot s.members) none))
+        (KeepsAt-new s s.front i))
         (cases_lt i 4096)
 
 -- ---- why a suspicion is refused

@@ -12,6 +12,8 @@ pub mod HearsSkip
 pub mod Empty
 pub mod Begins
 pub mod Gaps
+pub mod Lost
+pub mod Marks
 pub mod Invariant
 pub mod Suspects
 pub mod Others

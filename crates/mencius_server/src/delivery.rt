@@ -1,6 +1,6 @@
 //! Hearing.
 ghost use Rattle.coord_paxos.specs.Fresh.{new_slot};
-ghost use Rattle.coord_paxos.specs.Slot.{accept_answer, after_learn};
+ghost use Rattle.coord_paxos.specs.Slot.{accept_answer};
 ghost use Rattle.mencius_base.specs.History.{History, sent};
 ghost use Rattle.mencius_base.specs.Members.{below, instances};
 ghost use Rattle.mencius_base.specs.Message.{is_addressed};
@@ -10,12 +10,12 @@ ghost use Rattle.mencius_base.specs.declared.event.Event.TheVariants.{Deliver};
 ghost use Rattle.mencius_base.specs.declared.message.Message.TheVariants.{Prepare};
 ghost use Rattle.mencius_base.specs.declared.message.Value.TheVariants.{Noop};
 ghost use Rattle.mencius_base.specs.declared.refusal.Refusal.TheVariants.{NoMemory};
-ghost use Rattle.mencius_server.specs.Machine.{IsUndone, accepted_sent, after_accepted, after_hearing, after_learn_at, after_skip, given_count, is_given, is_skipped, slot_given, after_prepare_at, after_promise_at, after_propose, after_suggest, learned_on, one_if_some, prepare_sent, promise_sent, propose_sent, sent_on, suggest_sent};
+ghost use Rattle.mencius_server.specs.Machine.{IsUndone, accepted_sent, after_accepted, after_hearing, after_learn_at, after_skip, given_count, is_given, slot_given, after_prepare_at, after_promise_at, after_propose, after_suggest, learned_on, one_if_some, prepare_sent, promise_sent, propose_sent, sent_on, suggest_sent};
 ghost use Rattle.mencius_server.specs.Next.{learnings, lines};
 ghost use Rattle.mencius_server.specs.Reached.{IsAt, IsStep, refusal_of};
 ghost use Rattle.mencius_server.specs.State.{slot};
 ghost use Rattle.std.specs.List.{count_by};
-ghost use Rattle.std.specs.Prelude.{◌≡◌, ◌+◌, ◌<◌, ◌≤◌, ◌++◌, ◌==◌, length, is_none, OnOk, OnErr, IfOk, IfErr, if◌then◌else◌, IsTrue, Some, ℕ, slice_get, slice_index_or, ◌&&◌, vec_len};
+ghost use Rattle.std.specs.Prelude.{◌≡◌, ◌⊎◌, ◌+◌, ◌<◌, ◌≤◌, ◌++◌, ◌==◌, length, is_none, OnOk, OnErr, IfOk, IfErr, if◌then◌else◌, IsTrue, Some, ℕ, slice_get, slice_index_or, vec_len};
 
 use crate::{Server, grow_to};
 use coord_paxos::{Answer, Slot};
@@ -87,6 +87,7 @@ impl Server {
         ensures memory { IfErr result (λ r. r ≡ NoMemory) }
     {
         grow_to(&mut self.slots, self.members, stop.min(4096) as usize)?;
+        self.lost_from = lost_with_skip(self.id, from, first, self.lost_from);
         Ok(learn_noops(&mut self.slots, self.members, from, first, stop))
     }
 
@@ -275,6 +276,18 @@ impl Server {
             }
             None => Ok(0),
         }
+    }
+}
+
+// Where a server skips its own instances, tickets there may wait from then on.
+fn lost_with_skip(id: u8, from: u8, first: u32, lost_from: u32) -> u32
+    ensures less { result ≤ lost_from }
+    ensures lost { (result ≤ first) ⊎ (from ≡ id → ⊥) }
+{
+    if from == id {
+        lost_from.min(first)
+    } else {
+        lost_from
     }
 }
 

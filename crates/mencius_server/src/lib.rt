@@ -1,15 +1,16 @@
 //! One server of Mencius.
 #![tactic(auto)]
 
+ghost use Rattle.coord_paxos.specs.SlotState.{SlotState};
 ghost use Rattle.mencius_base.specs.Members.{owner};
 ghost use Rattle.mencius_base.specs.declared.refusal.Refusal.TheVariants.{NoMemory};
 ghost use Rattle.mencius_server.specs.Reached.{server_at};
+ghost use Rattle.mencius_server.specs.Server.{is_noop};
 ghost use Rattle.mencius_server.specs.State.{FitsAt, padded, slot, with_slot, with_slot_and_front};
-ghost use Rattle.coord_paxos.specs.SlotState.{SlotState};
-ghost use Rattle.std.specs.Prelude.{◌≡◌, false, is_none, length, slice_index_or, ◌+◌, ◌<◌, ◌≤◌, [], OnOk, OnErr, IfOk, IfErr, ℕ, vec_len};
+ghost use Rattle.std.specs.Prelude.{◌≡◌, ◌⊎◌, false, is_none, length, slice_index_or, ◌+◌, ◌<◌, ◌≤◌, [], OnOk, OnErr, IfOk, IfErr, ℕ, vec_len};
 
-use coord_paxos::{Answer, Slot};
-use mencius_base::{Ballot, Members, Message, Outbox, Refusal, Value, Vote};
+use coord_paxos::Slot;
+use mencius_base::{Members, Refusal, Value};
 use std::alloc::Global;
 use std::marker::Model;
 
@@ -28,6 +29,12 @@ pub struct Server {
     slots: Vec<Slot>,
     // Every instance below this one is learned.
     learned_below: u32,
+    // No own ticket waits at an instance below this one.
+    lost_from: u32,
+    // Every ticket that was suggested here is below this number.
+    next_ticket: u64,
+    // For each instance from 0, whether the own ticket there was suggested again further on.
+    moved: Vec<bool>,
 }
 
 impl Model for Server {
@@ -39,7 +46,7 @@ impl Model for Server {
 
     ghost view = { λ s. record { members = s.members; id = s.id; front = s.front; slots = padded s.members s.slots.items } };
 
-    ghost invariant = { λ s. IsKept (record { members = s.members; id = s.id; front = s.front; slots = padded s.members s.slots.items }) (vec_len s.slots) s.learned_below };
+    ghost invariant = { λ s. IsKept (record { members = s.members; id = s.id; front = s.front; slots = padded s.members s.slots.items }) (vec_len s.slots) (record { learned_below = s.learned_below; lost_from = s.lost_from; next_ticket = s.next_ticket; moved = s.moved.items }) };
 }
 
 impl Server {
@@ -56,6 +63,9 @@ impl Server {
             front: id as u32,
             slots: Vec::new(alloc),
             learned_below: 0,
+            lost_from: 4096,
+            next_ticket: 0,
+            moved: Vec::new(alloc),
         })
     }
 
@@ -121,6 +131,7 @@ impl Server {
         ensures memory { IfErr result (λ r. r ≡ NoMemory) }
     {
         grow_to(&mut self.slots, self.members, inst as usize + 1)?;
+        self.lost_from = lost_with(self.members, self.id, inst, &slot, self.lost_from);
         self.slots[inst as usize] = slot;
         self.front = front;
         self.learned_below = learned_from(&self.slots, self.learned_below);
@@ -160,6 +171,18 @@ fn grow_to(slots: &mut Vec<Slot>, members: Members, wanted: usize) -> Result<(),
         slots.push_reserved(Slot::new(members));
     }
     Ok(())
+}
+
+// Where a slot is written, its ticket may wait from then on.
+fn lost_with(members: Members, id: u8, inst: u32, slot: &Slot, lost_from: u32) -> u32
+    ensures less { result ≤ lost_from }
+    ensures lost { (result ≤ inst) ⊎ (owner members inst ≡ id → is_noop slot.now.learned ≡ false) }
+{
+    if members.owner(inst) == id && matches!(slot.learned(), Some(Value::Noop)) {
+        lost_from.min(inst)
+    } else {
+        lost_from
+    }
 }
 
 // The least place from a given one on whose slot has learned nothing, or the end.

@@ -1,4 +1,4 @@
-use Rattle.std.proofs.Common.{◌≡◌, ◌<◌, ◌+◌, ℕ, arith, false, true, rules, sym, ◌∙◌}
+use Rattle.std.proofs.Common.{◌≡◌, ◌+◌, arith, false, true, rules, sym}
 use Rattle.std.specs.Prelude.{is_none}
 use Rattle.coord_paxos.proofs.Below.{find-instances, find-instances_none}
 use Rattle.mencius_server.specs.Machine.{is_free_at}

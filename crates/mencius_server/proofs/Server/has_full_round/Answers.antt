@@ -1,10 +1,8 @@
-use Rattle.std.proofs.Common.{◌≡◌, ℕ, ◌<◌, ◌≤◌, ◌+◌, ◌&&◌, ◌∙◌, ⊎_elim, arith, false, rules, sym, true}
+use Rattle.std.proofs.Common.{◌≡◌, ℕ, ◌<◌, ◌≤◌, ◌+◌, ◌&&◌, ◌∙◌, ⊎_elim, arith, false, sym, true}
 use Rattle.std.proofs.lemmas.Bool.{and_left, cases_eq, cases_lt}
-use Rattle.std.specs.Prelude.{is_none}
 use Rattle.mencius_base.specs.Members.{instances}
 use Rattle.coord_paxos.proofs.Below.{any-filter, any-instances, any-instances_none}
 use Rattle.mencius_server.specs.Machine.{is_round_full, is_suspected}
-use Rattle.mencius_server.specs.State.{slot}
 use Rattle.mencius_server.proofs.Gaps.{suspected_between, suspected_here, suspected_past}
 use Rattle.mencius_server.proofs.Server.has_full_round.Goals as goal
 
