@@ -14,6 +14,7 @@ pub mod Begins
 pub mod Gaps
 pub mod Lost
 pub mod Marks
+pub mod Once
 pub mod Invariant
 pub mod Suspects
 pub mod Others

@@ -64,7 +64,7 @@ propose_ballot m (l ∷ w) g p i b v (inl e) =
     (may.above, may.own)
 propose_ballot m (l ∷ w) g p i b v (inr h) = propose_ballot m w g.0 p i b v h
 
-not_proposed : (w : History) (p i b : ℕ) (v : Value) → 0 < b → proposed w i b ≡ None → IsIn (Sent (Propose p i b v)) w → ⊥
+pub not_proposed : (w : History) (p i b : ℕ) (v : Value) → 0 < b → proposed w i b ≡ None → IsIn (Sent (Propose p i b v)) w → ⊥
 not_proposed w p i b v pos none h =
     let n = oldest_none (proposed_by i b) (Sent (Propose p i b v)) w none h in
     let k = rw (same_two i b, lt-ltb 0 b pos) at n in

@@ -5,3 +5,4 @@ pub mod State
 pub mod Kept
 pub mod Machine
 pub mod Reached
+pub mod Laws

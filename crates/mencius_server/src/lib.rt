@@ -15,6 +15,7 @@ use std::alloc::Global;
 use std::marker::Model;
 
 mod delivery;
+pub mod laws;
 mod revocation;
 mod suggestion;
 #[cfg(test)]
