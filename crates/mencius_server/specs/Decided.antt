@@ -1,17 +1,13 @@
 -- What the servers decide, execute and reply.
-use Rattle.std.specs.Prelude.{◌≡◌, ℕ, ◌+◌, ◌<◌, ◌≤◌, Bool, true, false, List, [], ◌∷◌, ◌++◌, Option, Some, None, Result, Ok, Err, ◌==◌, nat_lt, nat_le, if◌then◌else◌, ◌&&◌, slice_get, length, map, IsTrue, ◌⊎◌, take}
-use Rattle.std.specs.List.{list_any, filter_map, count_by}
-use Rattle.mencius_base.specs.declared.command.Command.{Command}
-use Rattle.mencius_base.specs.declared.command.Op.{Op}
-use Rattle.mencius_base.specs.declared.command.Op.TheVariants.{Set, Get, Del}
+use Rattle.std.specs.Prelude.{◌≡◌, ℕ, Bool, false, Some, ◌==◌, nat_lt, nat_le, ◌&&◌, IsTrue, ◌⊎◌}
+use Rattle.std.specs.List.{list_any}
 use Rattle.mencius_base.specs.declared.message.Message.{Message}
-use Rattle.mencius_base.specs.declared.message.Message.TheVariants.{Suggest, Skip, Accepted, Prepare, Promise, Propose, Learn}
+use Rattle.mencius_base.specs.declared.message.Message.TheVariants.{Skip}
 use Rattle.mencius_base.specs.declared.message.Value.{Value}
-use Rattle.mencius_base.specs.declared.message.Value.TheVariants.{Noop, Ticket}
-use Rattle.mencius_base.specs.Members.{Membership, owner, below}
-use Rattle.mencius_base.specs.History.{Line, Sent, History, sent, submitted}
-use Rattle.coord_paxos.specs.Instance.{proposed, learned}
-use Rattle.mencius_server.specs.Server.{done}
+use Rattle.mencius_base.specs.declared.message.Value.TheVariants.{Noop}
+use Rattle.mencius_base.specs.Members.{Membership, owner}
+use Rattle.mencius_base.specs.History.{History, sent}
+use Rattle.coord_paxos.specs.Instance.{proposed}
 use Rattle.coord_paxos.specs.Instance.{IsMajority, has_accepted}
 
 -- a majority accepted the value at some ballot

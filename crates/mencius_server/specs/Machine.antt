@@ -1,5 +1,5 @@
 -- What a server sends on a message, how many instances it learns, and what becomes of it.
-use Rattle.std.specs.Prelude.{◌≡◌, ℕ, ◌+◌, Bool, true, false, List, [], ◌∷◌, ◌++◌, Option, Some, None, ◌==◌, nat_lt, nat_le, if◌then◌else◌, ◌&&◌, is_none, length, map, max, not, ◌||◌}
+use Rattle.std.specs.Prelude.{◌≡◌, ℕ, ◌+◌, Bool, false, List, [], ◌∷◌, ◌++◌, Option, Some, None, ◌==◌, nat_lt, nat_le, if◌then◌else◌, ◌&&◌, is_none, length, map, max, not, ◌||◌}
 use Rattle.std.specs.List.{count_by, filter, filter_map, find, list_any}
 use Rattle.mencius_base.specs.declared.message.Message.{Message}
 use Rattle.mencius_base.specs.declared.message.Message.TheVariants.{Suggest, Skip, Accepted, Prepare, Promise, Propose, Learn}
@@ -148,9 +148,12 @@ abbrev pub submit_cause : Outgoing → Option ℕ → Option Refusal
 submit_cause o None = Some InstancesFull
 submit_cause o (Some k) = outbox_full o 1
 
--- the ticket that the server suggested at an own instance
+-- the ticket that the server suggested at an own instance, of which it knows this
+abbrev pub suggested_in : Membership → ℕ → ℕ → SlotState → Option ℕ
+suggested_in m p i t = if owner m i == p then ticket_of t.proposal else None
+
 abbrev pub suggested_at : ServerState → ℕ → Option ℕ
-suggested_at s i = if owner s.members i == s.id then ticket_of (slot s i).proposal else None
+suggested_at s i = suggested_in s.members s.id i (slot s i)
 
 abbrev pub is_ticket : ℕ → Option ℕ → Bool
 is_ticket t None = false

@@ -1,12 +1,11 @@
 -- What a server knows beyond single instances.
-use Rattle.std.specs.Prelude.{ℕ, ◌+◌, Bool, true, false, List, [], ◌∷◌, Option, Some, None, ◌==◌, max, nat_lt, nat_le, if◌then◌else◌, ◌&&◌, is_none, not, ◌||◌, slice_get}
+use Rattle.std.specs.Prelude.{ℕ, ◌+◌, Bool, true, false, List, [], ◌∷◌, Option, Some, None, ◌==◌, max, nat_lt, nat_le, if◌then◌else◌, ◌&&◌, is_none, not, ◌||◌}
 use Rattle.std.specs.List.{list_any, filter, filter_map, find}
-use Rattle.mencius_base.specs.declared.message.Message.{Message}
-use Rattle.mencius_base.specs.declared.message.Message.TheVariants.{Suggest, Skip, Accepted, Prepare, Promise, Propose, Learn}
+use Rattle.mencius_base.specs.declared.message.Message.TheVariants.{Suggest, Skip}
 use Rattle.mencius_base.specs.declared.message.Value.{Value}
 use Rattle.mencius_base.specs.declared.message.Value.TheVariants.{Noop, Ticket}
 use Rattle.mencius_base.specs.Members.{Membership, owner, instances}
-use Rattle.mencius_base.specs.History.{Line, Submitted, Heard, Lost, Suspected, Retried, Done, Sent, Learned, History, greatest, oldest, gather}
+use Rattle.mencius_base.specs.History.{Line, Done, Sent, History, greatest, oldest}
 use Rattle.coord_paxos.specs.Instance.{learned}
 
 -- how far a line takes p's front
