@@ -25,6 +25,8 @@ impl Server {
         ensures step { OnOk result ((w : History) → IsAt w self.old → IsStep w (Suspect self.old.id suspected) self.old self.new out.old out.new) }
         ensures refusal { (w : History) → IsAt w self.old → IsRefusedFor (refusal_of w (Suspect self.old.id suspected) self.old out.old) result }
         ensures err { OnErr result (IsUndone self.old self.new out.old out.new) }
+        ensures members { self.new.members ≡ self.old.members }
+        ensures id { self.new.id ≡ self.old.id }
         ensures limit { out.new.limit ≡ out.old.limit }
     {
         // The proof reads the server's own number off its members.

@@ -27,6 +27,8 @@ impl Server {
         ensures refusal { (w : History) (c : Command) → IsAt w self.old → ticket ≡ length (submitted w)
             → IsRefusedFor (refusal_of w (Submit self.old.id c) self.old out.old) result }
         ensures err { OnErr result (IsUndone self.old self.new out.old out.new) }
+        ensures members { self.new.members ≡ self.old.members }
+        ensures id { self.new.id ≡ self.old.id }
         ensures limit { out.new.limit ≡ out.old.limit }
     {
         self.suggest(ticket, out)
@@ -166,6 +168,8 @@ impl Server {
         ensures step { OnOk result ((w : History) → IsAt w self.old → IsStep w (Retry self.old.id) self.old self.new out.old out.new) }
         ensures refusal { (w : History) → IsAt w self.old → IsRefusedFor (refusal_of w (Retry self.old.id) self.old out.old) result }
         ensures err { OnErr result (IsUndone self.old self.new out.old out.new) }
+        ensures members { self.new.members ≡ self.old.members }
+        ensures id { self.new.id ≡ self.old.id }
         ensures limit { out.new.limit ≡ out.old.limit }
     {
         self.suggest_again(out)
