@@ -1,4 +1,4 @@
-//! Hearing.
+//! What a server does on each message, Rule 2 among it.
 ghost use Rattle.coord_paxos.specs.Fresh.{new_slot};
 ghost use Rattle.coord_paxos.specs.Slot.{accept_answer};
 ghost use Rattle.mencius_base.specs.History.{History, sent};
@@ -22,7 +22,28 @@ use coord_paxos::{Answer, Slot};
 use mencius_base::{Ballot, Members, Message, Outbox, Refusal, Value, Vote};
 
 impl Server {
-    /// Hears a message, and answers how many instances were learned.
+    /// Hears a message, and answers how many instances were learned (Mao, Junqueira and Marzullo, OSDI
+    /// 2008, section 4).
+    ///
+    /// - Suggest: where its instance is above the front, the own instances from the front up to it are
+    ///   given up by one Skip, and the front moves past it (Rule 2). It is accepted unless another
+    ///   ballot was promised there.
+    /// - Skip: no-op is learned at once at each instance of the skipper in the range.
+    /// - Prepare: a learned value is answered by Learn; else a ballot above the promised one is
+    ///   promised, with the vote.
+    /// - Promise: once a majority promised the ballot that this server tries, it proposes the value of
+    ///   the greatest vote that was reported, or no-op, once.
+    /// - Propose: it is accepted unless a greater ballot was promised.
+    /// - Accepted: once a majority accepted at the ballot that this server tries, it learns the value
+    ///   that it proposed and tells everybody.
+    /// - Learn: the value is learned, unless one was.
+    ///
+    /// The message is one that `Message::is_for` finds to be for this server. It may be heard any
+    /// number of times.
+    ///
+    /// # Errors
+    ///
+    /// `MessagesFull` where `out` can't take the messages that are sent, then `NoMemory`.
     pub fn hear(&mut self, message: &Message, out: &mut Outbox) -> Result<u32, Refusal>
         requires { IsTrue (is_addressed self.old.members self.old.id message.now) }
 

@@ -2,8 +2,7 @@
 ghost use Rattle.mencius_server.specs.Laws.{FrontAnswers, LearnedAnswers, OneProposal, OneSuggestion};
 
 /// In every history that some journal makes, an instance has at most one Suggest, so that what
-/// its owner proposed there at ballot 0 is one ticket (Mao, Junqueira and Marzullo, OSDI 2008,
-/// section 4.2).
+/// its owner proposed there at ballot 0 is one ticket.
 pub fn one_suggestion()
     ensures { OneSuggestion }
 {}

@@ -1,4 +1,14 @@
-//! One server of Mencius.
+//! One server of Mencius (Mao, Junqueira and Marzullo, OSDI 2008, section 4).
+//!
+//! A [`Server`] suggests commands at its own instances, skips those for which it has none, revokes
+//! those of a server that it suspects, and suggests a command again that lost its instance. All that
+//! it sends is put on an `Outbox`, and all that it learns comes by [`Server::hear`], of its own
+//! messages too: whoever calls it is the network.
+//!
+//! What a call does is said of histories: in every reached history in which the server is what the
+//! definitions say, the call is one event of that history. Where messages were heard that no cluster
+//! of such servers sends, a call is still safe, and changes nothing where it is refused; no more is
+//! promised then.
 #![tactic(auto)]
 
 ghost use Rattle.coord_paxos.specs.SlotState.{SlotState};
@@ -21,7 +31,10 @@ mod suggestion;
 #[cfg(test)]
 mod tests;
 
-/// One server: a slot for each instance up to the greatest that it heard of, and its next own instance.
+/// One server of a cluster: what it knows of each of the 4,096 instances, and its next own instance.
+///
+/// After a refusal the server is as before, and so is the `Outbox`, but that it may have more room:
+/// all memory that a call needs, the outbox's too, is reserved before anything changes.
 #[derive(Drop)]
 pub struct Server {
     members: Members,
@@ -51,7 +64,9 @@ impl Model for Server {
 }
 
 impl Server {
-    /// A server that has heard nothing.
+    /// A server that has heard nothing: it knows nothing of any instance, and its front is its number.
+    ///
+    /// `id` is below the number of the members. The only refusal is `NoMemory`.
     pub fn new(alloc: Global, members: Members, id: u8) -> Result<Server, Refusal>
         requires { id < members.count }
         ensures ok { IfOk result (λ s. s ≡ server_at members [] id) }
@@ -70,14 +85,18 @@ impl Server {
         })
     }
 
-    /// The next own instance.
+    /// The next own instance, past all that the server suggested or skipped.
+    ///
+    /// It is the server's number at first, only grows, and is at most 4,102: past 4,095 the server
+    /// has no instance left.
     pub fn front(&self) -> u32
         ensures { result ≡ self.now.front }
     {
         self.front
     }
 
-    /// What was learned at an instance.
+    /// The value that the server learned at an instance, if any. Past 4,095 there is no instance, and
+    /// nothing is learned.
     pub fn learned(&self, inst: u32) -> Option<Value>
         ensures { result ≡ (slot self.now inst).learned }
     {
@@ -88,6 +107,7 @@ impl Server {
         }
     }
 
+    // A copy of an instance's slot; past the last slot there are new ones.
     fn read(&self, inst: u32) -> Slot
         ensures state { result ≡ slot self.now inst }
         ensures members { result.members ≡ self.now.members }

@@ -1,4 +1,4 @@
-//! Rule 3.
+//! Rule 3: first phases at the instances of a server that is suspected.
 ghost use Rattle.coord_paxos.specs.Fresh.{new_slot};
 ghost use Rattle.coord_paxos.specs.Slot.{after_begin};
 ghost use Rattle.mencius_base.specs.History.{History, sent};
@@ -18,13 +18,29 @@ use coord_paxos::Slot;
 use mencius_base::{Ballot, Members, Message, Outbox, Refusal};
 
 impl Server {
-    /// Starts a first phase at each instance of a suspected server, up to the own front, that was not learned.
+    /// Revokes what a suspected server left open (Rule 3 of Mao, Junqueira and Marzullo, OSDI 2008,
+    /// section 4; that the range goes up to the own front is this project's choice).
+    ///
+    /// One Prepare goes to `out`, by rising instance, for each instance of the suspected server that
+    /// is at most this server's front and that it has not learned. Its round is one above the greater
+    /// of the rounds that this server tried and promised there. A suspicion may be wrong: a command
+    /// that was chosen stays chosen.
+    ///
+    /// `suspected` is below the number of the members.
+    ///
+    /// # Errors
+    ///
+    /// In this order: `SelfSuspect`, `NothingToRevoke` where there is no such instance, `RoundsFull`
+    /// where a round would pass 65,535 at any of them, `MessagesFull` where `out` can't take them all,
+    /// `NoMemory`. No Prepare is sent then.
     pub fn suspect(&mut self, suspected: u8, out: &mut Outbox) -> Result<(), Refusal>
         requires { suspected < self.old.members.count }
         // In every reached history that this server is of, the call is the suspicion.
         ensures step { OnOk result ((w : History) → IsAt w self.old → IsStep w (Suspect self.old.id suspected) self.old self.new out.old out.new) }
         ensures refusal { (w : History) → IsAt w self.old → IsRefusedFor (refusal_of w (Suspect self.old.id suspected) self.old out.old) result }
         ensures err { OnErr result (IsUndone self.old self.new out.old out.new) }
+        ensures members { self.new.members ≡ self.old.members }
+        ensures id { self.new.id ≡ self.old.id }
         ensures limit { out.new.limit ≡ out.old.limit }
     {
         // The proof reads the server's own number off its members.

@@ -1,4 +1,4 @@
-//! Rules 1 and 4: suggestions, and which tickets wait.
+//! Rules 1 and 4: where a ticket is suggested, and which tickets wait to be suggested again.
 ghost use Rattle.coord_paxos.specs.Fresh.{new_slot};
 ghost use Rattle.mencius_base.specs.History.{History, sent, submitted};
 ghost use Rattle.mencius_base.specs.Members.{instances, owner, first_item};
@@ -19,7 +19,16 @@ use coord_paxos::Slot;
 use mencius_base::{Members, Message, Outbox, Refusal, Value};
 
 impl Server {
-    /// Suggests a ticket at the least own instance from the front on that was not learned.
+    /// Suggests a new ticket (Rule 1 of Mao, Junqueira and Marzullo, OSDI 2008, section 4).
+    ///
+    /// One Suggest goes to `out`, at the least own instance from the front on that this server has
+    /// not learned, and the front moves to the next own instance after it. The ticket is the number
+    /// of a command in order of submission, from 0.
+    ///
+    /// # Errors
+    ///
+    /// In this order: `InstancesFull` where no such instance is left, `MessagesFull` where `out` is at
+    /// its limit, `NoMemory`.
     pub fn submit(&mut self, ticket: u32, out: &mut Outbox) -> Result<(), Refusal>
         // In every reached history that this server is of, and whose next ticket this is, the call is the submission.
         ensures step { OnOk result ((w : History) (c : Command) → IsAt w self.old → ticket ≡ length (submitted w)
@@ -27,6 +36,8 @@ impl Server {
         ensures refusal { (w : History) (c : Command) → IsAt w self.old → ticket ≡ length (submitted w)
             → IsRefusedFor (refusal_of w (Submit self.old.id c) self.old out.old) result }
         ensures err { OnErr result (IsUndone self.old self.new out.old out.new) }
+        ensures members { self.new.members ≡ self.old.members }
+        ensures id { self.new.id ≡ self.old.id }
         ensures limit { out.new.limit ≡ out.old.limit }
     {
         self.suggest(ticket, out)
@@ -90,7 +101,8 @@ impl Server {
         None
     }
 
-    /// The first ticket that waits to be suggested again: no-op was learned where it was suggested last.
+    /// The first ticket that waits to be suggested again (Rule 4), if any: by rising instance, a ticket
+    /// waits where this server suggested it and learned no-op, and suggested it nowhere further on.
     pub fn waiting(&self) -> Option<u32>
         ensures { (w : History) → IsAt w self.now → result ≡ first_item (waiting w self.now.id) }
     {
@@ -160,12 +172,19 @@ impl Server {
         }
     }
 
-    /// Suggests the first waiting ticket again.
+    /// Suggests the first waiting ticket again (Rule 4), as [`Server::submit`] suggests a new one.
+    ///
+    /// # Errors
+    ///
+    /// In this order: `NothingWaiting` where [`Server::waiting`] is `None`, `InstancesFull` where no own
+    /// instance from the front on is unlearned, `MessagesFull` where `out` is at its limit, `NoMemory`.
     pub fn retry(&mut self, out: &mut Outbox) -> Result<(), Refusal>
         // In every reached history that this server is of, the call is the retry.
         ensures step { OnOk result ((w : History) → IsAt w self.old → IsStep w (Retry self.old.id) self.old self.new out.old out.new) }
         ensures refusal { (w : History) → IsAt w self.old → IsRefusedFor (refusal_of w (Retry self.old.id) self.old out.old) result }
         ensures err { OnErr result (IsUndone self.old self.new out.old out.new) }
+        ensures members { self.new.members ≡ self.old.members }
+        ensures id { self.new.id ≡ self.old.id }
         ensures limit { out.new.limit ≡ out.old.limit }
     {
         self.suggest_again(out)
