@@ -1,11 +1,11 @@
 -- An instance has at most one Suggest, and at most one Propose at a ballot.
-use Rattle.std.proofs.Common.{◌≡◌, ℕ, ◌+◌, ◌<◌, ◌≤◌, Bool, true, false, cond, eqb, List, [], ◌∷◌, ◌++◌, count_by, Option, Some, None, inl, inr, refl, sym, ◌∙◌, ap, subst, arith, ◌&&◌, ◌⊎◌}
+use Rattle.std.proofs.Common.{◌≡◌, ℕ, ◌+◌, ◌≤◌, Bool, true, cond, eqb, List, [], ◌∷◌, ◌++◌, count_by, inl, inr, refl, sym, ◌∙◌, ap, subst, arith}
 use Rattle.std.proofs.lemmas.List.Sums.{sum_by-append, sum_by-cons}
 use Rattle.std.proofs.lemmas.Bool.{and_parts, cases_Bool, eqb-true}
 use Rattle.mencius_base.specs.declared.message.Message.{Message}
-use Rattle.mencius_base.specs.declared.message.Message.TheVariants.{Suggest, Skip, Accepted, Prepare, Promise, Propose, Learn}
+use Rattle.mencius_base.specs.declared.message.Message.TheVariants.{Suggest, Propose}
 use Rattle.mencius_base.specs.Members.{Membership, owner}
-use Rattle.mencius_base.specs.History.{Line, Submitted, Heard, Lost, Suspected, Retried, Done, Sent, Learned, History, sent}
+use Rattle.mencius_base.specs.History.{Submitted, Heard, Lost, Suspected, Retried, Done, Sent, Learned, History, sent}
 use Rattle.mencius_server.specs.Laws.{OneProposal, OneSuggestion, is_proposal_at, is_suggestion_at}
 use Rattle.mencius_server.specs.Next.{IsReached}
 use Rattle.mencius_server.proofs.Grown.{IsGrown, MayPropose, MaySuggest}

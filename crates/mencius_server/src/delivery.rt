@@ -71,6 +71,7 @@ impl Server {
         ensures err { OnErr result (IsUndone self.old self.new out.old out.new) }
         ensures refusal { IsRefusedFor (outbox_full out.old (length (sent_on self.old message.now))) result }
     {
+        // The proof reads off the length that the outbox is within its limit.
         let _few = out.len();
         match *message {
             Message::Suggest { from, inst, ticket } => self.hear_suggest(from, inst, ticket, out),

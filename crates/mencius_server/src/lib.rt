@@ -72,6 +72,7 @@ impl Server {
         ensures ok { IfOk result (λ s. s ≡ server_at members [] id) }
         ensures memory { IfErr result (λ r. r ≡ NoMemory) }
     {
+        // The proof reads off the count that there are few members.
         let _few = members.count();
         Ok(Server {
             members,
