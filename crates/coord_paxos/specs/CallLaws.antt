@@ -4,7 +4,7 @@ use Rattle.mencius_base.specs.declared.message.Value.{Value}
 use Rattle.mencius_base.specs.declared.message.Vote.{Vote}
 use Rattle.coord_paxos.specs.SlotState.{SlotState}
 use Rattle.coord_paxos.specs.Slot.{accept_answer, after_accept, after_acceptance, after_begin, after_learn, after_prepare, after_promise, prepare_answer, promise_answer, with_promise}
-use Rattle.coord_paxos.specs.declared.Answer.TheVariants.{Promise}
+use Rattle.coord_paxos.specs.declared.Answer.TheVariants.{Promise, Known}
 
 -- ---- the promise
 
@@ -64,6 +64,18 @@ ProposesOnce =
     (s : SlotState) (q b : ℕ) (reported : Option Vote) (v : Value) → promise_answer s q b reported ≡ Some v
     → (s.proposal ≡ None) × (s.learned ≡ None) × (b ≡ s.trying) × ((after_promise s q b reported).proposal ≡ Some v)
 
+-- until the next ballot the proposal stays, and no other one is due
+pub record KeepsProposal (s : SlotState) (v : Value) : Type 0 where
+  pub unproposed : (q b : ℕ) (reported : Option Vote) → promise_answer s q b reported ≡ None
+  pub prepare : (b : ℕ) → (after_prepare s b).proposal ≡ Some v
+  pub accept : (b : ℕ) (u : Value) → (after_accept s b u).proposal ≡ Some v
+  pub add_promise : (q b : ℕ) (reported : Option Vote) → (after_promise s q b reported).proposal ≡ Some v
+  pub add_accept : (q b : ℕ) → (after_acceptance s q b).proposal ≡ Some v
+  pub learn : (u : Value) → (after_learn s u).proposal ≡ Some v
+
+abbrev pub ProposalStays : Type 0
+ProposalStays = (s : SlotState) (v : Value) → s.proposal ≡ Some v → KeepsProposal s v
+
 -- ---- what is learned
 
 -- a value is learned from acceptances where none was learned, and it is this slot's own proposal there
@@ -72,9 +84,17 @@ LearnsOwnProposal =
     (s : SlotState) (q b : ℕ) (v : Value) → accept_answer s q b ≡ Some v
     → (s.proposal ≡ Some v) × (s.learned ≡ None) × (b ≡ s.trying) × ((after_acceptance s q b).learned ≡ Some v)
 
--- a learned value stays, whatever is called
+-- a learned value stays, and nothing more is proposed or decided
+pub record KeepsLearned (s : SlotState) (v : Value) : Type 0 where
+  pub known : (b : ℕ) → prepare_answer s b ≡ Known v
+  pub unproposed : (q b : ℕ) (reported : Option Vote) → promise_answer s q b reported ≡ None
+  pub undecided : (q b : ℕ) → accept_answer s q b ≡ None
+  pub prepare : (b : ℕ) → (after_prepare s b).learned ≡ Some v
+  pub accept : (b : ℕ) (u : Value) → (after_accept s b u).learned ≡ Some v
+  pub begin : (b : ℕ) → (after_begin s b).learned ≡ Some v
+  pub add_promise : (q b : ℕ) (reported : Option Vote) → (after_promise s q b reported).learned ≡ Some v
+  pub add_accept : (q b : ℕ) → (after_acceptance s q b).learned ≡ Some v
+  pub learn : (u : Value) → (after_learn s u).learned ≡ Some v
+
 abbrev pub LearnedStays : Type 0
-LearnedStays =
-    (s : SlotState) (v : Value) → s.learned ≡ Some v
-    → ((u : Value) → (after_learn s u).learned ≡ Some v)
-    × ((q b : ℕ) → (after_acceptance s q b).learned ≡ Some v)
+LearnedStays = (s : SlotState) (v : Value) → s.learned ≡ Some v → KeepsLearned s v

@@ -3,7 +3,7 @@ use Rattle.std.specs.Prelude.{false, Bool, List, None, replicate}
 use Rattle.mencius_base.specs.Members.{Membership}
 use Rattle.coord_paxos.specs.SlotState.{SlotState}
 
--- one place for each server, none in the set
+-- the empty set: one truth value a server
 abbrev pub nobody : Membership → List Bool
 nobody m = replicate m.count false
 

@@ -6,11 +6,11 @@ use Rattle.mencius_base.specs.History.{History}
 use Rattle.coord_paxos.specs.Instance.{promised, vote, learned, trying, reported, proposed, promisers, accepted, accepters}
 use Rattle.coord_paxos.specs.SlotState.{SlotState}
 
--- at ballot 0 only the owner proposes
+-- what was proposed at ballot b of i, as far as p may have proposed it: at ballot 0 only the owner does
 abbrev pub if_own : Membership → ℕ → ℕ → ℕ → Option Value → Option Value
 if_own m p i b v = if owner m i == p || nat_lt 0 b then v else None
 
--- what p itself proposed at the ballot that it tries
+-- what p itself proposed at the ballot that it tries, which is ballot 0 until its first Prepare
 abbrev pub own_proposal : Membership → History → ℕ → ℕ → Option Value
 own_proposal m w p i = if_own m p i (trying w p i) (proposed w i (trying w p i))
 

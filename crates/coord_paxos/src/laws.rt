@@ -5,7 +5,7 @@
 //! the call leaves, and each answer is the one that the history asks for. `slot_at m w p i` is the
 //! slot of server p at instance i, asked of the history w.
 
-ghost use Rattle.coord_paxos.specs.CallLaws.{AcceptanceRepeats, BeginEmpties, FirstStands, GreaterReplaces, LearnedStays, LearnsOwnProposal, PromiseBinds, PromiseGrows, PromiseRepeats, PromisesAbove, ProposesOnce};
+ghost use Rattle.coord_paxos.specs.CallLaws.{AcceptanceRepeats, BeginEmpties, FirstStands, GreaterReplaces, LearnedStays, LearnsOwnProposal, PromiseBinds, PromiseGrows, PromiseRepeats, PromisesAbove, ProposalStays, ProposesOnce};
 ghost use Rattle.coord_paxos.specs.Laws.{Accepts, AnswersAcceptances, AnswersKnown, AnswersNothing, AnswersPromise, AnswersPromises, Begins, CountsAcceptances, CountsPromises, IgnoresAcceptances, IgnoresPromises, LeavesProposals, LeavesRepeats, LeavesSuggestions, LeavesUncounted, LeavesUntouched, Learns, Prepares, ReportsGreatest, ReportsHeard, ReportsSome, Starts, Suggests};
 
 /// Where nothing happened, the slot is [`Slot::new`](crate::Slot::new)'s, and the owner's first
@@ -89,15 +89,16 @@ pub fn reports_greatest()
     ensures greater { GreaterReplaces }
 {}
 
-/// A new ballot starts with empty tallies, has at most one proposal, and has none once a value is
-/// learned.
+/// A new ballot starts with empty tallies. It has at most one proposal, which stays until the next
+/// ballot, and none once a value is learned.
 pub fn proposes_once()
     ensures empty { BeginEmpties }
     ensures once { ProposesOnce }
+    ensures stays { ProposalStays }
 {}
 
-/// What acceptances decide is the slot's own proposal at that ballot, and the first value learned
-/// stays.
+/// What acceptances decide is the slot's own proposal at that ballot. The first value learned
+/// stays, and then nothing more is proposed or decided.
 pub fn learns_own_proposal()
     ensures own { LearnsOwnProposal }
     ensures stays { LearnedStays }

@@ -41,7 +41,7 @@ type Tally = [bool; 7];
 /// greatest vote reported to it, the value that it proposed, and who promised and who accepted. As
 /// learner: the value that it learned. It belongs to one server and one instance, and keeps the
 /// number of neither.
-#[derive(Drop)]
+#[derive(Debug, Drop)]
 pub struct Slot {
     members: Members,
     promised: Ballot,

@@ -39,7 +39,7 @@ items_further f xs i d before old new h had got =
     let all = flat_map f (take i (enumerate_from 0 xs)) in
     let last = f (i, get_or xs i d) in
     let more : flat_map f (take (i + 1) (enumerate_from 0 xs)) ≡ all ++ last =
-        ap (flat_map f) (places_more xs i d h) ∙ flat_map-append f (take i (enumerate_from 0 xs)) ((i, get_or xs i d) ∷ []) ∙ ap (λ t. all ++ t) (append-nil last) in
+    ap (flat_map f) (places_more xs i d h) ∙ flat_map-append f (take i (enumerate_from 0 xs)) ((i, get_or xs i d) ∷ []) ∙ ap (λ t. all ++ t) (append-nil last) in
     got ∙ ap (λ t. t ++ last) had ∙ append_assoc before all last ∙ ap (λ t. before ++ t) (sym more)
 
 -- all items of a list

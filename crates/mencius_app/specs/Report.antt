@@ -1,9 +1,13 @@
--- The text of a report.
-use Rattle.std.specs.Prelude.{ℕ, List, [], ◌∷◌, ◌++◌, codes, decimal, Option, Some, None}
+-- The text of a report: every word is taken from the history that a cluster's journal makes.
+use Rattle.std.specs.Prelude.{ℕ, List, [], ◌∷◌, ◌++◌, codes, decimal, length, Option, Some, None}
 use Rattle.std.specs.List.{flat_map, range_with_len}
 use Rattle.mencius_base.specs.declared.command.Command.{Command}
 use Rattle.mencius_base.specs.declared.command.CommandId.{CommandId}
-use Rattle.mencius_app.specs.Answers.{Answers, Reply, Pending, Given}
+use Rattle.mencius_base.specs.History.{History, events, sent, submitted}
+use Rattle.mencius_base.specs.Members.{Membership}
+use Rattle.mencius_server.specs.Server.{done, front}
+use Rattle.mencius_cluster.specs.Answers.{Reply, NotYet, Is, command_at, reply_of}
+use Rattle.mencius_cluster.specs.Executed.{executed}
 
 abbrev pub id_text : CommandId → List ℕ
 id_text id = decimal id.client ++ 46 ∷ decimal id.number
@@ -17,40 +21,40 @@ spaced_id None = []
 spaced_id (Some c) = 32 ∷ id_text c.id
 
 -- the identities of what was executed, or a dash
-abbrev pub history_text : Answers → List ℕ → List ℕ
-history_text a [] = codes " -"
-history_text a (t ∷ ts) = flat_map (λ u. spaced_id (a.command u)) (t ∷ ts)
+abbrev pub history_text : History → List ℕ → List ℕ
+history_text w [] = codes " -"
+history_text w (t ∷ ts) = flat_map (λ u. spaced_id (command_at w u)) (t ∷ ts)
 
-abbrev pub server_line : Answers → ℕ → List ℕ
-server_line a s =
-    codes "server " ++ decimal s ++ codes " front " ++ decimal (a.front s) ++ codes " done " ++ decimal (a.done s)
-    ++ codes " history" ++ history_text a (a.history s) ++ line_feed
+abbrev pub server_line : Membership → History → ℕ → List ℕ
+server_line m w s =
+    codes "server " ++ decimal s ++ codes " front " ++ decimal (front m w s) ++ codes " done " ++ decimal (done w s)
+    ++ codes " history" ++ history_text w (executed w s) ++ line_feed
 
 abbrev pub former_text : Option (List ℕ) → List ℕ
 former_text None = codes "none"
 former_text (Some text) = 61 ∷ text
 
 abbrev pub answer_text : Option Reply → List ℕ
-answer_text (Some (Given former)) = former_text former
+answer_text (Some (Is former)) = former_text former
 answer_text _ = codes "pending"
 
-abbrev pub reply_of_command : Answers → Option Command → List ℕ
-reply_of_command a None = []
-reply_of_command a (Some c) = codes "reply " ++ id_text c.id ++ 32 ∷ answer_text (a.reply c.id) ++ line_feed
+abbrev pub reply_of_command : History → Option Command → List ℕ
+reply_of_command w None = []
+reply_of_command w (Some c) = codes "reply " ++ id_text c.id ++ 32 ∷ answer_text (reply_of w c.id) ++ line_feed
 
 -- what became of the command of a ticket
-abbrev pub reply_line : Answers → ℕ → List ℕ
-reply_line a t = reply_of_command a (a.command t)
+abbrev pub reply_line : History → ℕ → List ℕ
+reply_line w t = reply_of_command w (command_at w t)
 
-abbrev pub counts_line : Answers → List ℕ
-counts_line a = codes "servers " ++ decimal a.servers ++ codes " messages " ++ decimal a.messages ++ codes " events " ++ decimal a.events ++ line_feed
+abbrev pub counts_line : Membership → History → List ℕ
+counts_line m w = codes "servers " ++ decimal m.count ++ codes " messages " ++ decimal (length (sent w)) ++ codes " events " ++ decimal (events w) ++ line_feed
 
-abbrev pub server_lines : Answers → ℕ → List ℕ
-server_lines a n = flat_map (server_line a) (range_with_len 0 n)
+abbrev pub server_lines : Membership → History → ℕ → List ℕ
+server_lines m w n = flat_map (server_line m w) (range_with_len 0 n)
 
-abbrev pub reply_lines : Answers → ℕ → List ℕ
-reply_lines a n = flat_map (reply_line a) (range_with_len 0 n)
+abbrev pub reply_lines : History → ℕ → List ℕ
+reply_lines w n = flat_map (reply_line w) (range_with_len 0 n)
 
 -- the counts, then each server, then each command in order of submission
-unfoldable pub report_text : Answers → List ℕ
-report_text a = counts_line a ++ server_lines a a.servers ++ reply_lines a a.commands
+unfoldable pub report_text : Membership → History → List ℕ
+report_text m w = counts_line m w ++ server_lines m w m.count ++ reply_lines w (length (submitted w))

@@ -14,7 +14,8 @@ pub enum Task {
     Replay,
 }
 
-const ABOUT: &str = "An executable reference of Mencius, the replicated state machine for wide area networks";
+const ABOUT: &str =
+    "An executable reference of Mencius, the replicated state machine for wide area networks";
 
 const LONG_ABOUT: &str = "\
 An executable reference of Mencius, the replicated state machine for wide area networks
@@ -25,14 +26,15 @@ when, which message is lost, which server suspects which, and who executes next.
 cluster takes the schedule step by step, and what it prints is what Mencius does then.";
 
 const TOP_NOTES: &str = "\
-Example:
+Example, at the top of the repository:
   echo '{\"version\":1,\"servers\":1,\"events\":[\"submit 0 1.0 set a x\",
-    \"deliver 0 0\",\"deliver 1 0\",\"execute 0\"]}' | mencius replay
+    \"deliver 0 0\",\"deliver 1 0\",\"execute 0\"]}' | ./mencius replay
 
-`mencius help replay` says what goes in and what comes out. The folder examples/ has
+`./mencius replay --help` says what goes in and what comes out. The folder examples/ has
 schedules to try, and docs/FORMATS.md describes their format.";
 
-const REPLAY_ABOUT: &str = "Steps a new cluster through the scenario on standard input and prints a report";
+const REPLAY_ABOUT: &str =
+    "Steps a new cluster through the scenario on standard input and prints a report";
 
 const REPLAY_LONG_ABOUT: &str = "\
 Steps a new cluster through the scenario on standard input and prints a report
@@ -72,9 +74,9 @@ Exit status:
 From 3 on, standard error has the line `mencius: fault NUMBER NAME`, and nothing was
 printed, unless writing failed.
 
-Example:
+Example, at the top of the repository:
   echo '{\"version\":1,\"servers\":1,\"events\":[\"submit 0 1.0 set a x\",
-    \"deliver 0 0\",\"deliver 1 0\",\"execute 0\"]}' | mencius replay
+    \"deliver 0 0\",\"deliver 1 0\",\"execute 0\"]}' | ./mencius replay
 
 docs/FORMATS.md describes the format in full, and examples/ has schedules to try.";
 

@@ -1,16 +1,24 @@
-//! The edge of the program: what its input says, read exactly, and the faults that end a run.
+//! The edge of the program, from the bytes of a scenario to the bytes of a report: what its input
+//! says, read exactly, the texts that it prints, and the faults that end a run.
 #![tactic(auto)]
 
 mod command_line;
+mod event;
 mod fault;
+mod judged;
 mod printed;
 mod read;
 mod replaying;
+mod scenario;
+mod sink;
 mod source;
-mod standin;
+mod words;
 mod write;
 
 pub use command_line::{Task, exit_status, read_command_line};
 pub use fault::AppFault;
 pub use printed::report;
-pub use source::{Sink, Source, Std};
+pub use replaying::replay;
+pub use scenario::{Scenario, read_scenario};
+pub use sink::Sink;
+pub use source::{Source, Std};

@@ -4,7 +4,7 @@ ghost use Rattle.mencius_app.specs.Ends.{HasFailed, WritesFront, most_failed_cal
 
 use crate::fault::AppFault;
 use crate::read::MOST_RETRIES;
-use crate::source::Sink;
+use crate::sink::Sink;
 use std::io::ErrorKind;
 
 /// Writes the whole text, or answers `WriteFailed`, and then a front of the text was written. A

@@ -33,3 +33,4 @@ pub mod Same
 pub mod Replies
 pub mod Executions
 pub mod Performs
+pub mod Refused

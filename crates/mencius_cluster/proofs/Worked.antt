@@ -7,7 +7,7 @@ use Rattle.std.specs.FinMap.{get-empty, get-insert}
 use Rattle.mencius_base.specs.declared.command.Command.{Command}
 use Rattle.mencius_base.specs.declared.command.Op.TheVariants.{Set, Get}
 use Rattle.mencius_base.specs.declared.event.Event.{Event}
-use Rattle.mencius_base.specs.declared.event.Event.TheVariants.{Submit, Deliver, Suspect, Retry, Execute}
+use Rattle.mencius_base.specs.declared.event.Event.TheVariants.{Submit, Deliver, Lose, Suspect, Retry, Execute}
 use Rattle.mencius_base.specs.declared.refusal.Refusal.{Refusal}
 use Rattle.mencius_base.specs.Members.{Membership, below, instances, most_messages, most_events, most_rounds}
 use Rattle.mencius_base.specs.History.{History, events, sent}
@@ -28,7 +28,7 @@ abbrev pub set_a : Command
 set_a = record { id = record { client = 1; number = 0 }; op = Set (97 ∷ []) (120 ∷ []) }
 
 -- how many messages and events there were, and of each server its front, how many instances it executed and its history
-abbrev report : Membership → Result History Refusal → ℕ × ℕ × List (ℕ × ℕ × List ℕ)
+abbrev pub report : Membership → Result History Refusal → ℕ × ℕ × List (ℕ × ℕ × List ℕ)
 report m (Err r) = (0, 0, [])
 report m (Ok w) = (length (sent w), events w, map (λ s. (front m w s, done w s, executed w s)) (below m.count))
 
@@ -102,6 +102,58 @@ duelling_revokers =
 report-duelling_revokers : report three (replay three duelling_revokers) ≡ (12, 19, (0, 0, []) ∷ (1, 1, []) ∷ (2, 1, []) ∷ [])
 unfolding below instances most_messages most_events most_rounds
 report-duelling_revokers = refl
+
+-- a command that was executed already survives a wrong suspicion: the revoker hears of it and proposes it
+abbrev decided_command_survives : List Event
+decided_command_survives =
+    Submit 0 set_a ∷ Deliver 0 0 ∷ Deliver 0 2 ∷ Deliver 1 0 ∷ Deliver 2 0 ∷ Execute 0 ∷ Suspect 1 0 ∷ Deliver 4 1
+    ∷ Deliver 4 2 ∷ Deliver 5 1 ∷ Deliver 6 1 ∷ Deliver 7 1 ∷ Deliver 7 2 ∷ Deliver 8 1 ∷ Deliver 9 1 ∷ Execute 1 ∷ []
+
+report-decided_command_survives : report three (replay three decided_command_survives)
+    ≡ (11, 16, (3, 1, 0 ∷ []) ∷ (1, 1, 0 ∷ []) ∷ (2, 0, []) ∷ [])
+unfolding below instances most_messages most_events most_rounds
+report-decided_command_survives = refl
+
+-- a suggestion that reached nobody is revoked, and made again
+abbrev revoked_and_suggested_again : List Event
+revoked_and_suggested_again =
+    Submit 0 set_a ∷ Lose 0 1 ∷ Lose 0 2 ∷ Suspect 1 0 ∷ Deliver 1 1 ∷ Deliver 1 2 ∷ Deliver 2 1 ∷ Deliver 3 1
+    ∷ Deliver 4 1 ∷ Deliver 4 2 ∷ Deliver 5 1 ∷ Deliver 6 1 ∷ Deliver 7 0 ∷ Retry 0 ∷ []
+
+report-revoked_and_suggested_again : report three (replay three revoked_and_suggested_again)
+    ≡ (9, 14, (6, 0, []) ∷ (1, 0, []) ∷ (2, 0, []) ∷ [])
+unfolding below instances most_messages most_events most_rounds
+report-revoked_and_suggested_again = refl
+
+-- a suggestion passes over an own instance that was learned already
+abbrev submit_passes_a_learned_instance : List Event
+submit_passes_a_learned_instance =
+    Suspect 1 0 ∷ Deliver 0 1 ∷ Deliver 0 2 ∷ Deliver 1 1 ∷ Deliver 2 1 ∷ Deliver 3 1 ∷ Deliver 3 2 ∷ Deliver 4 1
+    ∷ Deliver 5 1 ∷ Deliver 6 0 ∷ Submit 0 set_a ∷ []
+
+report-submit_passes_a_learned_instance : report three (replay three submit_passes_a_learned_instance)
+    ≡ (8, 11, (6, 0, []) ∷ (1, 0, []) ∷ (2, 0, []) ∷ [])
+unfolding below instances most_messages most_events most_rounds
+report-submit_passes_a_learned_instance = refl
+
+-- who learned the instance answers a Prepare with what it learned
+abbrev prepare_answered_with_learn : List Event
+prepare_answered_with_learn = one_command ++ (Suspect 1 0 ∷ Deliver 4 0 ∷ Deliver 5 1 ∷ Execute 1 ∷ [])
+
+report-prepare_answered_with_learn : report three (replay three prepare_answered_with_learn)
+    ≡ (6, 10, (3, 1, 0 ∷ []) ∷ (1, 1, 0 ∷ []) ∷ (2, 0, []) ∷ [])
+unfolding below instances most_messages most_events most_rounds
+report-prepare_answered_with_learn = refl
+
+-- promises at a ballot that is no longer tried count for nothing
+abbrev stale_promises : List Event
+stale_promises =
+    Suspect 1 0 ∷ Deliver 0 2 ∷ Deliver 0 1 ∷ Suspect 1 0 ∷ Deliver 1 1 ∷ Deliver 2 1 ∷ Deliver 3 1 ∷ Deliver 3 0
+    ∷ Deliver 4 1 ∷ Deliver 5 1 ∷ Deliver 6 2 ∷ Deliver 6 1 ∷ Deliver 7 1 ∷ Deliver 8 1 ∷ Deliver 0 0 ∷ Execute 1 ∷ []
+
+report-stale_promises : report three (replay three stale_promises) ≡ (10, 16, (0, 0, []) ∷ (1, 1, []) ∷ (2, 0, []) ∷ [])
+unfolding below instances most_messages most_events most_rounds
+report-stale_promises = refl
 
 -- ---- replies
 

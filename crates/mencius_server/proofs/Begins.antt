@@ -1,5 +1,5 @@
 -- A loop over the slots that starts first phases at some.
-use Rattle.std.proofs.Common.{◌≡◌, ℕ, ◌+◌, ◌-◌, ◌*◌, ◌/◌, ◌<◌, ◌≤◌, Some, Result, Ok, Err, IfErr, Bool, true, false, cond, eqb, leb, List, [], ◌∷◌, ◌++◌, None, filter, length, get_or, map, max, min, refl, sym, ◌∙◌, ap, subst, arith, append-nil, append_assoc, ⊎_elim}
+use Rattle.std.proofs.Common.{◌≡◌, ℕ, ◌+◌, ◌-◌, ◌*◌, ◌/◌, ◌<◌, ◌≤◌, Some, Result, Ok, Err, IfErr, Bool, true, false, cond, eqb, List, [], ◌∷◌, ◌++◌, None, filter, length, get_or, map, max, min, refl, sym, ◌∙◌, ap, subst, arith, append-nil, append_assoc, ⊎_elim}
 use Rattle.std.specs.List.{count_by, list_any}
 use Rattle.std.specs.Prelude.{is_none, ◌&&◌}
 use Rattle.std.proofs.Math.Nat.{mul-le-mul_right}
@@ -20,7 +20,7 @@ use Rattle.coord_paxos.specs.Fresh.{new_slot}
 use Rattle.coord_paxos.specs.Slot.{after_begin}
 use Rattle.mencius_server.specs.State.{FitsAt, IsServer, ServerState, padded, slot}
 use Rattle.mencius_server.specs.Machine.{after_suspect, ballot_after, is_revoked, is_round_full, is_suspected, prepare_for, round_after, slot_revoked, suspect_cause, suspect_sent}
-use Rattle.mencius_server.proofs.Keeps.{FitsAt-slot}
+use Rattle.mencius_server.proofs.Keeps.{FitsAt-slot, KeepsAt, KeepsAt-fits, KeepsAt-new}
 use Rattle.mencius_server.proofs.SkipShows.{get_or-padded, length-padded}
 use Rattle.mencius_server.proofs.SlotLaws.{FitsAt-cond}
 
@@ -82,6 +82,15 @@ tried_below m p t some = above t.trying (t.promised / m.count) m.count p some wh
 -- past the front nothing is covered
 uncovered : (m : Membership) (q front j : ℕ) (t : SlotState) → front < j → is_revoked m q front j t ≡ false
 uncovered m q front j t past = and_left _ _ (and_right _ _ (lt-leb j front past))
+
+-- what no suspicion covers, seen from outside, it does not cover inside
+pub begin_known : (m : Membership) (p f : ℕ) (old given : List SlotState) (now : ServerState) (q : ℕ)
+    → record { members = m; id = p; front = f; slots = padded m old } ≡ now → padded m given ≡ padded m old
+    → (first : ℕ) → ((j : ℕ) → j < first → is_suspected now q j ≡ false) → (j : ℕ) → j < first → is_revoked m q f j (get_or given j (new_slot m)) ≡ false
+begin_known m p f old given now q shown same first =
+    subst (λ (s : ServerState). ((j : ℕ) → j < first → is_suspected s q j ≡ false) → (j : ℕ) → j < first → is_revoked m q f j (get_or given j (new_slot m)) ≡ false) shown
+    (λ known j low.
+    rw (sym (get_or-padded m given j) ∙ ap (λ (xs : List SlotState). get_or xs j (new_slot m)) same) (known j low))
 
 module _ (m : Membership) (p f : ℕ) (old given : List SlotState) (now : ServerState) (q : ℕ)
     (shown : record { members = m; id = p; front = f; slots = padded m old } ≡ now) (same : padded m given ≡ padded m old)
@@ -173,19 +182,19 @@ IsServer-suspect s q other kept = record {
     begun : (i : ℕ) → is_revoked s.members q s.front i (slot s i) ≡ true → FitsAt s s.front i (after_begin (slot s i) (ballot_after s.members s.id (slot s i)))
     begun i e =
         let theirs : owner s.members i ≡ q = eqb-true _ _ (and_parts _ _ (and_parts _ _ e).0).0 in
-        record { same = kept.same i; own = λ mine. absurd (other (sym mine ∙ theirs)); unsaid = λ mine ahead. refl }
+        record { stays = λ known. known; said = λ mine. absurd (other (sym mine ∙ theirs)); same = kept.same i; own = λ mine. absurd (other (sym mine ∙ theirs)); unsaid = λ mine ahead. refl }
 
     given : (i : ℕ) → FitsAt s s.front i (slot_revoked s.members s.id q s.front i (slot s i))
     given i = FitsAt-cond s s.front i (is_revoked s.members q s.front i (slot s i)) _ (slot s i) (begun i) (FitsAt-slot s i kept)
 
-    fits : (i : ℕ) → FitsAt s s.front i (slot (after_suspect s q) i)
+    fits : (i : ℕ) → KeepsAt s s.front i (slot (after_suspect s q) i)
     fits i =
         ⊎_elim
-        (λ (small : i < 4096). subst (FitsAt s s.front i) (sym (get_or-map-instances _ i (new_slot s.members) small)) (given i))
+        (λ (small : i < 4096). subst (KeepsAt s s.front i) (sym (get_or-map-instances _ i (new_slot s.members) small)) (KeepsAt-fits s s.front i _ (given i)))
         (λ (past : 4096 ≤ i).
         let none : length (slots_revoked s q) ≤ i = rw (length-map-instances (λ (j : ℕ). slot_revoked s.members s.id q s.front j (slot s j))) past in
-        subst (FitsAt s s.front i) (sym (get_or_past (slots_revoked s q) i (new_slot s.members) none))
-        (record { same = refl; own = λ mine. refl; unsaid = λ mine ahead. refl }))
+        subst (KeepsAt s s.front i) (sym (get_or_past (slots_revoked s q) i (new_slot s.members) none))
+        (KeepsAt-new s s.front i))
         (cases_lt i 4096)
 
 -- ---- why a suspicion is refused

@@ -1,8 +1,8 @@
 -- Every sent message names servers and instances that there are.
-use Rattle.std.proofs.Common.{◌≡◌, ℕ, zero, suc, ◌+◌, ◌-◌, ◌*◌, ◌%◌, ◌<◌, ◌≤◌, max, Bool, true, false, cond, eqb, ltb, leb, List, [], ◌∷◌, ◌++◌, Option, Some, None, map, filter, inl, inr, refl, sym, ap, ◌∙◌, arith, Ok, leb-false, slice_get, ◌&&◌}
-use Rattle.std.specs.Prelude.{IsTrue, is_none, not}
+use Rattle.std.proofs.Common.{◌≡◌, ℕ, zero, suc, ◌+◌, ◌-◌, ◌*◌, ◌%◌, ◌<◌, ◌≤◌, max, Bool, true, false, cond, eqb, ltb, leb, List, [], ◌∷◌, ◌++◌, Option, Some, None, map, filter, inl, inr, refl, arith, Ok, leb-false, slice_get}
+use Rattle.std.specs.Prelude.{IsTrue, is_none}
 use Rattle.std.specs.List.{range_with_len}
-use Rattle.std.proofs.lemmas.Bool.{and_from, cases_Bool, eq-eqb, eqb-true, lt-ltb, ltb-true, not-false, or_parts}
+use Rattle.std.proofs.lemmas.Bool.{and_from, cases_Bool, eqb-true, lt-ltb, ltb-true, or_parts}
 use Rattle.mencius_base.specs.declared.event.Event.{Event}
 use Rattle.mencius_base.specs.declared.event.Event.TheVariants.{Submit, Deliver, Lose, Suspect, Retry, Execute}
 use Rattle.mencius_base.specs.declared.message.Message.{Message}
@@ -10,8 +10,8 @@ use Rattle.mencius_base.specs.declared.message.Message.TheVariants.{Suggest, Ski
 use Rattle.mencius_base.specs.declared.message.Value.{Value}
 use Rattle.mencius_base.specs.declared.message.Value.TheVariants.{Noop}
 use Rattle.mencius_base.specs.Members.{Membership, below, first_owned, instances, round}
-use Rattle.mencius_base.specs.History.{Line, Submitted, Heard, Lost, Suspected, Retried, Done, Sent, Learned, History, followed_by, sent, submitted}
-use Rattle.coord_paxos.specs.Instance.{accepters, learned, promised, promisers, proposed, trying}
+use Rattle.mencius_base.specs.History.{Line, Heard, Sent, Learned, History, followed_by, sent}
+use Rattle.coord_paxos.specs.Instance.{learned, promised, proposed, trying}
 use Rattle.mencius_server.specs.Server.{free, front, is_suspect, is_free, suspects, waiting}
 use Rattle.mencius_server.specs.Next.{IsReached, again, causes, decision, delivery, head, is_given_up, lines, next, on_message, preparation, promise, suggestion}
 use Rattle.mencius_base.specs.Members.{first_item}

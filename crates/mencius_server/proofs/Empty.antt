@@ -1,15 +1,14 @@
 -- The server that has heard nothing is that of the empty history.
 use Rattle.mencius_base.specs.declared.message.Value.{Value}
-use Rattle.std.proofs.Common.{◌≡◌, ℕ, ◌<◌, Bool, true, false, cond, Option, None, List, [], ◌++◌, max, map, refl, sym, ◌∙◌, ap, arith}
+use Rattle.std.proofs.Common.{◌≡◌, ℕ, Bool, true, false, cond, Option, None, [], map, refl, sym, ◌∙◌, ap, arith}
 use Rattle.std.specs.Prelude.{replicate}
-use Rattle.mencius_base.specs.Members.{Membership, below, instances}
+use Rattle.mencius_base.specs.Members.{Membership, instances}
 use Rattle.mencius_server.specs.Server.{front}
 use Rattle.coord_paxos.proofs.Below.{instances-below, map-below_constant}
-use Rattle.coord_paxos.specs.SlotState.{SlotState}
 use Rattle.coord_paxos.specs.Fresh.{new_slot}
 use Rattle.coord_paxos.specs.Reached.{slot_at}
 use Rattle.coord_paxos.proofs.SlotHistory.{same_slot}
-use Rattle.mencius_server.specs.State.{ServerState, new_server}
+use Rattle.mencius_server.specs.State.{new_server}
 use Rattle.mencius_server.specs.Reached.{server_at}
 
 slot_at-empty : (m : Membership) (p i : ℕ) → slot_at m [] p i ≡ new_slot m

@@ -17,7 +17,7 @@ use Rattle.std.proofs.lemmas.Bool.{and_parts, eqb-true, ltb-true}
 use Rattle.mencius_base.specs.declared.message.Message.TheVariants.{Suggest, Skip, Accepted, Prepare, Promise, Propose, Learn}
 use Rattle.mencius_base.specs.Members.{Membership}
 use Rattle.mencius_base.specs.History.{Heard, Line, followed_by}
-use Rattle.mencius_server.specs.Next.{delivery, on_accepted, on_message, on_promise, on_skip}
+use Rattle.mencius_server.specs.Next.{delivery, on_accepted, on_message, on_promise}
 use Rattle.mencius_base.specs.Message.{goes_to, is_addressed, is_within}
 use Rattle.coord_paxos.proofs.SlotHistory.{IsVoted}
 use Rattle.mencius_server.proofs.Sound.{IsSound, sound}

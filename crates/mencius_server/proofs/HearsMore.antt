@@ -1,17 +1,15 @@
 -- The other messages.
-use Rattle.std.proofs.Common.{◌≡◌, ℕ, ◌+◌, ◌<◌, ◌≤◌, Bool, true, false, List, [], ◌∷◌, ◌++◌, Option, Some, None, max, map, set, get_or, zero, suc, refl, sym, ◌∙◌, ap, subst, arith, cond, leb, ltb, eqb, ◌&&◌, ◌||◌, ⊎_elim}
+use Rattle.std.proofs.Common.{◌≡◌, ℕ, ◌+◌, ◌<◌, ◌≤◌, Bool, true, false, List, [], ◌∷◌, ◌++◌, Option, Some, None, zero, suc, refl, sym, ◌∙◌, ap, subst, arith, cond, leb, ltb, eqb, ◌&&◌, ⊎_elim}
 use Rattle.std.specs.Prelude.{slice_get, is_none}
-use Rattle.std.specs.List.{count_by}
-use Rattle.std.proofs.lemmas.Bool.{leb-true, leb-false, ltb-true, ltb-false, eqb-true, eqb-false, eq-eqb, ne_eqb, lt-ltb, lt-leb, cases_lt}
-use Rattle.mencius_base.specs.declared.message.Message.{Message}
+use Rattle.std.proofs.lemmas.Bool.{ltb-true, eqb-true, eq-eqb, ne_eqb, lt-ltb, lt-leb, cases_lt}
 use Rattle.mencius_base.specs.declared.message.Message.TheVariants.{Suggest, Skip, Accepted, Prepare, Promise, Propose, Learn}
 use Rattle.mencius_base.specs.declared.message.Value.{Value}
-use Rattle.mencius_base.specs.declared.message.Value.TheVariants.{Noop, Ticket}
+use Rattle.mencius_base.specs.declared.message.Value.TheVariants.{Ticket}
 use Rattle.mencius_base.specs.declared.message.Vote.{Vote}
-use Rattle.mencius_base.specs.Members.{Membership, below, first_owned, instances, majority, owner}
-use Rattle.mencius_base.specs.History.{Line, Submitted, Heard, Lost, Suspected, Retried, Done, Sent, Learned, History, followed_by, greatest, heard, sent}
+use Rattle.mencius_base.specs.Members.{Membership, below, first_owned, majority, owner}
+use Rattle.mencius_base.specs.History.{Line, Heard, Sent, Learned, History, followed_by, sent}
 use Rattle.coord_paxos.specs.Instance.{promised, proposed, trying, learned, accepted, accepters, promisers, reported, vote}
-use Rattle.mencius_server.specs.Server.{front, front_by}
+use Rattle.mencius_server.specs.Server.{front}
 use Rattle.coord_paxos.specs.Instance.{IsMajority, value_or_noop}
 use Rattle.mencius_base.specs.History.{messages_of}
 use Rattle.mencius_server.specs.Next.{learnings, on_suggest, on_prepare, on_accepted, on_promise, on_learn, decision, promise}
@@ -22,8 +20,8 @@ use Rattle.coord_paxos.specs.Slot.{accept_answer, promise_answer, after_promise,
 use Rattle.coord_paxos.specs.Reached.{if_own, slot_at}
 use Rattle.coord_paxos.proofs.SlotHistory.{slot_at-quiet, slot_at-heard, slot_at-heard_acceptance, slot_at-heard_promise, slot_at-proposed, quiet_propose, IsVoted, slot_at-accepted, slot_at-promised, slot_at-learned, quiet_accepted, quiet_promise, quiet_learned, quiet_learn, quiet_skip, IsUncounted}
 use Rattle.coord_paxos.proofs.Tally.{or-true}
-use Rattle.mencius_server.specs.State.{ServerState, slot, with_slot, with_slot_and_front}
-use Rattle.mencius_server.specs.Machine.{sent_on, after_hearing, learned_on, next_front, decision_sent, one_if_some, proposal_sent}
+use Rattle.mencius_server.specs.State.{slot, with_slot, with_slot_and_front}
+use Rattle.mencius_server.specs.Machine.{next_front, decision_sent, one_if_some, proposal_sent}
 use Rattle.mencius_server.specs.Reached.{server_at}
 use Rattle.mencius_server.proofs.ServerHistory.{Meets, server_written, slot-server_at}
 

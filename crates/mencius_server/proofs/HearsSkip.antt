@@ -1,13 +1,12 @@
 -- A Skip.
-use Rattle.std.proofs.Common.{◌≡◌, ℕ, ◌+◌, ◌<◌, ◌≤◌, Bool, true, false, List, [], ◌∷◌, ◌++◌, Option, Some, None, map, length, refl, sym, ◌∙◌, ap, subst, arith, cond, eqb, zero, suc, add-zero, ◌&&◌, ◌||◌, ⊎_elim, max}
+use Rattle.std.proofs.Common.{◌≡◌, ℕ, ◌+◌, ◌<◌, ◌≤◌, Bool, true, false, List, [], ◌∷◌, Option, Some, None, map, refl, sym, ◌∙◌, ap, arith, cond, eqb, zero, suc, add-zero, ◌&&◌, ◌||◌, ⊎_elim}
 use Rattle.std.specs.Prelude.{slice_get, is_none}
 use Rattle.std.specs.List.{count_by, filter, fold, list_any, range_with_len}
 use Rattle.std.proofs.lemmas.Bool.{cases_eq, eq-eqb, eqb-false, eqb-true, ne_eqb}
-use Rattle.mencius_base.specs.declared.message.Message.{Message}
 use Rattle.mencius_base.specs.declared.message.Message.TheVariants.{Skip}
 use Rattle.mencius_base.specs.declared.message.Value.{Value}
 use Rattle.mencius_base.specs.declared.message.Value.TheVariants.{Noop}
-use Rattle.mencius_base.specs.Members.{Membership, below, instances, owner}
+use Rattle.mencius_base.specs.Members.{Membership, below, instances}
 use Rattle.mencius_base.specs.History.{Heard, Learned, Line, History, earlier, followed_by, sent}
 use Rattle.coord_paxos.specs.Instance.{learned, trying}
 use Rattle.mencius_server.specs.Server.{front}
@@ -19,8 +18,8 @@ use Rattle.coord_paxos.specs.Fresh.{new_slot}
 use Rattle.coord_paxos.specs.Slot.{after_learn}
 use Rattle.coord_paxos.specs.Reached.{slot_at}
 use Rattle.coord_paxos.proofs.SlotHistory.{IsUncounted, quiet_learned, slot_at-heard, slot_at-learning, slot_at-quiet}
-use Rattle.mencius_server.specs.State.{ServerState, slot}
-use Rattle.mencius_server.specs.Machine.{given_count, is_given, is_skipped, slot_given}
+use Rattle.mencius_server.specs.State.{ServerState}
+use Rattle.mencius_server.specs.Machine.{is_given, is_skipped, slot_given}
 use Rattle.mencius_server.specs.Reached.{server_at}
 use Rattle.mencius_server.proofs.ServerHistory.{Meets, slot-server_at}
 

@@ -3,7 +3,8 @@ use Rattle.std.proofs.Common.{◌≡◌, ℕ, ◌+◌, ◌-◌, ◌<◌, ◌≤�
 use Rattle.std.proofs.lemmas.List.{length-replicate, get_or-replicate, get_or-set_other, get_or_past, length-set, set-append_left, set_past}
 use Rattle.std.proofs.lemmas.Grind.{get_or-set_at}
 use Rattle.std.proofs.lemmas.Bool.{cases_eq, cases_lt, le-ltb}
-use Rattle.std.proofs.Common.{Result, Ok, Err, IfErr}
+use Rattle.std.proofs.Common.{Result, Ok, Err, IfErr, Option, Bool, true, false, Some, cond, eqb}
+use Rattle.mencius_base.specs.declared.message.Value.{Value}
 use Rattle.mencius_base.specs.declared.refusal.Refusal.{Refusal}
 use Rattle.mencius_base.specs.declared.refusal.Refusal.TheVariants.{NoMemory}
 use Rattle.mencius_base.specs.Outbox.{Outgoing, outbox_full}
@@ -11,6 +12,8 @@ use Rattle.mencius_base.specs.Refusal.{IsRefusedFor}
 use Rattle.mencius_base.specs.Members.{Membership, owner}
 use Rattle.coord_paxos.specs.SlotState.{SlotState}
 use Rattle.coord_paxos.specs.Fresh.{new_slot}
+use Rattle.mencius_server.specs.Machine.{suggested_at, waits_at, waits_with}
+use Rattle.mencius_server.specs.Server.{ticket_of}
 use Rattle.mencius_server.specs.State.{ServerState, FitsAt, IsServer, new_server, padded, slot, with_slot_and_front}
 
 -- one more new slot is one of those that fill up
@@ -42,6 +45,17 @@ IsServer-new m p member few = record {
   unsaid = λ i mine ahead. rw (past-replicate 4096 i (new_slot m));
 }
 
+-- a new server suggested nothing, and no ticket waits there
+none_said : (m : Membership) (p j : ℕ) (c : Bool) → cond c (ticket_of (get_or (replicate 4096 (new_slot m)) j (new_slot m)).proposal) None ≡ None
+none_said m p j true = ap (λ (t : SlotState). ticket_of t.proposal) (past-replicate 4096 j (new_slot m))
+none_said m p j false = refl
+
+pub new_unsaid : (m : Membership) (p j t : ℕ) → suggested_at (new_server m p) j ≡ Some t → ⊥
+new_unsaid m p j t e = let none : suggested_at (new_server m p) j ≡ None = none_said m p j (eqb (owner m j) p) in cc
+
+pub new_waits : (m : Membership) (p j : ℕ) → waits_at (new_server m p) j ≡ None
+new_waits m p j = ap (waits_with (new_server m p) j) (none_said m p j (eqb (owner m j) p))
+
 -- a slot written where there are enough of them is a slot written for those who look
 pub put_shows : (m : Membership) (p f g : ℕ) (old given : List SlotState) (now : ServerState) (i : ℕ) (t : SlotState)
     → record { members = m; id = p; front = f; slots = padded m old } ≡ now
@@ -60,7 +74,23 @@ set_keeps P given i j t d new old =
     (λ (ne : j ≡ i → ⊥). rw (get_or-set_other given i j t d ne) old)
     (cases_eq j i)
 
-pub IsServer-with_slot : (s : ServerState) (i : ℕ) (t : SlotState) (f : ℕ) → IsServer s → FitsAt s f i t → s.front ≤ f → f ≤ 4102
+-- what a server with that front keeps of one slot
+pub record KeepsAt (s : ServerState) (f i : ℕ) (t : SlotState) : Type 0 where
+  pub same : t.members ≡ s.members
+  pub own : owner s.members i ≡ s.id → t.trying ≡ 0
+  pub unsaid : owner s.members i ≡ s.id → f ≤ i → t.proposal ≡ None
+
+pub KeepsAt-fits : (s : ServerState) (f i : ℕ) (t : SlotState) → FitsAt s f i t → KeepsAt s f i t
+KeepsAt-fits s f i t fits = record { same = fits.same; own = fits.own; unsaid = fits.unsaid }
+
+pub KeepsAt-new : (s : ServerState) (f i : ℕ) → KeepsAt s f i (new_slot s.members)
+KeepsAt-new s f i = record { same = refl; own = λ mine. refl; unsaid = λ mine ahead. refl }
+
+-- an instance before the front may have a proposal
+pub KeepsAt-suggested : (s : ServerState) (g i : ℕ) (o : Option Value) → i < g → IsServer s → KeepsAt s g i (record (slot s i) { proposal = o })
+KeepsAt-suggested s g i o before kept = record { same = kept.same i; own = kept.own i; unsaid = λ mine past. absurd (omega arith) }
+
+pub IsServer-with_slot : (s : ServerState) (i : ℕ) (t : SlotState) (f : ℕ) → IsServer s → KeepsAt s f i t → s.front ≤ f → f ≤ 4102
     → IsServer (with_slot_and_front s i t f)
 IsServer-with_slot s i t f kept fits ahead near = record {
   member = kept.member;
@@ -75,7 +105,7 @@ IsServer-with_slot s i t f kept fits ahead near = record {
 
 -- what a server keeps holds of each of its slots
 pub FitsAt-slot : (s : ServerState) (i : ℕ) → IsServer s → FitsAt s s.front i (slot s i)
-FitsAt-slot s i kept = record { same = kept.same i; own = kept.own i; unsaid = kept.unsaid i }
+FitsAt-slot s i kept = record { stays = λ known. known; said = λ mine. refl; same = kept.same i; own = kept.own i; unsaid = kept.unsaid i }
 
 -- where nothing is sent, only memory may be wanting
 pub refused_for_memory : (o : Outgoing) (r : Result ℕ Refusal) → length o.messages ≤ o.limit → IfErr r (λ e. e ≡ NoMemory) → IsRefusedFor (outbox_full o 0) r

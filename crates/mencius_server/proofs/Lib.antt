@@ -11,6 +11,11 @@ pub mod Submits
 pub mod HearsSkip
 pub mod Empty
 pub mod Begins
+pub mod Gaps
+pub mod Lost
+pub mod Marks
+pub mod Once
+pub mod Invariant
 pub mod Suspects
 pub mod Others
 pub mod Lists

@@ -1,32 +1,28 @@
 -- An event of one server leaves the others as they were.
-use Rattle.std.proofs.Common.{◌≡◌, ℕ, ◌+◌, ◌<◌, Bool, true, false, List, [], ◌∷◌, ◌++◌, Option, Some, None, cond, eqb, ltb, leb, map, filter, max, refl, sym, ◌∙◌, ap, arith, inl, inr, ◌&&◌, ◌||◌}
+use Rattle.std.proofs.Common.{◌≡◌, ℕ, ◌+◌, ◌<◌, Bool, true, false, List, [], ◌∷◌, ◌++◌, Option, Some, None, cond, eqb, ltb, leb, map, filter, max, refl, sym, ◌∙◌, ap, inl, ◌&&◌}
 use Rattle.std.specs.Prelude.{is_none, nat_le, slice_get}
-use Rattle.std.proofs.lemmas.Bool.{and_parts, cases_Bool, cases_lt, eqb-true, ltb-true, ne_eqb}
+use Rattle.std.proofs.lemmas.Bool.{and_parts, eqb-true, ltb-true, ne_eqb}
 use Rattle.mencius_base.specs.declared.event.Event.{Event}
 use Rattle.mencius_base.specs.declared.event.Event.TheVariants.{Submit, Deliver, Lose, Suspect, Retry, Execute}
 use Rattle.mencius_base.specs.declared.refusal.Refusal.TheVariants.{EventsFull}
 use Rattle.mencius_base.specs.declared.message.Message.{Message}
 use Rattle.mencius_base.specs.declared.message.Message.TheVariants.{Suggest, Skip, Accepted, Prepare, Promise, Propose, Learn}
 use Rattle.mencius_base.specs.declared.message.Value.{Value}
-use Rattle.mencius_base.specs.declared.message.Value.TheVariants.{Noop, Ticket}
+use Rattle.mencius_base.specs.declared.message.Value.TheVariants.{Noop}
 use Rattle.mencius_base.specs.declared.message.Vote.{Vote}
 use Rattle.mencius_base.specs.Members.{Membership, first_owned, instances, most_events, owner}
-use Rattle.mencius_base.specs.History.{Line, Submitted, Heard, Lost, Suspected, Retried, Done, Sent, Learned, History, events, followed_by, greatest, heard, sent, submitted}
-use Rattle.coord_paxos.specs.Instance.{accepted, learned, promised, proposed, proposed_by, trying, vote}
+use Rattle.mencius_base.specs.History.{Line, Submitted, Heard, Lost, Suspected, Retried, Done, Sent, Learned, History, events, followed_by, sent}
+use Rattle.coord_paxos.specs.Instance.{learned, promised, proposed, proposed_by, trying, vote}
 use Rattle.mencius_server.specs.Server.{free, front, front_by, suspects, waiting}
-use Rattle.coord_paxos.specs.Instance.{IsMajority}
 use Rattle.mencius_server.specs.Next.{IsReached, again, causes, decision, delivery, head, is_given_up, lines, on_message, preparation, promise, refused, suggestion}
 use Rattle.mencius_base.specs.Members.{first_item}
-use Rattle.coord_paxos.proofs.Below.{map-instances_same}
 use Rattle.coord_paxos.proofs.Lines.{greatest_quiet, oldest_quiet}
 use Rattle.mencius_server.proofs.Grown.{IsGrown, MaySuggest}
 use Rattle.mencius_server.proofs.State.{accepted_in}
 use Rattle.mencius_server.proofs.Paxos.{accepted_proposed}
 use Rattle.mencius_server.proofs.Journals.{reached_grown}
 use Rattle.mencius_server.proofs.Sources.{propose_ballot, tried_owner}
-use Rattle.mencius_server.proofs.Steps.{AllMay, IsStep, next_is, none_holds, step_may}
-use Rattle.coord_paxos.specs.SlotState.{SlotState}
-use Rattle.coord_paxos.specs.Fresh.{new_slot}
+use Rattle.mencius_server.proofs.Steps.{AllMay, none_holds, step_may}
 use Rattle.coord_paxos.specs.Reached.{if_own, slot_at}
 use Rattle.coord_paxos.proofs.SlotHistory.{IsQuiet, IsVoted, slot_at-proposing, slot_at-quiet}
 use Rattle.mencius_server.specs.Reached.{server_at, with_event}

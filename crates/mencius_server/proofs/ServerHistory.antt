@@ -1,16 +1,14 @@
 -- How the lines of an event change a server.
-use Rattle.std.proofs.Common.{◌≡◌, ℕ, ◌+◌, ◌<◌, ◌≤◌, Bool, true, false, List, [], ◌∷◌, ◌++◌, Option, Some, None, max, map, set, get_or, refl, sym, ◌∙◌, ap, subst, arith, cond, leb, ltb, eqb, ◌&&◌, ◌||◌}
+use Rattle.std.proofs.Common.{◌≡◌, ℕ, ◌<◌, ◌≤◌, Bool, true, false, List, [], ◌∷◌, Some, refl, sym, ◌∙◌, ap, arith, cond, leb}
 use Rattle.std.specs.Prelude.{slice_get}
-use Rattle.std.proofs.lemmas.Bool.{leb-true, leb-false}
+use Rattle.std.proofs.lemmas.Bool.{leb-true}
 use Rattle.mencius_base.specs.declared.message.Message.{Message}
-use Rattle.mencius_base.specs.declared.message.Message.TheVariants.{Suggest, Skip, Accepted, Prepare, Promise, Propose, Learn}
+use Rattle.mencius_base.specs.declared.message.Message.TheVariants.{Accepted, Propose}
 use Rattle.mencius_base.specs.declared.message.Value.{Value}
-use Rattle.mencius_base.specs.declared.message.Value.TheVariants.{Noop, Ticket}
-use Rattle.mencius_base.specs.declared.message.Vote.{Vote}
-use Rattle.mencius_base.specs.Members.{Membership, below, instances, owner}
-use Rattle.mencius_base.specs.History.{Line, Submitted, Heard, Lost, Suspected, Retried, Done, Sent, Learned, History, followed_by, greatest, heard, sent}
-use Rattle.coord_paxos.specs.Instance.{promised, proposed, trying, learned, accepted}
-use Rattle.mencius_server.specs.Server.{front, front_by}
+use Rattle.mencius_base.specs.Members.{Membership}
+use Rattle.mencius_base.specs.History.{Line, Heard, Sent, History, followed_by, sent}
+use Rattle.coord_paxos.specs.Instance.{promised, proposed, trying}
+use Rattle.mencius_server.specs.Server.{front}
 use Rattle.mencius_base.specs.History.{messages_of}
 use Rattle.mencius_server.specs.Next.{learnings, on_propose}
 use Rattle.coord_paxos.proofs.Below.{get_or-map-instances, map-instances_same, map-instances_set}

@@ -1,19 +1,17 @@
 -- A Skip, seen from outside.
-use Rattle.std.proofs.Common.{◌≡◌, ℕ, ◌+◌, ◌-◌, ◌<◌, ◌≤◌, Bool, true, false, cond, leb, ltb, eqb, List, [], ◌∷◌, ◌++◌, None, length, get_or, map, min, refl, sym, ◌∙◌, ap, subst, arith, ⊎_elim, length-append}
+use Rattle.std.proofs.Common.{◌≡◌, ℕ, ◌+◌, ◌-◌, ◌<◌, ◌≤◌, false, List, length, get_or, map, min, refl, sym, ◌∙◌, ap, subst, arith, ⊎_elim, length-append}
 use Rattle.std.specs.List.{count_by}
-use Rattle.std.specs.Prelude.{is_none, ◌&&◌, replicate}
 use Rattle.std.proofs.lemmas.List.{get_or_append_left, get_or-append_right, get_or_past, length-replicate}
 use Rattle.std.proofs.lemmas.Bool.{and_left, and_right, cases_lt, le-ltb}
 use Rattle.mencius_base.specs.declared.message.Value.TheVariants.{Noop}
-use Rattle.mencius_base.specs.Members.{Membership, below, instances, owner}
+use Rattle.mencius_base.specs.Members.{Membership, below, instances}
 use Rattle.coord_paxos.proofs.Below.{count_by-below_none, get_or-map-instances, instances-below, length-map-instances, map-below_by}
 use Rattle.coord_paxos.specs.SlotState.{SlotState}
 use Rattle.coord_paxos.specs.Fresh.{new_slot}
-use Rattle.coord_paxos.specs.Slot.{after_learn}
 use Rattle.mencius_server.specs.State.{FitsAt, IsServer, ServerState, padded, slot}
 use Rattle.mencius_server.specs.Machine.{after_skip, given_count, is_given, is_skipped, slot_given}
-use Rattle.mencius_server.proofs.Keeps.{FitsAt-slot, past-replicate}
-use Rattle.mencius_server.proofs.SlotLaws.{FitsAt-same, SameAttempt, SameAttempt-cond, SameAttempt-learn, SameAttempt-self}
+use Rattle.mencius_server.proofs.Keeps.{FitsAt-slot, KeepsAt, KeepsAt-fits, KeepsAt-new, past-replicate}
+use Rattle.mencius_server.proofs.SlotLaws.{FitsAt-same, SameAttempt-cond, SameAttempt-learn, SameAttempt-self}
 
 -- filling up with new slots shows nothing new
 pub get_or-padded : (m : Membership) (given : List SlotState) (j : ℕ) → get_or (padded m given) j (new_slot m) ≡ get_or given j (new_slot m)
@@ -102,12 +100,12 @@ IsServer-skip s q first stop kept = record {
         (SameAttempt-cond (is_skipped s.members q first stop i) (slot s i) _ (slot s i) (SameAttempt-learn (slot s i) Noop) (SameAttempt-self (slot s i)))
         (FitsAt-slot s i kept)
 
-    fits : (i : ℕ) → FitsAt s s.front i (slot (after_skip s q first stop) i)
+    fits : (i : ℕ) → KeepsAt s s.front i (slot (after_skip s q first stop) i)
     fits i =
         ⊎_elim
-        (λ (small : i < 4096). subst (FitsAt s s.front i) (sym (get_or-map-instances _ i (new_slot s.members) small)) (given i))
+        (λ (small : i < 4096). subst (KeepsAt s s.front i) (sym (get_or-map-instances _ i (new_slot s.members) small)) (KeepsAt-fits s s.front i _ (given i)))
         (λ (past : 4096 ≤ i).
         let none : length (slots_given s q first stop) ≤ i = rw (length-map-instances (λ (j : ℕ). slot_given s.members q first stop j (slot s j))) past in
-        subst (FitsAt s s.front i) (sym (get_or_past (slots_given s q first stop) i (new_slot s.members) none))
-        (record { same = refl; own = λ mine. refl; unsaid = λ mine ahead. refl }))
+        subst (KeepsAt s s.front i) (sym (get_or_past (slots_given s q first stop) i (new_slot s.members) none))
+        (KeepsAt-new s s.front i))
         (cases_lt i 4096)

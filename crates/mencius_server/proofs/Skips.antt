@@ -1,11 +1,10 @@
 -- A loop over the slots that learns no-op at some.
-use Rattle.std.proofs.Common.{◌≡◌, ℕ, ◌+◌, ◌<◌, ◌≤◌, Bool, true, false, cond, List, [], ◌∷◌, ◌++◌, None, length, get_or, set, map, refl, sym, ◌∙◌, ap, arith, ⊎_elim}
+use Rattle.std.proofs.Common.{◌≡◌, ℕ, ◌+◌, ◌<◌, ◌≤◌, Bool, cond, List, length, get_or, set, refl, sym, ◌∙◌, ap, arith, ⊎_elim}
 use Rattle.std.specs.List.{count_by}
-use Rattle.std.specs.Prelude.{is_none, ◌&&◌}
 use Rattle.std.proofs.lemmas.List.{get_or-set_other}
 use Rattle.std.proofs.lemmas.Grind.{get_or-set_at}
 use Rattle.std.proofs.lemmas.Bool.{cases_eq}
-use Rattle.mencius_base.specs.Members.{Membership, below}
+use Rattle.mencius_base.specs.Members.{below}
 use Rattle.coord_paxos.proofs.Below.{count_by-below_more, count_by-below_zero}
 use Rattle.coord_paxos.specs.SlotState.{SlotState}
 

@@ -2,7 +2,7 @@
 use Rattle.std.proofs.Common.{◌≡◌, ℕ, ◌≤◌, [], Option, Some, None, inl, inr, refl, sym, ap, ◌∙◌, arith}
 use Rattle.std.specs.Prelude.{slice_get}
 use Rattle.mencius_base.specs.declared.message.Message.{Message}
-use Rattle.mencius_base.specs.declared.message.Message.TheVariants.{Suggest, Skip, Accepted, Prepare, Promise, Propose, Learn}
+use Rattle.mencius_base.specs.declared.message.Message.TheVariants.{Suggest, Accepted, Propose}
 use Rattle.mencius_base.specs.declared.message.Value.{Value}
 use Rattle.mencius_base.specs.declared.message.Value.TheVariants.{Ticket}
 use Rattle.mencius_base.specs.Members.{Membership, owner}

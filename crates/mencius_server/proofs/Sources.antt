@@ -1,9 +1,8 @@
 -- Whose message it was, in any history that grew line by line.
-use Rattle.std.proofs.Common.{◌≡◌, ℕ, ◌<◌, ◌≤◌, true, ◌&&◌, eqb, List, [], ◌∷◌, ◌++◌, inl, inr, refl, sym, ◌∙◌, arith, Option, Some, None, lt-ltb, eqb-true}
+use Rattle.std.proofs.Common.{◌≡◌, ℕ, ◌<◌, ◌≤◌, ◌&&◌, eqb, [], ◌∷◌, inl, inr, refl, sym, ◌∙◌, arith, Option, None, lt-ltb, eqb-true}
 use Rattle.std.proofs.lemmas.Bool.{cases_lt, cases_Bool, and_parts}
-use Rattle.mencius_base.specs.declared.message.Message.TheVariants.{Suggest, Skip, Accepted, Prepare, Promise, Propose}
+use Rattle.mencius_base.specs.declared.message.Message.TheVariants.{Accepted, Prepare, Promise, Propose}
 use Rattle.mencius_base.specs.declared.message.Value.{Value}
-use Rattle.mencius_base.specs.declared.message.Value.TheVariants.{Noop}
 use Rattle.mencius_base.specs.declared.message.Vote.{Vote}
 use Rattle.mencius_base.specs.Members.{Membership, owner}
 use Rattle.mencius_base.specs.History.{Line, Sent, History, greatest}
@@ -65,7 +64,7 @@ propose_ballot m (l ∷ w) g p i b v (inl e) =
     (may.above, may.own)
 propose_ballot m (l ∷ w) g p i b v (inr h) = propose_ballot m w g.0 p i b v h
 
-not_proposed : (w : History) (p i b : ℕ) (v : Value) → 0 < b → proposed w i b ≡ None → IsIn (Sent (Propose p i b v)) w → ⊥
+pub not_proposed : (w : History) (p i b : ℕ) (v : Value) → 0 < b → proposed w i b ≡ None → IsIn (Sent (Propose p i b v)) w → ⊥
 not_proposed w p i b v pos none h =
     let n = oldest_none (proposed_by i b) (Sent (Propose p i b v)) w none h in
     let k = rw (same_two i b, lt-ltb 0 b pos) at n in

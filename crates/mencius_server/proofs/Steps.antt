@@ -1,5 +1,5 @@
 -- Each event adds lines that had their right: a reached history has grown line by line.
-use Rattle.std.proofs.Common.{◌≡◌, ◌==◌, if◌then◌else◌, ℕ, suc, ◌+◌, ◌*◌, ◌<◌, ◌≤◌, max, Bool, true, false, cond, not, ◌&&◌, ◌||◌, eqb, ltb, leb, nat_le, List, [], ◌∷◌, ◌++◌, length, ◌⊎◌, inl, inr, refl, sym, ap, ◌∙◌, arith, Option, Some, None, Ok, eqb-true, ltb-true, leb-true, leb-false, eq-eqb, lt-ltb, slice_get, map, filter, filter_map, find, is_none}
+use Rattle.std.proofs.Common.{◌≡◌, ◌==◌, if◌then◌else◌, ℕ, suc, ◌+◌, ◌*◌, ◌<◌, ◌≤◌, max, Bool, true, false, cond, not, ◌&&◌, ◌||◌, eqb, ltb, leb, nat_le, List, [], ◌∷◌, ◌++◌, length, ◌⊎◌, inl, inr, refl, sym, ap, ◌∙◌, arith, Option, Some, None, Ok, eqb-true, ltb-true, leb-true, leb-false, eq-eqb, lt-ltb, slice_get, map, filter, filter_map, is_none}
 use Rattle.std.specs.List.{list_any, cons_option}
 use Rattle.std.proofs.lemmas.Bool.{and_parts, or_parts, cases_Bool, not-false}
 use Rattle.std.proofs.lemmas.Nat.{mod-mul-add}

@@ -1,7 +1,6 @@
 -- What a server does on a submission is what the model says.
-use Rattle.std.proofs.Common.{◌≡◌, ℕ, ◌+◌, ◌<◌, ◌≤◌, Bool, true, false, List, [], ◌∷◌, ◌++◌, Option, Some, None, Result, Ok, Err, OnOk, length, leb, eqb, max, refl, sym, ◌∙◌, ap, subst, arith}
+use Rattle.std.proofs.Common.{◌≡◌, ℕ, ◌+◌, ◌<◌, ◌≤◌, List, ◌∷◌, ◌++◌, Option, Some, None, Result, Ok, Err, OnOk, length, leb, eqb, max, refl, sym, ◌∙◌, ap, subst, arith}
 use Rattle.std.specs.Prelude.{is_none, ◌&&◌}
-use Rattle.std.specs.List.{find}
 use Rattle.std.proofs.lemmas.Bool.{and_parts, eq-eqb, eqb-true, leb-true}
 use Rattle.mencius_base.specs.declared.command.Command.{Command}
 use Rattle.mencius_base.specs.declared.event.Event.TheVariants.{Retry, Submit}
@@ -9,11 +8,11 @@ use Rattle.mencius_base.specs.declared.refusal.Refusal.{Refusal}
 use Rattle.mencius_base.specs.declared.message.Message.{Message}
 use Rattle.mencius_base.specs.declared.message.Message.TheVariants.{Suggest}
 use Rattle.mencius_base.specs.declared.message.Value.TheVariants.{Ticket}
-use Rattle.mencius_base.specs.Members.{Membership, instances, owner}
+use Rattle.mencius_base.specs.Members.{Membership, owner}
 use Rattle.mencius_base.specs.Outbox.{Outgoing}
 use Rattle.mencius_base.specs.Refusal.{IsRefusedFor}
 use Rattle.mencius_base.specs.History.{Line, Retried, Sent, Submitted, History, followed_by, greatest, heard, submitted}
-use Rattle.coord_paxos.specs.Instance.{accepted, learned, proposed, proposed_by, tried_by, trying}
+use Rattle.coord_paxos.specs.Instance.{accepted, proposed, proposed_by, tried_by, trying}
 use Rattle.mencius_server.specs.Server.{free, front, front_by, is_free, waiting}
 use Rattle.mencius_server.specs.Next.{again, lines, suggestion}
 use Rattle.mencius_base.specs.Members.{first_item}
@@ -23,9 +22,9 @@ use Rattle.coord_paxos.proofs.Lines.{greater-none, greatest_quiet, oldest_quiet,
 use Rattle.coord_paxos.specs.SlotState.{SlotState}
 use Rattle.coord_paxos.specs.Reached.{slot_at}
 use Rattle.coord_paxos.proofs.SlotHistory.{IsQuiet, IsVoted, quiet_suggest, slot_at-quiet, slot_at-suggested}
-use Rattle.mencius_server.specs.State.{ServerState, slot, with_slot_and_front}
+use Rattle.mencius_server.specs.State.{ServerState, with_slot_and_front}
 use Rattle.mencius_server.specs.Machine.{after_retry, after_submit_at, first_waiting, free_at, is_free_at, retry_cause, retry_sent, submit_cause, submit_sent}
-use Rattle.mencius_server.specs.Reached.{IsAt, IsStep, refusal_of, server_at, with_event}
+use Rattle.mencius_server.specs.Reached.{IsAt, IsStep, refusal_of, server_at}
 use Rattle.mencius_server.proofs.ServerHistory.{server_unchanged, server_written, slot-server_at}
 use Rattle.mencius_server.proofs.Waits.{first_waiting_same}
 use Rattle.mencius_server.proofs.Sound.{IsSound, sound}

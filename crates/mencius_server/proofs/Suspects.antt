@@ -1,41 +1,41 @@
 -- What a server does on a suspicion is what the model says.
-use Rattle.std.proofs.Common.{◌≡◌, ℕ, ◌+◌, ◌*◌, ◌<◌, ◌≤◌, Bool, true, false, List, [], ◌∷◌, ◌++◌, Option, Some, None, Result, Ok, Err, OnOk, cond, eqb, filter, length, leb, ltb, map, max, refl, sym, ◌∙◌, ap, subst, inl, inr, arith, ◌&&◌, ◌||◌}
+use Rattle.std.proofs.Common.{◌≡◌, ℕ, ◌+◌, ◌<◌, ◌≤◌, Bool, true, false, List, [], ◌∷◌, ◌++◌, Option, Some, None, Result, Ok, Err, OnOk, cond, eqb, filter, length, ltb, map, max, refl, sym, ◌∙◌, ap, subst, inl, inr, arith, ◌&&◌, ◌||◌}
 use Rattle.std.specs.Prelude.{is_none}
 use Rattle.std.specs.List.{list_any}
-use Rattle.std.proofs.lemmas.Bool.{and_parts, cases_Bool, cases_lt, eq-eqb, eqb-true}
+use Rattle.std.proofs.lemmas.Bool.{cases_Bool, eqb-true}
 use Rattle.std.proofs.lemmas.Nat.{mod-mul-add}
 use Rattle.mencius_base.specs.declared.event.Event.TheVariants.{Suspect}
 use Rattle.mencius_base.specs.declared.refusal.Refusal.{Refusal}
 use Rattle.mencius_base.specs.declared.refusal.Refusal.TheVariants.{MessagesFull, NothingToRevoke, RoundsFull, SelfSuspect}
 use Rattle.mencius_base.specs.declared.message.Message.{Message}
-use Rattle.mencius_base.specs.declared.message.Message.TheVariants.{Accepted, Prepare, Promise, Propose}
+use Rattle.mencius_base.specs.declared.message.Message.TheVariants.{Prepare, Propose}
 use Rattle.mencius_base.specs.declared.message.Value.{Value}
 use Rattle.mencius_base.specs.declared.message.Vote.{Vote}
 use Rattle.mencius_base.specs.Members.{Membership, ballot_of, below, instances, most_rounds, owner}
 use Rattle.mencius_base.specs.Outbox.{Outgoing}
 use Rattle.mencius_base.specs.Refusal.{IsRefusedFor}
-use Rattle.mencius_base.specs.History.{Line, Sent, Suspected, History, followed_by, greatest, heard}
-use Rattle.coord_paxos.specs.Instance.{accepted, accepted_by, accepters, highest_vote, is_acceptance, is_promise, learned, learned_by, promised, promised_by, promisers, proposed, proposed_by, reported, tried_by, trying, vote_of, vote_reported}
+use Rattle.mencius_base.specs.History.{Line, Sent, Suspected, History, followed_by, heard}
+use Rattle.coord_paxos.specs.Instance.{accepted, accepted_by, accepters, highest_vote, is_acceptance, is_promise, learned_by, promised_by, promisers, proposed, proposed_by, reported, tried_by, trying, vote_of, vote_reported}
 use Rattle.mencius_server.specs.Server.{front, front_by, is_suspect, suspects}
-use Rattle.mencius_server.specs.Next.{IsReached, first_cause, found_by_server, lines, next_round, preparation}
+use Rattle.mencius_server.specs.Next.{IsReached, first_cause, found_by_server, next_round, preparation}
 use Rattle.mencius_base.specs.Members.{first_item}
 use Rattle.mencius_base.specs.History.{messages_of}
 use Rattle.coord_paxos.proofs.Below.{any-map, filter-instances_same, map-below_constant, map-filter-instances_same, map-instances_same}
 use Rattle.coord_paxos.proofs.Lines.{greater-none, greatest_quiet, oldest_quiet, vote_of_same}
 use Rattle.mencius_server.proofs.Lists.{IsIn}
-use Rattle.mencius_server.proofs.Grown.{IsAsked, IsGrown}
-use Rattle.mencius_server.proofs.State.{acceptance_in, proposal_in, same, same_two}
+use Rattle.mencius_server.proofs.Grown.{IsGrown}
+use Rattle.mencius_server.proofs.State.{acceptance_in, proposal_in, same}
 use Rattle.mencius_server.proofs.Hearing.{accepters_accepted, promiser, reported_promise}
 use Rattle.mencius_server.proofs.Journals.{reached_grown}
 use Rattle.mencius_server.proofs.Sources.{acceptance_asked, prepare_right, prepare_within, promise_asked, propose_ballot, propose_within}
 use Rattle.coord_paxos.specs.SlotState.{SlotState}
-use Rattle.coord_paxos.specs.Fresh.{new_slot, nobody}
+use Rattle.coord_paxos.specs.Fresh.{new_slot}
 use Rattle.coord_paxos.specs.Slot.{after_begin}
 use Rattle.coord_paxos.specs.Reached.{if_own, slot_at}
 use Rattle.coord_paxos.proofs.SlotHistory.{same_slot}
-use Rattle.mencius_server.specs.State.{ServerState, slot}
+use Rattle.mencius_server.specs.State.{ServerState}
 use Rattle.mencius_server.specs.Machine.{after_suspect, ballot_after, is_revoked, is_round_full, is_suspected, prepare_for, round_after, slot_revoked, suspect_cause, suspect_sent}
-use Rattle.mencius_server.specs.Reached.{IsAt, IsStep, refusal_of, server_at, with_event}
+use Rattle.mencius_server.specs.Reached.{IsAt, IsStep, refusal_of, server_at}
 use Rattle.mencius_server.proofs.Begins.{tried_below}
 use Rattle.mencius_server.proofs.HearsSkip.{among, is_instance}
 use Rattle.mencius_server.proofs.ServerHistory.{slot-server_at}

@@ -1,11 +1,9 @@
 -- Which tickets wait is what the history says.
-use Rattle.std.proofs.Common.{◌≡◌, ℕ, ◌<◌, Bool, true, false, List, [], ◌∷◌, Option, Some, None, cond, eqb, ltb, ◌&&◌, ◌||◌, not, refl, sym, ◌∙◌, ap, inl, inr, arith, filter_map}
+use Rattle.std.proofs.Common.{◌≡◌, ℕ, ◌<◌, Bool, true, false, Option, Some, None, cond, eqb, ltb, ◌&&◌, ◌||◌, not, refl, sym, ◌∙◌, ap}
 use Rattle.std.specs.List.{list_any}
-use Rattle.std.proofs.lemmas.Bool.{and_parts, cases_Bool, eq-eqb, eqb-false, eqb-true, ltb-true}
-use Rattle.mencius_base.specs.declared.message.Message.{Message}
+use Rattle.std.proofs.lemmas.Bool.{and_parts, eq-eqb, eqb-true}
 use Rattle.mencius_base.specs.declared.message.Message.TheVariants.{Suggest}
 use Rattle.mencius_base.specs.declared.message.Value.{Value}
-use Rattle.mencius_base.specs.declared.message.Value.TheVariants.{Noop, Ticket}
 use Rattle.mencius_base.specs.Members.{Membership, instances, owner}
 use Rattle.mencius_base.specs.History.{Line, Sent, History}
 use Rattle.coord_paxos.specs.Instance.{learned, proposed, trying}
@@ -22,10 +20,9 @@ use Rattle.mencius_server.proofs.Owners.{suggest_once, suggest_owner, suggest_sm
 use Rattle.mencius_server.proofs.Journals.{reached_grown, some_server_of}
 use Rattle.mencius_server.proofs.Sources.{own_untried}
 use Rattle.coord_paxos.specs.SlotState.{SlotState}
-use Rattle.coord_paxos.specs.Reached.{if_own, slot_at}
-use Rattle.mencius_server.specs.State.{slot}
+use Rattle.coord_paxos.specs.Reached.{if_own}
 use Rattle.mencius_server.specs.Machine.{first_waiting, is_suggested_past, is_ticket, suggested_at, waits_at, waits_with}
-use Rattle.mencius_server.specs.Reached.{IsAt, server_at}
+use Rattle.mencius_server.specs.Reached.{server_at}
 use Rattle.mencius_server.proofs.ServerHistory.{slot-server_at}
 
 -- two tests that follow from each other

@@ -1,23 +1,20 @@
--- What the servers decide, execute and reply.
-use Rattle.std.specs.Prelude.{◌≡◌, ℕ, ◌+◌, ◌<◌, ◌≤◌, Bool, true, false, List, [], ◌∷◌, ◌++◌, Option, Some, None, Result, Ok, Err, ◌==◌, nat_lt, nat_le, if◌then◌else◌, ◌&&◌, slice_get, length, map, IsTrue, ◌⊎◌, take}
-use Rattle.std.specs.List.{list_any, filter_map, count_by}
-use Rattle.mencius_base.specs.declared.command.Command.{Command}
-use Rattle.mencius_base.specs.declared.command.Op.{Op}
-use Rattle.mencius_base.specs.declared.command.Op.TheVariants.{Set, Get, Del}
+-- What the servers decide at an instance: no server knows it, but each learned value is decided.
+use Rattle.std.specs.Prelude.{◌≡◌, ℕ, Bool, false, Some, ◌==◌, nat_lt, nat_le, ◌&&◌, IsTrue, ◌⊎◌}
+use Rattle.std.specs.List.{list_any}
 use Rattle.mencius_base.specs.declared.message.Message.{Message}
-use Rattle.mencius_base.specs.declared.message.Message.TheVariants.{Suggest, Skip, Accepted, Prepare, Promise, Propose, Learn}
+use Rattle.mencius_base.specs.declared.message.Message.TheVariants.{Skip}
 use Rattle.mencius_base.specs.declared.message.Value.{Value}
-use Rattle.mencius_base.specs.declared.message.Value.TheVariants.{Noop, Ticket}
-use Rattle.mencius_base.specs.Members.{Membership, owner, below}
-use Rattle.mencius_base.specs.History.{Line, Sent, History, sent, submitted}
-use Rattle.coord_paxos.specs.Instance.{proposed, learned}
-use Rattle.mencius_server.specs.Server.{done}
+use Rattle.mencius_base.specs.declared.message.Value.TheVariants.{Noop}
+use Rattle.mencius_base.specs.Members.{Membership, owner}
+use Rattle.mencius_base.specs.History.{History, sent}
+use Rattle.coord_paxos.specs.Instance.{proposed}
 use Rattle.coord_paxos.specs.Instance.{IsMajority, has_accepted}
 
--- a majority accepted the value at some ballot
+-- a majority of the servers sent an acceptance at some ballot at which the value was proposed
 abbrev pub IsChosen : Membership → History → ℕ → Value → Type 0
 IsChosen m w i v = (b : ℕ) × (proposed w i b ≡ Some v) × IsTrue (IsMajority m (has_accepted w i b))
 
+-- a Skip of the instance's owner whose range covers it
 abbrev pub gives_up : Membership → ℕ → Message → Bool
 gives_up m i (Skip from first stop) = (from == owner m i && nat_le first i) && nat_lt i stop
 gives_up m i _ = false
@@ -26,5 +23,6 @@ gives_up m i _ = false
 abbrev pub IsSkipped : Membership → History → ℕ → Type 0
 IsSkipped m w i = IsTrue (list_any (gives_up m i) (sent w))
 
+-- chosen, or given up with no-op as its value
 abbrev pub IsDecided : Membership → History → ℕ → Value → Type 0
 IsDecided m w i v = IsChosen m w i v ⊎ (IsSkipped m w i × (v ≡ Noop))

@@ -1,5 +1,7 @@
--- What a server sends on a message, how many instances it learns, and what becomes of it.
-use Rattle.std.specs.Prelude.{◌≡◌, ℕ, ◌+◌, Bool, true, false, List, [], ◌∷◌, ◌++◌, Option, Some, None, ◌==◌, nat_lt, nat_le, if◌then◌else◌, ◌&&◌, is_none, length, map, max, not, ◌||◌}
+-- What a server sends on a call, how many instances it learns, and what becomes of it, said of its state alone.
+-- No public clause cites this file: the private functions meet it, and proofs/ shows that at a reached history it
+-- is what the row of the event says.
+use Rattle.std.specs.Prelude.{◌≡◌, ℕ, ◌+◌, Bool, false, List, [], ◌∷◌, ◌++◌, Option, Some, None, ◌==◌, nat_lt, nat_le, if◌then◌else◌, ◌&&◌, is_none, length, map, max, not, ◌||◌}
 use Rattle.std.specs.List.{count_by, filter, filter_map, find, list_any}
 use Rattle.mencius_base.specs.declared.message.Message.{Message}
 use Rattle.mencius_base.specs.declared.message.Message.TheVariants.{Suggest, Skip, Accepted, Prepare, Promise, Propose, Learn}
@@ -24,6 +26,7 @@ use Rattle.mencius_server.specs.State.{ServerState, slot, with_slot, with_slot_a
 abbrev pub next_front : ServerState → ℕ → ℕ
 next_front s i = if nat_lt s.front i then first_owned s.members s.id (i + 1) else s.front
 
+-- the Skip that a suggestion at i brings about, and all that it makes the server send
 abbrev pub skip_sent : ServerState → ℕ → List Message
 skip_sent s i = if nat_lt s.front i then Skip s.id s.front (first_owned s.members s.id (i + 1)) ∷ [] else []
 
@@ -33,6 +36,7 @@ suggest_sent s q i = skip_sent s i ++ (if nat_le (slot s i).promised 0 then Acce
 abbrev pub after_suggest : ServerState → ℕ → ℕ → ServerState
 after_suggest s i t = with_slot_and_front s i (after_accept (slot s i) 0 (Ticket t)) (next_front s i)
 
+-- the answer to a Prepare
 abbrev pub answer_sent : ℕ → ℕ → ℕ → ℕ → Answer → List Message
 answer_sent p q i b (Promised v) = Promise p q i b v ∷ []
 answer_sent p q i b (Known v) = Learn p i v ∷ []
@@ -44,6 +48,7 @@ prepare_sent s q i b = answer_sent s.id q i b (prepare_answer (slot s i) b)
 abbrev pub after_prepare_at : ServerState → ℕ → ℕ → ServerState
 after_prepare_at s i b = with_slot s i (after_prepare (slot s i) b)
 
+-- the proposal that a Promise brings about, if any
 abbrev pub proposal_sent : ℕ → ℕ → ℕ → Option Value → List Message
 proposal_sent p i b None = []
 proposal_sent p i b (Some v) = Propose p i b v ∷ []
@@ -54,12 +59,14 @@ promise_sent s q i b v = proposal_sent s.id i b (promise_answer (slot s i) q b v
 abbrev pub after_promise_at : ServerState → ℕ → ℕ → ℕ → Option Vote → ServerState
 after_promise_at s q i b v = with_slot s i (after_promise (slot s i) q b v)
 
+-- the acceptance of a Propose, if any
 abbrev pub propose_sent : ServerState → ℕ → ℕ → ℕ → List Message
 propose_sent s q i b = if nat_le (slot s i).promised b then Accepted s.id q i b ∷ [] else []
 
 abbrev pub after_propose : ServerState → ℕ → ℕ → Value → ServerState
 after_propose s i b v = with_slot s i (after_accept (slot s i) b v)
 
+-- what an acceptance decides, if anything
 abbrev pub decision_sent : ℕ → ℕ → Option Value → List Message
 decision_sent p i None = []
 decision_sent p i (Some v) = Learn p i v ∷ []
@@ -108,6 +115,7 @@ after_hearing s (Promise from to inst ballot vote) = after_promise_at s from ins
 after_hearing s (Propose from inst ballot value) = after_propose s inst ballot value
 after_hearing s (Learn from inst value) = after_learn_at s inst value
 
+-- how many instances a message makes the server learn
 abbrev pub one_if_some : Option Value → ℕ
 one_if_some None = 0
 one_if_some (Some v) = 1
@@ -148,9 +156,12 @@ abbrev pub submit_cause : Outgoing → Option ℕ → Option Refusal
 submit_cause o None = Some InstancesFull
 submit_cause o (Some k) = outbox_full o 1
 
--- the ticket that the server suggested at an own instance
+-- the ticket that the server suggested at an own instance, of which it knows this
+abbrev pub suggested_in : Membership → ℕ → ℕ → SlotState → Option ℕ
+suggested_in m p i t = if owner m i == p then ticket_of t.proposal else None
+
 abbrev pub suggested_at : ServerState → ℕ → Option ℕ
-suggested_at s i = if owner s.members i == s.id then ticket_of (slot s i).proposal else None
+suggested_at s i = suggested_in s.members s.id i (slot s i)
 
 abbrev pub is_ticket : ℕ → Option ℕ → Bool
 is_ticket t None = false

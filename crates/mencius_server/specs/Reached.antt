@@ -1,18 +1,18 @@
--- A server's state, asked of the history.
-use Rattle.std.specs.Prelude.{◌≡◌, ℕ, List, ◌∷◌, ◌++◌, length, map}
+-- A server's state, asked of the history, and what a call has to do with an event of that history.
+use Rattle.std.specs.Prelude.{◌≡◌, ℕ, ◌∷◌, ◌++◌, length, map}
 use Rattle.mencius_base.specs.declared.event.Event.{Event}
 use Rattle.mencius_base.specs.declared.refusal.Refusal.{Refusal}
-use Rattle.std.specs.Prelude.{Option, Bool}
+use Rattle.std.specs.Prelude.{Option}
 use Rattle.mencius_base.specs.Members.{Membership, instances}
 use Rattle.mencius_base.specs.Outbox.{Outgoing}
 use Rattle.mencius_base.specs.History.{History, followed_by}
 use Rattle.mencius_server.specs.Server.{front}
-use Rattle.mencius_server.specs.Next.{IsReached, lines, head, learnings, found_by_server, first_cause}
+use Rattle.mencius_server.specs.Next.{IsReached, lines, head, found_by_server, first_cause}
 use Rattle.mencius_base.specs.History.{messages_of}
 use Rattle.coord_paxos.specs.Reached.{slot_at}
 use Rattle.mencius_server.specs.State.{ServerState}
 
--- server p after a history
+-- server p after a history: its front and each of its 4,096 slots by the definitions
 abbrev pub server_at : Membership → History → ℕ → ServerState
 server_at m w p = record { members = m; id = p; front = front m w p; slots = map (slot_at m w p) instances }
 

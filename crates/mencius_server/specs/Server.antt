@@ -1,12 +1,11 @@
--- What a server knows beyond single instances.
-use Rattle.std.specs.Prelude.{ℕ, ◌+◌, Bool, true, false, List, [], ◌∷◌, Option, Some, None, ◌==◌, max, nat_lt, nat_le, if◌then◌else◌, ◌&&◌, is_none, not, ◌||◌, slice_get}
+-- What a server knows beyond single instances, asked of the history.
+use Rattle.std.specs.Prelude.{ℕ, ◌+◌, Bool, true, false, List, [], ◌∷◌, Option, Some, None, ◌==◌, max, nat_lt, nat_le, if◌then◌else◌, ◌&&◌, is_none, not, ◌||◌}
 use Rattle.std.specs.List.{list_any, filter, filter_map, find}
-use Rattle.mencius_base.specs.declared.message.Message.{Message}
-use Rattle.mencius_base.specs.declared.message.Message.TheVariants.{Suggest, Skip, Accepted, Prepare, Promise, Propose, Learn}
+use Rattle.mencius_base.specs.declared.message.Message.TheVariants.{Suggest, Skip}
 use Rattle.mencius_base.specs.declared.message.Value.{Value}
 use Rattle.mencius_base.specs.declared.message.Value.TheVariants.{Noop, Ticket}
 use Rattle.mencius_base.specs.Members.{Membership, owner, instances}
-use Rattle.mencius_base.specs.History.{Line, Submitted, Heard, Lost, Suspected, Retried, Done, Sent, Learned, History, greatest, oldest, gather}
+use Rattle.mencius_base.specs.History.{Line, Done, Sent, History, greatest, oldest}
 use Rattle.coord_paxos.specs.Instance.{learned}
 
 -- how far a line takes p's front
@@ -15,7 +14,7 @@ front_by m p (Sent (Suggest from inst ticket)) = if from == p then inst + m.coun
 front_by m p (Sent (Skip from first stop)) = if from == p then stop else 0
 front_by m p _ = 0
 
--- p's next own instance
+-- p's next own instance: past all that it suggested or skipped, and p at the start
 abbrev pub front : Membership → History → ℕ → ℕ
 front m w p = max p (greatest (front_by m p) w)
 
@@ -27,6 +26,7 @@ suggested_by p i _ = None
 abbrev pub suggested : History → ℕ → ℕ → Option ℕ
 suggested w p i = oldest (suggested_by p i) w
 
+-- p suggested t at an instance past i
 abbrev pub is_suggestion_past : ℕ → ℕ → ℕ → Line → Bool
 is_suggestion_past p t i (Sent (Suggest from inst ticket)) = (from == p && ticket == t) && nat_lt i inst
 is_suggestion_past p t i _ = false
@@ -35,10 +35,12 @@ abbrev pub is_noop : Option Value → Bool
 is_noop (Some Noop) = true
 is_noop _ = false
 
+-- no answer where the test holds
 abbrev pub unless : Bool → Option ℕ → Option ℕ
 unless true _ = None
 unless false t = t
 
+-- the ticket that p suggested at i waits where p learned no-op there and suggested it at no greater instance
 abbrev pub waits : History → ℕ → ℕ → Option ℕ → Option ℕ
 waits w p i None = None
 waits w p i (Some t) = unless (not (is_noop (learned w p i)) || list_any (is_suggestion_past p t i) w) (Some t)
@@ -58,7 +60,7 @@ is_free m w p k = (owner m k == p && nat_le (front m w p) k) && is_none (learned
 abbrev pub free : Membership → History → ℕ → Option ℕ
 free m w p = find (is_free m w p) instances
 
--- the instances of q that a suspicion by p covers
+-- the instances of q that a suspicion by p covers: those up to its own front that it has not learned
 abbrev pub is_suspect : Membership → History → ℕ → ℕ → ℕ → Bool
 is_suspect m w p q i = (owner m i == q && nat_le i (front m w p)) && is_none (learned w p i)
 
@@ -74,6 +76,7 @@ abbrev pub done : History → ℕ → ℕ
 done [] s = 0
 done (l ∷ w) s = done w s + is_done s l
 
+-- a value's ticket; no-op has none
 abbrev pub ticket_of : Option Value → Option ℕ
 ticket_of (Some (Ticket t)) = Some t
 ticket_of _ = None

@@ -1,4 +1,4 @@
-use Rattle.std.proofs.Common.{◌≡◌, ◌∙◌, Option, None, Bool, true, false, ap, eqb, rules, refl, subst, sym}
+use Rattle.std.proofs.Common.{◌≡◌, ◌∙◌, Option, None, true, false, ap, eqb, rules, refl, subst, sym}
 use Rattle.std.specs.List.{count_by, filter, list_any}
 use Rattle.std.proofs.lemmas.Bool.{eq-eqb, ne_eqb}
 use Rattle.mencius_base.specs.declared.refusal.Refusal.{Refusal}

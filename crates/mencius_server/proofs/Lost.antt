@@ -1,0 +1,203 @@
+-- Which tickets wait as the slots change.
+use Rattle.std.proofs.Common.{◌≡◌, ℕ, ◌<◌, ◌≤◌, Bool, true, false, ⊎_elim, ◌⊎◌, inl, inr, Option, Some, None, cond, eqb, ltb, get_or, length, List, refl, sym, ◌∙◌, ap, arith, not, ◌&&◌, ◌||◌}
+use Rattle.std.specs.Prelude.{is_none}
+use Rattle.std.specs.List.{list_any}
+use Rattle.std.proofs.lemmas.Bool.{and_parts, cases_Bool, cases_eq, cases_lt, eq-eqb, eqb-true, lt-ltb, ltb-true, or_cases, or_left, or_right}
+use Rattle.std.proofs.lemmas.List.{get_or-set_other, get_or_past}
+use Rattle.std.proofs.lemmas.Grind.{get_or-set_at}
+use Rattle.mencius_base.specs.declared.message.Value.{Value}
+use Rattle.mencius_base.specs.declared.message.Value.TheVariants.{Ticket}
+use Rattle.mencius_base.specs.Members.{instances, owner}
+use Rattle.coord_paxos.proofs.Below.{any-instances, any-instances_found}
+use Rattle.coord_paxos.specs.SlotState.{SlotState}
+use Rattle.coord_paxos.specs.Fresh.{new_slot}
+use Rattle.mencius_server.specs.Machine.{after_submit, is_suggested_past, is_ticket, suggested_at, waits_at, waits_with}
+use Rattle.mencius_server.specs.Server.{is_noop, ticket_of, unless}
+use Rattle.mencius_server.specs.State.{IsServer, ServerState, slot}
+
+pub both_ways : (a b : Bool) → (a ≡ true → b ≡ true) → (b ≡ true → a ≡ true) → a ≡ b
+both_ways true b f g = sym (f refl)
+both_ways false true f g = g refl
+both_ways false false f g = refl
+
+-- the same own suggestions
+pub record SaysSame (s v : ServerState) : Type 0 where
+  pub same : (j : ℕ) → j < 4096 → suggested_at v j ≡ suggested_at s j
+
+pub past_same : (s v : ServerState) → SaysSame s v → (t i : ℕ) → list_any (is_suggested_past v t i) instances ≡ list_any (is_suggested_past s t i) instances
+past_same s v said t i =
+    both_ways _ _
+    (λ h. let f = any-instances_found (is_suggested_past v t i) h in
+    any-instances (is_suggested_past s t i) f.0 f.1 (ap (λ (o : Option ℕ). ltb i f.0 && is_ticket t o) (sym (said.same f.0 f.1)) ∙ f.2))
+    (λ h. let f = any-instances_found (is_suggested_past s t i) h in
+    any-instances (is_suggested_past v t i) f.0 f.1 (ap (λ (o : Option ℕ). ltb i f.0 && is_ticket t o) (said.same f.0 f.1) ∙ f.2))
+
+unless_none : (b : Bool) (t : ℕ) → unless b (Some t) ≡ None → b ≡ true
+unless_none true t h = refl
+unless_none false t h = absurd (cc)
+
+-- a ticket waits where it waited, unless no-op was learned there since
+waits_cases : (s v : ServerState) → SaysSame s v → (j : ℕ) → waits_at s j ≡ None
+    → (is_noop (slot v j).learned ≡ true → (is_noop (slot s j).learned ≡ true) ⊎ (suggested_at s j ≡ None))
+    → (o : Option ℕ) → suggested_at s j ≡ o → waits_with v j o ≡ None
+waits_cases s v said j none since None e = refl
+waits_cases s v said j none since (Some t) e =
+    elim (cases_Bool (is_noop (slot v j).learned)) [
+      | inl lost ↦ elim (since lost) [
+        | inl before ↦
+            let past : list_any (is_suggested_past s t j) instances ≡ true =
+            unless_none _ t (rw before at (rw e at none)) in
+            rw (lost, past_same s v said t j, past) refl
+        | inr nothing ↦ let k = sym e ∙ nothing in absurd (cc)
+      ]
+      | inr kept ↦ rw kept refl
+    ]
+
+pub waits_none : (s v : ServerState) → SaysSame s v → (j : ℕ) → j < 4096 → waits_at s j ≡ None
+    → (is_noop (slot v j).learned ≡ true → (is_noop (slot s j).learned ≡ true) ⊎ (suggested_at s j ≡ None)) → waits_at v j ≡ None
+waits_none s v said j small none since = ap (waits_with v j) (said.same j small) ∙ waits_cases s v said j none since (suggested_at s j) refl
+
+-- ---- one more suggestion
+
+ticket_is : (t : ℕ) (o : Option ℕ) → is_ticket t o ≡ true → o ≡ Some t
+ticket_is t None h = absurd (cc)
+ticket_is t (Some u) h = ap Some (eqb-true u t h)
+
+-- from the front on nothing is suggested
+pub said_before : (s : ServerState) → IsServer s → (j t : ℕ) → suggested_at s j ≡ Some t → j < s.front
+said_before s kept j t e =
+    ⊎_elim
+    (λ (low : j < s.front). low)
+    (λ (past : s.front ≤ j). absurd (unsaid past (eqb (owner s.members j) s.id) refl))
+    (cases_lt j s.front)
+  where
+    unsaid : s.front ≤ j → (c : Bool) → eqb (owner s.members j) s.id ≡ c → ⊥
+    unsaid past true mine =
+        let none : (slot s j).proposal ≡ None = kept.unsaid j (eqb-true _ _ mine) past in
+        let k = rw (mine, none) at e in cc
+    unsaid past false other = let k = rw other at e in cc
+
+eqb_swap : (a b : ℕ) → eqb a b ≡ eqb b a
+eqb_swap a b = both_ways (eqb a b) (eqb b a) (λ h. eq-eqb b a (sym (eqb-true a b h))) (λ h. eq-eqb a b (sym (eqb-true b a h)))
+
+either_no : (a b : Bool) → (a ≡ true → ⊥) → (b ≡ true → ⊥) → (a || b) ≡ false
+either_no true b f g = absurd (f refl)
+either_no false true f g = absurd (g refl)
+either_no false false f g = refl
+
+and-true : (b : Bool) → (b && true) ≡ b
+and-true true = refl
+and-true false = refl
+
+module _ (s : ServerState) (k t : ℕ) (kept : IsServer s) (mine : owner s.members k ≡ s.id) (ahead : s.front ≤ k) (within : k < length s.slots) (small : k < 4096) where
+  abbrev later : ServerState
+  later = after_submit s k t
+
+  here : slot later k ≡ record (slot s k) { proposal = Some (Ticket t) }
+  here = get_or-set_at s.slots k k _ (new_slot s.members) refl within
+
+  there : (j : ℕ) → (j ≡ k → ⊥) → slot later j ≡ slot s j
+  there j off = get_or-set_other s.slots k j _ (new_slot s.members) off
+
+  said_here : suggested_at later k ≡ Some t
+  said_here = rw (eq-eqb (owner s.members k) s.id mine) (ap (λ (u : SlotState). ticket_of u.proposal) here)
+
+  pub said_there : (j : ℕ) → (j ≡ k → ⊥) → suggested_at later j ≡ suggested_at s j
+  said_there j off = ap (λ (u : SlotState). cond (eqb (owner s.members j) s.id) (ticket_of u.proposal) None) (there j off)
+
+  unsaid_here : (u : ℕ) → suggested_at s k ≡ Some u → ⊥
+  unsaid_here u e = let low : k < s.front = said_before s kept k u e in omega arith
+
+  past_more : (u j : ℕ) → list_any (is_suggested_past later u j) instances ≡ (list_any (is_suggested_past s u j) instances || (eqb t u && ltb j k))
+  past_more u j = both_ways _ _ more fewer
+    where
+      found : (i : ℕ) → (ltb j i && is_ticket u (suggested_at later i)) ≡ true → i < 4096 → (list_any (is_suggested_past s u j) instances || (eqb t u && ltb j k)) ≡ true
+      found i e small =
+          let parts = and_parts (ltb j i) (is_ticket u (suggested_at later i)) e in
+          ⊎_elim
+          (λ (at : i ≡ k).
+          let ticket : Some t ≡ Some u = sym said_here ∙ ap (suggested_at later) (sym at) ∙ ticket_is u _ parts.1 in
+          let same : t ≡ u = cc in
+          or_right (list_any (is_suggested_past s u j) instances) _ (rw (eq-eqb t u same) (rw (← at) parts.0)))
+          (λ (off : i ≡ k → ⊥).
+          or_left _ (eqb t u && ltb j k)
+          (any-instances (is_suggested_past s u j) i small (ap (λ (o : Option ℕ). ltb j i && is_ticket u o) (sym (said_there i off)) ∙ e)))
+          (cases_eq i k)
+
+      more : list_any (is_suggested_past later u j) instances ≡ true → (list_any (is_suggested_past s u j) instances || (eqb t u && ltb j k)) ≡ true
+      more h = let f = any-instances_found (is_suggested_past later u j) h in found f.0 f.2 f.1
+
+      fewer : (list_any (is_suggested_past s u j) instances || (eqb t u && ltb j k)) ≡ true → list_any (is_suggested_past later u j) instances ≡ true
+      fewer h =
+          ⊎_elim
+          (λ (e : list_any (is_suggested_past s u j) instances ≡ true).
+          let f = any-instances_found (is_suggested_past s u j) e in
+          let parts = and_parts (ltb j f.0) (is_ticket u (suggested_at s f.0)) f.2 in
+          let off : f.0 ≡ k → ⊥ = λ at. unsaid_here u (ap (suggested_at s) (sym at) ∙ ticket_is u _ parts.1) in
+          any-instances (is_suggested_past later u j) f.0 f.1 (ap (λ (o : Option ℕ). ltb j f.0 && is_ticket u o) (said_there f.0 off) ∙ f.2))
+          (λ (e : (eqb t u && ltb j k) ≡ true).
+          let parts = and_parts (eqb t u) (ltb j k) e in
+          let same : t ≡ u = eqb-true t u parts.0 in
+          any-instances (is_suggested_past later u j) k small
+          (ap (λ (o : Option ℕ). ltb j k && is_ticket u o) said_here ∙ rw (parts.1, parts.0) refl))
+          (or_cases _ _ h)
+
+  -- a ticket that waits later waited before
+  pub waits_later : (j : ℕ) → is_none (slot s k).learned ≡ true → waits_at s j ≡ None → waits_at later j ≡ None
+  waits_later j blank none =
+      ⊎_elim
+      (λ (at : j ≡ k). rw at (ap (waits_with later k) said_here ∙ free (slot s k).learned refl))
+      (λ (off : j ≡ k → ⊥). ap (waits_with later j) (said_there j off) ∙ kept_waiting off (suggested_at s j) refl)
+      (cases_eq j k)
+    where
+      free : (o : Option Value) → (slot s k).learned ≡ o → waits_with later k (Some t) ≡ None
+      free None e = let known : (slot later k).learned ≡ None = ap (λ (u : SlotState). u.learned) here ∙ e in rw known refl
+      free (Some v) e = let k = rw e at blank in absurd (cc)
+
+      longer : (a b c : Bool) (u : ℕ) → (a || b) ≡ true → unless (a || (b || c)) (Some u) ≡ None
+      longer true b c u h = refl
+      longer false true c u h = refl
+      longer false false c u h = absurd (cc)
+
+      kept_waiting : (j ≡ k → ⊥) → (o : Option ℕ) → suggested_at s j ≡ o → waits_with later j o ≡ None
+      kept_waiting off None e = refl
+      kept_waiting off (Some u) e =
+          let before = unless_none _ u (rw e at none) in
+          rw (there j off, past_more u j) (longer (not (is_noop (slot s j).learned)) (list_any (is_suggested_past s u j) instances) (eqb t u && ltb j k) u before)
+
+  -- the marks after it
+  pub moved_later : (old new : List Bool) → length old ≤ s.front
+      → ((j u : ℕ) → j < 4096 → suggested_at s j ≡ Some u → list_any (is_suggested_past s u j) instances ≡ get_or old j false)
+      → ((j : ℕ) → get_or new j false ≡ (get_or old j false || is_ticket t (suggested_at s j)))
+      → (j u : ℕ) → j < 4096 → suggested_at later j ≡ Some u → list_any (is_suggested_past later u j) instances ≡ get_or new j false
+  moved_later old new short marks marked j u inside e = past_more u j ∙ ⊎_elim at_place elsewhere (cases_eq j k)
+    where
+      at_place : j ≡ k → (list_any (is_suggested_past s u j) instances || (eqb t u && ltb j k)) ≡ get_or new j false
+      at_place at =
+          let none : length old ≤ j = omega arith in
+          either_no _ _
+          (λ h.
+          let f = any-instances_found (is_suggested_past s u j) h in
+          let parts = and_parts (ltb j f.0) (is_ticket u (suggested_at s f.0)) f.2 in
+          let low : f.0 < s.front = said_before s kept f.0 u (ticket_is u _ parts.1) in
+          let high : j < f.0 = ltb-true j f.0 parts.0 in
+          absurd (omega arith))
+          (λ h. let high : j < k = ltb-true j k (and_parts (eqb t u) (ltb j k) h).1 in absurd (omega arith))
+          ∙ sym (marked j ∙ either_no _ _ (λ h. let p = get_or_past old j false none in absurd (cc)) (λ h. absurd (unsaid_here t (ap (suggested_at s) (sym at) ∙ ticket_is t _ h))))
+
+      elsewhere : (j ≡ k → ⊥) → (list_any (is_suggested_past s u j) instances || (eqb t u && ltb j k)) ≡ get_or new j false
+      elsewhere off =
+          let said : suggested_at s j ≡ Some u = sym (said_there j off) ∙ e in
+          let low : j < s.front = said_before s kept j u said in
+          let before : j < k = omega arith in
+          ap (λ (b : Bool). list_any (is_suggested_past s u j) instances || (eqb t u && b)) (lt-ltb j k before)
+          ∙ ap (λ (b : Bool). b || (eqb t u && true)) (marks j u inside said)
+          ∙ ap (λ (b : Bool). get_or old j false || b) (and-true (eqb t u) ∙ eqb_swap t u)
+          ∙ sym (marked j ∙ ap (λ (o : Option ℕ). get_or old j false || is_ticket t o) said)
+
+  pub tickets_later : (n v : ℕ) → n ≤ v → t < v → ((j u : ℕ) → j < 4096 → suggested_at s j ≡ Some u → u < n) → (j u : ℕ) → j < 4096 → suggested_at later j ≡ Some u → u < v
+  tickets_later n v more new below j u inside e =
+      ⊎_elim
+      (λ (at : j ≡ k). let same : Some t ≡ Some u = sym said_here ∙ ap (suggested_at later) (sym at) ∙ e in let same' : t ≡ u = cc in omega arith)
+      (λ (off : j ≡ k → ⊥). let low : u < n = below j u inside (sym (said_there j off) ∙ e) in omega arith)
+      (cases_eq j k)

@@ -1,0 +1,101 @@
+-- A loop that marks the own instances where a ticket was suggested.
+use Rattle.std.proofs.Common.{◌≡◌, ℕ, ◌+◌, ◌<◌, ◌≤◌, Bool, true, false, ⊎_elim, cond, eqb, get_or, length, List, Option, Some, None, min, set, refl, sym, ◌∙◌, ap, arith, ◌||◌}
+use Rattle.std.proofs.lemmas.Bool.{cases_eq, cases_lt, eq-eqb}
+use Rattle.std.proofs.lemmas.List.{get_or-set_other, get_or_past}
+use Rattle.std.proofs.lemmas.Grind.{get_or-set_at}
+use Rattle.mencius_base.specs.Members.{Membership, owner}
+use Rattle.coord_paxos.specs.Fresh.{new_slot}
+use Rattle.coord_paxos.specs.SlotState.{SlotState}
+use Rattle.mencius_server.specs.Machine.{is_ticket, suggested_in}
+use Rattle.mencius_server.specs.Server.{ticket_of}
+use Rattle.mencius_server.proofs.Gaps.{unowned}
+
+or-false : (b : Bool) → (b || false) ≡ b
+or-false true = refl
+or-false false = refl
+
+or-true : (b : Bool) → (b || true) ≡ true
+or-true true = refl
+or-true false = refl
+
+-- the first places have a mark where they had one or the ticket is theirs
+pub record IsMarkedUpTo (m : Membership) (p t end : ℕ) (slots : ℕ → SlotState) (old new : List Bool) (i : ℕ) : Type 0 where
+  pub marked : (j : ℕ) → j < i → j < end → get_or new j false ≡ (get_or old j false || is_ticket t (suggested_in m p j (slots j)))
+  pub rest : (j : ℕ) → i ≤ j → get_or new j false ≡ get_or old j false
+  pub past : (j : ℕ) → end ≤ j → get_or new j false ≡ get_or old j false
+
+-- another server's instance has no own ticket
+other_unsaid : (m : Membership) (p t j : ℕ) (s : SlotState) → eqb (owner m j) p ≡ false → is_ticket t (suggested_in m p j s) ≡ false
+other_unsaid m p t j s e = rw e refl
+
+pub marked_start : (m : Membership) (p t end next : ℕ) (slots : ℕ → SlotState) (old : List Bool) → ((i : ℕ) → 0 ≤ i → owner m i ≡ p → next ≤ i) → IsMarkedUpTo m p t end slots old old next
+marked_start m p t end next slots old least = record {
+  marked = λ j low inside. sym (ap (λ (b : Bool). get_or old j false || b) (other_unsaid m p t j (slots j) (unowned m p 0 next least j (omega arith) low)) ∙ or-false (get_or old j false));
+  rest = λ j high. refl;
+  past = λ j high. refl;
+}
+
+pub marked_more : (m : Membership) (p t end i next : ℕ) (slots : ℕ → SlotState) (old now new : List Bool) (c : Bool) → i < end → i < length now → owner m i ≡ p
+    → ((j : ℕ) → i + 1 ≤ j → owner m j ≡ p → next ≤ j) → i + 1 ≤ next
+    → is_ticket t (ticket_of (slots i).proposal) ≡ c → new ≡ cond c (set now i true) now
+    → IsMarkedUpTo m p t end slots old now i → IsMarkedUpTo m p t end slots old new next
+marked_more m p t end i next slots old now new c inside within mine least ahead here is before = record {
+  marked = λ j low small. ⊎_elim
+      (λ (done : j < i). off j (λ at. absurd (omega arith)) c is ∙ before.marked j done small)
+      (λ (from : i ≤ j). ⊎_elim
+      (λ (at : j ≡ i). at_place j at c is here)
+      (λ (other : j ≡ i → ⊥).
+      let after : i + 1 ≤ j = omega arith in
+      off j other c is ∙ before.rest j from
+      ∙ sym (ap (λ (b : Bool). get_or old j false || b) (other_unsaid m p t j (slots j) (unowned m p (i + 1) next least j after low)) ∙ or-false (get_or old j false)))
+      (cases_eq j i))
+      (cases_lt j i);
+  rest = λ j high. off j (λ at. absurd (omega arith)) c is ∙ before.rest j (omega arith);
+  past = λ j high. off j (λ at. absurd (omega arith)) c is ∙ before.past j high;
+}
+  where
+    off : (j : ℕ) → (j ≡ i → ⊥) → (d : Bool) → new ≡ cond d (set now i true) now → get_or new j false ≡ get_or now j false
+    off j other true e = rw e (get_or-set_other now i j true false other)
+    off j other false e = rw e refl
+
+    ticket_here : is_ticket t (suggested_in m p i (slots i)) ≡ is_ticket t (ticket_of (slots i).proposal)
+    ticket_here = rw (eq-eqb (owner m i) p mine) refl
+
+    at_place : (j : ℕ) → j ≡ i → (d : Bool) → new ≡ cond d (set now i true) now → is_ticket t (ticket_of (slots i).proposal) ≡ d
+        → get_or new j false ≡ (get_or old j false || is_ticket t (suggested_in m p j (slots j)))
+    at_place j at true e said =
+        ap (λ (xs : List Bool). get_or xs j false) e ∙ get_or-set_at now i j true false at within
+        ∙ sym (ap (λ (b : Bool). get_or old j false || b) (ap (λ (x : ℕ). is_ticket t (suggested_in m p x (slots x))) at ∙ ticket_here ∙ said) ∙ or-true (get_or old j false))
+    at_place j at false e said =
+        ap (λ (xs : List Bool). get_or xs j false) e ∙ before.rest j (omega arith)
+        ∙ sym (ap (λ (b : Bool). get_or old j false || b) (ap (λ (x : ℕ). is_ticket t (suggested_in m p x (slots x))) at ∙ ticket_here ∙ said) ∙ or-false (get_or old j false))
+
+no_ticket : (t : ℕ) (o : Option ℕ) → ((u : ℕ) → o ≡ Some u → ⊥) → is_ticket t o ≡ false
+no_ticket t None never = refl
+no_ticket t (Some u) never = absurd (never u refl)
+
+new_unsaid : (m : Membership) (p j : ℕ) (c : Bool) (u : ℕ) → cond c (ticket_of (new_slot m).proposal) None ≡ Some u → ⊥
+new_unsaid m p j true u e = cc
+new_unsaid m p j false u e = cc
+
+-- all places, where none further on has an own ticket
+pub marked_all : (m : Membership) (p t end front : ℕ) (given : List SlotState) (old blank new : List Bool)
+    → ((j u : ℕ) → suggested_in m p j (get_or given j (new_slot m)) ≡ Some u → j < front) → end ≡ min (length given) front
+    → ((j : ℕ) → get_or blank j false ≡ get_or old j false)
+    → ((j : ℕ) → j < end → get_or new j false ≡ (get_or blank j false || is_ticket t (suggested_in m p j (get_or given j (new_slot m)))))
+    → ((j : ℕ) → end ≤ j → get_or new j false ≡ get_or blank j false)
+    → (j : ℕ) → get_or new j false ≡ (get_or old j false || is_ticket t (suggested_in m p j (get_or given j (new_slot m))))
+marked_all m p t end front given old blank new unsaid e same marked rest j =
+    ⊎_elim
+    (λ (low : j < end). marked j low ∙ ap (λ (b : Bool). b || is_ticket t (suggested_in m p j (get_or given j (new_slot m)))) (same j))
+    (λ (high : end ≤ j).
+    rest j high ∙ same j
+    ∙ sym (ap (λ (b : Bool). get_or old j false || b) (no_ticket t (suggested_in m p j (get_or given j (new_slot m))) (never high)) ∙ or-false (get_or old j false)))
+    (cases_lt j end)
+  where
+    never : end ≤ j → (u : ℕ) → suggested_in m p j (get_or given j (new_slot m)) ≡ Some u → ⊥
+    never high u said =
+        ⊎_elim
+        (λ (inside : j < length given). let low : j < front = unsaid j u said in omega arith)
+        (λ (past : length given ≤ j). new_unsaid m p j (eqb (owner m j) p) u (ap (λ (s : SlotState). suggested_in m p j s) (sym (get_or_past given j (new_slot m) past)) ∙ said))
+        (cases_lt j (length given))

@@ -1,0 +1,335 @@
+//! What a server does on each message, Rule 2 among it.
+ghost use Rattle.coord_paxos.specs.Fresh.{new_slot};
+ghost use Rattle.coord_paxos.specs.Slot.{accept_answer};
+ghost use Rattle.mencius_base.specs.History.{History, sent};
+ghost use Rattle.mencius_base.specs.Members.{below, instances};
+ghost use Rattle.mencius_base.specs.Message.{is_addressed};
+ghost use Rattle.mencius_base.specs.Outbox.{outbox_full};
+ghost use Rattle.mencius_base.specs.Refusal.{IsRefusedFor};
+ghost use Rattle.mencius_base.specs.declared.event.Event.TheVariants.{Deliver};
+ghost use Rattle.mencius_base.specs.declared.message.Message.TheVariants.{Prepare};
+ghost use Rattle.mencius_base.specs.declared.message.Value.TheVariants.{Noop};
+ghost use Rattle.mencius_base.specs.declared.refusal.Refusal.TheVariants.{NoMemory};
+ghost use Rattle.mencius_server.specs.Machine.{IsUndone, accepted_sent, after_accepted, after_hearing, after_learn_at, after_skip, given_count, is_given, slot_given, after_prepare_at, after_promise_at, after_propose, after_suggest, learned_on, one_if_some, prepare_sent, promise_sent, propose_sent, sent_on, suggest_sent};
+ghost use Rattle.mencius_server.specs.Next.{learnings, lines};
+ghost use Rattle.mencius_server.specs.Reached.{IsAt, IsStep, refusal_of};
+ghost use Rattle.mencius_server.specs.State.{slot};
+ghost use Rattle.std.specs.List.{count_by};
+ghost use Rattle.std.specs.Prelude.{◌≡◌, ◌⊎◌, ◌+◌, ◌<◌, ◌≤◌, ◌++◌, ◌==◌, length, is_none, OnOk, OnErr, IfOk, IfErr, if◌then◌else◌, IsTrue, Some, ℕ, slice_get, slice_index_or, vec_len};
+
+use crate::{Server, grow_to};
+use coord_paxos::{Answer, Slot};
+use mencius_base::{Ballot, Members, Message, Outbox, Refusal, Value, Vote};
+
+impl Server {
+    /// Hears a message, and answers how many instances were learned (Mao, Junqueira and Marzullo, OSDI
+    /// 2008, section 4).
+    ///
+    /// - Suggest: where its instance is above the front, the own instances from the front up to it are
+    ///   given up by one Skip, and the front moves past it (Rule 2). It is accepted unless another
+    ///   ballot was promised there.
+    /// - Skip: no-op is learned at once at each instance of the skipper in the range.
+    /// - Prepare: a learned value is answered by Learn; else a ballot above the promised one is
+    ///   promised, with the vote.
+    /// - Promise: once a majority promised the ballot that this server tries, it proposes the value of
+    ///   the greatest vote that was reported, or no-op, once.
+    /// - Propose: it is accepted unless a greater ballot was promised.
+    /// - Accepted: once a majority accepted at the ballot that this server tries, it learns the value
+    ///   that it proposed and tells everybody.
+    /// - Learn: the value is learned, unless one was.
+    ///
+    /// The message is one that `Message::is_for` finds to be for this server. It may be heard any
+    /// number of times.
+    ///
+    /// # Errors
+    ///
+    /// `MessagesFull` where `out` can't take the messages that are sent, then `NoMemory`.
+    pub fn hear(&mut self, message: &Message, out: &mut Outbox) -> Result<u32, Refusal>
+        requires { IsTrue (is_addressed self.old.members self.old.id message.now) }
+
+        // In every reached history that this server and this message are of, the call is the delivery.
+        ensures step { IfOk result (λ n. (w : History) (k : ℕ) → IsAt w self.old → slice_get (sent w) k ≡ Some message.now
+            → IsStep w (Deliver k self.old.id) self.old self.new out.old out.new) }
+        ensures learned { IfOk result (λ n. (w : History) (k : ℕ) → IsAt w self.old → slice_get (sent w) k ≡ Some message.now
+            → n ≡ learnings (lines self.old.members w (Deliver k self.old.id))) }
+        ensures refusal { (w : History) (k : ℕ) → IsAt w self.old → slice_get (sent w) k ≡ Some message.now
+            → IsRefusedFor (refusal_of w (Deliver k self.old.id) self.old out.old) result }
+        ensures err { OnErr result (IsUndone self.old self.new out.old out.new) }
+        ensures members { self.new.members ≡ self.old.members }
+        ensures id { self.new.id ≡ self.old.id }
+        ensures limit { out.new.limit ≡ out.old.limit }
+    {
+        self.apply(message, out)
+    }
+
+    fn apply(&mut self, message: &Message, out: &mut Outbox) -> Result<u32, Refusal>
+        requires { IsTrue (is_addressed self.old.members self.old.id message.now) }
+        ensures sent { OnOk result (out.new.messages ≡ out.old.messages ++ sent_on self.old message.now) }
+        ensures after { OnOk result (self.new ≡ after_hearing self.old message.now) }
+        ensures learned { IfOk result (λ n. n ≡ learned_on self.old message.now) }
+        ensures limit { out.new.limit ≡ out.old.limit }
+        ensures err { OnErr result (IsUndone self.old self.new out.old out.new) }
+        ensures refusal { IsRefusedFor (outbox_full out.old (length (sent_on self.old message.now))) result }
+    {
+        // The proof reads off the length that the outbox is within its limit.
+        let _few = out.len();
+        match *message {
+            Message::Suggest { from, inst, ticket } => self.hear_suggest(from, inst, ticket, out),
+            Message::Skip { from, first, stop } => self.hear_skip(from, first, stop),
+            Message::Accepted {
+                from,
+                inst,
+                ballot,
+                ..
+            } => self.hear_accepted(from, inst, ballot, out),
+            Message::Prepare { from, inst, ballot } => self.hear_prepare(from, inst, ballot, out),
+            Message::Promise {
+                from,
+                inst,
+                ballot,
+                vote,
+                ..
+            } => self.hear_promise(from, inst, ballot, vote, out),
+            Message::Propose {
+                from,
+                inst,
+                ballot,
+                value,
+            } => self.hear_propose(from, inst, ballot, value, out),
+            Message::Learn { inst, value, .. } => self.hear_learn(inst, value),
+        }
+    }
+
+    fn hear_skip(&mut self, from: u8, first: u32, stop: u32) -> Result<u32, Refusal>
+        requires member { from < self.old.members.count }
+        requires small { first < 4096 }
+        ensures after { OnOk result (self.new ≡ after_skip self.old from first stop) }
+        ensures learned { IfOk result (λ n. n ≡ given_count self.old from first stop) }
+        ensures err { OnErr result (self.new ≡ self.old) }
+        ensures memory { IfErr result (λ r. r ≡ NoMemory) }
+    {
+        grow_to(&mut self.slots, self.members, stop.min(4096) as usize)?;
+        self.lost_from = lost_with_skip(self.id, from, first, self.lost_from);
+        Ok(learn_noops(&mut self.slots, self.members, from, first, stop))
+    }
+
+    fn hear_suggest(
+        &mut self,
+        from: u8,
+        inst: u32,
+        ticket: u32,
+        out: &mut Outbox,
+    ) -> Result<u32, Refusal>
+        requires small { inst < 4096 }
+        ensures sent { OnOk result (out.new.messages ≡ out.old.messages ++ suggest_sent self.old from inst) }
+        ensures after { OnOk result (self.new ≡ after_suggest self.old inst ticket) }
+        ensures learned { IfOk result (λ n. n ≡ 0) }
+        ensures limit { out.new.limit ≡ out.old.limit }
+        ensures err { OnErr result (IsUndone self.old self.new out.old out.new) }
+        ensures refusal { IsRefusedFor (outbox_full out.old (length (suggest_sent self.old from inst))) result }
+    {
+        let first = self.front;
+        let stop = self.members.first_owned(self.id, inst + 1);
+        let is_ahead = first < inst;
+        let mut slot = self.read(inst);
+        let is_accepted = slot.accept(Ballot::OWNER, Value::Ticket(ticket));
+        out.reserve(u32::from(is_ahead) + u32::from(is_accepted))?;
+        self.put(inst, slot, if is_ahead { stop } else { first })?;
+        if is_ahead {
+            out.push(Message::Skip {
+                from: self.id,
+                first,
+                stop,
+            });
+        }
+        if is_accepted {
+            out.push(Message::Accepted {
+                from: self.id,
+                to: from,
+                inst,
+                ballot: Ballot::OWNER,
+            });
+        }
+        Ok(0)
+    }
+
+    fn hear_prepare(
+        &mut self,
+        from: u8,
+        inst: u32,
+        ballot: Ballot,
+        out: &mut Outbox,
+    ) -> Result<u32, Refusal>
+        requires small { inst < 4096 }
+        ensures sent { OnOk result (out.new.messages ≡ out.old.messages ++ prepare_sent self.old from inst ballot) }
+        ensures after { OnOk result (self.new ≡ after_prepare_at self.old inst ballot) }
+        ensures learned { IfOk result (λ n. n ≡ 0) }
+        ensures limit { out.new.limit ≡ out.old.limit }
+        ensures err { OnErr result (IsUndone self.old self.new out.old out.new) }
+        ensures refusal { IsRefusedFor (outbox_full out.old (length (prepare_sent self.old from inst ballot))) result }
+    {
+        let mut slot = self.read(inst);
+        let answer = slot.prepare(ballot);
+        out.reserve(if answer == Answer::Silent { 0 } else { 1 })?;
+        self.write(inst, slot)?;
+        match answer {
+            Answer::Promise(vote) => out.push(Message::Promise {
+                from: self.id,
+                to: from,
+                inst,
+                ballot,
+                vote,
+            }),
+            Answer::Known(value) => out.push(Message::Learn {
+                from: self.id,
+                inst,
+                value,
+            }),
+            Answer::Silent => {}
+        }
+        Ok(0)
+    }
+
+    fn hear_promise(
+        &mut self,
+        from: u8,
+        inst: u32,
+        ballot: Ballot,
+        vote: Option<Vote>,
+        out: &mut Outbox,
+    ) -> Result<u32, Refusal>
+        requires member { from < self.old.members.count }
+        requires small { inst < 4096 }
+        requires tried { 0 < ballot }
+        ensures sent { OnOk result (out.new.messages ≡ out.old.messages ++ promise_sent self.old from inst ballot vote) }
+        ensures after { OnOk result (self.new ≡ after_promise_at self.old from inst ballot vote) }
+        ensures learned { IfOk result (λ n. n ≡ 0) }
+        ensures limit { out.new.limit ≡ out.old.limit }
+        ensures err { OnErr result (IsUndone self.old self.new out.old out.new) }
+        ensures refusal { IsRefusedFor (outbox_full out.old (length (promise_sent self.old from inst ballot vote))) result }
+    {
+        let mut slot = self.read(inst);
+        let value = slot.add_promise(from, ballot, vote);
+        out.reserve(if value.is_some() { 1 } else { 0 })?;
+        self.write(inst, slot)?;
+        if let Some(value) = value {
+            out.push(Message::Propose {
+                from: self.id,
+                inst,
+                ballot,
+                value,
+            });
+        }
+        Ok(0)
+    }
+
+    fn hear_propose(
+        &mut self,
+        from: u8,
+        inst: u32,
+        ballot: Ballot,
+        value: Value,
+        out: &mut Outbox,
+    ) -> Result<u32, Refusal>
+        requires small { inst < 4096 }
+        ensures sent { OnOk result (out.new.messages ≡ out.old.messages ++ propose_sent self.old from inst ballot) }
+        ensures after { OnOk result (self.new ≡ after_propose self.old inst ballot value) }
+        ensures learned { IfOk result (λ n. n ≡ 0) }
+        ensures limit { out.new.limit ≡ out.old.limit }
+        ensures err { OnErr result (IsUndone self.old self.new out.old out.new) }
+        ensures refusal { IsRefusedFor (outbox_full out.old (length (propose_sent self.old from inst ballot))) result }
+    {
+        let mut slot = self.read(inst);
+        let is_accepted = slot.accept(ballot, value);
+        out.reserve(u32::from(is_accepted))?;
+        self.write(inst, slot)?;
+        if is_accepted {
+            out.push(Message::Accepted {
+                from: self.id,
+                to: from,
+                inst,
+                ballot,
+            });
+        }
+        Ok(0)
+    }
+
+    fn hear_learn(&mut self, inst: u32, value: Value) -> Result<u32, Refusal>
+        requires small { inst < 4096 }
+        ensures after { OnOk result (self.new ≡ after_learn_at self.old inst value) }
+        ensures learned { IfOk result (λ n. n ≡ (if is_none (slot self.old inst).learned then 1 else 0)) }
+        ensures err { OnErr result (self.new ≡ self.old) }
+        ensures memory { IfErr result (λ r. r ≡ NoMemory) }
+    {
+        let mut slot = self.read(inst);
+        let is_first = slot.learn(value);
+        self.write(inst, slot)?;
+        Ok(u32::from(is_first))
+    }
+
+    fn hear_accepted(
+        &mut self,
+        from: u8,
+        inst: u32,
+        ballot: Ballot,
+        out: &mut Outbox,
+    ) -> Result<u32, Refusal>
+        requires member { from < self.old.members.count }
+        requires small { inst < 4096 }
+        ensures sent { OnOk result (out.new.messages ≡ out.old.messages ++ accepted_sent self.old from inst ballot) }
+        ensures after { OnOk result (self.new ≡ after_accepted self.old from inst ballot) }
+        ensures learned { IfOk result (λ n. n ≡ one_if_some (accept_answer (slot self.old inst) from ballot)) }
+        ensures limit { out.new.limit ≡ out.old.limit }
+        ensures err { OnErr result (IsUndone self.old self.new out.old out.new) }
+        ensures refusal { IsRefusedFor (outbox_full out.old (length (accepted_sent self.old from inst ballot))) result }
+    {
+        let mut slot = self.read(inst);
+        let value = slot.add_accept(from, ballot);
+        out.reserve(if value.is_some() { 1 } else { 0 })?;
+        self.write(inst, slot)?;
+        match value {
+            Some(value) => {
+                out.push(Message::Learn {
+                    from: self.id,
+                    inst,
+                    value,
+                });
+                Ok(1)
+            }
+            None => Ok(0),
+        }
+    }
+}
+
+// Where a server skips its own instances, tickets there may wait from then on.
+fn lost_with_skip(id: u8, from: u8, first: u32, lost_from: u32) -> u32
+    ensures less { result ≤ lost_from }
+    ensures lost { (result ≤ first) ⊎ (from ≡ id → ⊥) }
+{
+    if from == id {
+        lost_from.min(first)
+    } else {
+        lost_from
+    }
+}
+
+// Learns no-op at each instance that a Skip gives up, and counts those that were not learned.
+fn learn_noops(slots: &mut Vec<Slot>, members: Members, from: u8, first: u32, stop: u32) -> u32
+    requires few { vec_len slots.old ≤ 4096 }
+    requires member { from < members.count }
+    requires near { first ≤ 4102 }
+    ensures len { vec_len slots.new ≡ vec_len slots.old }
+    ensures slots { (j : ℕ) → j < vec_len slots.old
+        → slice_index_or slots.new.items j (new_slot members) ≡ slot_given members from first stop j (slice_index_or slots.old.items j (new_slot members)) }
+    ensures count { result ≡ count_by (λ j. is_given members from first stop j (slice_index_or slots.old.items j (new_slot members))) (below (vec_len slots.old)) }
+{
+    let end = slots.len().min(stop as usize);
+    let mut count = 0;
+    let mut inst = members.first_owned(from, first);
+    while (inst as usize) < end {
+        let slot = &mut slots[inst as usize];
+        count += u32::from(slot.learn(Value::Noop));
+        inst = members.first_owned(from, inst + 1);
+    }
+    count
+}

@@ -1,0 +1,293 @@
+//! Rules 1 and 4: where a ticket is suggested, and which tickets wait to be suggested again.
+ghost use Rattle.coord_paxos.specs.Fresh.{new_slot};
+ghost use Rattle.mencius_base.specs.History.{History, sent, submitted};
+ghost use Rattle.mencius_base.specs.Members.{instances, owner, first_item};
+ghost use Rattle.mencius_base.specs.Refusal.{IsRefusedFor};
+ghost use Rattle.mencius_base.specs.declared.command.Command.{Command};
+ghost use Rattle.mencius_base.specs.declared.event.Event.TheVariants.{Retry, Submit};
+ghost use Rattle.mencius_base.specs.declared.message.Value.TheVariants.{Noop};
+ghost use Rattle.mencius_base.specs.declared.refusal.Refusal.TheVariants.{NoMemory};
+ghost use Rattle.mencius_server.specs.Machine.{after_submit, suggested_in, IsUndone, after_submit_at, free_at, submit_cause, submit_sent, after_retry, first_waiting, is_suggested_past, is_ticket, retry_cause, retry_sent, suggested_at, waits_at};
+ghost use Rattle.mencius_server.specs.Reached.{IsAt, IsStep, refusal_of};
+ghost use Rattle.mencius_server.specs.Server.{waiting, ticket_of};
+ghost use Rattle.mencius_server.specs.State.{slot};
+ghost use Rattle.std.specs.List.{list_any};
+ghost use Rattle.std.specs.Prelude.{◌≡◌, ℕ, IfOk, ◌⊎◌, ◌||◌, IfErr, IfNone, None, false, is_none, slice_index_or, true, vec_len, ◌+◌, ◌<◌, ◌≤◌, ◌++◌, ◌==◌, length, OnOk, OnErr, IfSome, Some, ◌&&◌};
+
+use crate::{Server, grow_to};
+use coord_paxos::Slot;
+use mencius_base::{Members, Message, Outbox, Refusal, Value};
+
+impl Server {
+    /// Suggests a new ticket (Rule 1 of Mao, Junqueira and Marzullo, OSDI 2008, section 4).
+    ///
+    /// One Suggest goes to `out`, at the least own instance from the front on that this server has
+    /// not learned, and the front moves to the next own instance after it. The ticket is the number
+    /// of a command in order of submission, from 0.
+    ///
+    /// # Errors
+    ///
+    /// In this order: `InstancesFull` where no such instance is left, `MessagesFull` where `out` is at
+    /// its limit, `NoMemory`.
+    pub fn submit(&mut self, ticket: u32, out: &mut Outbox) -> Result<(), Refusal>
+        // In every reached history that this server is of, and whose next ticket this is, the call is the submission.
+        ensures step { OnOk result ((w : History) (c : Command) → IsAt w self.old → ticket ≡ length (submitted w)
+            → IsStep w (Submit self.old.id c) self.old self.new out.old out.new) }
+        ensures refusal { (w : History) (c : Command) → IsAt w self.old → ticket ≡ length (submitted w)
+            → IsRefusedFor (refusal_of w (Submit self.old.id c) self.old out.old) result }
+        ensures err { OnErr result (IsUndone self.old self.new out.old out.new) }
+        ensures members { self.new.members ≡ self.old.members }
+        ensures id { self.new.id ≡ self.old.id }
+        ensures limit { out.new.limit ≡ out.old.limit }
+    {
+        self.suggest(ticket, out)
+    }
+
+    fn suggest(&mut self, ticket: u32, out: &mut Outbox) -> Result<(), Refusal>
+        ensures sent { OnOk result (out.new.messages ≡ out.old.messages ++ submit_sent self.old ticket (free_at self.old)) }
+        ensures after { OnOk result (self.new ≡ after_submit_at self.old ticket (free_at self.old)) }
+        ensures limit { out.new.limit ≡ out.old.limit }
+        ensures err { OnErr result (IsUndone self.old self.new out.old out.new) }
+        ensures refusal { IsRefusedFor (submit_cause out.old (free_at self.old)) result }
+    {
+        let Some(inst) = self.free() else {
+            return Err(Refusal::InstancesFull);
+        };
+        out.reserve(1)?;
+        self.place(inst, ticket)?;
+        let from = self.id;
+        out.push(Message::Suggest { from, inst, ticket });
+        Ok(())
+    }
+
+    // Writes a suggestion at a free instance.
+    fn place(&mut self, inst: u32, ticket: u32) -> Result<(), Refusal>
+        requires small { inst < 4096 }
+        requires own { owner self.old.members inst ≡ self.old.id }
+        requires ahead { self.old.front ≤ inst }
+        requires blank { is_none (slot self.old inst).learned ≡ true }
+        ensures ok { OnOk result (self.new ≡ after_submit self.old inst ticket) }
+        ensures err { OnErr result (self.new ≡ self.old) }
+        ensures memory { IfErr result (λ r. r ≡ NoMemory) }
+    {
+        grow_to(&mut self.slots, self.members, inst as usize + 1)?;
+        self.next_ticket = pass_on(
+            &mut self.moved,
+            &self.slots,
+            self.members,
+            self.id,
+            self.front,
+            ticket,
+            self.next_ticket,
+        )?;
+        let slot = &mut self.slots[inst as usize];
+        slot.suggest(ticket);
+        self.front = inst + self.members.count() as u32;
+        Ok(())
+    }
+
+    // The least own instance from the front on that was not learned.
+    fn free(&self) -> Option<u32>
+        ensures place { result ≡ free_at self.now }
+        ensures fits { IfSome result (λ k. (k < 4096) × (owner self.now.members k ≡ self.now.id) × (self.now.front ≤ k) × (is_none (slot self.now k).learned ≡ true)) }
+    {
+        let mut inst = self.next_own(self.front);
+        while inst < 4096 {
+            if self.learned(inst).is_none() {
+                return Some(inst);
+            }
+            inst = self.next_own(inst + 1);
+        }
+        None
+    }
+
+    /// The first ticket that waits to be suggested again (Rule 4), if any: by rising instance, a ticket
+    /// waits where this server suggested it and learned no-op, and suggested it nowhere further on.
+    pub fn waiting(&self) -> Option<u32>
+        ensures { (w : History) → IsAt w self.now → result ≡ first_item (waiting w self.now.id) }
+    {
+        self.first_waiting()
+    }
+
+    fn first_waiting(&self) -> Option<u32>
+        ensures { result ≡ first_waiting self.now }
+    {
+        match self.first_lost() {
+            Some((_, ticket)) => Some(ticket),
+            None => None,
+        }
+    }
+
+    // The least instance at which a ticket waits, and the ticket.
+    fn first_lost(&self) -> Option<(u32, u32)>
+        ensures first { IfSome result (λ p. (p.0 < 4096) × (waits_at self.now p.0 ≡ Some p.1) × ((j : ℕ) → j < p.0 → waits_at self.now j ≡ None)) }
+        ensures none { IfNone result ((j : ℕ) → j < 4096 → waits_at self.now j ≡ None) }
+    {
+        let end = self.front.min(4096);
+        let mut inst = self.next_own(self.lost_from);
+        while inst < end {
+            if let Some(ticket) = self.waits(inst) {
+                return Some((inst, ticket));
+            }
+            inst = self.next_own(inst + 1);
+        }
+        None
+    }
+
+    // The ticket that waits since it lost an instance.
+    fn waits(&self, inst: u32) -> Option<u32>
+        requires { inst < 4096 }
+        ensures { result ≡ waits_at self.now inst }
+    {
+        let Some(ticket) = self.suggested(inst) else {
+            return None;
+        };
+        let is_lost = matches!(self.learned(inst), Some(Value::Noop));
+        if !is_lost || self.is_moved(inst, ticket) {
+            return None;
+        }
+        Some(ticket)
+    }
+
+    // The ticket of an own instance was suggested again further on.
+    fn is_moved(&self, inst: u32, ticket: u32) -> bool
+        requires small { inst < 4096 }
+        requires said { suggested_at self.now inst ≡ Some ticket }
+        ensures { result ≡ list_any (is_suggested_past self.now ticket inst) instances }
+    {
+        (inst as usize) < self.moved.len() && self.moved[inst as usize]
+    }
+
+    // The ticket that was suggested at an instance.
+    fn suggested(&self, inst: u32) -> Option<u32>
+        ensures { result ≡ suggested_at self.now inst }
+    {
+        if self.members.owner(inst) != self.id {
+            return None;
+        }
+        match self.read(inst).proposal() {
+            Some(Value::Ticket(ticket)) => Some(ticket),
+            Some(Value::Noop) => None,
+            None => None,
+        }
+    }
+
+    /// Suggests the first waiting ticket again (Rule 4), as [`Server::submit`] suggests a new one.
+    ///
+    /// # Errors
+    ///
+    /// In this order: `NothingWaiting` where [`Server::waiting`] is `None`, `InstancesFull` where no own
+    /// instance from the front on is unlearned, `MessagesFull` where `out` is at its limit, `NoMemory`.
+    pub fn retry(&mut self, out: &mut Outbox) -> Result<(), Refusal>
+        // In every reached history that this server is of, the call is the retry.
+        ensures step { OnOk result ((w : History) → IsAt w self.old → IsStep w (Retry self.old.id) self.old self.new out.old out.new) }
+        ensures refusal { (w : History) → IsAt w self.old → IsRefusedFor (refusal_of w (Retry self.old.id) self.old out.old) result }
+        ensures err { OnErr result (IsUndone self.old self.new out.old out.new) }
+        ensures members { self.new.members ≡ self.old.members }
+        ensures id { self.new.id ≡ self.old.id }
+        ensures limit { out.new.limit ≡ out.old.limit }
+    {
+        self.suggest_again(out)
+    }
+
+    fn suggest_again(&mut self, out: &mut Outbox) -> Result<(), Refusal>
+        ensures sent { OnOk result (out.new.messages ≡ out.old.messages ++ retry_sent self.old (first_waiting self.old)) }
+        ensures after { OnOk result (self.new ≡ after_retry self.old (first_waiting self.old)) }
+        ensures limit { out.new.limit ≡ out.old.limit }
+        ensures err { OnErr result (IsUndone self.old self.new out.old out.new) }
+        ensures refusal { IsRefusedFor (retry_cause self.old out.old (first_waiting self.old)) result }
+    {
+        match self.first_lost() {
+            Some((inst, ticket)) => {
+                self.lost_from = inst;
+                self.suggest(ticket, out)
+            }
+            None => {
+                self.lost_from = 4096;
+                Err(Refusal::NothingWaiting)
+            }
+        }
+    }
+}
+
+// Marks where a ticket was suggested before, and answers a number above it and all earlier ones.
+fn pass_on(
+    moved: &mut Vec<bool>,
+    slots: &Vec<Slot>,
+    members: Members,
+    id: u8,
+    front: u32,
+    ticket: u32,
+    next_ticket: u64,
+) -> Result<u64, Refusal>
+    requires member { id < members.count }
+    requires few { vec_len slots.now ≤ 4096 }
+    requires short { vec_len moved.old ≤ front }
+    requires unsaid { (j t : ℕ) → suggested_in members id j (slice_index_or slots.now.items j (new_slot members)) ≡ Some t → j < front }
+    requires tickets { (j t : ℕ) → j < 4096 → suggested_in members id j (slice_index_or slots.now.items j (new_slot members)) ≡ Some t → t < next_ticket }
+    ensures above { IfOk result (λ n. (next_ticket ≤ n) × (ticket < n)) }
+    ensures short { vec_len moved.new ≤ front }
+    ensures marked { OnOk result ((j : ℕ) → slice_index_or moved.new.items j false
+        ≡ (slice_index_or moved.old.items j false || is_ticket ticket (suggested_in members id j (slice_index_or slots.now.items j (new_slot members))))) }
+    ensures err { OnErr result (moved.new.items ≡ moved.old.items) }
+    ensures memory { IfErr result (λ r. r ≡ NoMemory) }
+{
+    if u64::from(ticket) >= next_ticket {
+        return Ok(u64::from(ticket) + 1);
+    }
+    let end = slots.len().min(front as usize);
+    unmarked_to(moved, end)?;
+    mark(moved, slots, members, id, end, ticket);
+    Ok(next_ticket)
+}
+
+// Makes places without a mark below a given one.
+fn unmarked_to(moved: &mut Vec<bool>, wanted: usize) -> Result<(), Refusal>
+    ensures reach { OnOk result (wanted ≤ vec_len moved.new) }
+    ensures few { (vec_len moved.new ≤ wanted) ⊎ (vec_len moved.new ≡ vec_len moved.old) }
+    ensures same { (j : ℕ) → slice_index_or moved.new.items j false ≡ slice_index_or moved.old.items j false }
+    ensures err { OnErr result (moved.new.items ≡ moved.old.items) }
+    ensures memory { IfErr result (λ r. r ≡ NoMemory) }
+{
+    if moved.len() >= wanted {
+        return Ok(());
+    }
+    if moved.reserve(wanted - moved.len()).is_err() {
+        return Err(Refusal::NoMemory);
+    }
+    while moved.len() < wanted {
+        moved.push_reserved(false);
+    }
+    Ok(())
+}
+
+// Marks the own instances below a place where a ticket was suggested.
+fn mark(moved: &mut Vec<bool>, slots: &Vec<Slot>, members: Members, id: u8, end: usize, ticket: u32)
+    requires member { id < members.count }
+    requires few { end ≤ 4096 }
+    requires slots { end ≤ vec_len slots.now }
+    requires moved { end ≤ vec_len moved.old }
+    ensures len { vec_len moved.new ≡ vec_len moved.old }
+    ensures marked { (j : ℕ) → j < end → slice_index_or moved.new.items j false
+        ≡ (slice_index_or moved.old.items j false || is_ticket ticket (suggested_in members id j (slice_index_or slots.now.items j (new_slot members)))) }
+    ensures rest { (j : ℕ) → end ≤ j → slice_index_or moved.new.items j false ≡ slice_index_or moved.old.items j false }
+{
+    let mut inst = members.first_owned(id, 0);
+    while (inst as usize) < end {
+        if is_of(&slots[inst as usize], ticket) {
+            moved[inst as usize] = true;
+        }
+        inst = members.first_owned(id, inst + 1);
+    }
+}
+
+// The ticket was suggested at the slot.
+fn is_of(slot: &Slot, ticket: u32) -> bool
+    ensures { result ≡ is_ticket ticket (ticket_of slot.now.proposal) }
+{
+    match slot.proposal() {
+        Some(Value::Ticket(other)) => other == ticket,
+        Some(Value::Noop) => false,
+        None => false,
+    }
+}

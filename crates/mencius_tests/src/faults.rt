@@ -1,0 +1,217 @@
+//! What is wrong with truncated and hostile scenarios. Nothing is written for any of them.
+
+use crate::fixtures::{Script, replay_from, replayed};
+use mencius_app::{AppFault, Std};
+use std::alloc::{AllocError, Global};
+use std::io;
+use std::io::Read;
+use std::process::Abort;
+use std::test::Fail;
+
+const SCENARIO: &str = "{\"version\":1,\"servers\":1,\"events\":[\"submit 0 1.0 set a x\",\
+    \"deliver 0 0\",\"deliver 1 0\",\"execute 0\"]}";
+
+// The fault of a scenario, which writes nothing.
+fn fault_of<R: Abort>(rt: &R, alloc: Global, scenario: &[u8]) -> Option<AppFault> {
+    let mut written = Vec::new(alloc);
+    match replayed(alloc, scenario, &mut written) {
+        Ok(()) => None,
+        Err(fault) => {
+            assert!(rt; written.is_empty());
+            Some(fault)
+        }
+    }
+}
+
+#[test]
+fn scenarios(rt: HostRuntime) -> Result<(), Fail> {
+    let json = Some(AppFault::NotJson);
+    let shape = Some(AppFault::BadShape);
+    let limit = Some(AppFault::BadLimit);
+    let rows = [
+        (SCENARIO, None),
+        ("{\"version\":1,\"servers\":1,\"events\":[]}", None),
+        (
+            " {\n\"events\": [ ], \"servers\": 1, \"version\": 1 }\n",
+            None,
+        ),
+        ("{\"version\":1,\"servers\":0,\"events\":[]}", limit),
+        ("{\"version\":1,\"servers\":8,\"events\":[]}", limit),
+        ("{\"version\":1,", json),
+        ("{\"version\":1,\"servers\":3}", shape),
+        ("{\"version\":1,\"servers\":3,\"events\":[]}x", json),
+        (
+            "{\"version\":1,\"servers\":3,\"events\":[],\"name\":0}",
+            shape,
+        ),
+        ("{\"version\":1,\"servers\":3,\"events\":{}}", shape),
+        ("{\"version\":1,\"servers\":3,\"events\":[7]}", shape),
+        ("{\"version\":1,\"servers\":3.0,\"events\":[]}", shape),
+        ("{\"version\":1,\"servers\":3.5,\"events\":[]}", shape),
+        ("{\"version\":1,\"servers\":1e0,\"events\":[]}", shape),
+        ("{\"version\":1,\"servers\":-1,\"events\":[]}", shape),
+        ("{\"version\":1,\"servers\":-0,\"events\":[]}", shape),
+        ("{\"version\":1,\"servers\":03,\"events\":[]}", json),
+        ("{\"version\":1,\"servers\":\"3\",\"events\":[]}", shape),
+        ("{\"version\":1,\"servers\":9,\"events\":[\"nop\"]}", shape),
+        ("{\"version\":1e309,\"servers\":3,\"events\":[]}", json),
+        (
+            "{\"version\":18446744073709551615,\"servers\":3,\"events\":[]}",
+            limit,
+        ),
+        (
+            "{\"version\":18446744073709551616,\"servers\":3,\"events\":[]}",
+            shape,
+        ),
+        ("{\"version\":3,\"servers\":3,\"events\":[\"nop\"]}", shape),
+        (
+            "{\"version\":2,\"version\":1,\"servers\":3,\"events\":[]}",
+            None,
+        ),
+        (
+            "{\"version\":1,\"version\":3,\"servers\":3,\"events\":[]}",
+            limit,
+        ),
+        ("[]", shape),
+        ("7", shape),
+    ];
+    for (scenario, want) in rows {
+        let fault = fault_of(&rt, rt.alloc(), scenario.as_bytes());
+        assert_eq!(rt; fault, want, "at {scenario}");
+    }
+    Ok(())
+}
+
+#[test]
+fn events(rt: HostRuntime) -> Result<(), Fail> {
+    let shape = Some(AppFault::BadShape);
+    let limit = Some(AppFault::BadLimit);
+    let key = "kkkkkkkkkkkkkkkkkkkkkkkkkkkkkkkkkkkkkkkkkkkkkkkkkkkkkkkkkkkkkkkk";
+    assert_eq!(rt; key.len(), 64);
+    let text = format!(in rt.alloc(); "{key}{key}{key}{key}")?;
+    let long_key = format!(in rt.alloc(); "submit 0 1.0 get {key}")?;
+    let longer_key = format!(in rt.alloc(); "submit 0 1.0 get {key}k")?;
+    let long_text = format!(in rt.alloc(); "submit 0 1.0 set a {text}")?;
+    let longer_text = format!(in rt.alloc(); "submit 0 1.0 set a {text}k")?;
+    let rows = [
+        ("submit 0 1.0 set a x", None),
+        ("submit 0 1.0 set a ", None),
+        ("submit 0 1.0 set a", shape),
+        ("submit 0 1.0 set a x y", shape),
+        ("submit 0 1.0 set a x ", shape),
+        ("submit 0 1.0 set  x", limit),
+        ("submit 0 1.0 set a  x", shape),
+        ("submit 0 1.0 get", shape),
+        ("submit 0 1.0 get ", limit),
+        ("submit 0 1.0 del a", None),
+        ("submit 0 1 del a", shape),
+        ("submit 0 1.0.0 del a", shape),
+        ("submit 0 01.0 del a", shape),
+        ("submit 0 4294967295.4294967295 del a", None),
+        ("submit 0 4294967296.0 del a", limit),
+        ("submit 0 1.0 del a!", shape),
+        ("submit 0 4294967296.0 del a!", shape),
+        ("submit 0 1.0 put a x", shape),
+        (long_key.as_str(), None),
+        (longer_key.as_str(), limit),
+        (long_text.as_str(), None),
+        (longer_text.as_str(), limit),
+        ("deliver 00 0", shape),
+        ("deliver  0 0", shape),
+        ("deliver 0", shape),
+        ("deliver 4294967295 255", None),
+        ("deliver 4294967296 0", limit),
+        ("deliver 0 256", limit),
+        ("deliver 99999999999999999999999999 0", limit),
+        ("deliver 99999999999999999999999999 x", shape),
+        ("deliver +0 0", shape),
+        ("lose 0 0", None),
+        ("lose 0", shape),
+        ("suspect 0 1", None),
+        ("suspect 0 1 2", shape),
+        ("retry 0", None),
+        ("retry", shape),
+        ("execute 0", None),
+        ("Execute 0", shape),
+        (" execute 0", shape),
+        ("execute 0 ", shape),
+        ("", shape),
+    ];
+    for (event, want) in rows {
+        let mut script = Script::new(rt.alloc(), 1)?;
+        script.add(event)?;
+        let fault = fault_of(&rt, rt.alloc(), script.finish()?.as_slice());
+        assert_eq!(rt; fault, want, "at {event}");
+    }
+    Ok(())
+}
+
+#[test]
+fn cut_short(rt: HostRuntime) -> Result<(), Fail> {
+    let bytes = SCENARIO.as_bytes();
+    for n in 0..bytes.len() {
+        let fault = fault_of(&rt, rt.alloc(), &bytes[..n]);
+        assert_eq!(rt; fault, Some(AppFault::NotJson), "at {n}");
+    }
+    Ok(())
+}
+
+// So many opening brackets, and as many closing ones.
+fn nested(alloc: Global, depth: usize) -> Result<Vec<u8>, AllocError> {
+    let mut text = Vec::new(alloc);
+    for _ in 0..depth {
+        text.push(b'[')?;
+    }
+    for _ in 0..depth {
+        text.push(b']')?;
+    }
+    Ok(text)
+}
+
+#[test]
+fn no_text_and_deep_nesting(rt: HostRuntime) -> Result<(), Fail> {
+    let mut bytes = Vec::new(rt.alloc());
+    bytes.push(255)?;
+    bytes.extend_from_slice(SCENARIO.as_bytes())?;
+    let fault = fault_of(&rt, rt.alloc(), bytes.as_slice());
+    assert_eq!(rt; fault, Some(AppFault::NotJson));
+    for (depth, want) in [(127, AppFault::BadShape), (128, AppFault::NotJson)] {
+        let text = nested(rt.alloc(), depth)?;
+        let fault = fault_of(&rt, rt.alloc(), text.as_slice());
+        assert_eq!(rt; fault, Some(want), "at {depth}");
+    }
+    Ok(())
+}
+
+// So many spaces.
+#[derive(Drop)]
+struct Spaces {
+    left: usize,
+}
+
+impl Read for Spaces {
+    fn read(&mut self, buf: &mut [u8]) -> io::Result<usize> {
+        let n = self.left.min(buf.len());
+        self.left -= n;
+        for b in &mut buf[..n] {
+            *b = b' ';
+        }
+        Ok(n)
+    }
+}
+
+#[test]
+fn longest_inputs(rt: HostRuntime) -> Result<(), Fail> {
+    for (left, want) in [
+        (16_777_216, AppFault::NotJson),
+        (16_777_217, AppFault::BadLimit),
+        (usize::MAX, AppFault::BadLimit),
+    ] {
+        let mut source = Std::new(Spaces { left });
+        let mut written = Vec::new(rt.alloc());
+        let answer = replay_from(rt.alloc(), &mut source, &mut written);
+        assert_eq!(rt; answer, Err(want), "at {left}");
+        assert!(rt; written.is_empty());
+    }
+    Ok(())
+}

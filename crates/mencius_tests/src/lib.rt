@@ -1,0 +1,18 @@
+//! Tests of the whole program: worked schedules, the greatest ones that a cluster takes, hostile
+//! input, failing readers and writers, and the texts of the command line.
+#![tactic(auto)]
+
+#[cfg(test)]
+mod command_line;
+#[cfg(test)]
+mod faults;
+#[cfg(test)]
+mod fixtures;
+#[cfg(test)]
+mod limits;
+#[cfg(test)]
+mod schedules;
+#[cfg(test)]
+mod streams;
+#[cfg(test)]
+mod worked;
