@@ -5,9 +5,13 @@
 #[cfg(test)]
 mod command_line;
 #[cfg(test)]
+mod courses;
+#[cfg(test)]
 mod faults;
 #[cfg(test)]
 mod fixtures;
+#[cfg(test)]
+mod journal_again;
 #[cfg(test)]
 mod limits;
 #[cfg(test)]
