@@ -19,4 +19,6 @@ mod schedules;
 #[cfg(test)]
 mod streams;
 #[cfg(test)]
+mod walks;
+#[cfg(test)]
 mod worked;
