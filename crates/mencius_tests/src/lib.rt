@@ -4,6 +4,7 @@
 
 #[cfg(test)]
 mod command_line;
+pub mod conclusions;
 #[cfg(test)]
 mod courses;
 #[cfg(test)]
