@@ -4,15 +4,22 @@
 
 #[cfg(test)]
 mod command_line;
+pub mod conclusions;
+#[cfg(test)]
+mod courses;
 #[cfg(test)]
 mod faults;
 #[cfg(test)]
 mod fixtures;
+#[cfg(test)]
+mod journal_again;
 #[cfg(test)]
 mod limits;
 #[cfg(test)]
 mod schedules;
 #[cfg(test)]
 mod streams;
+#[cfg(test)]
+mod walks;
 #[cfg(test)]
 mod worked;

@@ -1,0 +1,161 @@
+//! What a caller can conclude from the public clauses of a cluster and its laws alone.
+//!
+//! Nothing here sees inside a cluster. The proofs rest on what the calls promise: that a cluster's
+//! journal replays, that a step puts its event at the journal's end, and what the laws say of each
+//! journal that replays.
+
+ghost use Rattle.std.specs.Prelude.{List, ◌≡◌, ◌≤◌, ◌<◌, ◌⊎◌, ◌++◌, ◌↔◌, OnOk, OnErr, IfOk, IfErr, IfSome, IsErrOf, IsSome};
+ghost use Rattle.mencius_base.specs.declared.event.Event.{Event};
+ghost use Rattle.mencius_base.specs.declared.refusal.Refusal.TheVariants.{BadServer, NoMemory};
+ghost use Rattle.mencius_cluster.specs.Executed.{IsComparable, IsPrefix, executed};
+ghost use Rattle.mencius_cluster.specs.State.{world_of};
+ghost use Rattle.mencius_app.specs.Replay.{accepted_from};
+
+use mencius_base::{Event, Refusal};
+use mencius_cluster::{Cluster, laws};
+use std::alloc::Global;
+
+/// The history of one server, and the history of one server after some more events.
+#[derive(Debug, Drop)]
+pub struct Noted {
+    /// Tickets in the order of execution.
+    pub earlier: Vec<u32>,
+    /// The same after the events.
+    pub later: Vec<u32>,
+}
+
+/// Notes the history of a server, steps the cluster through the events, passing over those that it
+/// refuses, and then notes the history of the same or another server. Of the two histories one
+/// begins the other, and where both are one server's the earlier begins the later.
+///
+/// `BadServer` comes where one of the servers is no member, and then nothing has changed. After
+/// `NoMemory` the cluster may have taken some of the events.
+pub fn note_across(
+    alloc: Global,
+    cluster: &mut Cluster,
+    server: u8,
+    events: Vec<Event>,
+    other: u8,
+) -> Result<Noted, Refusal>
+    // Which histories were noted, and what became of the cluster.
+    ensures inside { OnOk result ((server < cluster.old.members.count) × (other < cluster.old.members.count)) }
+    ensures earlier { IfOk result (λ n. n.earlier.items ≡ executed (world_of cluster.old) server) }
+    ensures later { IfOk result (λ n. n.later.items ≡ executed (world_of cluster.new) other) }
+    ensures journal { OnOk result (cluster.new.journal ≡ cluster.old.journal ++ accepted_from cluster.old.members (world_of cluster.old) events.items) }
+    ensures members { cluster.new.members ≡ cluster.old.members }
+
+    // What a caller concludes.
+    ensures comparable { IfOk result (λ n. IsComparable n.earlier.items n.later.items) }
+    ensures grows { IfOk result (λ n. server ≡ other → IsPrefix n.earlier.items n.later.items) }
+
+    // The errors.
+    ensures refusal { IfErr result (λ r. (r ≡ BadServer) ⊎ (r ≡ NoMemory)) }
+    ensures outside { IsErrOf result BadServer → (cluster.old.members.count ≤ server) ⊎ (cluster.old.members.count ≤ other) }
+    ensures nothing { IsErrOf result BadServer → cluster.new ≡ cluster.old }
+    ensures taken { OnErr result ((taken : List Event) × (cluster.new.journal ≡ cluster.old.journal ++ taken)) }
+{
+    laws::agreement();
+    laws::growth();
+    let servers = cluster.servers();
+    if server >= servers || other >= servers {
+        return Err(Refusal::BadServer);
+    }
+    cluster.members();
+    let earlier = cluster.history(server).unwrap_or(&[]).to_vec(alloc)?;
+    step_all(cluster, events)?;
+    cluster.members();
+    let later = cluster.history(other).unwrap_or(&[]).to_vec(alloc)?;
+    Ok(Noted { earlier, later })
+}
+
+/// The histories of two servers at one moment, of which one begins the other, or `None` where one
+/// of them is no member.
+pub fn histories(cluster: &Cluster, first: u8, second: u8) -> Option<(&[u32], &[u32])>
+    ensures some { IsSome result ↔ ((first < cluster.now.members.count) × (second < cluster.now.members.count)) }
+    ensures first { IfSome result (λ h. h.0.now ≡ executed (world_of cluster.now) first) }
+    ensures second { IfSome result (λ h. h.1.now ≡ executed (world_of cluster.now) second) }
+    ensures comparable { IfSome result (λ h. IsComparable h.0.now h.1.now) }
+{
+    laws::agreement();
+    cluster.members();
+    Some((cluster.history(first)?, cluster.history(second)?))
+}
+
+// Steps a cluster through the events, passing over those that it refuses.
+fn step_all(cluster: &mut Cluster, events: Vec<Event>) -> Result<(), Refusal>
+    ensures journal { OnOk result (cluster.new.journal ≡ cluster.old.journal ++ accepted_from cluster.old.members (world_of cluster.old) events.items) }
+    ensures members { cluster.new.members ≡ cluster.old.members }
+    ensures taken { OnErr result ((taken : List Event) × (cluster.new.journal ≡ cluster.old.journal ++ taken)) }
+    ensures memory { IfErr result (λ r. r ≡ NoMemory) }
+{
+    for event in events {
+        match cluster.step(event) {
+            Ok(_) => {}
+            Err(refusal) => {
+                if refusal == Refusal::NoMemory {
+                    return Err(refusal);
+                }
+            }
+        }
+    }
+    Ok(())
+}
+
+#[cfg(test)]
+mod tests {
+    use super::{histories, note_across};
+    use crate::courses::{named, new_cluster, scenario_of};
+    use mencius_base::Refusal;
+    use std::panic::Expect;
+    use std::test::Fail;
+
+    // How many events come first, two servers, the first one's history then, and the second one's
+    // history after all events. Server 0 executes ticket 0, and later server 1 both tickets.
+    const ROWS: [(usize, u8, u8, &[u32], &[u32]); 5] = [
+        (0, 1, 1, &[], &[0, 1]),
+        (6, 0, 1, &[0], &[0, 1]),
+        (6, 0, 2, &[0], &[]),
+        (13, 1, 1, &[0], &[0, 1]),
+        (14, 1, 0, &[0, 1], &[0]),
+    ];
+
+    #[test]
+    fn noted_histories(rt: HostRuntime) -> Result<(), Fail> {
+        let alloc = rt.alloc();
+        for (first, server, other, earlier, later) in ROWS {
+            let scenario = scenario_of(&rt, alloc, named(&rt, "get_at_another_server"))?;
+            let mut cluster = new_cluster(&rt, alloc, scenario.members);
+            let mut rest = Vec::new(alloc);
+            for (place, event) in scenario.events.into_iter().enumerate() {
+                if place < first {
+                    assert!(rt; cluster.step(event).is_ok());
+                } else {
+                    rest.push(event)?;
+                }
+            }
+            let noted = note_across(alloc, &mut cluster, server, rest, other).expect(&rt, "memory");
+            assert!(rt; noted.earlier.as_slice() == earlier, "after {first}");
+            assert!(rt; noted.later.as_slice() == later, "after {first}");
+            assert_eq!(rt; cluster.events(), 14);
+            let (longer, shorter) = histories(&cluster, 1, 0).expect(&rt, "members");
+            assert!(rt; longer == [0, 1].as_slice());
+            assert!(rt; shorter == [0].as_slice());
+            assert!(rt; histories(&cluster, 1, 3).is_none());
+        }
+        Ok(())
+    }
+
+    #[test]
+    fn no_such_server(rt: HostRuntime) -> Result<(), Fail> {
+        let alloc = rt.alloc();
+        for (server, other) in [(3, 0), (0, 3), (3, 3)] {
+            let scenario = scenario_of(&rt, alloc, named(&rt, "get_at_another_server"))?;
+            let mut cluster = new_cluster(&rt, alloc, scenario.members);
+            let answer = note_across(alloc, &mut cluster, server, scenario.events, other);
+            let refusal = answer.expect_err(&rt, "no such server");
+            assert_eq!(rt; refusal, Refusal::BadServer);
+            assert_eq!(rt; cluster.events(), 0);
+        }
+        Ok(())
+    }
+}
