@@ -6,7 +6,7 @@ ghost use Rattle.mencius_app.specs.Ends.{HasFailed, WritesFront};
 ghost use Rattle.mencius_app.specs.Report.{answer_text, counts_line, history_text, id_text, reply_line, reply_lines, reply_of_command, report_text, server_line, server_lines, spaced_id};
 ghost use Rattle.mencius_base.specs.History.{submitted};
 ghost use Rattle.mencius_cluster.specs.Answers.{reply_of};
-ghost use Rattle.mencius_cluster.specs.State.{world_of};
+ghost use Rattle.mencius_cluster.specs.State.{history_of};
 
 use crate::fault::AppFault;
 use crate::sink::Sink;
@@ -17,10 +17,10 @@ use std::alloc::{AllocError, Global};
 
 /// Writes the report of a cluster, whole.
 pub fn report<W: Sink>(alloc: Global, cluster: &Cluster, sink: &mut W) -> Result<(), AppFault>
-    ensures whole { OnOk result (Appends (W.contents sink.old) (W.contents sink.new) (report_text cluster.now.members (world_of cluster.now))) }
+    ensures whole { OnOk result (Appends (W.contents sink.old) (W.contents sink.new) (report_text cluster.now.members (history_of cluster.now))) }
     ensures faults { IfErr result (λ f. (f ≡ AppFault.WriteFailed) ⊎ (f ≡ AppFault.NoMemory)) }
     ensures failed { IsErrOf result AppFault.WriteFailed → HasFailed (W.failed sink.old) (W.failed sink.new) }
-    ensures front { IsErrOf result AppFault.WriteFailed → WritesFront (W.contents sink.old) (W.contents sink.new) (report_text cluster.now.members (world_of cluster.now)) }
+    ensures front { IsErrOf result AppFault.WriteFailed → WritesFront (W.contents sink.old) (W.contents sink.new) (report_text cluster.now.members (history_of cluster.now)) }
     ensures nothing { IsErrOf result AppFault.NoMemory → sink.new ≡ sink.old }
 {
     let mut text = String::new(alloc);
@@ -31,7 +31,7 @@ pub fn report<W: Sink>(alloc: Global, cluster: &Cluster, sink: &mut W) -> Result
 /// Adds the report of a cluster to a text.
 #[tactic(auto, unfolding(crate::specs::Report::report_text))]
 pub(crate) fn push_report(text: &mut String, cluster: &Cluster) -> Result<(), AllocError>
-    ensures { OnOk result (string_bytes text.new ≡ string_bytes text.old ++ report_text cluster.now.members (world_of cluster.now)) }
+    ensures { OnOk result (string_bytes text.new ≡ string_bytes text.old ++ report_text cluster.now.members (history_of cluster.now)) }
 {
     push_counts(text, cluster)?;
     push_servers(text, cluster)?;
@@ -39,7 +39,7 @@ pub(crate) fn push_report(text: &mut String, cluster: &Cluster) -> Result<(), Al
 }
 
 fn push_counts(text: &mut String, cluster: &Cluster) -> Result<(), AllocError>
-    ensures { OnOk result (string_bytes text.new ≡ string_bytes text.old ++ counts_line cluster.now.members (world_of cluster.now)) }
+    ensures { OnOk result (string_bytes text.new ≡ string_bytes text.old ++ counts_line cluster.now.members (history_of cluster.now)) }
 {
     let servers = cluster.servers();
     let messages = cluster.messages();
@@ -51,7 +51,7 @@ fn push_counts(text: &mut String, cluster: &Cluster) -> Result<(), AllocError>
 }
 
 fn push_servers(text: &mut String, cluster: &Cluster) -> Result<(), AllocError>
-    ensures { OnOk result (string_bytes text.new ≡ string_bytes text.old ++ server_lines cluster.now.members (world_of cluster.now) cluster.now.members.count) }
+    ensures { OnOk result (string_bytes text.new ≡ string_bytes text.old ++ server_lines cluster.now.members (history_of cluster.now) cluster.now.members.count) }
 {
     for server in 0..cluster.servers() {
         push_server(text, cluster, server)?;
@@ -61,7 +61,7 @@ fn push_servers(text: &mut String, cluster: &Cluster) -> Result<(), AllocError>
 
 fn push_server(text: &mut String, cluster: &Cluster, server: u8) -> Result<(), AllocError>
     requires { server < cluster.now.members.count }
-    ensures { OnOk result (string_bytes text.new ≡ string_bytes text.old ++ server_line cluster.now.members (world_of cluster.now) server) }
+    ensures { OnOk result (string_bytes text.new ≡ string_bytes text.old ++ server_line cluster.now.members (history_of cluster.now) server) }
 {
     let front = cluster.front(server).unwrap_or(0);
     let done = cluster.done(server).unwrap_or(0);
@@ -71,7 +71,7 @@ fn push_server(text: &mut String, cluster: &Cluster, server: u8) -> Result<(), A
 }
 
 fn push_history(text: &mut String, cluster: &Cluster, tickets: &[u32]) -> Result<(), AllocError>
-    ensures { OnOk result (string_bytes text.new ≡ string_bytes text.old ++ history_text (world_of cluster.now) tickets.now) }
+    ensures { OnOk result (string_bytes text.new ≡ string_bytes text.old ++ history_text (history_of cluster.now) tickets.now) }
 {
     if tickets.is_empty() {
         return text.push_str(" -");
@@ -94,7 +94,7 @@ fn push_id(text: &mut String, id: CommandId) -> Result<(), AllocError>
 }
 
 fn push_replies(text: &mut String, cluster: &Cluster) -> Result<(), AllocError>
-    ensures { OnOk result (string_bytes text.new ≡ string_bytes text.old ++ reply_lines (world_of cluster.now) (length (submitted (world_of cluster.now)))) }
+    ensures { OnOk result (string_bytes text.new ≡ string_bytes text.old ++ reply_lines (history_of cluster.now) (length (submitted (history_of cluster.now)))) }
 {
     for ticket in 0..cluster.commands() {
         push_reply(text, cluster, ticket)?;
@@ -103,7 +103,7 @@ fn push_replies(text: &mut String, cluster: &Cluster) -> Result<(), AllocError>
 }
 
 fn push_reply(text: &mut String, cluster: &Cluster, ticket: u32) -> Result<(), AllocError>
-    ensures { OnOk result (string_bytes text.new ≡ string_bytes text.old ++ reply_line (world_of cluster.now) ticket) }
+    ensures { OnOk result (string_bytes text.new ≡ string_bytes text.old ++ reply_line (history_of cluster.now) ticket) }
 {
     let Some(command) = cluster.command(ticket) else {
         return Ok(());
@@ -117,7 +117,7 @@ fn push_reply(text: &mut String, cluster: &Cluster, ticket: u32) -> Result<(), A
 }
 
 fn push_answer(text: &mut String, cluster: &Cluster, id: CommandId) -> Result<(), AllocError>
-    ensures { OnOk result (string_bytes text.new ≡ string_bytes text.old ++ answer_text (reply_of (world_of cluster.now) id)) }
+    ensures { OnOk result (string_bytes text.new ≡ string_bytes text.old ++ answer_text (reply_of (history_of cluster.now) id)) }
 {
     match cluster.reply(id) {
         Some(Answered::Given(Some(former))) => write!(text, "={former}"),

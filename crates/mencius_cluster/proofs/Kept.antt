@@ -19,7 +19,7 @@ use Rattle.mencius_server.specs.Reached.{with_event}
 use Rattle.map_exec.specs.Store.{out, store_after}
 use Rattle.map_exec.specs.State.{ExecutorState}
 use Rattle.mencius_cluster.specs.Answers.{Is, Reply, command_at, commands_of, executor_at, place_of, reply_at, reply_from}
-use Rattle.mencius_cluster.proofs.Worlds.{done-event, learned-event, submitted-event}
+use Rattle.mencius_cluster.proofs.Courses.{done-event, learned-event, submitted-event}
 use Rattle.mencius_cluster.proofs.Told.{IsTold}
 
 -- ---- plain lists

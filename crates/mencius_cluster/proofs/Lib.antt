@@ -10,7 +10,7 @@ pub mod Replying
 pub mod Theorems
 pub mod Worked
 pub mod Traces
-pub mod Worlds
+pub mod Courses
 pub mod Journals
 pub mod Told
 pub mod Kept

@@ -17,7 +17,7 @@ use Rattle.mencius_server.specs.State.{ServerState}
 use Rattle.mencius_server.specs.Reached.{server_at}
 use Rattle.map_exec.specs.State.{ExecutorState}
 use Rattle.mencius_cluster.specs.declared.submission.Submission.{Submission}
-use Rattle.mencius_cluster.specs.State.{entries_of, world_or_none}
+use Rattle.mencius_cluster.specs.State.{entries_of, history_or_none}
 use Rattle.mencius_cluster.specs.Answers.{executor_at, reply_at, bytes_in}
 
 -- an identity, with what is stored of its command
@@ -73,6 +73,6 @@ pub record IsCluster (m : Membership) (journal : List Event) (t : Tables) : Type
   pub some : 1 ≤ m.count
   pub few : m.count ≤ 7
   pub room : length t.entries ≤ most_events
-  pub replays : replay m journal ≡ Ok (world_or_none (replay m journal))
+  pub replays : replay m journal ≡ Ok (history_or_none (replay m journal))
   pub stored : t.entries ≡ entries_of journal
-  pub tables : AreTables m (world_or_none (replay m journal)) t
+  pub tables : AreTables m (history_or_none (replay m journal)) t

@@ -8,7 +8,7 @@ ghost use Rattle.std.specs.Prelude.{List, ◌≡◌, ◌≤◌, ◌<◌, ◌⊎�
 ghost use Rattle.mencius_base.specs.declared.event.Event.{Event};
 ghost use Rattle.mencius_base.specs.declared.refusal.Refusal.TheVariants.{BadServer, NoMemory};
 ghost use Rattle.mencius_cluster.specs.Executed.{IsComparable, IsPrefix, executed};
-ghost use Rattle.mencius_cluster.specs.State.{world_of};
+ghost use Rattle.mencius_cluster.specs.State.{history_of};
 ghost use Rattle.mencius_app.specs.Replay.{accepted_from};
 
 use mencius_base::{Event, Refusal};
@@ -39,9 +39,9 @@ pub fn note_across(
 ) -> Result<Noted, Refusal>
     // Which histories were noted, and what became of the cluster.
     ensures inside { OnOk result ((server < cluster.old.members.count) × (other < cluster.old.members.count)) }
-    ensures earlier { IfOk result (λ n. n.earlier.items ≡ executed (world_of cluster.old) server) }
-    ensures later { IfOk result (λ n. n.later.items ≡ executed (world_of cluster.new) other) }
-    ensures journal { OnOk result (cluster.new.journal ≡ cluster.old.journal ++ accepted_from cluster.old.members (world_of cluster.old) events.items) }
+    ensures earlier { IfOk result (λ n. n.earlier.items ≡ executed (history_of cluster.old) server) }
+    ensures later { IfOk result (λ n. n.later.items ≡ executed (history_of cluster.new) other) }
+    ensures journal { OnOk result (cluster.new.journal ≡ cluster.old.journal ++ accepted_from cluster.old.members (history_of cluster.old) events.items) }
     ensures members { cluster.new.members ≡ cluster.old.members }
 
     // What a caller concludes.
@@ -72,8 +72,8 @@ pub fn note_across(
 /// of them is no member.
 pub fn histories(cluster: &Cluster, first: u8, second: u8) -> Option<(&[u32], &[u32])>
     ensures some { IsSome result ↔ ((first < cluster.now.members.count) × (second < cluster.now.members.count)) }
-    ensures first { IfSome result (λ h. h.0.now ≡ executed (world_of cluster.now) first) }
-    ensures second { IfSome result (λ h. h.1.now ≡ executed (world_of cluster.now) second) }
+    ensures first { IfSome result (λ h. h.0.now ≡ executed (history_of cluster.now) first) }
+    ensures second { IfSome result (λ h. h.1.now ≡ executed (history_of cluster.now) second) }
     ensures comparable { IfSome result (λ h. IsComparable h.0.now h.1.now) }
 {
     laws::agreement();
@@ -83,7 +83,7 @@ pub fn histories(cluster: &Cluster, first: u8, second: u8) -> Option<(&[u32], &[
 
 // Steps a cluster through the events, passing over those that it refuses.
 fn step_all(cluster: &mut Cluster, events: Vec<Event>) -> Result<(), Refusal>
-    ensures journal { OnOk result (cluster.new.journal ≡ cluster.old.journal ++ accepted_from cluster.old.members (world_of cluster.old) events.items) }
+    ensures journal { OnOk result (cluster.new.journal ≡ cluster.old.journal ++ accepted_from cluster.old.members (history_of cluster.old) events.items) }
     ensures members { cluster.new.members ≡ cluster.old.members }
     ensures taken { OnErr result ((taken : List Event) × (cluster.new.journal ≡ cluster.old.journal ++ taken)) }
     ensures memory { IfErr result (λ r. r ≡ NoMemory) }

@@ -1,8 +1,8 @@
 use Rattle.mencius_app.specs.Report.{reply_line}
-use Rattle.mencius_cluster.specs.State.{world_of}
+use Rattle.mencius_cluster.specs.State.{history_of}
 use Rattle.mencius_app.proofs.Rounds.{texts_further}
 use Rattle.mencius_app.proofs.printed.push_replies.Goals as goal
 
 pub loop-ticket-preserved : goal.loop-ticket-preserved
 loop-ticket-preserved c =
-    texts_further (reply_line (world_of c.args.cluster.now)) c.loop-ticket.ticket _ _ _ c.loop-ticket.invariant c.in_ok-push_reply.ensures
+    texts_further (reply_line (history_of c.args.cluster.now)) c.loop-ticket.ticket _ _ _ c.loop-ticket.invariant c.in_ok-push_reply.ensures
