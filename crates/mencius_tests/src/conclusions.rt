@@ -15,12 +15,12 @@ use mencius_base::{Event, Refusal};
 use mencius_cluster::{Cluster, laws};
 use std::alloc::Global;
 
-/// The history of one server, and the history of one server after some more events.
+/// The history of a server, and the history of the same or another server after some more events.
 #[derive(Debug, Drop)]
 pub struct Noted {
-    /// Tickets in the order of execution.
+    /// The tickets that the first server had executed before the events, in order.
     pub earlier: Vec<u32>,
-    /// The same after the events.
+    /// The tickets that the second server had executed after them, in order.
     pub later: Vec<u32>,
 }
 
@@ -54,6 +54,7 @@ pub fn note_across(
     ensures nothing { IsErrOf result BadServer → cluster.new ≡ cluster.old }
     ensures taken { OnErr result ((taken : List Event) × (cluster.new.journal ≡ cluster.old.journal ++ taken)) }
 {
+    // The laws, and `members` below, are called for their promises alone.
     laws::agreement();
     laws::growth();
     let servers = cluster.servers();
@@ -76,6 +77,7 @@ pub fn histories(cluster: &Cluster, first: u8, second: u8) -> Option<(&[u32], &[
     ensures second { IfSome result (λ h. h.1.now ≡ executed (history_of cluster.now) second) }
     ensures comparable { IfSome result (λ h. IsComparable h.0.now h.1.now) }
 {
+    // Called for their promises alone.
     laws::agreement();
     cluster.members();
     Some((cluster.history(first)?, cluster.history(second)?))

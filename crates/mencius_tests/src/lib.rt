@@ -1,5 +1,9 @@
-//! Tests of the whole program: worked schedules, the greatest ones that a cluster takes, hostile
-//! input, failing readers and writers, and the texts of the command line.
+//! Tests of the whole program: worked schedules, the greatest ones that a cluster takes, journals
+//! stepped through again, hostile input, failing readers and writers, and the texts of the command
+//! line.
+//!
+//! The module [`conclusions`] is no test: it proves what a caller of a cluster can conclude from
+//! public clauses alone.
 #![tactic(auto)]
 
 #[cfg(test)]
