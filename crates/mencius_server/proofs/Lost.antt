@@ -15,6 +15,7 @@ use Rattle.mencius_server.specs.Machine.{after_submit, is_suggested_past, is_tic
 use Rattle.mencius_server.specs.Server.{is_noop, ticket_of, unless}
 use Rattle.mencius_server.specs.State.{IsServer, ServerState, slot}
 
+-- two tests that follow from each other
 pub both_ways : (a b : Bool) → (a ≡ true → b ≡ true) → (b ≡ true → a ≡ true) → a ≡ b
 both_ways true b f g = sym (f refl)
 both_ways false true f g = g refl
@@ -59,7 +60,7 @@ waits_none s v said j small none since = ap (waits_with v j) (said.same j small)
 
 -- ---- one more suggestion
 
-ticket_is : (t : ℕ) (o : Option ℕ) → is_ticket t o ≡ true → o ≡ Some t
+pub ticket_is : (t : ℕ) (o : Option ℕ) → is_ticket t o ≡ true → o ≡ Some t
 ticket_is t None h = absurd (cc)
 ticket_is t (Some u) h = ap Some (eqb-true u t h)
 

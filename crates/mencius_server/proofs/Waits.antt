@@ -12,6 +12,7 @@ use Rattle.mencius_server.specs.Next.{IsReached}
 use Rattle.mencius_base.specs.Members.{first_item}
 use Rattle.mencius_server.specs.Server.{ticket_of}
 use Rattle.coord_paxos.proofs.Below.{any-instances, any-instances_found, filter_map-instances_same}
+use Rattle.mencius_server.proofs.Lost.{both_ways, ticket_is}
 use Rattle.mencius_server.proofs.Lists.{IsIn, any_in, in_any}
 use Rattle.mencius_server.proofs.Grown.{IsGrown}
 use Rattle.mencius_server.proofs.State.{oldest_none, same, same_two, start_in, suggested_in}
@@ -24,16 +25,6 @@ use Rattle.coord_paxos.specs.Reached.{if_own}
 use Rattle.mencius_server.specs.Machine.{first_waiting, is_suggested_past, is_ticket, suggested_at, waits_at, waits_with}
 use Rattle.mencius_server.specs.Reached.{server_at}
 use Rattle.mencius_server.proofs.ServerHistory.{slot-server_at}
-
--- two tests that follow from each other
-both_ways : (a b : Bool) → (a ≡ true → b ≡ true) → (b ≡ true → a ≡ true) → a ≡ b
-both_ways true b f g = sym (f refl)
-both_ways false true f g = g refl
-both_ways false false f g = refl
-
-is_ticket_some : (t : ℕ) (o : Option ℕ) → is_ticket t o ≡ true → o ≡ Some t
-is_ticket_some t None h = absurd (cc)
-is_ticket_some t (Some u) h = ap Some (eqb-true u t h)
 
 past_line : (p t i : ℕ) (l : Line) → is_suggestion_past p t i l ≡ true → (k : ℕ) × (ltb i k ≡ true) × (l ≡ Sent (Suggest p k t))
 past_line p t i (Sent (Suggest from inst ticket)) h =
@@ -94,7 +85,7 @@ module _ (m : Membership) (w : History) (p : ℕ) (r : IsReached m w) where
       (λ h.
       let a = any-instances_found (is_suggested_past (server_at m w p) t i) h in
       let b = and_parts (ltb i a.0) (is_ticket t (suggested_at (server_at m w p) a.0)) a.2 in
-      let c = sym (suggested_same a.0 a.1) ∙ is_ticket_some t (suggested_at (server_at m w p) a.0) b.1 in
+      let c = sym (suggested_same a.0 a.1) ∙ ticket_is t (suggested_at (server_at m w p) a.0) b.1 in
       in_any (is_suggestion_past p t i) (Sent (Suggest p a.0 t)) w (suggested_in w p a.0 t c) (rw (same p, same t) b.0))
       (λ h.
       let a = any_in (is_suggestion_past p t i) w h in

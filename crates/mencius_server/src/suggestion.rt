@@ -165,10 +165,21 @@ impl Server {
         if self.members.owner(inst) != self.id {
             return None;
         }
-        match self.read(inst).proposal() {
+        match self.proposal(inst) {
             Some(Value::Ticket(ticket)) => Some(ticket),
             Some(Value::Noop) => None,
             None => None,
+        }
+    }
+
+    // What the server proposed at an instance, at the ballot that it tries.
+    fn proposal(&self, inst: u32) -> Option<Value>
+        ensures { result ≡ (slot self.now inst).proposal }
+    {
+        if (inst as usize) < self.slots.len() {
+            self.slots[inst as usize].proposal()
+        } else {
+            None
         }
     }
 
