@@ -1,7 +1,6 @@
 ghost use Rattle.std.specs.Prelude.{◌≡◌, ◌∷◌, [], ◌<◌, MatchResult};
 ghost use Rattle.std.specs.List.{list_all};
 ghost use Rattle.std.specs.Char.{is_ascii_digit};
-ghost use Rattle.mencius_base.specs.Command.{is_name};
 ghost use Rattle.mencius_app.specs.Judged.{judged};
 ghost use Rattle.mencius_app.specs.Words.{is_number, is_u8, is_u32, number_of, parts};
 
@@ -63,12 +62,4 @@ pub(crate) fn parse_u32(word: &str) -> Result<u32, AppFault>
         Ok(n) => Ok(n),
         Err(_) => Err(AppFault::BadLimit),
     }
-}
-
-/// Whether a word has only bytes that keys and texts may have.
-#[tactic(auto, unfolding(mencius_base::specs::Command::is_name))]
-pub(crate) fn is_name(word: &str) -> bool
-    ensures { result ≡ is_name word.now }
-{
-    word.bytes().all(|b| b.is_ascii_alphanumeric() || b == b'_' || b == b'-' || b == b'.')
 }

@@ -195,9 +195,10 @@ fn find_fault_of_entry(key: &str, text: &str) -> Option<BadCommand>
     None
 }
 
-// Whether a word has only bytes that keys and texts may have.
+/// Whether a word has only bytes that keys and texts may have: ASCII letters, digits, `_`, `-` and
+/// `.`. It says nothing of the word's length.
 #[tactic(auto, unfolding(crate::specs::Command::is_name))]
-fn is_name(word: &str) -> bool
+pub fn is_name(word: &str) -> bool
     ensures { result ≡ is_name word.now }
 {
     word.bytes().all(|b| b.is_ascii_alphanumeric() || b == b'_' || b == b'-' || b == b'.')

@@ -16,7 +16,7 @@ mod refusal;
 mod tests;
 
 pub use ballot::Ballot;
-pub use command::{BadCommand, Command, CommandId, Key, Op, Text};
+pub use command::{BadCommand, Command, CommandId, Key, Op, Text, is_name};
 pub use event::{Entry, Event};
 pub use members::Members;
 pub use message::{Message, Value, Vote};
