@@ -242,13 +242,8 @@ fn wrong_suspicion_keeps_the_command(rt: HostRuntime) -> Result<(), Fail> {
     Ok(())
 }
 
-// late_suggestion_where_noop_is_decided, and from its end late_suggestion_decided_further_on
-#[test]
-fn late_suggestion(rt: HostRuntime) -> Result<(), Fail> {
-    let owner = Ballot::OWNER;
-    let members = Members::new(3).ok_or("three")?;
-    let four = Ballot::new(members, 1, 1).ok_or("ballot 4")?;
-    let rows: [Row; 21] = [
+fn late_suggestion_rows(four: Ballot) -> [Row; 21] {
+    [
         (1, Event::Suspect(0), [prepare(1, 0, four), None], 0),
         (1, Event::Deliver(0), [promise(1, 1, four, None), None], 0),
         (2, Event::Deliver(0), [promise(2, 1, four, None), None], 0),
@@ -268,17 +263,22 @@ fn late_suggestion(rt: HostRuntime) -> Result<(), Fail> {
         (2, Event::Deliver(7), [None, None], 0),
         (0, Event::Deliver(6), [None, None], 1),
         (0, Event::Retry, [suggest(0, 3, 0), None], 0),
-        (0, Event::Deliver(8), [accepted(0, 0, 3, owner), None], 0),
+        (
+            0,
+            Event::Deliver(8),
+            [accepted(0, 0, 3, Ballot::OWNER), None],
+            0,
+        ),
         (
             1,
             Event::Deliver(8),
-            [skip(1, 1, 4), accepted(1, 0, 3, owner)],
+            [skip(1, 1, 4), accepted(1, 0, 3, Ballot::OWNER)],
             0,
         ),
         (
             2,
             Event::Deliver(8),
-            [skip(2, 2, 5), accepted(2, 0, 3, owner)],
+            [skip(2, 2, 5), accepted(2, 0, 3, Ballot::OWNER)],
             0,
         ),
         (0, Event::Deliver(10), [None, None], 1),
@@ -290,21 +290,25 @@ fn late_suggestion(rt: HostRuntime) -> Result<(), Fail> {
             [learn(0, 3, Value::Ticket(0)), None],
             1,
         ),
-    ];
+    ]
+}
+
+// late_suggestion_where_noop_is_decided, and from its end late_suggestion_decided_further_on
+#[test]
+fn late_suggestion(rt: HostRuntime) -> Result<(), Fail> {
+    let members = Members::new(3).ok_or("three")?;
+    let four = Ballot::new(members, 1, 1).ok_or("ballot 4")?;
+    let rows = late_suggestion_rows(four);
     follow(&rt, rt.alloc(), &rows, [6, 4, 5])?;
     Ok(())
 }
 
-#[test]
-fn duelling_revokers(rt: HostRuntime) -> Result<(), Fail> {
-    let members = Members::new(3).ok_or("three")?;
-    let four = Ballot::new(members, 1, 1).ok_or("ballot 4")?;
-    let five = Ballot::new(members, 1, 2).ok_or("ballot 5")?;
+fn duelling_rows(four: Ballot, five: Ballot) -> [Row; 17] {
     let vote = Vote {
         ballot: four,
         value: Value::Noop,
     };
-    let rows: [Row; 17] = [
+    [
         (1, Event::Suspect(0), [prepare(1, 0, four), None], 0),
         (2, Event::Suspect(0), [prepare(2, 0, five), None], 0),
         (1, Event::Deliver(0), [promise(1, 1, four, None), None], 0),
@@ -337,7 +341,15 @@ fn duelling_revokers(rt: HostRuntime) -> Result<(), Fail> {
         (2, Event::Deliver(9), [None, None], 0),
         (2, Event::Deliver(10), [learn(2, 0, Value::Noop), None], 1),
         (1, Event::Deliver(11), [None, None], 1),
-    ];
+    ]
+}
+
+#[test]
+fn duelling_revokers(rt: HostRuntime) -> Result<(), Fail> {
+    let members = Members::new(3).ok_or("three")?;
+    let four = Ballot::new(members, 1, 1).ok_or("ballot 4")?;
+    let five = Ballot::new(members, 1, 2).ok_or("ballot 5")?;
+    let rows = duelling_rows(four, five);
     follow(&rt, rt.alloc(), &rows, [0, 1, 2])?;
     Ok(())
 }
