@@ -6,7 +6,7 @@ use Rattle.mencius_base.specs.declared.command.CommandId.{CommandId}
 use Rattle.mencius_base.specs.History.{History, events, sent, submitted}
 use Rattle.mencius_base.specs.Members.{Membership}
 use Rattle.mencius_server.specs.Server.{done, front}
-use Rattle.mencius_cluster.specs.Answers.{Reply, NotYet, Is, command_at, reply_of}
+use Rattle.mencius_cluster.specs.Answers.{Reply, Is, command_at, reply_of}
 use Rattle.mencius_cluster.specs.Executed.{executed}
 
 abbrev pub id_text : CommandId → List ℕ
