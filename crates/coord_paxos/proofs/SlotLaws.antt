@@ -76,7 +76,7 @@ learns m w p i v = slot_at-learning m w p i v ∙ learning_once (slot_at m w p i
 -- ---- begin
 
 -- p's slot for i, were b the ballot that it tries
-abbrev slot_trying : Membership → History → ℕ → ℕ → ℕ → SlotState
+abbrev pub slot_trying : Membership → History → ℕ → ℕ → ℕ → SlotState
 slot_trying m w p i b = record (slot_at m w p i) {
   trying = b;
   reported = reported w p i b;
@@ -125,15 +125,17 @@ unreported i b (x ∷ hs) none =
     ap (λ (o : Option Vote). fold higher_vote o (map (vote_reported i b) hs)) (report_of i b x (λ q. (neither (is_promise i b q x) (list_any (is_promise i b q) hs) (none q)).0))
     ∙ unreported i b hs (λ q. (neither (is_promise i b q x) (list_any (is_promise i b q) hs) (none q)).1)
 
-pub begins : (m : Membership) (w : History) (p i b : ℕ) → trying w p i < b → IsUntried w p i b
-    → slot_at m (Sent (Prepare p i b) ∷ w) p i ≡ after_begin (slot_at m w p i) b
-begins m w p i b above untried =
-    slot_at-tried m w p i b above
-    ∙ same_slot _ _ refl refl refl refl refl
+pub slot_untried : (m : Membership) (w : History) (p i b : ℕ) → IsUntried w p i b → slot_trying m w p i b ≡ after_begin (slot_at m w p i) b
+slot_untried m w p i b untried =
+    same_slot _ _ refl refl refl refl refl
     (unreported i b (heard w p) untried.unpromised)
     (ap (if_own m p i b) untried.unsaid ∙ nothing_owned _)
     (sym (map-below_constant (promisers w p i b) m.count false (λ q h. untried.unpromised q)))
     (sym (map-below_constant (accepters w p i b) m.count false (λ q h. untried.unaccepted q)))
+
+pub begins : (m : Membership) (w : History) (p i b : ℕ) → trying w p i < b → IsUntried w p i b
+    → slot_at m (Sent (Prepare p i b) ∷ w) p i ≡ after_begin (slot_at m w p i) b
+begins m w p i b above untried = slot_at-tried m w p i b above ∙ slot_untried m w p i b untried
 
 -- ---- add_promise
 

@@ -124,8 +124,8 @@ abbrev pub has_accepted : History → ℕ → ℕ → ℕ → Bool
 has_accepted w i b q = list_any (is_accepted_by i b q) (sent w)
 
 -- whether a majority of the servers is in the set
-abbrev pub IsMajority : Membership → (ℕ → Bool) → Bool
-IsMajority m among = nat_le (majority m) (count_by among (below m.count))
+abbrev pub are_majority : Membership → (ℕ → Bool) → Bool
+are_majority m among = nat_le (majority m) (count_by among (below m.count))
 
 -- the value of a vote, and no-op where there is none
 abbrev pub value_or_noop : Option Vote → Value

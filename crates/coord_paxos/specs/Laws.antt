@@ -8,7 +8,7 @@ use Rattle.mencius_base.specs.declared.message.Value.TheVariants.{Ticket}
 use Rattle.mencius_base.specs.declared.message.Vote.{Vote}
 use Rattle.mencius_base.specs.Members.{Membership, owner}
 use Rattle.mencius_base.specs.History.{Line, Heard, Sent, Learned, History, followed_by, heard, sent}
-use Rattle.coord_paxos.specs.Instance.{IsMajority, accepters, learned, promised, promisers, proposed, reported, trying, value_or_noop, vote}
+use Rattle.coord_paxos.specs.Instance.{are_majority, accepters, learned, promised, promisers, proposed, reported, trying, value_or_noop, vote}
 use Rattle.coord_paxos.specs.Fresh.{new_slot}
 use Rattle.coord_paxos.specs.Slot.{accept_answer, after_accept, after_acceptance, after_begin, after_learn, after_prepare, after_promise, prepare_answer, promise_answer}
 use Rattle.coord_paxos.specs.Reached.{IsUntried, IsVoted, slot_at}
@@ -80,7 +80,7 @@ Begins =
 -- the value that p is to propose at the ballot that it tries
 abbrev pub proposal_due : Membership → History → ℕ → ℕ → ℕ → Option Value
 proposal_due m w p i b =
-    if (is_none (learned w p i) && is_none (proposed w i b)) && IsMajority m (promisers w p i b)
+    if (is_none (learned w p i) && is_none (proposed w i b)) && are_majority m (promisers w p i b)
     then Some (value_or_noop (reported w p i b)) else None
 
 -- a promise of the ballot tried is answered from all promises heard, this one among them
@@ -111,7 +111,7 @@ CountsPromises =
 
 -- the value that p learns from the acceptances at the ballot that it tries
 abbrev pub decision_due : Membership → History → ℕ → ℕ → ℕ → Option Value
-decision_due m w p i b = if is_none (learned w p i) && IsMajority m (accepters w p i b) then proposed w i b else None
+decision_due m w p i b = if is_none (learned w p i) && are_majority m (accepters w p i b) then proposed w i b else None
 
 -- an acceptance at the ballot tried is answered from all acceptances heard, this one among them
 abbrev pub AnswersAcceptances : Type 0

@@ -7,7 +7,7 @@ use Rattle.mencius_base.specs.declared.message.Vote.{Vote}
 use Rattle.mencius_base.specs.Members.{Membership, owner}
 use Rattle.mencius_base.specs.History.{Line, Sent, History}
 use Rattle.coord_paxos.specs.Instance.{proposed}
-use Rattle.coord_paxos.specs.Instance.{IsMajority}
+use Rattle.coord_paxos.specs.Instance.{are_majority}
 use Rattle.mencius_server.specs.Next.{IsReached}
 use Rattle.mencius_server.specs.Decided.{IsSkipped, IsDecided}
 use Rattle.coord_paxos.specs.Instance.{has_accepted}
@@ -54,7 +54,7 @@ module _ (m : Membership) (few : 1 ≤ m.count) (w : History) (r : IsReached m w
   no_suggestion_where_skipped first stop q i t from to h k = owners.skip_free m w few grown (owner m i) first stop q i t refl from to h k
 
   -- 4. where a value is chosen at a ballot, every proposal at a greater ballot has it
-  pub chosen_is_proposed_above : (i c b : ℕ) (v x : Value) → proposed w i c ≡ Some v → IsMajority m (has_accepted w i c) ≡ true → c < b → proposed w i b ≡ Some x → x ≡ v
+  pub chosen_is_proposed_above : (i c b : ℕ) (v x : Value) → proposed w i c ≡ Some v → are_majority m (has_accepted w i c) ≡ true → c < b → proposed w i b ≡ Some x → x ≡ v
   chosen_is_proposed_above i c b v x start chosen lt h = paxos.chosen_above m w grown i c v start chosen b x lt h
 
   -- and where the owner skipped an instance, every proposal there is no-op

@@ -11,7 +11,7 @@ use Rattle.mencius_base.specs.Members.{Membership, owner}
 use Rattle.mencius_base.specs.History.{Line, Submitted, Heard, Lost, Suspected, Retried, Done, Sent, Learned, History, submitted}
 use Rattle.coord_paxos.specs.Instance.{promised, proposed, vote, learned, trying}
 use Rattle.mencius_server.specs.Server.{front, done}
-use Rattle.coord_paxos.specs.Instance.{IsMajority, value_or_noop}
+use Rattle.coord_paxos.specs.Instance.{are_majority, value_or_noop}
 use Rattle.mencius_base.specs.Command.{is_same_id}
 use Rattle.mencius_server.specs.Decided.{IsDecided}
 use Rattle.mencius_server.proofs.Lists.{IsIn}
@@ -70,7 +70,7 @@ pub record MayPropose (m : Membership) (w : History) (p i b : ℕ) (v : Value) :
   pub tried : b ≡ trying w p i
   pub none : proposed w i b ≡ None
   pub among : ℕ → Bool
-  pub majority : IsMajority m among ≡ true
+  pub majority : are_majority m among ≡ true
   pub highest : Option Vote
   pub promised : (q : ℕ) → among q ≡ true → HasPromised w q i b highest
   pub reported : (u : Vote) → highest ≡ Some u → (q : ℕ) × (to : ℕ) × IsIn (Sent (Promise q to i b (Some u))) w

@@ -10,7 +10,7 @@ use Rattle.mencius_base.specs.Members.{Membership, below, first_owned, majority,
 use Rattle.mencius_base.specs.History.{Line, Heard, Sent, Learned, History, followed_by, sent}
 use Rattle.coord_paxos.specs.Instance.{promised, proposed, trying, learned, accepted, accepters, promisers, reported, vote}
 use Rattle.mencius_server.specs.Server.{front}
-use Rattle.coord_paxos.specs.Instance.{IsMajority, value_or_noop}
+use Rattle.coord_paxos.specs.Instance.{are_majority, value_or_noop}
 use Rattle.mencius_base.specs.History.{messages_of}
 use Rattle.mencius_server.specs.Next.{learnings, on_suggest, on_prepare, on_accepted, on_promise, on_learn, decision, promise}
 use Rattle.coord_paxos.proofs.Lines.{greater-none}
@@ -243,12 +243,12 @@ learn_decided m w k p from i small e (Some v) decided =
 
 -- the tally's majority is the history's
 accepters_majority : (m : Membership) (w : History) (k p from i : ℕ) → slice_get (sent w) k ≡ Some (Accepted from p i (trying w p i))
-    → is_majority m (with_accept (slot_at m w p i) from).accepters ≡ IsMajority m (accepters (Heard k p ∷ w) p i (trying w p i))
+    → is_majority m (with_accept (slot_at m w p i) from).accepters ≡ are_majority m (accepters (Heard k p ∷ w) p i (trying w p i))
 accepters_majority m w k p from i e =
     let tried : trying (Heard k p ∷ w) p i ≡ trying w p i = omega arith in
     sym (ap (λ (t : SlotState). is_majority m t.accepters) (slot_at-heard_acceptance m w k p i from e))
     ∙ ap (λ (n : ℕ). leb (majority m) n) (count_by-map (accepters (Heard k p ∷ w) p i (trying (Heard k p ∷ w) p i)) (below m.count))
-    ∙ ap (λ (b : ℕ). IsMajority m (accepters (Heard k p ∷ w) p i b)) tried
+    ∙ ap (λ (b : ℕ). are_majority m (accepters (Heard k p ∷ w) p i b)) tried
 
 sends_decision : (p i : ℕ) (o : Option Value) → decision_sent p i o ≡ messages_of (decision p i o)
 sends_decision p i None = refl
@@ -280,9 +280,9 @@ accepted_lines : (m : Membership) (w : History) (k p from i : ℕ) → (trying w
     → decision p i (to_learn (with_accept (slot_at m w p i) from)) ≡ on_accepted m w (Heard k p ∷ w) p i (trying w p i)
 accepted_lines m w k p from i mine e =
     ap (λ (c : Bool). decision p i (cond (is_none (learned w p i) && c) (if_own m p i (trying w p i) (proposed w i (trying w p i))) None)) (accepters_majority m w k p from i e)
-    ∙ ap (λ (o : Option Value). decision p i (cond (is_none (learned w p i) && IsMajority m (accepters (Heard k p ∷ w) p i (trying w p i))) o None)) (own_said m p i (trying w p i) (proposed w i (trying w p i)) mine)
-    ∙ cond-decision p i (is_none (learned w p i) && IsMajority m (accepters (Heard k p ∷ w) p i (trying w p i))) (proposed w i (trying w p i))
-    ∙ ap (λ (c : Bool). cond ((c && is_none (learned w p i)) && IsMajority m (accepters (Heard k p ∷ w) p i (trying w p i))) (decision p i (proposed w i (trying w p i))) [])
+    ∙ ap (λ (o : Option Value). decision p i (cond (is_none (learned w p i) && are_majority m (accepters (Heard k p ∷ w) p i (trying w p i))) o None)) (own_said m p i (trying w p i) (proposed w i (trying w p i)) mine)
+    ∙ cond-decision p i (is_none (learned w p i) && are_majority m (accepters (Heard k p ∷ w) p i (trying w p i))) (proposed w i (trying w p i))
+    ∙ ap (λ (c : Bool). cond ((c && is_none (learned w p i)) && are_majority m (accepters (Heard k p ∷ w) p i (trying w p i))) (decision p i (proposed w i (trying w p i))) [])
     (sym (eq-eqb (trying w p i) (trying w p i) refl))
 
 accepted_cases : (m : Membership) (w : History) (k p from i b : ℕ) → i < 4096 → (b ≡ 0 → owner m i ≡ p) → slice_get (sent w) k ≡ Some (Accepted from p i b)
@@ -307,7 +307,7 @@ accepted_cases m w k p from i b small mine e false other = record {
 }
   where
     no_lines : [] ≡ on_accepted m w (Heard k p ∷ w) p i b
-    no_lines = ap (λ (c : Bool). cond ((c && is_none (learned w p i)) && IsMajority m (accepters (Heard k p ∷ w) p i b)) (decision p i (proposed w i b)) []) (sym other)
+    no_lines = ap (λ (c : Bool). cond ((c && is_none (learned w p i)) && are_majority m (accepters (Heard k p ∷ w) p i b)) (decision p i (proposed w i b)) []) (sym other)
 
     stale : (from : ℕ) → accept_answer (slot (server_at m w p) i) from b ≡ None
     stale from =
@@ -365,12 +365,12 @@ propose_decided m w k p from i v small high voted e (Some u) decided =
     }
 
 promisers_majority : (m : Membership) (w : History) (k p from i : ℕ) (v : Option Vote) → slice_get (sent w) k ≡ Some (Promise from p i (trying w p i) v)
-    → is_majority m (with_promise (slot_at m w p i) from v).promisers ≡ IsMajority m (promisers (Heard k p ∷ w) p i (trying w p i))
+    → is_majority m (with_promise (slot_at m w p i) from v).promisers ≡ are_majority m (promisers (Heard k p ∷ w) p i (trying w p i))
 promisers_majority m w k p from i v e =
     let tried : trying (Heard k p ∷ w) p i ≡ trying w p i = omega arith in
     sym (ap (λ (t : SlotState). is_majority m t.promisers) (slot_at-heard_promise m w k p i from v e))
     ∙ ap (λ (n : ℕ). leb (majority m) n) (count_by-map (promisers (Heard k p ∷ w) p i (trying (Heard k p ∷ w) p i)) (below m.count))
-    ∙ ap (λ (b : ℕ). IsMajority m (promisers (Heard k p ∷ w) p i b)) tried
+    ∙ ap (λ (b : ℕ). are_majority m (promisers (Heard k p ∷ w) p i b)) tried
 
 reported_after : (m : Membership) (w : History) (k p from i : ℕ) (v : Option Vote) → slice_get (sent w) k ≡ Some (Promise from p i (trying w p i) v)
     → (with_promise (slot_at m w p i) from v).reported ≡ reported (Heard k p ∷ w) p i (trying w p i)
@@ -397,13 +397,13 @@ promise_lines m w k p from i v high e =
     ∙ ap (λ (c : Bool). cond c (Sent (Propose p i (trying w p i) (value_or_noop (reported (Heard k p ∷ w) p i (trying w p i)))) ∷ []) []) test
   where
     test : ((is_none (learned w p i) && is_none (if_own m p i (trying w p i) (proposed w i (trying w p i)))) && is_majority m (with_promise (slot_at m w p i) from v).promisers)
-        ≡ ((eqb (trying w p i) (trying w p i) && is_none (learned w p i)) && (is_none (proposed w i (trying w p i)) && IsMajority m (promisers (Heard k p ∷ w) p i (trying w p i))))
+        ≡ ((eqb (trying w p i) (trying w p i) && is_none (learned w p i)) && (is_none (proposed w i (trying w p i)) && are_majority m (promisers (Heard k p ∷ w) p i (trying w p i))))
     test =
         ap (λ (o : Option Value). (is_none (learned w p i) && is_none o) && is_majority m (with_promise (slot_at m w p i) from v).promisers)
         (own_said m p i (trying w p i) (proposed w i (trying w p i)) (λ z. absurd (omega arith)))
         ∙ ap (λ (c : Bool). (is_none (learned w p i) && is_none (proposed w i (trying w p i))) && c) (promisers_majority m w k p from i v e)
-        ∙ regroup (is_none (learned w p i)) (is_none (proposed w i (trying w p i))) (IsMajority m (promisers (Heard k p ∷ w) p i (trying w p i)))
-        ∙ ap (λ (c : Bool). (c && is_none (learned w p i)) && (is_none (proposed w i (trying w p i)) && IsMajority m (promisers (Heard k p ∷ w) p i (trying w p i))))
+        ∙ regroup (is_none (learned w p i)) (is_none (proposed w i (trying w p i))) (are_majority m (promisers (Heard k p ∷ w) p i (trying w p i)))
+        ∙ ap (λ (c : Bool). (c && is_none (learned w p i)) && (is_none (proposed w i (trying w p i)) && are_majority m (promisers (Heard k p ∷ w) p i (trying w p i))))
         (sym (eq-eqb (trying w p i) (trying w p i) refl))
 
 promise_tried : (m : Membership) (w : History) (k p from i : ℕ) (v : Option Vote) → i < 4096 → 0 < trying w p i → IsVoted w p i
@@ -446,7 +446,7 @@ promise_cases m w k p from i b v small high voted e false other = record {
 }
   where
     no_lines : [] ≡ on_promise m w (Heard k p ∷ w) p i b
-    no_lines = ap (λ (c : Bool). cond ((c && is_none (learned w p i)) && (is_none (proposed w i b) && IsMajority m (promisers (Heard k p ∷ w) p i b)))
+    no_lines = ap (λ (c : Bool). cond ((c && is_none (learned w p i)) && (is_none (proposed w i b) && are_majority m (promisers (Heard k p ∷ w) p i b)))
         (Sent (Propose p i b (value_or_noop (reported (Heard k p ∷ w) p i b))) ∷ []) []) (sym other)
 
     stale : promise_answer (slot (server_at m w p) i) from b v ≡ None

@@ -5,7 +5,7 @@ use Rattle.std.proofs.lemmas.List.Sums.{sum_by-cons, sum_by-le-sum_by}
 use Rattle.std.proofs.lemmas.List.FromFn.{length-range_with_len}
 use Rattle.std.proofs.lemmas.Bool.{or_cases, or_left, or_right, and_parts, cases_Bool}
 use Rattle.mencius_base.specs.Members.{Membership, majority, below}
-use Rattle.coord_paxos.specs.Instance.{IsMajority}
+use Rattle.coord_paxos.specs.Instance.{are_majority}
 
 abbrev pub IsIn : {A : Type 0} → A → List A → Type 0
 IsIn a [] = ⊥
@@ -77,7 +77,7 @@ unfolding below
 length_below n = length-range_with_len 0 n
 
 -- two majorities share a member
-pub majorities_meet : (m : Membership) (p q : ℕ → Bool) → IsMajority m p ≡ true → IsMajority m q ≡ true → (x : ℕ) × (p x ≡ true) × (q x ≡ true)
+pub majorities_meet : (m : Membership) (p q : ℕ → Bool) → are_majority m p ≡ true → are_majority m q ≡ true → (x : ℕ) × (p x ≡ true) × (q x ≡ true)
 majorities_meet m p q h k =
     let a : majority m ≤ count_by p (below m.count) = leb-true _ _ h in
     let b : majority m ≤ count_by q (below m.count) = leb-true _ _ k in
@@ -90,7 +90,7 @@ bit_le : (a b : Bool) → (a ≡ true → b ≡ true) → cond a 1 0 ≤ cond b 
 bit_le true b h = let e : b ≡ true = h refl in rw e (omega arith)
 bit_le false b h = omega arith
 
-pub majority_more : (m : Membership) (p q : ℕ → Bool) → ((x : ℕ) → p x ≡ true → q x ≡ true) → IsMajority m p ≡ true → IsMajority m q ≡ true
+pub majority_more : (m : Membership) (p q : ℕ → Bool) → ((x : ℕ) → p x ≡ true → q x ≡ true) → are_majority m p ≡ true → are_majority m q ≡ true
 majority_more m p q h k =
     let a : majority m ≤ count_by p (below m.count) = leb-true _ _ k in
     let s = sum_by-le-sum_by (λ y. cond (p y) 1 0) (λ y. cond (q y) 1 0) (below m.count) (λ x. bit_le (p x) (q x) (h x)) in

@@ -9,7 +9,7 @@ use Rattle.mencius_base.specs.declared.message.Vote.{Vote}
 use Rattle.mencius_base.specs.Members.{Membership}
 use Rattle.mencius_base.specs.History.{Line, Sent, History}
 use Rattle.coord_paxos.specs.Instance.{promised, proposed, accepted, vote}
-use Rattle.coord_paxos.specs.Instance.{IsMajority, value_or_noop}
+use Rattle.coord_paxos.specs.Instance.{are_majority, value_or_noop}
 use Rattle.coord_paxos.specs.Instance.{has_accepted}
 use Rattle.mencius_server.proofs.Lists.{IsIn, majorities_meet}
 use Rattle.mencius_server.proofs.Grown.{May, IsGrown, MayAccept, MayPromise, MayPropose, Reaches}
@@ -29,7 +29,7 @@ pub record IsKept (w : History) (q i b : ℕ) (v : Option Vote) : Type 0 where
 -- vote of theirs, or no-op where they have none
 pub record IsSafe (m : Membership) (w : History) (i b : ℕ) (v : Value) : Type 0 where
   pub among : ℕ → Bool
-  pub majority : IsMajority m among ≡ true
+  pub majority : are_majority m among ≡ true
   pub highest : Option Vote
   pub bound : (q : ℕ) → among q ≡ true → b ≤ promised w q i
   pub covers : (q to c : ℕ) → among q ≡ true → IsIn (Sent (Accepted q to i c)) w → c < b → Reaches highest c
@@ -149,7 +149,7 @@ proposal_safe : (m : Membership) (w : History) → IsGrown m w → (i b : ℕ) (
 proposal_safe m w g i b v pos h = let r = proposal_in w i b v pos h in propose_safe m w g r.0 i b v r.1
 
 -- where v was chosen at ballot c: every proposal at a greater ballot has v
-module _ (m : Membership) (w : History) (g : IsGrown m w) (i c : ℕ) (v : Value) (start : proposed w i c ≡ Some v) (chosen : IsMajority m (has_accepted w i c) ≡ true) where
+module _ (m : Membership) (w : History) (g : IsGrown m w) (i c : ℕ) (v : Value) (start : proposed w i c ≡ Some v) (chosen : are_majority m (has_accepted w i c) ≡ true) where
   above : (b : ℕ) (x : Value) (h : Option Vote) → Reaches h c → Backed w i b h → x ≡ value_or_noop h
       → ((d : ℕ) (y : Value) → d < b → c < d → proposed w i d ≡ Some y → y ≡ v) → x ≡ v
   above b x None r k is rest = absurd r

@@ -18,7 +18,7 @@ use Rattle.mencius_base.specs.History.{Line, Submitted, Heard, Suspected, Retrie
 use Rattle.coord_paxos.specs.Instance.{promised, proposed, proposed_by, accepted, greater, vote, vote_of, vote_at, learned, trying, promisers, accepters, reported}
 use Rattle.mencius_server.specs.Server.{front, suggested, is_suggestion_past, is_noop, unless, waits, waiting_at, waiting, is_free, free, is_suspect, done}
 use Rattle.mencius_server.specs.Next.{head, suggestion, is_given_up, promise, on_promise, on_propose, decision, on_accepted, on_learn, on_message, next_round, preparation, again, delivery, lines, causes, first_cause, refused, step_or, next}
-use Rattle.coord_paxos.specs.Instance.{IsMajority}
+use Rattle.coord_paxos.specs.Instance.{are_majority}
 use Rattle.mencius_base.specs.Members.{first_item}
 use Rattle.coord_paxos.specs.Instance.{has_accepted}
 use Rattle.mencius_server.specs.Decided.{gives_up}
@@ -243,10 +243,10 @@ module _ (m : Membership) (w : History) (g : IsGrown m w) (k d : ℕ) where
   promise_lines : (i b : ℕ) → AllMay m (Heard k d ∷ w) (on_promise m w (Heard k d ∷ w) d i b)
   promise_lines i b =
       let v = Heard k d ∷ w in
-      elim (cases_Bool ((b == trying w d i && is_none (learned w d i)) && (is_none (proposed w i b) && IsMajority m (promisers v d i b)))) [
+      elim (cases_Bool ((b == trying w d i && is_none (learned w d i)) && (is_none (proposed w i b) && are_majority m (promisers v d i b)))) [
         | inl e ↦
-            let r = and_parts (b == trying w d i && is_none (learned w d i)) (is_none (proposed w i b) && IsMajority m (promisers v d i b)) e in
-            let s = and_parts (is_none (proposed w i b)) (IsMajority m (promisers v d i b)) r.1 in
+            let r = and_parts (b == trying w d i && is_none (learned w d i)) (is_none (proposed w i b) && are_majority m (promisers v d i b)) e in
+            let s = and_parts (is_none (proposed w i b)) (are_majority m (promisers v d i b)) r.1 in
             rw e (
               record {
                 tried = omega (arith, eqb-true b (trying w d i) (and_parts (b == trying w d i) (is_none (learned w d i)) r.0).0);
@@ -272,7 +272,7 @@ module _ (m : Membership) (w : History) (g : IsGrown m w) (k d : ℕ) where
         | inr gt ↦ rw gt tt
       ]
 
-  decision_lines : (i b : ℕ) (o : Option Value) → proposed w i b ≡ o → IsMajority m (accepters (Heard k d ∷ w) d i b) ≡ true
+  decision_lines : (i b : ℕ) (o : Option Value) → proposed w i b ≡ o → are_majority m (accepters (Heard k d ∷ w) d i b) ≡ true
       → AllMay m (Heard k d ∷ w) (decision d i o)
   decision_lines i b None e h = tt
   decision_lines i b (Some x) e h =
@@ -284,9 +284,9 @@ module _ (m : Membership) (w : History) (g : IsGrown m w) (k d : ℕ) where
   accepted_lines : (i b : ℕ) → AllMay m (Heard k d ∷ w) (on_accepted m w (Heard k d ∷ w) d i b)
   accepted_lines i b =
       let v = Heard k d ∷ w in
-      elim (cases_Bool ((b == trying w d i && is_none (learned w d i)) && IsMajority m (accepters v d i b))) [
+      elim (cases_Bool ((b == trying w d i && is_none (learned w d i)) && are_majority m (accepters v d i b))) [
         | inl e ↦
-            let r = and_parts (b == trying w d i && is_none (learned w d i)) (IsMajority m (accepters v d i b)) e in
+            let r = and_parts (b == trying w d i && is_none (learned w d i)) (are_majority m (accepters v d i b)) e in
             rw e (decision_lines i b (proposed w i b) refl r.1)
         | inr e ↦ rw e tt
       ]

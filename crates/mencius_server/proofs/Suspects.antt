@@ -10,45 +10,35 @@ use Rattle.mencius_base.specs.declared.refusal.Refusal.TheVariants.{MessagesFull
 use Rattle.mencius_base.specs.declared.message.Message.{Message}
 use Rattle.mencius_base.specs.declared.message.Message.TheVariants.{Prepare, Propose}
 use Rattle.mencius_base.specs.declared.message.Value.{Value}
-use Rattle.mencius_base.specs.declared.message.Vote.{Vote}
 use Rattle.mencius_base.specs.Members.{Membership, ballot_of, below, instances, most_rounds, owner}
 use Rattle.mencius_base.specs.Outbox.{Outgoing}
 use Rattle.mencius_base.specs.Refusal.{IsRefusedFor}
 use Rattle.mencius_base.specs.History.{Line, Sent, Suspected, History, followed_by, heard}
-use Rattle.coord_paxos.specs.Instance.{accepted, accepted_by, accepters, highest_vote, is_acceptance, is_promise, learned_by, promised_by, promisers, proposed, proposed_by, reported, tried_by, trying, vote_of, vote_reported}
+use Rattle.coord_paxos.specs.Instance.{accepted, accepted_by, accepters, highest_vote, is_acceptance, is_promise, learned_by, promised_by, promisers, proposed, proposed_by, tried_by, trying, vote_of, vote_reported}
 use Rattle.mencius_server.specs.Server.{front, front_by, is_suspect, suspects}
 use Rattle.mencius_server.specs.Next.{IsReached, first_cause, found_by_server, next_round, preparation}
 use Rattle.mencius_base.specs.Members.{first_item}
 use Rattle.mencius_base.specs.History.{messages_of}
-use Rattle.coord_paxos.proofs.Below.{any-map, filter-instances_same, map-below_constant, map-filter-instances_same, map-instances_same}
+use Rattle.coord_paxos.proofs.Below.{any-map, filter-instances_same, map-filter-instances_same, map-instances_same}
 use Rattle.coord_paxos.proofs.Lines.{greater-none, greatest_quiet, oldest_quiet, vote_of_same}
 use Rattle.mencius_server.proofs.Lists.{IsIn}
 use Rattle.mencius_server.proofs.Grown.{IsGrown}
 use Rattle.mencius_server.proofs.State.{acceptance_in, proposal_in, same}
-use Rattle.mencius_server.proofs.Hearing.{accepters_accepted, promiser, reported_promise}
+use Rattle.mencius_server.proofs.Hearing.{accepters_accepted, promiser}
 use Rattle.mencius_server.proofs.Journals.{reached_grown}
 use Rattle.mencius_server.proofs.Sources.{acceptance_asked, prepare_right, prepare_within, promise_asked, propose_ballot, propose_within}
 use Rattle.coord_paxos.specs.SlotState.{SlotState}
 use Rattle.coord_paxos.specs.Fresh.{new_slot}
 use Rattle.coord_paxos.specs.Slot.{after_begin}
-use Rattle.coord_paxos.specs.Reached.{if_own, slot_at}
+use Rattle.coord_paxos.specs.Reached.{IsUntried, if_own, slot_at}
 use Rattle.coord_paxos.proofs.SlotHistory.{same_slot}
+use Rattle.coord_paxos.proofs.SlotLaws.{slot_trying, slot_untried}
 use Rattle.mencius_server.specs.State.{ServerState}
 use Rattle.mencius_server.specs.Machine.{after_suspect, ballot_after, is_revoked, is_round_full, is_suspected, prepare_for, round_after, slot_revoked, suspect_cause, suspect_sent}
 use Rattle.mencius_server.specs.Reached.{IsAt, IsStep, refusal_of, server_at}
 use Rattle.mencius_server.proofs.Begins.{tried_below}
 use Rattle.mencius_server.proofs.HearsSkip.{among, is_instance}
 use Rattle.mencius_server.proofs.ServerHistory.{slot-server_at}
-
--- p's slot for j, were b the ballot that it tries
-abbrev slot_trying : Membership → History → ℕ → ℕ → ℕ → SlotState
-slot_trying m w p j b = record (slot_at m w p j) {
-  trying = b;
-  reported = reported w p j b;
-  proposal = if_own m p j b (proposed w j b);
-  promisers = map (promisers w p j b) (below m.count);
-  accepters = map (accepters w p j b) (below m.count);
-}
 
 -- a line that says nothing but which ballot is tried
 record IsTried (p j : ℕ) (l : Line) : Type 0 where
@@ -145,27 +135,12 @@ module _ (m : Membership) (w : History) (p j b : ℕ) (g : IsGrown m w) (mine : 
         | inr e ↦ e
       ]
 
-  no_report : (o : Option Vote) → reported w p j b ≡ o → o ≡ None
-  no_report None e = refl
-  no_report (Some u) e =
-      let h = reported_promise w p j b u e in
-      absurd (unprepared h.1 (promise_asked m w g h.0 h.1 j b (Some u) h.2))
-
   no_proposal : (o : Option Value) → proposed w j b ≡ o → o ≡ None
   no_proposal None e = refl
   no_proposal (Some v) e = let h = proposal_in w j b v (omega arith) e in absurd (unproposed h.0 v h.1)
 
-  own_none : (c : Bool) → ◌≡◌ {A = Option Value} (cond c None None) None
-  own_none true = refl
-  own_none false = refl
-
-  begun : slot_trying m w p j b ≡ after_begin (slot_at m w p j) b
-  begun =
-      same_slot _ _ refl refl refl refl refl
-      (no_report (reported w p j b) refl)
-      (ap (if_own m p j b) (no_proposal (proposed w j b) refl) ∙ own_none (eqb (owner m j) p || ltb 0 b))
-      (sym (map-below_constant (promisers w p j b) m.count false (λ q h. no_promiser q)))
-      (sym (map-below_constant (accepters w p j b) m.count false (λ q h. no_accepter q)))
+  untried : IsUntried w p j b
+  untried = record { unpromised = no_promiser; unaccepted = no_accepter; unsaid = no_proposal (proposed w j b) refl }
 
 module _ (m : Membership) (w : History) (p q : ℕ) (r : IsReached m w) (member : p < m.count) where
   abbrev covered : List ℕ
@@ -203,7 +178,7 @@ module _ (m : Membership) (w : History) (p q : ℕ) (r : IsReached m w) (member 
 
   slot_after : (j : ℕ) → j < 4096 → (c : Bool) → is_suspect m w p q j ≡ c → slot_at m later p j ≡ cond c (after_begin (slot_at m w p j) (ballot_for m w p j)) (slot_at m w p j)
   slot_after j small true e =
-      slot_same j (trying later p j) ∙ ap (slot_trying m w p j) (tried_here j small true e) ∙ begun m w p j (ballot_for m w p j) (reached_grown m w r) (mine j) (above j)
+      slot_same j (trying later p j) ∙ ap (slot_trying m w p j) (tried_here j small true e) ∙ slot_untried m w p j (ballot_for m w p j) (untried m w p j (ballot_for m w p j) (reached_grown m w r) (mine j) (above j))
   slot_after j small false e = slot_same j (trying later p j) ∙ ap (slot_trying m w p j) (tried_here j small false e)
 
   same_state : (xs : List SlotState) → xs ≡ map (slot_at m later p) instances

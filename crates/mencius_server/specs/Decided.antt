@@ -8,11 +8,11 @@ use Rattle.mencius_base.specs.declared.message.Value.TheVariants.{Noop}
 use Rattle.mencius_base.specs.Members.{Membership, owner}
 use Rattle.mencius_base.specs.History.{History, sent}
 use Rattle.coord_paxos.specs.Instance.{proposed}
-use Rattle.coord_paxos.specs.Instance.{IsMajority, has_accepted}
+use Rattle.coord_paxos.specs.Instance.{are_majority, has_accepted}
 
 -- a majority of the servers sent an acceptance at some ballot at which the value was proposed
 abbrev pub IsChosen : Membership → History → ℕ → Value → Type 0
-IsChosen m w i v = (b : ℕ) × (proposed w i b ≡ Some v) × IsTrue (IsMajority m (has_accepted w i b))
+IsChosen m w i v = (b : ℕ) × (proposed w i b ≡ Some v) × IsTrue (are_majority m (has_accepted w i b))
 
 -- a Skip of the instance's owner whose range covers it
 abbrev pub gives_up : Membership → ℕ → Message → Bool
