@@ -351,10 +351,12 @@ propose_decided m w k p from i v small high voted e None un =
     (slot_at-heard_promise m w k p i from v e)
     (λ j ne. slot_at-heard m w k p j _ e (uncounted_promise from p i (trying w p i) v j (trying w p j) (elsewhere i j (trying w p i) (trying w p j) ne)))
 propose_decided m w k p from i v small high voted e (Some u) decided =
+    let ahead : front m (Sent (Propose p i (trying w p i) u) ∷ Heard k p ∷ w) p ≡ front m w p = omega arith in
+    let tried : trying w p i ≡ trying (Heard k p ∷ w) p i = omega arith in
     let unsaid : proposed w i (trying w p i) ≡ None =
     sym (own_said m p i (trying w p i) (proposed w i (trying w p i)) (λ z. absurd (omega arith))) ∙ unsaid_proposes _ _ _ _ u decided in
-    server_written m w (Sent (Propose p i (trying w p i) u) ∷ Heard k p ∷ w) p i (front m w p) _ (omega arith)
-    (slot_at-proposed m (Heard k p ∷ w) p i (trying w p i) u (voted_after m w k p i voted) high (omega arith) (rw unsaid)
+    server_written m w (Sent (Propose p i (trying w p i) u) ∷ Heard k p ∷ w) p i (front m w p) _ ahead
+    (slot_at-proposed m (Heard k p ∷ w) p i (trying w p i) u (voted_after m w k p i voted) high tried (rw unsaid)
     ∙ ap (λ (t : SlotState). record t { proposal = Some u }) (slot_at-heard_promise m w k p i from v e))
     (λ j ne. slot_at-quiet m (Heard k p ∷ w) (Sent (Propose p i (trying w p i) u)) p j (quiet_propose p i (trying w p i) j u ne) refl
     ∙ slot_at-heard m w k p j _ e (uncounted_promise from p i (trying w p i) v j (trying w p j) (elsewhere i j (trying w p i) (trying w p j) ne)))
