@@ -1,6 +1,8 @@
 //! The words after the program's name.
 
-ghost use Rattle.std.specs.Prelude.{◌≡◌};
+ghost use Rattle.std.specs.Prelude.{◌≡◌, IfOk, map};
+ghost use Rattle.clap.specs.Words.{FailsBy, app_of, fault_of};
+ghost use Rattle.mencius_app.specs.CommandLine.{program};
 ghost use Rattle.mencius_app.specs.Status.{status_of};
 
 use crate::fault::AppFault;
@@ -81,7 +83,9 @@ Example, at the top of the repository:
 docs/FORMATS.md describes the format in full, and examples/ has schedules to try.";
 
 // The command line that is read.
-fn command_line<'a>(alloc: Global) -> Result<Command<'a>, AllocError> {
+fn command_line<'a>(alloc: Global) -> Result<Command<'a>, AllocError>
+    ensures { IfOk result (λ command. app_of command ≡ program) }
+{
     let replay = Command::new(alloc, "replay")
         .about(REPLAY_ABOUT)
         .long_about(REPLAY_LONG_ABOUT)
@@ -97,7 +101,9 @@ fn command_line<'a>(alloc: Global) -> Result<Command<'a>, AllocError> {
 /// What the words ask for, of which the first is the program's name. Else the error has the text to
 /// print, says whether it goes to standard error, and has the exit status: 0 where help was asked
 /// for, and 2 for a bad command line. Its kind is `OutOfMemory` where memory ran out.
-pub fn read_command_line<'a>(alloc: Global, words: &'a [String]) -> Result<Task, Error> {
+pub fn read_command_line<'a>(alloc: Global, words: &'a [String]) -> Result<Task, Error>
+    ensures { FailsBy (fault_of program (map (λ word. word.bytes.items) words.entry.now)) result }
+{
     let command = command_line(alloc)?;
     command.try_get_matches_from(words)?;
     Ok(Task::Replay)
