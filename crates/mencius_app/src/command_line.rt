@@ -98,9 +98,15 @@ fn command_line<'a>(alloc: Global) -> Result<Command<'a>, AllocError>
         .subcommand(replay)
 }
 
-/// What the words ask for, of which the first is the program's name. Else the error has the text to
-/// print, says whether it goes to standard error, and has the exit status: 0 where help was asked
-/// for, and 2 for a bad command line. Its kind is `OutOfMemory` where memory ran out.
+/// What the words ask for, of which the first is the program's name. Which words are taken, and the
+/// kind of the error where they are not, is what `clap` says of a program with the one subcommand
+/// `replay`.
+///
+/// # Errors
+///
+/// The error has the text to print, says whether it goes to standard error, and has the exit status:
+/// 0 where help was asked for, and 2 for a bad command line. Its kind is `OutOfMemory` where memory
+/// ran out, whatever the words.
 pub fn read_command_line<'a>(alloc: Global, words: &'a [String]) -> Result<Task, Error>
     ensures { FailsBy (fault_of program (map (λ word. word.bytes.items) words.entry.now)) result }
 {
