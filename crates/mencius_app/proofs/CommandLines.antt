@@ -1,4 +1,4 @@
--- Command lines, and what the program makes of each: it takes none but those that say `replay` alone.
+-- Command lines, and the kinds of error that the program has at each: none at the one that it takes.
 use Rattle.std.specs.Prelude.{◌≡◌, List, [], ◌∷◌, codes}
 use Rattle.std.proofs.Common.{refl}
 use Rattle.clap.specs.Words.{Kinds, Text, fault_of}

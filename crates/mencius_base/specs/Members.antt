@@ -49,7 +49,3 @@ most_events = 262144
 
 unfoldable pub most_rounds : ℕ
 most_rounds = 65535
-
--- the greatest ballot of the greatest membership
-unfoldable pub greatest_ballot : ℕ
-greatest_ballot = 458751

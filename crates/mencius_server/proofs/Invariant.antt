@@ -10,7 +10,7 @@ use Rattle.coord_paxos.specs.SlotState.{SlotState}
 use Rattle.coord_paxos.specs.Fresh.{new_slot}
 use Rattle.coord_paxos.specs.Slot.{after_begin, after_learn}
 use Rattle.mencius_server.specs.Kept.{IsKept, Notes}
-use Rattle.mencius_server.specs.Machine.{after_skip, after_submit, after_suspect, ballot_after, is_revoked, is_skipped, is_ticket, slot_given, slot_revoked, suggested_at, suggested_in, waits_at}
+use Rattle.mencius_server.specs.Machine.{after_skip, after_submit, after_suspect, ballot_after, is_revoked, is_skipped, is_ticket, slot_given, slot_revoked, suggested_at, suggested_in}
 use Rattle.mencius_server.specs.Server.{is_noop, ticket_of}
 use Rattle.mencius_server.specs.State.{FitsAt, IsServer, ServerState, padded, slot, with_slot_and_front}
 use Rattle.mencius_server.proofs.Begins.{IsServer-suspect}
@@ -210,20 +210,6 @@ place_keeps m p f given i t u k b v marks some few within fewer free made more a
       moved = moved_later s i t kept.server free.own free.ahead inside free.small b.moved marks kept.short kept.moved
           (λ j. marked j ∙ ap (λ (x : SlotState). get_or b.moved j false || is_ticket t (suggested_in m p j x)) (sym (get_or-padded m given j)));
     })
-
--- the place from which on tickets wait
-pub lost_keeps : (s : ServerState) (n : ℕ) (b : Notes) (l : ℕ) → l ≤ 4096 → ((j : ℕ) → j < l → waits_at s j ≡ None) → IsKept s n b → IsKept s n (record b { lost_from = l })
-lost_keeps s n b l few none kept = record {
-  few = kept.few;
-  server = kept.server;
-  within = kept.within;
-  known = kept.known;
-  early = few;
-  lost = none;
-  tickets = kept.tickets;
-  short = kept.short;
-  moved = kept.moved;
-}
 
 -- new slots show nothing new
 pub view_grown : (m : Membership) (p f : ℕ) (old given : List SlotState) (now : ServerState) → padded m given ≡ padded m old
