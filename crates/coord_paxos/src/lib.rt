@@ -7,10 +7,10 @@
 //! what the answer calls for. No call takes memory, and no call fails.
 #![tactic(auto)]
 
-ghost use Rattle.std.specs.Prelude.{◌≡◌, ◌<◌, ◌≤◌, ◌==◌, Some, None, is_none, nat_le};
+ghost use Rattle.std.specs.Prelude.{◌≡◌, ◌<◌, ◌≤◌, ◌==◌, Some, None, is_none, nat_le, slice_set, take, true};
 ghost use Rattle.coord_paxos.specs.Fresh.{new_slot};
 ghost use Rattle.coord_paxos.specs.Slot.{accept_answer, after_accept, after_acceptance, after_begin, after_learn, after_prepare, after_promise, is_majority, prepare_answer, promise_answer, to_learn, to_propose, with_accept, with_promise};
-ghost use Rattle.coord_paxos.specs.Instance.{higher_vote};
+ghost use Rattle.coord_paxos.specs.Instance.{higher_vote, value_or_noop};
 ghost use Rattle.mencius_base.specs.declared.message.Value.TheVariants.{Ticket};
 
 use mencius_base::{Ballot, Members, Value, Vote};
@@ -94,22 +94,13 @@ impl Slot {
         }
     }
 
-    /// Another slot that knows the same, to try calls on before they are made for good. It stands
-    /// in for `clone`, whose trait lets a copy be refused for want of memory; this one never is.
-    pub fn duplicate(&self) -> Slot
-        ensures { result ≡ self.now }
+    /// The slot of an instance of which only the value was heard: a new one that learned it.
+    pub fn known(members: Members, value: Value) -> Slot
+        ensures { result ≡ after_learn (new_slot members) value }
     {
-        Slot {
-            members: self.members,
-            promised: self.promised,
-            vote: self.vote,
-            learned: self.learned,
-            trying: self.trying,
-            reported: self.reported,
-            proposal: self.proposal,
-            promisers: self.promisers,
-            accepters: self.accepters,
-        }
+        let mut slot = Slot::new(members);
+        slot.learn(value);
+        slot
     }
 
     /// The greatest ballot promised or accepted here, `Ballot::OWNER` at the start. It only grows.
@@ -178,13 +169,23 @@ impl Slot {
         ensures answer { result ≡ prepare_answer self.old ballot }
         ensures after { self.new ≡ after_prepare self.old ballot }
     {
+        let answer = self.prepare_answer(ballot);
+        if let Answer::Promise(_) = answer {
+            self.promised = ballot;
+        }
+        answer
+    }
+
+    /// What [`Slot::prepare`] would answer: nothing changes.
+    pub fn prepare_answer(&self, ballot: Ballot) -> Answer
+        ensures { result ≡ prepare_answer self.now ballot }
+    {
         if let Some(value) = self.learned {
             return Answer::Known(value);
         }
         if ballot <= self.promised {
             return Answer::Silent;
         }
-        self.promised = ballot;
         Answer::Promise(self.vote)
     }
 
@@ -250,6 +251,20 @@ impl Slot {
         value
     }
 
+    /// What [`Slot::add_promise`] would give: nothing changes.
+    pub fn promise_answer(&self, from: u8, ballot: Ballot, vote: Option<Vote>) -> Option<Value>
+        requires { from < self.now.members.count }
+        ensures { result ≡ promise_answer self.now from ballot vote }
+    {
+        if ballot != self.trying || self.learned.is_some() || self.proposal.is_some() {
+            return None;
+        }
+        if !has_majority_with(self.members, self.promisers, from) {
+            return None;
+        }
+        Some(value_or_noop(higher(self.reported, vote)))
+    }
+
     /// Counts a server's acceptance, if it is at the ballot tried; any other is ignored. Gives the
     /// value that is thereby learned, once a majority of servers accepted: what this server
     /// proposed at that ballot. It gives one at most once, and none where a value is learned.
@@ -267,6 +282,20 @@ impl Slot {
             self.learned = value;
         }
         value
+    }
+
+    /// What [`Slot::add_accept`] would give: nothing changes.
+    pub fn accept_answer(&self, from: u8, ballot: Ballot) -> Option<Value>
+        requires { from < self.now.members.count }
+        ensures { result ≡ accept_answer self.now from ballot }
+    {
+        if ballot != self.trying || self.learned.is_some() {
+            return None;
+        }
+        if !has_majority_with(self.members, self.accepters, from) {
+            return None;
+        }
+        self.proposal
     }
 
     fn note_promise(&mut self, from: u8, vote: Option<Vote>)
@@ -295,10 +324,7 @@ impl Slot {
         {
             return None;
         }
-        match self.reported {
-            Some(vote) => Some(vote.value),
-            None => Some(Value::Noop),
-        }
+        Some(value_or_noop(self.reported))
     }
 
     fn to_learn(&self) -> Option<Value>
@@ -327,6 +353,27 @@ fn higher(first: Option<Vote>, second: Option<Vote>) -> Option<Vote>
             }
         }
     }
+}
+
+// The value of a vote, or no-op.
+fn value_or_noop(vote: Option<Vote>) -> Value
+    ensures { result ≡ value_or_noop vote }
+{
+    match vote {
+        Some(vote) => vote.value,
+        None => Value::Noop,
+    }
+}
+
+// More than half of the servers are in the set, with one more.
+fn has_majority_with(members: Members, among: Tally, from: u8) -> bool
+    requires { from < members.count }
+    ensures { result ≡ is_majority members (slice_set (take members.count among) from true) }
+{
+    let count = members.count() as usize;
+    let mut among = among;
+    among[from as usize] = true;
+    has_majority(members, &among[..count])
 }
 
 // More than half of the servers are in the set.

@@ -1,27 +1,25 @@
 -- A loop over the slots that starts first phases at some.
-use Rattle.std.proofs.Common.{◌≡◌, ℕ, ◌+◌, ◌-◌, ◌*◌, ◌/◌, ◌<◌, ◌≤◌, Some, Result, Ok, Err, IfErr, Bool, true, false, cond, eqb, List, [], ◌∷◌, ◌++◌, None, filter, length, get_or, map, max, min, refl, sym, ◌∙◌, ap, subst, arith, append-nil, append_assoc, ⊎_elim}
+use Rattle.std.proofs.Common.{◌≡◌, ℕ, ◌+◌, ◌*◌, ◌/◌, ◌<◌, ◌≤◌, Some, Result, Ok, Err, IfErr, Bool, true, false, cond, eqb, List, [], ◌∷◌, ◌++◌, None, filter, length, map, max, refl, sym, ◌∙◌, ap, subst, arith, append-nil, append_assoc, ⊎_elim}
 use Rattle.std.specs.List.{count_by, list_any}
 use Rattle.std.specs.Prelude.{is_none, ◌&&◌}
 use Rattle.std.proofs.Math.Nat.{mul-le-mul_right}
 use Rattle.std.proofs.lemmas.List.{get_or_past, length-map, map-append}
 use Rattle.std.proofs.lemmas.List.Sums.{length-filter}
-use Rattle.std.proofs.lemmas.Bool.{and_left, and_parts, and_right, cases_Bool, cases_lt, eqb-true, lt-leb, ltb-false, ne_eqb}
+use Rattle.std.proofs.lemmas.Bool.{and_parts, cases_Bool, cases_lt, eqb-true, ltb-false, ne_eqb}
 use Rattle.mencius_base.specs.declared.refusal.Refusal.{Refusal}
 use Rattle.mencius_base.specs.declared.refusal.Refusal.TheVariants.{NoMemory, NothingToRevoke, RoundsFull}
 use Rattle.mencius_base.specs.Outbox.{Outgoing, outbox_full}
 use Rattle.mencius_base.specs.Refusal.{IsRefusedFor}
 use Rattle.mencius_base.specs.Members.{first_item}
 use Rattle.mencius_base.specs.declared.message.Message.{Message}
-use Rattle.mencius_base.specs.declared.message.Message.TheVariants.{Prepare}
 use Rattle.mencius_base.specs.Members.{Membership, below, instances, owner}
-use Rattle.coord_paxos.proofs.Below.{any-filter, any-instances, count_by-below_le, count_by-below_more, count_by-below_none, filter-below_more, filter-below_none, filter-below_zero, get_or-map-instances, instances-below, length-map-instances, map-below_by, map-filter_same}
+use Rattle.coord_paxos.proofs.Below.{any-filter, any-instances, count_by-below_le, count_by-below_more, filter-below_more, filter-below_zero, get_or-map-instances, length-map-instances}
 use Rattle.coord_paxos.specs.SlotState.{SlotState}
 use Rattle.coord_paxos.specs.Fresh.{new_slot}
 use Rattle.coord_paxos.specs.Slot.{after_begin}
-use Rattle.mencius_server.specs.State.{FitsAt, IsServer, ServerState, padded, slot}
+use Rattle.mencius_server.specs.State.{FitsAt, IsServer, ServerState, slot}
 use Rattle.mencius_server.specs.Machine.{after_suspect, ballot_after, is_revoked, is_round_full, is_suspected, prepare_for, round_after, slot_revoked, suspect_cause, suspect_sent}
 use Rattle.mencius_server.proofs.Keeps.{FitsAt-slot, KeepsAt, KeepsAt-fits, KeepsAt-new}
-use Rattle.mencius_server.proofs.SkipShows.{get_or-padded, length-padded}
 use Rattle.mencius_server.proofs.SlotLaws.{FitsAt-cond}
 
 -- the messages for the places before i that pass stand after those before
@@ -53,13 +51,6 @@ pub record HasRoomFrom (test : ℕ → Bool) (n room i : ℕ) : Type 0 where
 pub room_none : (test : ℕ → Bool) (n room : ℕ) → count_by test (below n) ≤ room → HasRoomFrom test n room 0
 room_none test n room h = record { enough = omega (arith, h) }
 
--- the message for one slot, read where it stood at the start
-pub one_here : (m : Membership) (p q f i : ℕ) (t u : SlotState) (b : Bool) → t ≡ u → b ≡ is_revoked m q f i t
-    → cond b (Prepare p i (ballot_after m p t) ∷ []) [] ≡ cond (is_revoked m q f i u) (Prepare p i (ballot_after m p u) ∷ []) []
-one_here m p q f i t u b e h =
-    ap (λ (c : Bool). cond c (Prepare p i (ballot_after m p t) ∷ []) []) h
-    ∙ ap (λ (s : SlotState). cond (is_revoked m q f i s) (Prepare p i (ballot_after m p s) ∷ []) []) e
-
 pub room_here : (test : ℕ → Bool) (n room i : ℕ) → i < n → test i ≡ true → HasRoomFrom test n room i → 0 < room
 room_here test n room i within here has =
     let more : count_by test (below (i + 1)) ≡ count_by test (below i) + 1 = count_by-below_more test i ∙ ap (λ (b : Bool). count_by test (below i) + cond b 1 0) here in
@@ -78,93 +69,6 @@ tried_below m p t some = above t.trying (t.promised / m.count) m.count p some wh
       let grows : (a / n + 1) * n ≤ (max (a / n) c + 1) * n = mul-le-mul_right n (omega arith) in
       let whole : a < (a / n + 1) * n = omega arith in
       omega arith
-
--- past the front nothing is covered
-uncovered : (m : Membership) (q front j : ℕ) (t : SlotState) → front < j → is_revoked m q front j t ≡ false
-uncovered m q front j t past = and_left _ _ (and_right _ _ (lt-leb j front past))
-
--- what no suspicion covers, seen from outside, it does not cover inside
-pub begin_known : (m : Membership) (p f : ℕ) (old given : List SlotState) (now : ServerState) (q : ℕ)
-    → record { members = m; id = p; front = f; slots = padded m old } ≡ now → padded m given ≡ padded m old
-    → (first : ℕ) → ((j : ℕ) → j < first → is_suspected now q j ≡ false) → (j : ℕ) → j < first → is_revoked m q f j (get_or given j (new_slot m)) ≡ false
-begin_known m p f old given now q shown same first =
-    subst (λ (s : ServerState). ((j : ℕ) → j < first → is_suspected s q j ≡ false) → (j : ℕ) → j < first → is_revoked m q f j (get_or given j (new_slot m)) ≡ false) shown
-    (λ known j low.
-    rw (sym (get_or-padded m given j) ∙ ap (λ (xs : List SlotState). get_or xs j (new_slot m)) same) (known j low))
-
-module _ (m : Membership) (p f : ℕ) (old given : List SlotState) (now : ServerState) (q : ℕ)
-    (shown : record { members = m; id = p; front = f; slots = padded m old } ≡ now) (same : padded m given ≡ padded m old)
-    (few : length given ≤ 4096) (reach : min (f + 1) 4096 ≤ length given) where
-  before : (j : ℕ) → get_or given j (new_slot m) ≡ get_or (padded m old) j (new_slot m)
-  before j = sym (get_or-padded m given j) ∙ ap (λ (xs : List SlotState). get_or xs j (new_slot m)) same
-
-  abbrev covers : ℕ → Bool
-  covers j = is_revoked m q f j (get_or given j (new_slot m))
-
-  abbrev prepares : ℕ → Message
-  prepares j = Prepare p j (ballot_after m p (get_or given j (new_slot m)))
-
-  beyond : (j : ℕ) → length given ≤ j → j < length given + (4096 - length given) → covers j ≡ false
-  beyond j low high = uncovered m q f j (get_or given j (new_slot m)) (omega arith)
-
-  all_places : length given + (4096 - length given) ≡ 4096
-  all_places = omega arith
-
-  pub begin_rounds : ((j : ℕ) → j < 4096 → is_suspected now q j ≡ true → round_after now.members (slot now j) ≤ 65535)
-      → (j : ℕ) → j < length given → covers j ≡ true → round_after m (get_or given j (new_slot m)) ≤ 65535
-  begin_rounds =
-      subst (λ (s : ServerState). ((j : ℕ) → j < 4096 → is_suspected s q j ≡ true → round_after s.members (slot s j) ≤ 65535)
-      → (j : ℕ) → j < length given → covers j ≡ true → round_after m (get_or given j (new_slot m)) ≤ 65535) shown
-      (λ rounds j small covered. rw (before j) (rounds j (omega arith) (rw (← before j) covered)))
-
-  pub begin_counts : count_by covers (below (length given)) ≡ count_by (is_suspected now q) instances
-  begin_counts =
-      subst (λ (s : ServerState). count_by covers (below (length given)) ≡ count_by (is_suspected s q) instances) shown
-      (sym (ap (count_by covers) (instances-below ∙ ap below (sym all_places)) ∙ count_by-below_none covers (length given) (4096 - length given) beyond)
-      ∙ count_same covers (λ (j : ℕ). is_revoked m q f j (get_or (padded m old) j (new_slot m))) (λ j. ap (is_revoked m q f j) (before j)) instances)
-    where
-      count_same : (g h : ℕ → Bool) → ((j : ℕ) → g j ≡ h j) → (xs : List ℕ) → count_by g xs ≡ count_by h xs
-      count_same g h e xs = simp e
-
-  pub begin_sends : map prepares (filter covers (below (length given))) ≡ suspect_sent now q
-  begin_sends =
-      subst (λ (s : ServerState). map prepares (filter covers (below (length given))) ≡ suspect_sent s q) shown
-      (sym (ap (λ (xs : List ℕ). map prepares (filter covers xs)) (instances-below ∙ ap below (sym all_places))
-      ∙ ap (map prepares) (filter-below_none covers (length given) (4096 - length given) beyond))
-      ∙ map-filter_same prepares (λ (j : ℕ). Prepare p j (ballot_after m p (get_or (padded m old) j (new_slot m))))
-      covers (λ (j : ℕ). is_revoked m q f j (get_or (padded m old) j (new_slot m)))
-      (λ j. ap (λ (t : SlotState). Prepare p j (ballot_after m p t)) (before j)) (λ j. ap (is_revoked m q f j) (before j)) instances)
-
-  pub begin_shows : (new : List SlotState) → length new ≡ length given
-      → ((j : ℕ) → j < length given → get_or new j (new_slot m) ≡ slot_revoked m p q f j (get_or given j (new_slot m)))
-      → record { members = m; id = p; front = f; slots = padded m new } ≡ after_suspect now q
-  begin_shows new kept made =
-      subst (λ (s : ServerState). record { members = m; id = p; front = f; slots = padded m new } ≡ after_suspect s q) shown
-      (with_slots m p f _ _ (every ∙ ap (map made_at) (sym instances-below)))
-    where
-      with_slots : (m : Membership) (p f : ℕ) (xs ys : List SlotState) → xs ≡ ys
-          → ◌≡◌ {A = ServerState} (record { members = m; id = p; front = f; slots = xs }) (record { members = m; id = p; front = f; slots = ys })
-      with_slots m p f xs ys e = rw e
-
-      made_at : ℕ → SlotState
-      made_at j = slot_revoked m p q f j (get_or (padded m old) j (new_slot m))
-
-      here : (j : ℕ) → j < 4096 → get_or new j (new_slot m) ≡ slot_revoked m p q f j (get_or given j (new_slot m))
-      here j small =
-          ⊎_elim
-          (λ (within : j < length given). made j within)
-          (λ (past : length given ≤ j).
-          let none : length new ≤ j = omega arith in
-          let ahead : f < j = omega arith in
-          get_or_past new j (new_slot m) none
-          ∙ sym (ap (λ (b : Bool). cond b (after_begin (get_or given j (new_slot m)) (ballot_after m p (get_or given j (new_slot m)))) (get_or given j (new_slot m)))
-          (uncovered m q f j (get_or given j (new_slot m)) ahead)
-          ∙ get_or_past given j (new_slot m) past))
-          (cases_lt j (length given))
-
-      every : padded m new ≡ map made_at (below 4096)
-      every = map-below_by made_at (padded m new) 4096 (new_slot m) (length-padded m new (omega arith))
-          (λ j small. get_or-padded m new j ∙ here j small ∙ ap (slot_revoked m p q f j) (before j))
 
 abbrev slots_revoked : ServerState → ℕ → List SlotState
 slots_revoked s q = map (λ (j : ℕ). slot_revoked s.members s.id q s.front j (slot s j)) instances

@@ -4,50 +4,51 @@ use Rattle.std.specs.Prelude.{is_none}
 use Rattle.std.proofs.lemmas.Bool.{and_parts, cases_Bool, cases_lt, eqb-true, leb-true, ne_eqb}
 use Rattle.mencius_base.specs.declared.message.Value.{Value}
 use Rattle.mencius_base.specs.declared.message.Value.TheVariants.{Noop, Ticket}
-use Rattle.mencius_base.specs.Members.{Membership, owner}
-use Rattle.coord_paxos.proofs.Below.{get_or-map-instances}
+use Rattle.mencius_base.specs.Members.{Membership, instances, owner}
+use Rattle.coord_paxos.proofs.Below.{get_or-map-instances, length-map-instances}
 use Rattle.coord_paxos.specs.SlotState.{SlotState}
 use Rattle.coord_paxos.specs.Fresh.{new_slot}
-use Rattle.coord_paxos.specs.Slot.{after_begin, after_learn}
-use Rattle.mencius_server.specs.Kept.{IsKept, Notes}
-use Rattle.mencius_server.specs.Machine.{after_skip, after_submit, after_suspect, ballot_after, is_revoked, is_skipped, is_ticket, slot_given, slot_revoked, suggested_at, suggested_in}
+use Rattle.coord_paxos.specs.Slot.{after_learn}
+use Rattle.mencius_server.specs.Kept.{IsKept}
+use Rattle.mencius_server.specs.Notes.{Noted}
+use Rattle.mencius_server.specs.Machine.{after_skip, after_submit, after_suspect, is_revoked, is_round_full, is_skipped, is_suspected, is_ticket, round_after, slot_given, slot_revoked, suggested_at, suggested_in}
 use Rattle.mencius_server.specs.Server.{is_noop, ticket_of}
-use Rattle.mencius_server.specs.State.{FitsAt, IsServer, ServerState, padded, slot, with_slot_and_front}
+use Rattle.mencius_server.specs.State.{FitsAt, IsServer, ServerState, slot, with_slot_and_front}
+use Rattle.mencius_server.specs.Known.{KnownState, is_open, is_round_full_at, known_after_skip, known_after_suspect, known_slot, with_known}
+use Rattle.std.specs.List.{count_by, list_any}
+use Rattle.std.proofs.Common.{filter, map}
+use Rattle.std.proofs.Common.{ltb, min}
+use Rattle.std.proofs.lemmas.List.{get_or-set_other, get_or_past, length-set}
 use Rattle.mencius_server.proofs.Begins.{IsServer-suspect}
 use Rattle.mencius_server.proofs.Gaps.{unrevoked_other}
-use Rattle.mencius_server.proofs.Keeps.{IsServer-with_slot, KeepsAt-fits, KeepsAt-suggested, padded-set, put_shows, set_keeps}
+use Rattle.mencius_server.proofs.Keeps.{IsServer-with_slot, KeepsAt-fits, KeepsAt-suggested, set_keeps}
 use Rattle.mencius_server.proofs.Lost.{SaysSame, moved_later, past_same, tickets_later, waits_later, waits_none}
-use Rattle.mencius_server.proofs.SkipShows.{IsServer-skip, get_or-padded, length-padded}
+use Rattle.mencius_server.proofs.SkipShows.{IsServer-skip}
 use Rattle.mencius_server.proofs.SlotLaws.{SameAttempt-cond, SameAttempt-learn, SameAttempt-self}
 
--- new slots at the end
-pub grown_keeps : (m : Membership) (p f : ℕ) (old given : List SlotState) (n k : ℕ) (b : Notes)
-    → padded m given ≡ padded m old → n ≤ k → k ≤ 4096
-    → IsKept (record { members = m; id = p; front = f; slots = padded m old }) n b
-    → IsKept (record { members = m; id = p; front = f; slots = padded m given }) k b
-grown_keeps m p f old given n k b same more few kept =
-    rw same (record {
-      few = few;
-      server = kept.server;
-      within = omega (arith, kept.within);
-      known = kept.known;
-      early = kept.early;
-      lost = kept.lost;
-      tickets = kept.tickets;
-      short = kept.short;
-      moved = kept.moved;
-    })
+with_slots : (m : Membership) (p f : ℕ) (xs ys : List SlotState) → xs ≡ ys
+    → ◌≡◌ {A = ServerState} (record { members = m; id = p; front = f; slots = xs }) (record { members = m; id = p; front = f; slots = ys })
+with_slots m p f xs ys e = rw e
+
+-- what the server knows of an instance is what others see of it
+pub known_is : (m : Membership) (p f : ℕ) (k : KnownState) (now : ServerState) → record { members = m; id = p; front = f; slots = k.slots } ≡ now → k.members ≡ m
+    → (i : ℕ) → known_slot k i ≡ slot now i
+known_is m p f k now shown same i =
+    ap (λ (n : Membership). get_or k.slots i (new_slot n)) same ∙ ap (λ (s : ServerState). slot s i) shown
+
+-- the same server, with the same members
+pub kept_as : (s v : ServerState) (m n : Membership) (b : Noted) → s ≡ v → n ≡ m → IsKept v m b → IsKept s n b
+kept_as s v m n b same members kept = subst (λ (x : ServerState). IsKept x n b) (sym same) (subst (λ (x : Membership). IsKept v x b) (sym members) kept)
 
 -- where the own suggestions are the same, and no more is lost below a place
-same_keeps : (s v : ServerState) (n k : ℕ) (b c : Notes) → SaysSame s v → IsServer v → s.front ≤ v.front → k ≤ 4096 → c.learned_below ≤ k
-    → ((j : ℕ) → j < c.learned_below → is_none (slot v j).learned ≡ false) → c.lost_from ≤ b.lost_from → c.next_ticket ≡ b.next_ticket → c.moved ≡ b.moved
+same_keeps : (s v : ServerState) (m : Membership) (b c : Noted) → SaysSame s v → IsServer v → length v.slots ≡ 4096 → m ≡ v.members → s.front ≤ v.front
+    → c.lost_from ≤ b.lost_from → c.next_ticket ≡ b.next_ticket → c.moved ≡ b.moved
     → ((j : ℕ) → j < c.lost_from → is_noop (slot v j).learned ≡ true → (is_noop (slot s j).learned ≡ true) ⊎ (suggested_at s j ≡ None))
-    → IsKept s n b → IsKept v k c
-same_keeps s v n k b c said server ahead few within known early next marks since kept = record {
-  few = few;
+    → IsKept s m b → IsKept v m c
+same_keeps s v m b c said server full members ahead early next marks since kept = record {
+  full = full;
+  members = members;
   server = server;
-  within = within;
-  known = known;
   early = omega (arith, kept.early);
   lost = λ j low. waits_none s v said j (omega (arith, kept.early)) (kept.lost j (omega arith)) (since j low);
   tickets = λ j t small e. let low : t < b.next_ticket = kept.tickets j t small (sym (said.same j small) ∙ e) in omega arith;
@@ -78,36 +79,23 @@ put_since s i f l t (inr kept) j low =
     ]) (λ lost. inl lost)
 
 -- a slot and the front
-pub put_keeps : (m : Membership) (p f g : ℕ) (old given : List SlotState) (now : ServerState) (i : ℕ) (t : SlotState) (n k : ℕ) (b : Notes) (c l : ℕ)
-    → record { members = m; id = p; front = f; slots = padded m old } ≡ now
-    → padded m given ≡ padded m old → i < length given → k ≤ 4096 → c ≤ k → l ≤ b.lost_from
-    → (l ≤ i) ⊎ (owner m i ≡ p → is_noop t.learned ≡ false)
+pub put_keeps : (now : ServerState) (m : Membership) (i g : ℕ) (t : SlotState) (b : Noted) (l : ℕ)
+    → l ≤ b.lost_from → (l ≤ i) ⊎ (owner now.members i ≡ now.id → is_noop t.learned ≡ false)
     → FitsAt now g i t → now.front ≤ g → g ≤ 4102
-    → ((j : ℕ) → b.learned_below ≤ j → j < c → is_none (get_or (set given i t) j (new_slot m)).learned ≡ false)
-    → IsKept (record { members = m; id = p; front = f; slots = padded m old }) n b
-    → IsKept (record { members = m; id = p; front = g; slots = padded m (set given i t) }) k (record b { learned_below = c; lost_from = l })
-put_keeps m p f g old given now i t n k b c l shown same within few less early lost fits ahead near known kept =
-    let held : IsKept now n b = subst (λ (s : ServerState). IsKept s n b) shown kept in
-    let becomes = put_shows m p f g old given now i t shown same within in
-    let server = IsServer-with_slot now i t g held.server (KeepsAt-fits now g i t fits) ahead near in
-    let lost_now : (l ≤ i) ⊎ (owner now.members i ≡ now.id → is_noop t.learned ≡ false) =
-    subst (λ (s : ServerState). (l ≤ i) ⊎ (owner s.members i ≡ s.id → is_noop t.learned ≡ false)) shown lost in
-    subst (λ (s : ServerState). IsKept s k (record b { learned_below = c; lost_from = l })) (sym becomes)
-    (same_keeps now (with_slot_and_front now i t g) n k b _ (put_says now i g t fits) server ahead few less
-    (λ j low. ⊎_elim
-    (λ (before : j < b.learned_below). set_keeps (λ (u : SlotState). is_none u.learned ≡ false) now.slots i j t (new_slot now.members)
-    (λ at. fits.stays (subst (λ (x : ℕ). is_none (slot now x).learned ≡ false) at (held.known j before))) (held.known j before))
-    (λ (from : b.learned_below ≤ j).
-    subst (λ (s : ServerState). is_none (slot s j).learned ≡ false) becomes
-    (rw (get_or-padded m (set given i t) j) (known j from low)))
-    (cases_lt j b.learned_below))
-    early refl refl (put_since now i g l t lost_now) held)
+    → IsKept now m b → IsKept (with_slot_and_front now i t g) m (record b { lost_from = l })
+put_keeps now m i g t b l early lost fits ahead near kept =
+    same_keeps now (with_slot_and_front now i t g) m b _ (put_says now i g t fits)
+    (IsServer-with_slot now i t g kept.server (KeepsAt-fits now g i t fits) ahead near) (length-set now.slots i t ∙ kept.full) kept.members ahead
+    early refl refl (put_since now i g l t lost) kept
+
+pub put_shows : (m : Membership) (p f g : ℕ) (k new : KnownState) (now : ServerState) (i : ℕ) (t : SlotState)
+    → record { members = m; id = p; front = f; slots = k.slots } ≡ now → new ≡ with_known k i t
+    → record { members = m; id = p; front = g; slots = new.slots } ≡ with_slot_and_front now i t g
+put_shows m p f g k new now i t shown written =
+    subst (λ (s : ServerState). record { members = m; id = p; front = g; slots = new.slots } ≡ with_slot_and_front s i t g) shown
+    (with_slots m p g _ _ (ap (λ (x : KnownState). x.slots) written))
 
 -- a Skip
-skip_stays : (m : Membership) (q first stop j : ℕ) (t : SlotState) → is_none t.learned ≡ false → is_none (slot_given m q first stop j t).learned ≡ false
-skip_stays m q first stop j t known =
-    (SameAttempt-cond (is_skipped m q first stop j) t (after_learn t Noop) t (SameAttempt-learn t Noop) (SameAttempt-self t)).stays known
-
 skip_slot : (s : ServerState) (q first stop j : ℕ) → j < 4096 → slot (after_skip s q first stop) j ≡ slot_given s.members q first stop j (slot s j)
 skip_slot s q first stop j small = get_or-map-instances (λ (i : ℕ). slot_given s.members q first stop i (slot s i)) j (new_slot s.members) small
 
@@ -126,26 +114,28 @@ skip_since s q first stop l lost j low small noop =
       | inr not_given ↦ inl (rw (skip_slot s q first stop j small, not_given) at noop)
     ]
 
-pub skip_keeps : (s : ServerState) (q first stop n k : ℕ) (b : Notes) (l : ℕ) → n ≤ k → k ≤ 4096 → l ≤ b.lost_from → (l ≤ first) ⊎ (q ≡ s.id → ⊥) → IsKept s n b
-    → IsKept (after_skip s q first stop) k (record b { lost_from = l })
-skip_keeps s q first stop n k b l more few early lost kept =
-    same_keeps s (after_skip s q first stop) n k b _
+pub skip_keeps : (s : ServerState) (m : Membership) (q first stop : ℕ) (b : Noted) (l : ℕ) → l ≤ b.lost_from → (l ≤ first) ⊎ (q ≡ s.id → ⊥) → IsKept s m b
+    → IsKept (after_skip s q first stop) m (record b { lost_from = l })
+skip_keeps s m q first stop b l early lost kept =
+    same_keeps s (after_skip s q first stop) m b _
     (record {
       same = λ j small. ap (suggested_in s.members s.id j) (skip_slot s q first stop j small)
           ∙ ap (λ (o : Option Value). cond (eqb (owner s.members j) s.id) (ticket_of o) None)
           (SameAttempt-cond (is_skipped s.members q first stop j) (slot s j) (after_learn (slot s j) Noop) (slot s j) (SameAttempt-learn (slot s j) Noop) (SameAttempt-self (slot s j))).proposal;
     })
-    (IsServer-skip s q first stop kept.server) (omega arith) few (omega (arith, kept.within))
-    (λ j low.
-    let small : j < 4096 = omega (arith, kept.within) in
-    rw (skip_slot s q first stop j small) (skip_stays s.members q first stop j (slot s j) (kept.known j low)))
+    (IsServer-skip s q first stop kept.server) (length-map-instances (λ (j : ℕ). slot_given s.members q first stop j (slot s j))) kept.members (omega arith)
     early refl refl (λ j low noop. skip_since s q first stop l lost j low (omega (arith, kept.early)) noop) kept
 
--- a suspicion
-begun_stays : (t : SlotState) (b : ℕ) (c : Bool) → is_none t.learned ≡ false → is_none (cond c (after_begin t b) t).learned ≡ false
-begun_stays t b true known = known
-begun_stays t b false known = known
+pub skip_shown : (m : Membership) (p f : ℕ) (k new : KnownState) (now : ServerState) (q first stop : ℕ)
+    → record { members = m; id = p; front = f; slots = k.slots } ≡ now → k.members ≡ m → new ≡ known_after_skip k q first stop
+    → record { members = m; id = p; front = f; slots = new.slots } ≡ after_skip now q first stop
+skip_shown m p f k new now q first stop shown same made =
+    subst (λ (s : ServerState). record { members = m; id = p; front = f; slots = new.slots } ≡ after_skip s q first stop) shown
+    (with_slots m p f _ _
+    (ap (λ (x : KnownState). x.slots) made
+    ∙ ap (λ (n : Membership). map (λ (j : ℕ). slot_given n q first stop j (get_or k.slots j (new_slot n))) instances) same))
 
+-- a suspicion
 suspect_slot : (s : ServerState) (q j : ℕ) → j < 4096 → slot (after_suspect s q) j ≡ slot_revoked s.members s.id q s.front j (slot s j)
 suspect_slot s q j small = get_or-map-instances (λ (i : ℕ). slot_revoked s.members s.id q s.front i (slot s i)) j (new_slot s.members) small
 
@@ -163,16 +153,43 @@ suspect_since : (s : ServerState) (q j : ℕ) → (s.id ≡ q → ⊥) → j < 4
 suspect_since s q j other small noop true mine = inl (subst (λ (u : SlotState). is_noop u.learned ≡ true) (suspect_own s q j other small (eqb-true _ _ mine)) noop)
 suspect_since s q j other small noop false theirs = inr (rw theirs refl)
 
-pub suspect_keeps : (s : ServerState) (q n k : ℕ) (b : Notes) → (s.id ≡ q → ⊥) → n ≤ k → k ≤ 4096 → IsKept s n b → IsKept (after_suspect s q) k b
-suspect_keeps s q n k b other more few kept =
-    same_keeps s (after_suspect s q) n k b b
+pub suspect_keeps : (s : ServerState) (m : Membership) (q : ℕ) (b : Noted) → (s.id ≡ q → ⊥) → IsKept s m b → IsKept (after_suspect s q) m b
+suspect_keeps s m q b other kept =
+    same_keeps s (after_suspect s q) m b b
     (record { same = λ j small. suspect_says s q j other small _ refl })
-    (IsServer-suspect s q other kept.server) (omega arith) few (omega (arith, kept.within))
-    (λ j low.
-    let small : j < 4096 = omega (arith, kept.within) in
-    rw (suspect_slot s q j small)
-    (begun_stays (slot s j) (ballot_after s.members s.id (slot s j)) (is_revoked s.members q s.front j (slot s j)) (kept.known j low)))
+    (IsServer-suspect s q other kept.server) (length-map-instances (λ (j : ℕ). slot_revoked s.members s.id q s.front j (slot s j))) kept.members (omega arith)
     (omega arith) refl refl (λ j low noop. suspect_since s q j other (omega (arith, kept.early)) noop _ refl) kept
+
+-- a suspicion, as what the server knows has it
+module _ (m : Membership) (p f : ℕ) (k : KnownState) (now : ServerState) (q : ℕ)
+    (shown : record { members = m; id = p; front = f; slots = k.slots } ≡ now) (same : k.members ≡ m) where
+  pub open_shown : (j : ℕ) → is_open k q f j ≡ is_suspected now q j
+  open_shown j = ap (λ (n : Membership). is_revoked n q f j (get_or k.slots j (new_slot n))) same ∙ ap (λ (s : ServerState). is_suspected s q j) shown
+
+  pub open_count : count_by (is_open k q f) instances ≡ count_by (is_suspected now q) instances
+  open_count =
+      ap (λ (n : Membership). count_by (λ (j : ℕ). is_revoked n q f j (get_or k.slots j (new_slot n))) instances) same
+      ∙ ap (λ (s : ServerState). count_by (is_suspected s q) instances) shown
+
+  pub open_rounds : ((j : ℕ) → j < 4096 → is_suspected now q j ≡ true → round_after now.members (slot now j) ≤ 65535)
+      → (j : ℕ) → j < 4096 → is_open k q f j ≡ true → round_after k.members (known_slot k j) ≤ 65535
+  open_rounds rounds j small e =
+      let there = rounds j small (sym (open_shown j) ∙ e) in
+      let is : round_after k.members (known_slot k j) ≡ round_after now.members (slot now j) =
+      ap (λ (n : Membership). round_after n (get_or k.slots j (new_slot n))) same ∙ ap (λ (s : ServerState). round_after s.members (slot s j)) shown in
+      rw is there
+
+  pub full_shown : list_any (is_round_full_at k) (filter (is_open k q f) instances) ≡ list_any (is_round_full now) (filter (is_suspected now q) instances)
+  full_shown =
+      ap (λ (n : Membership). list_any (λ (j : ℕ). ltb 65535 (round_after n (get_or k.slots j (new_slot n)))) (filter (λ (j : ℕ). is_revoked n q f j (get_or k.slots j (new_slot n))) instances)) same
+      ∙ ap (λ (s : ServerState). list_any (is_round_full s) (filter (is_suspected s q) instances)) shown
+
+  pub suspect_shown : (new : KnownState) → new ≡ known_after_suspect k p q f → record { members = m; id = p; front = f; slots = new.slots } ≡ after_suspect now q
+  suspect_shown new made =
+      subst (λ (s : ServerState). record { members = m; id = p; front = f; slots = new.slots } ≡ after_suspect s q) shown
+      (with_slots m p f _ _
+      (ap (λ (x : KnownState). x.slots) made
+      ∙ ap (λ (n : Membership). map (λ (j : ℕ). slot_revoked n p q f j (get_or k.slots j (new_slot n))) instances) same))
 
 -- an instance at which the server may suggest
 pub record IsFree (s : ServerState) (i : ℕ) : Type 0 where
@@ -182,51 +199,70 @@ pub record IsFree (s : ServerState) (i : ℕ) : Type 0 where
   pub blank : is_none (slot s i).learned ≡ true
 
 -- a suggestion
-pub place_keeps : (m : Membership) (p f : ℕ) (given : List SlotState) (i t : ℕ) (u : SlotState) (k : ℕ) (b : Notes) (v : ℕ) (marks : List Bool)
-    → 1 ≤ m.count → m.count ≤ 7 → i < length given → length given ≤ 4096
-    → IsFree (record { members = m; id = p; front = f; slots = padded m given }) i
-    → u ≡ record (get_or given i (new_slot m)) { proposal = Some (Ticket t) }
-    → b.next_ticket ≤ v → t < v → length marks ≤ f
-    → ((j : ℕ) → get_or marks j false ≡ (get_or b.moved j false || is_ticket t (suggested_in m p j (get_or given j (new_slot m)))))
-    → IsKept (record { members = m; id = p; front = f; slots = padded m given }) k b
-    → IsKept (record { members = m; id = p; front = i + m.count; slots = padded m (set given i u) }) k (record b { next_ticket = v; moved = marks })
-place_keeps m p f given i t u k b v marks some few within fewer free made more above short marked kept =
-    let s : ServerState = record { members = m; id = p; front = f; slots = padded m given } in
-    let inside : i < length (padded m given) = rw (length-padded m given fewer) free.small in
-    let written : padded m (set given i u) ≡ set (padded m given) i (record (get_or (padded m given) i (new_slot m)) { proposal = Some (Ticket t) }) =
-    padded-set m given i u within
-    ∙ ap (set (padded m given) i) (made ∙ ap (λ (x : SlotState). record x { proposal = Some (Ticket t) }) (sym (get_or-padded m given i))) in
-    subst (λ (xs : List SlotState). IsKept (record { members = m; id = p; front = i + m.count; slots = xs }) k (record b { next_ticket = v; moved = marks })) (sym written)
-    (record {
-      few = kept.few;
-      server = IsServer-with_slot s i _ (i + m.count) kept.server (KeepsAt-suggested s (i + m.count) i (Some (Ticket t)) (omega arith) kept.server) (omega (arith, free.ahead)) (omega (arith, free.small));
-      within = kept.within;
-      known = λ j low. set_keeps (λ (x : SlotState). is_none x.learned ≡ false) s.slots i j _ (new_slot m)
-          (λ at. subst (λ (x : ℕ). is_none (slot s x).learned ≡ false) at (kept.known j low)) (kept.known j low);
+pub place_keeps : (s : ServerState) (m : Membership) (i t : ℕ) (b : Noted) (v : ℕ) (marks : List Bool)
+    → 1 ≤ s.members.count → s.members.count ≤ 7 → IsFree s i
+    → b.next_ticket ≤ v → t < v → length marks ≤ s.front
+    → ((j : ℕ) → get_or marks j false ≡ (get_or b.moved j false || is_ticket t (suggested_in s.members s.id j (slot s j))))
+    → IsKept s m b
+    → IsKept (after_submit s i t) m (record b { next_ticket = v; moved = marks })
+place_keeps s m i t b v marks some few free more above short marked kept =
+    let inside : i < length s.slots = rw kept.full free.small in
+    record {
+      full = length-set s.slots i (record (slot s i) { proposal = Some (Ticket t) }) ∙ kept.full;
+      members = kept.members;
+      server = IsServer-with_slot s i _ (i + s.members.count) kept.server (KeepsAt-suggested s (i + s.members.count) i (Some (Ticket t)) (omega arith) kept.server) (omega (arith, free.ahead)) (omega (arith, free.small));
       early = kept.early;
       lost = λ j low. waits_later s i t kept.server free.own free.ahead inside free.small j free.blank (kept.lost j low);
       tickets = tickets_later s i t kept.server free.own free.ahead inside free.small b.next_ticket v more above kept.tickets;
       short = omega (arith, free.ahead);
-      moved = moved_later s i t kept.server free.own free.ahead inside free.small b.moved marks kept.short kept.moved
-          (λ j. marked j ∙ ap (λ (x : SlotState). get_or b.moved j false || is_ticket t (suggested_in m p j x)) (sym (get_or-padded m given j)));
-    })
+      moved = moved_later s i t kept.server free.own free.ahead inside free.small b.moved marks kept.short kept.moved marked;
+    }
 
--- new slots show nothing new
-pub view_grown : (m : Membership) (p f : ℕ) (old given : List SlotState) (now : ServerState) → padded m given ≡ padded m old
-    → record { members = m; id = p; front = f; slots = padded m old } ≡ now → record { members = m; id = p; front = f; slots = padded m given } ≡ now
-view_grown m p f old given now same shown =
-    subst (λ (xs : List SlotState). record { members = m; id = p; front = f; slots = xs } ≡ now) (sym same) shown
+pub place_shows : (m : Membership) (p f : ℕ) (k new : KnownState) (now : ServerState) (i t : ℕ) (u : SlotState)
+    → record { members = m; id = p; front = f; slots = k.slots } ≡ now → k.members ≡ m
+    → new ≡ with_known k i u → u ≡ record (known_slot k i) { proposal = Some (Ticket t) }
+    → record { members = m; id = p; front = i + m.count; slots = new.slots } ≡ after_submit now i t
+place_shows m p f k new now i t u shown same written made =
+    subst (λ (s : ServerState). record { members = m; id = p; front = i + m.count; slots = new.slots } ≡ after_submit s i t) shown
+    (with_slots m p (i + m.count) _ _
+    (ap (λ (x : KnownState). x.slots) written ∙ ap (set k.slots i) made
+    ∙ ap (λ (n : Membership). set k.slots i (record (get_or k.slots i (new_slot n)) { proposal = Some (Ticket t) })) same))
 
-pub place_shows : (m : Membership) (p f : ℕ) (given : List SlotState) (now : ServerState) (i t : ℕ) (u : SlotState) → i < length given
-    → record { members = m; id = p; front = f; slots = padded m given } ≡ now
-    → u ≡ record (get_or given i (new_slot m)) { proposal = Some (Ticket t) }
-    → record { members = m; id = p; front = i + m.count; slots = padded m (set given i u) } ≡ after_submit now i t
-place_shows m p f given now i t u within shown made =
-    subst (λ (s : ServerState). record { members = m; id = p; front = i + m.count; slots = padded m (set given i u) } ≡ after_submit s i t) shown
-    (with_slots _ _
-    (padded-set m given i u within
-    ∙ ap (set (padded m given) i) (made ∙ ap (λ (x : SlotState). record x { proposal = Some (Ticket t) }) (sym (get_or-padded m given i)))))
+-- the marks that a suggestion makes, as others see the server before it
+pub place_marks : (m : Membership) (p f : ℕ) (k new : KnownState) (now : ServerState) (i t : ℕ) (u : SlotState) (old blank marks : List Bool)
+    → record { members = m; id = p; front = f; slots = k.slots } ≡ now → k.members ≡ m → new ≡ with_known k i u → f ≤ i
+    → IsServer (record { members = m; id = p; front = f; slots = k.slots }) → length k.slots ≡ 4096
+    → ((j : ℕ) → get_or blank j false ≡ get_or old j false)
+    → ((j : ℕ) → j < f → j < 4096 → get_or marks j false ≡ (get_or blank j false || is_ticket t (suggested_in m p j (known_slot new j))))
+    → ((j : ℕ) → min f 4096 ≤ j → get_or marks j false ≡ get_or blank j false)
+    → (j : ℕ) → get_or marks j false ≡ (get_or old j false || is_ticket t (suggested_in now.members now.id j (slot now j)))
+place_marks m p f k new now i t u old blank marks shown same written ahead server full kept marked rest j =
+    subst (λ (s : ServerState). get_or marks j false ≡ (get_or old j false || is_ticket t (suggested_in s.members s.id j (slot s j)))) shown
+    (⊎_elim
+    (λ (low : j < min f 4096).
+    marked j (omega arith) (omega arith)
+    ∙ ap (λ (b : Bool). b || is_ticket t (suggested_in m p j (known_slot new j))) (kept j)
+    ∙ ap (λ (x : SlotState). get_or old j false || is_ticket t (suggested_in m p j x)) (slot_is (λ at. absurd (omega arith))))
+    (λ (high : min f 4096 ≤ j).
+    rest j high ∙ kept j
+    ∙ sym (ap (λ (b : Bool). get_or old j false || b) (untold (eqb (owner m j) p) refl high) ∙ or-false (get_or old j false)))
+    (cases_lt j (min f 4096)))
   where
-    with_slots : (xs ys : List SlotState) → xs ≡ ys
-        → ◌≡◌ {A = ServerState} (record { members = m; id = p; front = i + m.count; slots = xs }) (record { members = m; id = p; front = i + m.count; slots = ys })
-    with_slots xs ys e = rw e
+    slot_is : (j ≡ i → ⊥) → known_slot new j ≡ get_or k.slots j (new_slot m)
+    slot_is off =
+        ap (λ (x : KnownState). known_slot x j) written
+        ∙ get_or-set_other k.slots i j u (new_slot k.members) off
+        ∙ ap (λ (n : Membership). get_or k.slots j (new_slot n)) same
+
+    or-false : (b : Bool) → (b || false) ≡ b
+    or-false true = refl
+    or-false false = refl
+
+    untold : (b : Bool) → eqb (owner m j) p ≡ b → min f 4096 ≤ j → is_ticket t (suggested_in m p j (get_or k.slots j (new_slot m))) ≡ false
+    untold false other high = rw other refl
+    untold true mine high =
+        rw mine
+        (⊎_elim
+        (λ (low : j < f). let past : length k.slots ≤ j = omega (arith, full) in rw (get_or_past k.slots j (new_slot m) past) refl)
+        (λ (past : f ≤ j). rw (server.unsaid j (eqb-true _ _ mine) past) refl)
+        (cases_lt j f))

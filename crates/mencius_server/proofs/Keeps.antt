@@ -1,6 +1,6 @@
 -- What a server keeps, and how its list of slots is filled up.
-use Rattle.std.proofs.Common.{◌≡◌, ℕ, ◌+◌, ◌-◌, ◌<◌, ◌≤◌, List, [], ◌∷◌, ◌++◌, None, length, replicate, get_or, set, suc, refl, ap, sym, ◌∙◌, subst, arith, append_assoc, length-append, ⊎_elim}
-use Rattle.std.proofs.lemmas.List.{length-replicate, get_or-replicate, get_or-set_other, get_or_past, length-set, set-append_left, set_past}
+use Rattle.std.proofs.Common.{◌≡◌, ℕ, ◌+◌, ◌<◌, ◌≤◌, List, None, length, replicate, get_or, set, refl, ap, sym, ◌∙◌, subst, arith, ⊎_elim}
+use Rattle.std.proofs.lemmas.List.{length-replicate, get_or-replicate, get_or-set_other, get_or_past, set_past}
 use Rattle.std.proofs.lemmas.Grind.{get_or-set_at}
 use Rattle.std.proofs.lemmas.Bool.{cases_eq, cases_lt, le-ltb}
 use Rattle.std.proofs.Common.{Result, Ok, Err, IfErr, Option, Bool, true, false, Some, cond, eqb}
@@ -14,14 +14,7 @@ use Rattle.coord_paxos.specs.SlotState.{SlotState}
 use Rattle.coord_paxos.specs.Fresh.{new_slot}
 use Rattle.mencius_server.specs.Machine.{suggested_at, waits_at, waits_with}
 use Rattle.mencius_server.specs.Server.{ticket_of}
-use Rattle.mencius_server.specs.State.{ServerState, FitsAt, IsServer, new_server, padded, slot, with_slot_and_front}
-
--- one more new slot is one of those that fill up
-pub padded-push : (m : Membership) (given : List SlotState) → length given < 4096 → padded m (given ++ new_slot m ∷ []) ≡ padded m given
-padded-push m given few =
-    let longer : length (given ++ new_slot m ∷ []) ≡ length given + 1 = simp length-append in
-    let less : 4096 - length given ≡ suc (4096 - (length given + 1)) = omega arith in
-    rw (longer, append_assoc, less)
+use Rattle.mencius_server.specs.State.{ServerState, FitsAt, IsServer, new_server, slot, with_slot_and_front}
 
 -- past the last slot there are new ones
 pub past-replicate : (n i : ℕ) (t : SlotState) → get_or (replicate n t) i t ≡ t
@@ -30,10 +23,6 @@ past-replicate n i t =
     (λ (within : i < n). get_or-replicate n i t t within)
     (λ (past : n ≤ i). let none : length (replicate n t) ≤ i = simp length-replicate (omega arith) in get_or_past (replicate n t) i t none)
     (cases_lt i n)
-
--- a write to a given slot is a write to the filled up list
-pub padded-set : (m : Membership) (given : List SlotState) (i : ℕ) (t : SlotState) → i < length given → padded m (set given i t) ≡ set (padded m given) i t
-padded-set m given i t within = rw (length-set given i t, set-append_left)
 
 -- a new server keeps all this
 pub IsServer-new : (m : Membership) (p : ℕ) → p < m.count → m.count ≤ 7 → IsServer (new_server m p)
@@ -55,13 +44,6 @@ new_unsaid m p j t e = let none : suggested_at (new_server m p) j ≡ None = non
 
 pub new_waits : (m : Membership) (p j : ℕ) → waits_at (new_server m p) j ≡ None
 new_waits m p j = ap (waits_with (new_server m p) j) (none_said m p j (eqb (owner m j) p))
-
--- a slot written where there are enough of them is a slot written for those who look
-pub put_shows : (m : Membership) (p f g : ℕ) (old given : List SlotState) (now : ServerState) (i : ℕ) (t : SlotState)
-    → record { members = m; id = p; front = f; slots = padded m old } ≡ now
-    → padded m given ≡ padded m old → i < length given
-    → record { members = m; id = p; front = g; slots = padded m (set given i t) } ≡ with_slot_and_front now i t g
-put_shows m p f g old given now i t shown same within = rw (← shown, padded-set m given i t within, same)
 
 -- what holds of the new slot and of the old ones holds after a write
 pub set_keeps : (P : SlotState → Type 0) (given : List SlotState) (i j : ℕ) (t d : SlotState) → (j ≡ i → P t) → P (get_or given j d) → P (get_or (set given i t) j d)

@@ -1,3 +1,7 @@
+pub mod Spans
+pub mod Given
+pub mod Counts
+pub mod Knows
 pub mod Keeps
 pub mod SlotLaws
 pub mod Hears
@@ -28,3 +32,12 @@ pub mod Paxos
 pub mod Journals
 pub mod Sources
 pub mod Bounds
+pub mod Opens
+pub mod Places
+pub mod Walks
+pub mod Keeping
+pub mod Revokes
+pub mod Begun
+pub mod News
+pub mod SkipKnown
+pub mod Accepting

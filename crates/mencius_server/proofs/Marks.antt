@@ -1,10 +1,9 @@
 -- A loop that marks the own instances where a ticket was suggested.
-use Rattle.std.proofs.Common.{◌≡◌, ℕ, ◌+◌, ◌<◌, ◌≤◌, Bool, true, false, ⊎_elim, cond, eqb, get_or, length, List, Option, Some, None, min, set, refl, sym, ◌∙◌, ap, arith, ◌||◌}
+use Rattle.std.proofs.Common.{◌≡◌, ℕ, ◌+◌, ◌<◌, ◌≤◌, Bool, true, false, ⊎_elim, cond, eqb, get_or, length, List, set, refl, sym, ◌∙◌, ap, arith, ◌||◌}
 use Rattle.std.proofs.lemmas.Bool.{cases_eq, cases_lt, eq-eqb}
-use Rattle.std.proofs.lemmas.List.{get_or-set_other, get_or_past}
+use Rattle.std.proofs.lemmas.List.{get_or-set_other}
 use Rattle.std.proofs.lemmas.Grind.{get_or-set_at}
 use Rattle.mencius_base.specs.Members.{Membership, owner}
-use Rattle.coord_paxos.specs.Fresh.{new_slot}
 use Rattle.coord_paxos.specs.SlotState.{SlotState}
 use Rattle.mencius_server.specs.Machine.{is_ticket, suggested_in}
 use Rattle.mencius_server.specs.Server.{ticket_of}
@@ -69,33 +68,3 @@ marked_more m p t end i next slots old now new c inside within mine least ahead 
     at_place j at false e said =
         ap (λ (xs : List Bool). get_or xs j false) e ∙ before.rest j (omega arith)
         ∙ sym (ap (λ (b : Bool). get_or old j false || b) (ap (λ (x : ℕ). is_ticket t (suggested_in m p x (slots x))) at ∙ ticket_here ∙ said) ∙ or-false (get_or old j false))
-
-no_ticket : (t : ℕ) (o : Option ℕ) → ((u : ℕ) → o ≡ Some u → ⊥) → is_ticket t o ≡ false
-no_ticket t None never = refl
-no_ticket t (Some u) never = absurd (never u refl)
-
-new_unsaid : (m : Membership) (p j : ℕ) (c : Bool) (u : ℕ) → cond c (ticket_of (new_slot m).proposal) None ≡ Some u → ⊥
-new_unsaid m p j true u e = cc
-new_unsaid m p j false u e = cc
-
--- all places, where none further on has an own ticket
-pub marked_all : (m : Membership) (p t end front : ℕ) (given : List SlotState) (old blank new : List Bool)
-    → ((j u : ℕ) → suggested_in m p j (get_or given j (new_slot m)) ≡ Some u → j < front) → end ≡ min (length given) front
-    → ((j : ℕ) → get_or blank j false ≡ get_or old j false)
-    → ((j : ℕ) → j < end → get_or new j false ≡ (get_or blank j false || is_ticket t (suggested_in m p j (get_or given j (new_slot m)))))
-    → ((j : ℕ) → end ≤ j → get_or new j false ≡ get_or blank j false)
-    → (j : ℕ) → get_or new j false ≡ (get_or old j false || is_ticket t (suggested_in m p j (get_or given j (new_slot m))))
-marked_all m p t end front given old blank new unsaid e same marked rest j =
-    ⊎_elim
-    (λ (low : j < end). marked j low ∙ ap (λ (b : Bool). b || is_ticket t (suggested_in m p j (get_or given j (new_slot m)))) (same j))
-    (λ (high : end ≤ j).
-    rest j high ∙ same j
-    ∙ sym (ap (λ (b : Bool). get_or old j false || b) (no_ticket t (suggested_in m p j (get_or given j (new_slot m))) (never high)) ∙ or-false (get_or old j false)))
-    (cases_lt j end)
-  where
-    never : end ≤ j → (u : ℕ) → suggested_in m p j (get_or given j (new_slot m)) ≡ Some u → ⊥
-    never high u said =
-        ⊎_elim
-        (λ (inside : j < length given). let low : j < front = unsaid j u said in omega arith)
-        (λ (past : length given ≤ j). new_unsaid m p j (eqb (owner m j) p) u (ap (λ (s : SlotState). suggested_in m p j s) (sym (get_or_past given j (new_slot m) past)) ∙ said))
-        (cases_lt j (length given))

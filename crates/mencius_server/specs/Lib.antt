@@ -2,7 +2,16 @@ pub mod Server
 pub mod Next
 pub mod Decided
 pub mod State
+pub mod Notes
 pub mod Kept
 pub mod Machine
 pub mod Reached
 pub mod Laws
+pub mod Ranges
+pub mod Stretches
+pub mod Places
+pub mod Slots
+pub mod Lending
+pub mod Changes
+pub mod Known
+pub mod Surveys

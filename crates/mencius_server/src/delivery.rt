@@ -10,16 +10,17 @@ ghost use Rattle.mencius_base.specs.declared.event.Event.TheVariants.{Deliver};
 ghost use Rattle.mencius_base.specs.declared.message.Message.TheVariants.{Prepare};
 ghost use Rattle.mencius_base.specs.declared.message.Value.TheVariants.{Noop};
 ghost use Rattle.mencius_base.specs.declared.refusal.Refusal.TheVariants.{NoMemory};
-ghost use Rattle.mencius_server.specs.Machine.{IsUndone, accepted_sent, after_accepted, after_hearing, after_learn_at, after_skip, given_count, is_given, slot_given, after_prepare_at, after_promise_at, after_propose, after_suggest, learned_on, one_if_some, prepare_sent, promise_sent, propose_sent, sent_on, suggest_sent};
+ghost use Rattle.mencius_server.specs.Machine.{IsUndone, accepted_sent, after_accepted, after_hearing, after_learn_at, after_skip, given_count, is_given, slot_given, after_prepare_at, after_promise_at, after_propose, after_suggest, learned_on, one_if_some, prepare_sent, promise_sent, propose_sent, sent_on, skip_sent, suggest_sent, next_front};
 ghost use Rattle.mencius_server.specs.Next.{learnings, lines};
 ghost use Rattle.mencius_server.specs.Reached.{IsAt, IsStep, refusal_of};
 ghost use Rattle.mencius_server.specs.State.{slot};
 ghost use Rattle.std.specs.List.{count_by};
 ghost use Rattle.std.specs.Prelude.{◌≡◌, ◌⊎◌, ◌+◌, ◌<◌, ◌≤◌, ◌++◌, ◌==◌, length, is_none, OnOk, OnErr, IfOk, IfErr, if◌then◌else◌, IsTrue, Some, ℕ, slice_get, slice_index_or, vec_len};
 
-use crate::{Server, grow_to};
-use coord_paxos::{Answer, Slot};
-use mencius_base::{Ballot, Members, Message, Outbox, Refusal, Value, Vote};
+use crate::Server;
+use crate::change::Change;
+use coord_paxos::Answer;
+use mencius_base::{Ballot, Message, Outbox, Refusal, Value, Vote};
 
 impl Server {
     /// Hears a message, and answers how many instances were learned (Mao, Junqueira and Marzullo, OSDI
@@ -108,9 +109,11 @@ impl Server {
         ensures err { OnErr result (self.new ≡ self.old) }
         ensures memory { IfErr result (λ r. r ≡ NoMemory) }
     {
-        grow_to(&mut self.slots, self.members, stop.min(4096) as usize)?;
-        self.lost_from = lost_with_skip(self.id, from, first, self.lost_from);
-        Ok(learn_noops(&mut self.slots, self.members, from, first, stop))
+        let learned = self.known.skip(from, first, stop)?;
+        if from == self.id {
+            self.notes.note_lost(first);
+        }
+        Ok(learned)
     }
 
     fn hear_suggest(
@@ -129,18 +132,14 @@ impl Server {
         ensures refusal { IsRefusedFor (outbox_full out.old (length (suggest_sent self.old from inst))) result }
     {
         let first = self.front;
-        let stop = self.members.first_owned(self.id, inst + 1);
         let is_ahead = first < inst;
-        let mut slot = self.read(inst);
-        let is_accepted = slot.accept(Ballot::OWNER, Value::Ticket(ticket));
+        let is_accepted = self.known.promised(inst) == Ballot::OWNER;
         out.reserve(u32::from(is_ahead) + u32::from(is_accepted))?;
-        self.put(inst, slot, if is_ahead { stop } else { first })?;
+        if is_accepted {
+            self.change(inst, Change::Accept(Ballot::OWNER, Value::Ticket(ticket)))?;
+        }
         if is_ahead {
-            out.push(Message::Skip {
-                from: self.id,
-                first,
-                stop,
-            });
+            self.skip_past(inst, out);
         }
         if is_accepted {
             out.push(Message::Accepted {
@@ -168,23 +167,28 @@ impl Server {
         ensures err { OnErr result (IsUndone self.old self.new out.old out.new) }
         ensures refusal { IsRefusedFor (outbox_full out.old (length (prepare_sent self.old from inst ballot))) result }
     {
-        let mut slot = self.read(inst);
-        let answer = slot.prepare(ballot);
-        out.reserve(if answer == Answer::Silent { 0 } else { 1 })?;
-        self.write(inst, slot)?;
-        match answer {
-            Answer::Promise(vote) => out.push(Message::Promise {
-                from: self.id,
-                to: from,
-                inst,
-                ballot,
-                vote,
-            }),
-            Answer::Known(value) => out.push(Message::Learn {
-                from: self.id,
-                inst,
-                value,
-            }),
+        // The proof reads off the length that the outbox is within its limit.
+        let _few = out.len();
+        match self.known.prepare_answer(inst, ballot) {
+            Answer::Promise(vote) => {
+                out.reserve(1)?;
+                self.change(inst, Change::Promise(ballot))?;
+                out.push(Message::Promise {
+                    from: self.id,
+                    to: from,
+                    inst,
+                    ballot,
+                    vote,
+                });
+            }
+            Answer::Known(value) => {
+                out.reserve(1)?;
+                out.push(Message::Learn {
+                    from: self.id,
+                    inst,
+                    value,
+                });
+            }
             Answer::Silent => {}
         }
         Ok(0)
@@ -208,10 +212,16 @@ impl Server {
         ensures err { OnErr result (IsUndone self.old self.new out.old out.new) }
         ensures refusal { IsRefusedFor (outbox_full out.old (length (promise_sent self.old from inst ballot vote))) result }
     {
-        let mut slot = self.read(inst);
-        let value = slot.add_promise(from, ballot, vote);
-        out.reserve(if value.is_some() { 1 } else { 0 })?;
-        self.write(inst, slot)?;
+        // The proof reads off the length that the outbox is within its limit.
+        let _few = out.len();
+        if ballot != self.known.trying(inst) {
+            return Ok(0);
+        }
+        // One copy is asked about, and the other is counted.
+        let reported = vote;
+        let value = self.known.promise_answer(inst, from, ballot, vote);
+        out.reserve(u32::from(value.is_some()))?;
+        self.change(inst, Change::CountPromise(from, ballot, reported))?;
         if let Some(value) = value {
             out.push(Message::Propose {
                 from: self.id,
@@ -239,18 +249,19 @@ impl Server {
         ensures err { OnErr result (IsUndone self.old self.new out.old out.new) }
         ensures refusal { IsRefusedFor (outbox_full out.old (length (propose_sent self.old from inst ballot))) result }
     {
-        let mut slot = self.read(inst);
-        let is_accepted = slot.accept(ballot, value);
-        out.reserve(u32::from(is_accepted))?;
-        self.write(inst, slot)?;
-        if is_accepted {
-            out.push(Message::Accepted {
-                from: self.id,
-                to: from,
-                inst,
-                ballot,
-            });
+        // The proof reads off the length that the outbox is within its limit.
+        let _few = out.len();
+        if ballot < self.known.promised(inst) {
+            return Ok(0);
         }
+        out.reserve(1)?;
+        self.change(inst, Change::Accept(ballot, value))?;
+        out.push(Message::Accepted {
+            from: self.id,
+            to: from,
+            inst,
+            ballot,
+        });
         Ok(0)
     }
 
@@ -261,10 +272,11 @@ impl Server {
         ensures err { OnErr result (self.new ≡ self.old) }
         ensures memory { IfErr result (λ r. r ≡ NoMemory) }
     {
-        let mut slot = self.read(inst);
-        let is_first = slot.learn(value);
-        self.write(inst, slot)?;
-        Ok(u32::from(is_first))
+        if self.known.learned(inst).is_some() {
+            return Ok(0);
+        }
+        self.change(inst, Change::Learn(value))?;
+        Ok(1)
     }
 
     fn hear_accepted(
@@ -283,10 +295,14 @@ impl Server {
         ensures err { OnErr result (IsUndone self.old self.new out.old out.new) }
         ensures refusal { IsRefusedFor (outbox_full out.old (length (accepted_sent self.old from inst ballot))) result }
     {
-        let mut slot = self.read(inst);
-        let value = slot.add_accept(from, ballot);
-        out.reserve(if value.is_some() { 1 } else { 0 })?;
-        self.write(inst, slot)?;
+        // The proof reads off the length that the outbox is within its limit.
+        let _few = out.len();
+        if ballot != self.known.trying(inst) {
+            return Ok(0);
+        }
+        let value = self.known.accept_answer(inst, from, ballot);
+        out.reserve(u32::from(value.is_some()))?;
+        self.change(inst, Change::CountAccept(from, ballot))?;
         match value {
             Some(value) => {
                 out.push(Message::Learn {
@@ -299,37 +315,27 @@ impl Server {
             None => Ok(0),
         }
     }
-}
 
-// Where a server skips its own instances, tickets there may wait from then on.
-fn lost_with_skip(id: u8, from: u8, first: u32, lost_from: u32) -> u32
-    ensures less { result ≤ lost_from }
-    ensures lost { (result ≤ first) ⊎ (from ≡ id → ⊥) }
-{
-    if from == id {
-        lost_from.min(first)
-    } else {
-        lost_from
+    // Gives up the own instances from the front up to one past an instance by one Skip, for which there is room
+    // (Rule 2).
+    fn skip_past(&mut self, inst: u32, out: &mut Outbox)
+        requires small { inst < 4096 }
+        requires ahead { self.old.front < inst }
+        requires room { 0 < out.old.room }
+        ensures sent { out.new.messages ≡ out.old.messages ++ skip_sent self.old inst }
+        ensures after { self.new ≡ record self.old { front = next_front self.old inst } }
+        ensures room { out.new.room + 1 ≡ out.old.room }
+        ensures limit { out.new.limit ≡ out.old.limit }
+    {
+        let first = self.front;
+        // The proof reads off the count that there are few members.
+        let _few = self.members.count();
+        let stop = self.members.first_owned(self.id, inst + 1);
+        self.advance(stop);
+        out.push(Message::Skip {
+            from: self.id,
+            first,
+            stop,
+        });
     }
-}
-
-// Learns no-op at each instance that a Skip gives up, and counts those that were not learned.
-fn learn_noops(slots: &mut Vec<Slot>, members: Members, from: u8, first: u32, stop: u32) -> u32
-    requires few { vec_len slots.old ≤ 4096 }
-    requires member { from < members.count }
-    requires near { first ≤ 4102 }
-    ensures len { vec_len slots.new ≡ vec_len slots.old }
-    ensures slots { (j : ℕ) → j < vec_len slots.old
-        → slice_index_or slots.new.items j (new_slot members) ≡ slot_given members from first stop j (slice_index_or slots.old.items j (new_slot members)) }
-    ensures count { result ≡ count_by (λ j. is_given members from first stop j (slice_index_or slots.old.items j (new_slot members))) (below (vec_len slots.old)) }
-{
-    let end = slots.len().min(stop as usize);
-    let mut count = 0;
-    let mut inst = members.first_owned(from, first);
-    while (inst as usize) < end {
-        let slot = &mut slots[inst as usize];
-        count += u32::from(slot.learn(Value::Noop));
-        inst = members.first_owned(from, inst + 1);
-    }
-    count
 }

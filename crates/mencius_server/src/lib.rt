@@ -11,23 +11,31 @@
 //! promised then.
 #![tactic(auto)]
 
-ghost use Rattle.coord_paxos.specs.SlotState.{SlotState};
 ghost use Rattle.mencius_base.specs.Members.{owner};
 ghost use Rattle.mencius_base.specs.declared.refusal.Refusal.TheVariants.{NoMemory};
 ghost use Rattle.mencius_server.specs.Reached.{server_at};
-ghost use Rattle.mencius_server.specs.Server.{is_noop};
-ghost use Rattle.mencius_server.specs.State.{FitsAt, padded, slot, with_slot, with_slot_and_front};
-ghost use Rattle.std.specs.Prelude.{◌≡◌, ◌⊎◌, false, is_none, length, slice_index_or, ◌+◌, ◌<◌, ◌≤◌, [], OnOk, OnErr, IfOk, IfErr, ℕ, vec_len};
+ghost use Rattle.mencius_server.specs.Changes.{IsSaid, changed};
+ghost use Rattle.mencius_server.specs.State.{slot, with_slot};
+ghost use Rattle.std.specs.Prelude.{◌≡◌, ◌<◌, ◌≤◌, [], OnOk, OnErr, IfOk, IfErr, ℕ};
 
-use coord_paxos::Slot;
+use crate::change::Change;
+use crate::known::Known;
+use crate::notes::Notes;
 use mencius_base::{Members, Refusal, Value};
 use std::alloc::Global;
 use std::marker::Model;
 
+mod change;
 mod delivery;
+mod known;
 pub mod laws;
+mod notes;
+mod ranges;
 mod revocation;
+mod slots;
+mod stretch;
 mod suggestion;
+mod survey;
 #[cfg(test)]
 mod tests;
 
@@ -40,27 +48,19 @@ pub struct Server {
     members: Members,
     id: u8,
     front: u32,
-    slots: Vec<Slot>,
-    // Every instance below this one is learned.
-    learned_below: u32,
-    // No own ticket waits at an instance below this one.
-    lost_from: u32,
-    // Every ticket that was suggested here is below this number.
-    next_ticket: u64,
-    // For each instance from 0, whether the own ticket there was suggested again further on.
-    moved: Vec<bool>,
+    known: Known,
+    notes: Notes,
 }
 
 impl Model for Server {
-    ghost use Rattle.std.specs.Prelude.{vec_len};
     ghost use Rattle.mencius_server.specs.Kept.{IsKept};
-    ghost use Rattle.mencius_server.specs.State.{ServerState, padded};
+    ghost use Rattle.mencius_server.specs.State.{ServerState};
 
     ghost Value = { ServerState };
 
-    ghost view = { λ s. record { members = s.members; id = s.id; front = s.front; slots = padded s.members s.slots.items } };
+    ghost view = { λ s. record { members = s.members; id = s.id; front = s.front; slots = s.known.slots } };
 
-    ghost invariant = { λ s. IsKept (record { members = s.members; id = s.id; front = s.front; slots = padded s.members s.slots.items }) (vec_len s.slots) (record { learned_below = s.learned_below; lost_from = s.lost_from; next_ticket = s.next_ticket; moved = s.moved.items }) };
+    ghost invariant = { λ s. IsKept (record { members = s.members; id = s.id; front = s.front; slots = s.known.slots }) s.known.members s.notes };
 }
 
 impl Server {
@@ -74,15 +74,13 @@ impl Server {
     {
         // The proof reads off the count that there are few members.
         let _few = members.count();
+        let known = Known::new(alloc, members)?;
         Ok(Server {
             members,
             id,
             front: id as u32,
-            slots: Vec::new(alloc),
-            learned_below: 0,
-            lost_from: 4096,
-            next_ticket: 0,
-            moved: Vec::new(alloc),
+            known,
+            notes: Notes::new(alloc),
         })
     }
 
@@ -101,35 +99,19 @@ impl Server {
     pub fn learned(&self, inst: u32) -> Option<Value>
         ensures { result ≡ (slot self.now inst).learned }
     {
-        if (inst as usize) < self.slots.len() {
-            self.slots[inst as usize].learned()
+        if inst < 4096 {
+            self.known.learned(inst)
         } else {
             None
         }
     }
 
-    // A copy of an instance's slot; past the last slot there are new ones.
-    fn read(&self, inst: u32) -> Slot
-        ensures state { result ≡ slot self.now inst }
-        ensures members { result.members ≡ self.now.members }
-        ensures fits { FitsAt self.now self.now.front inst result }
-    {
-        if (inst as usize) < self.slots.len() {
-            self.slots[inst as usize].duplicate()
-        } else {
-            Slot::new(self.members)
-        }
-    }
-
-    // A server's least instance from a place on.
-    fn next_of(&self, server: u8, from: u32) -> u32
-        requires member { server < self.now.members.count }
-        requires small { from ≤ 4102 }
-        ensures own { owner self.now.members result ≡ server }
-        ensures above { from ≤ result }
-        ensures least { (i : ℕ) → from ≤ i → owner self.now.members i ≡ server → result ≤ i }
-    {
-        self.members.first_owned(server, from)
+    /// How many slots the server keeps, and how many ranges of instances that it was heard to skip.
+    ///
+    /// A slot stands only where something else than a Skip was heard or done, so that neither count
+    /// grows with the number of instances. For tests: nothing that the server says rests on it.
+    pub fn kept(&self) -> (u32, u32) {
+        self.known.kept()
     }
 
     // The least own instance from a place on.
@@ -142,81 +124,28 @@ impl Server {
         self.members.first_owned(self.id, from)
     }
 
-    // Writes a slot and the front.
-    fn put(&mut self, inst: u32, slot: Slot, front: u32) -> Result<(), Refusal>
+    // Changes an instance's slot where it stands, and leaves the front.
+    fn change(&mut self, inst: u32, change: Change) -> Result<(), Refusal>
         requires small { inst < 4096 }
-        requires ahead { self.old.front ≤ front }
-        requires near { front ≤ 4102 }
-        requires fits { FitsAt self.old front inst slot }
-        ensures ok { OnOk result (self.new ≡ with_slot_and_front self.old inst slot front) }
+        requires said { IsSaid self.old.members change }
+        ensures ok { OnOk result (self.new ≡ with_slot self.old inst (changed (slot self.old inst) change)) }
         ensures err { OnErr result (self.new ≡ self.old) }
         ensures memory { IfErr result (λ r. r ≡ NoMemory) }
     {
-        grow_to(&mut self.slots, self.members, inst as usize + 1)?;
-        self.lost_from = lost_with(self.members, self.id, inst, &slot, self.lost_from);
-        self.slots[inst as usize] = slot;
-        self.front = front;
-        self.learned_below = learned_from(&self.slots, self.learned_below);
+        self.known.change(inst, change)?;
+        let is_lost = matches!(self.known.learned(inst), Some(Value::Noop));
+        if is_lost && self.members.owner(inst) == self.id {
+            self.notes.note_lost(inst);
+        }
         Ok(())
     }
 
-    // Writes a slot, and leaves the front.
-    fn write(&mut self, inst: u32, slot: Slot) -> Result<(), Refusal>
-        requires small { inst < 4096 }
-        requires fits { FitsAt self.old self.old.front inst slot }
-        ensures ok { OnOk result (self.new ≡ with_slot self.old inst slot) }
-        ensures err { OnErr result (self.new ≡ self.old) }
-        ensures memory { IfErr result (λ r. r ≡ NoMemory) }
+    // Moves the front.
+    fn advance(&mut self, front: u32)
+        requires ahead { self.old.front ≤ front }
+        requires near { front ≤ 4102 }
+        ensures { self.new ≡ record self.old { front = front } }
     {
-        let front = self.front;
-        self.put(inst, slot, front)
+        self.front = front;
     }
-}
-
-// Makes slots for the instances below a place.
-fn grow_to(slots: &mut Vec<Slot>, members: Members, wanted: usize) -> Result<(), Refusal>
-    requires small { wanted ≤ 4096 }
-    requires few { vec_len slots.old ≤ 4096 }
-    ensures reach { OnOk result (wanted ≤ vec_len slots.new) }
-    ensures few { vec_len slots.new ≤ 4096 }
-    ensures more { vec_len slots.old ≤ vec_len slots.new }
-    ensures same { padded members slots.new.items ≡ padded members slots.old.items }
-    ensures memory { IfErr result (λ r. r ≡ NoMemory) }
-{
-    if slots.len() >= wanted {
-        return Ok(());
-    }
-    if slots.reserve(wanted - slots.len()).is_err() {
-        return Err(Refusal::NoMemory);
-    }
-    while slots.len() < wanted {
-        slots.push_reserved(Slot::new(members));
-    }
-    Ok(())
-}
-
-// Where a slot is written, its ticket may wait from then on.
-fn lost_with(members: Members, id: u8, inst: u32, slot: &Slot, lost_from: u32) -> u32
-    ensures less { result ≤ lost_from }
-    ensures lost { (result ≤ inst) ⊎ (owner members inst ≡ id → is_noop slot.now.learned ≡ false) }
-{
-    if members.owner(inst) == id && matches!(slot.learned(), Some(Value::Noop)) {
-        lost_from.min(inst)
-    } else {
-        lost_from
-    }
-}
-
-// The least place from a given one on whose slot has learned nothing, or the end.
-fn learned_from(slots: &[Slot], from: u32) -> u32
-    requires few { length slots.now ≤ 4096 }
-    requires within { from ≤ length slots.now }
-    ensures within { result ≤ length slots.now }
-    ensures known { (d : SlotState) (j : ℕ) → from ≤ j → j < result → is_none (slice_index_or slots.now j d).learned ≡ false }
-{
-    let mut inst = from;
-    while (inst as usize) < slots.len() && slots[inst as usize].learned().is_some() {
-        inst += 1;
-    }
-    inst
 }

@@ -1,5 +1,4 @@
 //! Rules 1 and 4: where a ticket is suggested, and which tickets wait to be suggested again.
-ghost use Rattle.coord_paxos.specs.Fresh.{new_slot};
 ghost use Rattle.mencius_base.specs.History.{History, sent, submitted};
 ghost use Rattle.mencius_base.specs.Members.{instances, owner, first_item};
 ghost use Rattle.mencius_base.specs.Refusal.{IsRefusedFor};
@@ -7,15 +6,16 @@ ghost use Rattle.mencius_base.specs.declared.command.Command.{Command};
 ghost use Rattle.mencius_base.specs.declared.event.Event.TheVariants.{Retry, Submit};
 ghost use Rattle.mencius_base.specs.declared.message.Value.TheVariants.{Noop};
 ghost use Rattle.mencius_base.specs.declared.refusal.Refusal.TheVariants.{NoMemory};
+ghost use Rattle.mencius_server.specs.Known.{known_slot};
 ghost use Rattle.mencius_server.specs.Machine.{after_submit, suggested_in, IsUndone, after_submit_at, free_at, submit_cause, submit_sent, after_retry, first_waiting, is_suggested_past, is_ticket, retry_cause, retry_sent, suggested_at, waits_at};
 ghost use Rattle.mencius_server.specs.Reached.{IsAt, IsStep, refusal_of};
 ghost use Rattle.mencius_server.specs.Server.{waiting, ticket_of};
 ghost use Rattle.mencius_server.specs.State.{slot};
 ghost use Rattle.std.specs.List.{list_any};
-ghost use Rattle.std.specs.Prelude.{◌≡◌, ℕ, IfOk, ◌⊎◌, ◌||◌, IfErr, IfNone, None, false, is_none, slice_index_or, true, vec_len, ◌+◌, ◌<◌, ◌≤◌, ◌++◌, ◌==◌, length, OnOk, OnErr, IfSome, Some, ◌&&◌};
+ghost use Rattle.std.specs.Prelude.{◌≡◌, ℕ, IfOk, ◌⊎◌, ◌||◌, IfErr, IfNone, None, false, is_none, min, slice_index_or, true, vec_len, ◌+◌, ◌<◌, ◌≤◌, ◌++◌, ◌==◌, length, OnOk, OnErr, IfSome, Some, ◌&&◌};
 
-use crate::{Server, grow_to};
-use coord_paxos::Slot;
+use crate::Server;
+use crate::known::Known;
 use mencius_base::{Members, Message, Outbox, Refusal, Value};
 
 impl Server {
@@ -70,19 +70,12 @@ impl Server {
         ensures err { OnErr result (self.new ≡ self.old) }
         ensures memory { IfErr result (λ r. r ≡ NoMemory) }
     {
-        grow_to(&mut self.slots, self.members, inst as usize + 1)?;
-        self.next_ticket = pass_on(
-            &mut self.moved,
-            &self.slots,
-            self.members,
-            self.id,
-            self.front,
-            ticket,
-            self.next_ticket,
-        )?;
-        let slot = &mut self.slots[inst as usize];
-        slot.suggest(ticket);
-        self.front = inst + self.members.count() as u32;
+        let front = self.front;
+        self.notes.reserve(front, ticket)?;
+        self.known.suggest(inst, ticket)?;
+        self.notes
+            .pass_on(&self.known, self.members, self.id, front, ticket);
+        self.front = inst + u32::from(self.members.count());
         Ok(())
     }
 
@@ -124,7 +117,7 @@ impl Server {
         ensures none { IfNone result ((j : ℕ) → j < 4096 → waits_at self.now j ≡ None) }
     {
         let end = self.front.min(4096);
-        let mut inst = self.next_own(self.lost_from);
+        let mut inst = self.next_own(self.notes.lost_from());
         while inst < end {
             if let Some(ticket) = self.waits(inst) {
                 return Some((inst, ticket));
@@ -155,7 +148,7 @@ impl Server {
         requires said { suggested_at self.now inst ≡ Some ticket }
         ensures { result ≡ list_any (is_suggested_past self.now ticket inst) instances }
     {
-        (inst as usize) < self.moved.len() && self.moved[inst as usize]
+        self.notes.is_moved(inst)
     }
 
     // The ticket that was suggested at an instance.
@@ -176,8 +169,8 @@ impl Server {
     fn proposal(&self, inst: u32) -> Option<Value>
         ensures { result ≡ (slot self.now inst).proposal }
     {
-        if (inst as usize) < self.slots.len() {
-            self.slots[inst as usize].proposal()
+        if inst < 4096 {
+            self.known.proposal(inst)
         } else {
             None
         }
@@ -210,95 +203,13 @@ impl Server {
     {
         match self.first_lost() {
             Some((inst, ticket)) => {
-                self.lost_from = inst;
+                self.notes.lost_only_from(inst);
                 self.suggest(ticket, out)
             }
             None => {
-                self.lost_from = 4096;
+                self.notes.lost_only_from(4096);
                 Err(Refusal::NothingWaiting)
             }
         }
-    }
-}
-
-// Marks where a ticket was suggested before, and answers a number above it and all earlier ones.
-fn pass_on(
-    moved: &mut Vec<bool>,
-    slots: &Vec<Slot>,
-    members: Members,
-    id: u8,
-    front: u32,
-    ticket: u32,
-    next_ticket: u64,
-) -> Result<u64, Refusal>
-    requires member { id < members.count }
-    requires few { vec_len slots.now ≤ 4096 }
-    requires short { vec_len moved.old ≤ front }
-    requires unsaid { (j t : ℕ) → suggested_in members id j (slice_index_or slots.now.items j (new_slot members)) ≡ Some t → j < front }
-    requires tickets { (j t : ℕ) → j < 4096 → suggested_in members id j (slice_index_or slots.now.items j (new_slot members)) ≡ Some t → t < next_ticket }
-    ensures above { IfOk result (λ n. (next_ticket ≤ n) × (ticket < n)) }
-    ensures short { vec_len moved.new ≤ front }
-    ensures marked { OnOk result ((j : ℕ) → slice_index_or moved.new.items j false
-        ≡ (slice_index_or moved.old.items j false || is_ticket ticket (suggested_in members id j (slice_index_or slots.now.items j (new_slot members))))) }
-    ensures err { OnErr result (moved.new.items ≡ moved.old.items) }
-    ensures memory { IfErr result (λ r. r ≡ NoMemory) }
-{
-    if u64::from(ticket) >= next_ticket {
-        return Ok(u64::from(ticket) + 1);
-    }
-    let end = slots.len().min(front as usize);
-    unmarked_to(moved, end)?;
-    mark(moved, slots, members, id, end, ticket);
-    Ok(next_ticket)
-}
-
-// Makes places without a mark below a given one.
-fn unmarked_to(moved: &mut Vec<bool>, wanted: usize) -> Result<(), Refusal>
-    ensures reach { OnOk result (wanted ≤ vec_len moved.new) }
-    ensures few { (vec_len moved.new ≤ wanted) ⊎ (vec_len moved.new ≡ vec_len moved.old) }
-    ensures same { (j : ℕ) → slice_index_or moved.new.items j false ≡ slice_index_or moved.old.items j false }
-    ensures err { OnErr result (moved.new.items ≡ moved.old.items) }
-    ensures memory { IfErr result (λ r. r ≡ NoMemory) }
-{
-    if moved.len() >= wanted {
-        return Ok(());
-    }
-    if moved.reserve(wanted - moved.len()).is_err() {
-        return Err(Refusal::NoMemory);
-    }
-    while moved.len() < wanted {
-        moved.push_reserved(false);
-    }
-    Ok(())
-}
-
-// Marks the own instances below a place where a ticket was suggested.
-fn mark(moved: &mut Vec<bool>, slots: &Vec<Slot>, members: Members, id: u8, end: usize, ticket: u32)
-    requires member { id < members.count }
-    requires few { end ≤ 4096 }
-    requires slots { end ≤ vec_len slots.now }
-    requires moved { end ≤ vec_len moved.old }
-    ensures len { vec_len moved.new ≡ vec_len moved.old }
-    ensures marked { (j : ℕ) → j < end → slice_index_or moved.new.items j false
-        ≡ (slice_index_or moved.old.items j false || is_ticket ticket (suggested_in members id j (slice_index_or slots.now.items j (new_slot members)))) }
-    ensures rest { (j : ℕ) → end ≤ j → slice_index_or moved.new.items j false ≡ slice_index_or moved.old.items j false }
-{
-    let mut inst = members.first_owned(id, 0);
-    while (inst as usize) < end {
-        if is_of(&slots[inst as usize], ticket) {
-            moved[inst as usize] = true;
-        }
-        inst = members.first_owned(id, inst + 1);
-    }
-}
-
-// The ticket was suggested at the slot.
-fn is_of(slot: &Slot, ticket: u32) -> bool
-    ensures { result ≡ is_ticket ticket (ticket_of slot.now.proposal) }
-{
-    match slot.proposal() {
-        Some(Value::Ticket(other)) => other == ticket,
-        Some(Value::Noop) => false,
-        None => false,
     }
 }

@@ -454,3 +454,51 @@ fn tickets_wait_by_instance(rt: HostRuntime) -> Result<(), Fail> {
     assert_sent(&rt, &out, 3, &[suggest(0, 9, 8), suggest(0, 12, 9)]);
     Ok(())
 }
+
+#[test]
+fn keeps_little(rt: HostRuntime) -> Result<(), Fail> {
+    let members = Members::new(3).ok_or("three")?;
+    let mut out = Outbox::new(rt.alloc(), 2);
+    let skipped = |first: u32, stop: u32| Message::Skip {
+        from: 0,
+        first,
+        stop,
+    };
+    let mut one = made_node(rt.alloc(), members, 1)?;
+    assert_eq!(rt; hear(&rt, &mut one, &skipped(3, 6), &mut out), Ok(1));
+    assert_eq!(rt; hear(&rt, &mut one, &skipped(0, 3), &mut out), Ok(1));
+    assert_eq!(rt; one.server.kept(), (0, 1));
+    let late = Message::Suggest {
+        from: 0,
+        inst: 6,
+        ticket: 0,
+    };
+    assert_eq!(rt; hear(&rt, &mut one, &late, &mut out), Ok(0));
+    assert_eq!(rt; one.server.kept(), (1, 1));
+    assert_eq!(rt; one.server.learned(3), Some(Value::Noop));
+    assert_eq!(rt; one.server.learned(6), None);
+    let mut other = made_node(rt.alloc(), members, 1)?;
+    assert_eq!(rt;
+        hear(&rt, &mut other, &skipped(0, 4095), &mut out),
+        Ok(1365)
+    );
+    assert_eq!(rt; other.server.kept(), (0, 1));
+    Ok(())
+}
+
+#[test]
+fn a_refused_suspicion_keeps_nothing(rt: HostRuntime) -> Result<(), Fail> {
+    let members = Members::new(3).ok_or("three")?;
+    let mut out = Outbox::new(rt.alloc(), 4);
+    let mut one = Server::new(rt.alloc(), members, 1)?;
+    assert_eq!(rt; one.submit(0, &mut out), Ok(()));
+    assert_eq!(rt; one.submit(1, &mut out), Ok(()));
+    assert_eq!(rt; one.submit(2, &mut out), Ok(()));
+    assert_eq!(rt; one.kept(), (3, 0));
+    assert_eq!(rt; one.suspect(0, &mut out), Err(Refusal::MessagesFull));
+    assert_eq!(rt; one.kept(), (3, 0));
+    let mut wide = Outbox::new(rt.alloc(), 4);
+    assert_eq!(rt; one.suspect(0, &mut wide), Ok(()));
+    assert_eq!(rt; one.kept(), (7, 0));
+    Ok(())
+}

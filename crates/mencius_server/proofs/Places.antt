@@ -1,0 +1,283 @@
+-- The slots that stand, by the table of their places.
+use Rattle.std.proofs.Common.{◌≡◌, ℕ, zero, suc, ◌+◌, ◌<◌, ◌≤◌, Bool, true, false, cond, not, List, [], ◌∷◌, ◌++◌, Option, None, Some, IsSome, eqb, get_or, length, set, refl, sym, ◌∙◌, ap, arith, ⊎_elim}
+use Rattle.std.specs.Prelude.{is_none, is_some, slice_get, slice_set, unwrap_or}
+use Rattle.std.specs.List.{count_by}
+use Rattle.std.proofs.lemmas.List.{get_or_default, get_or_past, get_or-set_other, length-set}
+use Rattle.std.proofs.lemmas.List.Sums.{sum_by-cons, sum_by-set}
+use Rattle.std.proofs.lemmas.Option.{slice_get-get_or}
+use Rattle.std.proofs.lemmas.Grind.{get_or-set_at}
+use Rattle.std.proofs.lemmas.Bool.{cases_eq, cases_lt, eq-eqb, ne_eqb}
+use Rattle.coord_paxos.proofs.Below.{get_or-map-instances, length-map-instances, map-instances_set}
+use Rattle.coord_paxos.specs.SlotState.{SlotState}
+use Rattle.mencius_server.specs.Places.{IsPlaced, slot_in, standing, standing_at}
+use Rattle.mencius_server.specs.Slots.{stand_at}
+use Rattle.mencius_server.proofs.Counts.{bit}
+
+-- ---- what stands, by the table
+
+-- also past its end
+pub stand_is : (places : List (Option ℕ)) (slots : List SlotState) → length places ≤ 4096 → (j : ℕ)
+    → stand_at (standing places slots) j ≡ standing_at places slots j
+stand_is places slots few j =
+    ⊎_elim
+    (λ (small : j < 4096). get_or-map-instances (standing_at places slots) j None small)
+    (λ (past : 4096 ≤ j).
+    get_or_past (standing places slots) j None
+    (let e = length-map-instances (standing_at places slots) in omega (arith, e))
+    ∙ sym (ap (slot_in slots) (get_or_past places j None (omega arith))))
+    (cases_lt j 4096)
+
+slice_get_some : {A : Type 0} (xs : List A) (k : ℕ) → k < length xs → is_some (slice_get xs k) ≡ true
+slice_get_some [] k l = absurd (omega arith)
+slice_get_some (x ∷ xs) zero l = refl
+slice_get_some (x ∷ xs) (suc k) l = slice_get_some xs k (omega arith)
+
+-- a slot stands where the table has a place
+pub somewhere : (places : List (Option ℕ)) (slots : List SlotState) (n : ℕ) → n ≡ length slots → IsPlaced places n
+    → (j : ℕ)
+    → is_some (stand_at (standing places slots) j) ≡ is_some (get_or places j None)
+somewhere places slots n e h j = ap is_some (stand_is places slots h.few j) ∙ go (get_or places j None) refl
+  where
+    go : (o : Option ℕ) → get_or places j None ≡ o → is_some (slot_in slots o) ≡ is_some o
+    go None p = refl
+    go (Some k) p = slice_get_some slots k (let l = h.within j k p in omega (arith, l))
+
+pub stands_there : (places : List (Option ℕ)) (slots : List SlotState) (n : ℕ) → n ≡ length slots
+    → IsPlaced places n → (j k : ℕ) (t : SlotState)
+    → get_or places j None ≡ Some k → t ≡ get_or slots k t → stand_at (standing places slots) j ≡ Some t
+stands_there places slots n e h j k t at is =
+    let within : k < length slots = (let l = h.within j k at in omega (arith, l)) in
+    stand_is places slots h.few j ∙ ap (slot_in slots) at ∙ slice_get-get_or slots k t within
+    ∙ ap (λ u. Some u) (sym is)
+
+pub stands_nowhere : (places : List (Option ℕ)) (slots : List SlotState) → length places ≤ 4096 → (j : ℕ)
+    → get_or places j None ≡ None → stand_at (standing places slots) j ≡ None
+stands_nowhere places slots few j at = stand_is places slots few j ∙ ap (slot_in slots) at
+
+-- the place of a slot that stands, as the code reads it
+pub place_of : (places ys : List (Option ℕ)) (slots : List SlotState) (n : ℕ) (now : List (Option SlotState))
+    (i k : ℕ) (o : Option ℕ)
+    → n ≡ length slots → IsPlaced places n → standing places slots ≡ now → IsSome (stand_at now i)
+    → ys ≡ places → o ≡ get_or ys i None → k ≡ unwrap_or o 0 → get_or places i None ≡ Some k
+place_of places ys slots n now i k o e h view there same read is =
+    let here : o ≡ get_or places i None = read ∙ ap (λ xs. get_or xs i None) same in
+    let some : is_some o ≡ true = ap is_some here ∙ sym (somewhere places slots n e h i)
+    ∙ ap (λ ss. is_some (stand_at ss i)) view ∙ there in
+    sym here ∙ go o some ∙ ap (λ x. Some x) (sym is)
+  where
+    go : (o : Option ℕ) → is_some o ≡ true → o ≡ Some (unwrap_or o 0)
+    go None f = absurd (cc)
+    go (Some x) f = refl
+
+-- ---- how many there are
+
+pub count_alike : {A B : Type 0} (xs : List (Option A)) (ys : List (Option B))
+    → ((j : ℕ) → is_some (get_or xs j None) ≡ is_some (get_or ys j None))
+    → count_by is_some xs ≡ count_by is_some ys
+count_alike {A = A} {B = B} [] [] h = refl
+count_alike {A = A} {B = B} [] (y ∷ ys) h =
+    let rest = count_alike {A = A} {B = B} [] ys (λ j. h (suc j)) in
+    let none = ap bit (sym (h 0)) in
+    omega (arith, rest, none, sum_by-cons (λ (o : Option B). cond (is_some o) 1 0) y ys)
+count_alike {A = A} {B = B} (x ∷ xs) [] h =
+    let rest = count_alike {A = A} {B = B} xs [] (λ j. h (suc j)) in
+    let none = ap bit (h 0) in
+    omega (arith, rest, none, sum_by-cons (λ (o : Option A). cond (is_some o) 1 0) x xs)
+count_alike {A = A} {B = B} (x ∷ xs) (y ∷ ys) h =
+    let rest = count_alike {A = A} {B = B} xs ys (λ j. h (suc j)) in
+    let same = ap bit (h 0) in
+    omega (
+      arith,
+      rest,
+      same,
+      sum_by-cons (λ (o : Option A). cond (is_some o) 1 0) x xs,
+      sum_by-cons
+          (λ (o : Option B). cond (is_some o) 1 0) y ys,
+    )
+
+pub standing_count : (places : List (Option ℕ)) (slots : List SlotState) (n : ℕ) → n ≡ length slots
+    → IsPlaced places n → n ≡ count_by is_some (standing places slots)
+standing_count places slots n e h = h.count
+    ∙ sym (count_alike (standing places slots) places (somewhere places slots n e h))
+
+-- ---- a longer table
+
+pub placed_wider : (places wider : List (Option ℕ)) (n : ℕ) → length wider ≤ 4096
+    → ((j : ℕ) → get_or wider j None ≡ get_or places j None) → IsPlaced places n → IsPlaced wider n
+placed_wider places wider n few same h = record {
+  few = few;
+  within = λ j k e. h.within j k (sym (same j) ∙ e);
+  apart = λ i j k e f. h.apart i j k (sym (same i) ∙ e) (sym (same j) ∙ f);
+  count = h.count ∙ count_alike places wider (λ j. ap is_some (sym (same j)));
+}
+
+pub stand_wider : (places wider : List (Option ℕ)) (slots all : List SlotState) → length places ≤ 4096
+    → length wider ≤ 4096
+    → ((j : ℕ) → get_or wider j None ≡ get_or places j None) → all ≡ slots → (j : ℕ)
+    → stand_at (standing wider all) j ≡ stand_at (standing places slots) j
+stand_wider places wider slots all few fewer same e j =
+    stand_is wider all fewer j ∙ ap (slot_in all) (same j) ∙ ap (λ ss. standing_at places ss j) e
+    ∙ sym (stand_is places slots few j)
+
+-- ---- a slot that is written
+
+-- the slot at a place is one instance's
+pub lends_place : (places : List (Option ℕ)) (slots : List SlotState) (n : ℕ) → n ≡ length slots → IsPlaced places n
+    → (i k : ℕ) → get_or places i None ≡ Some k
+    → (w : SlotState) → standing places (slice_set slots k w) ≡ slice_set (standing places slots) i (Some w)
+lends_place places slots n e h i k at w =
+    sym (map-instances_set (standing_at places slots) (standing_at places (slice_set slots k w)) i (Some w) None
+    here (λ j small off. others j off (get_or places j None) refl))
+  where
+    within : k < length slots
+    within = let l = h.within i k at in omega (arith, l)
+
+    here : standing_at places (slice_set slots k w) i ≡ Some w
+    here =
+        ap (slot_in (slice_set slots k w)) at
+        ∙ slice_get-get_or (slice_set slots k w) k w (let l = length-set slots k w in omega (arith, within, l))
+        ∙ ap (λ u. Some u) (get_or-set_at slots k k w w refl within)
+
+    apart_get : {A : Type 0} (xs : List A) (a b : ℕ) (x : A) → (b ≡ a → ⊥) → slice_get xs b ≡ slice_get (set xs a x) b
+    apart_get [] a b x ne = refl
+    apart_get (y ∷ ys) zero zero x ne = absurd (ne refl)
+    apart_get (y ∷ ys) zero (suc b) x ne = refl
+    apart_get (y ∷ ys) (suc a) zero x ne = refl
+    apart_get (y ∷ ys) (suc a) (suc b) x ne = apart_get ys a b x (λ same. ne (ap suc same))
+
+    others : (j : ℕ) → (j ≡ i → ⊥) → (o : Option ℕ) → get_or places j None ≡ o
+        → standing_at places slots j ≡ standing_at places (slice_set slots k w) j
+    others j off None is = ap (slot_in slots) is ∙ sym (ap (slot_in (slice_set slots k w)) is)
+    others j off (Some x) is =
+        ap (slot_in slots) is
+        ∙ apart_get slots k x w (λ same. off (h.apart j i k (is ∙ ap (λ y. Some y) same) at))
+        ∙ sym (ap (slot_in (slice_set slots k w)) is)
+
+-- ---- a slot more
+
+module _ (places : List (Option ℕ)) (slots : List SlotState) (n : ℕ) (e : n ≡ length slots) (h : IsPlaced places n)
+    (i : ℕ)
+    (within : i < length places) (none : get_or places i None ≡ None) where
+  here_now : (j : ℕ) → j ≡ i → get_or (set places i (Some n)) j None ≡ Some n
+  here_now j at = get_or-set_at places i j (Some n) None at within
+
+  away : (j : ℕ) → (j ≡ i → ⊥) → get_or (set places i (Some n)) j None ≡ get_or places j None
+  away j off = get_or-set_other places i j (Some n) None off
+
+  pub placed_push : (more : ℕ) → more ≡ n + 1 → IsPlaced (set places i (Some n)) more
+  placed_push more m_is = record {
+    few = let l = length-set places i (Some n) in omega (arith, l, h.few);
+    within = λ j k is. ⊎_elim
+        (λ (at : j ≡ i). let same : Some n ≡ Some k = sym (here_now j at)
+        ∙ is in let is_n : n ≡ k = cc in omega (arith, is_n))
+        (λ (off : j ≡ i → ⊥). let l = h.within j k (sym (away j off) ∙ is) in omega (arith, l))
+        (cases_eq j i);
+    apart = λ a b k is_a is_b. ⊎_elim
+        (λ (at : a ≡ i). ⊎_elim
+        (λ (too : b ≡ i). at ∙ sym too)
+        (λ (off : b ≡ i → ⊥). absurd (fresh a b k at off is_a is_b))
+        (cases_eq b i))
+        (λ (off : a ≡ i → ⊥). ⊎_elim
+        (λ (at : b ≡ i). absurd (fresh b a k at off is_b is_a))
+        (λ (too : b ≡ i → ⊥). h.apart a b k (sym (away a off) ∙ is_a) (sym (away b too) ∙ is_b))
+        (cases_eq b i))
+        (cases_eq a i);
+    count = let one = sum_by-set (λ (o : Option ℕ). cond (is_some o) 1 0) places i (Some n) None within in
+        let was : cond (is_some (get_or places i None)) 1 0 ≤ 0 = rw none (omega arith) in
+        omega (arith, one, was, h.count, m_is);
+  }
+    where
+      -- the new place is no other instance's
+      fresh : (a b k : ℕ) → a ≡ i → (b ≡ i → ⊥) → get_or (set places i (Some n)) a None ≡ Some k
+          → get_or (set places i (Some n)) b None ≡ Some k → ⊥
+      fresh a b k at off is_a is_b =
+          let same : Some n ≡ Some k = sym (here_now a at) ∙ is_a in
+          let is_n : n ≡ k = cc in
+          let l = h.within b k (sym (away b off) ∙ is_b) in
+          absurd (omega (arith, l, is_n))
+
+  pub stand_push : (t : SlotState) (j : ℕ)
+      → stand_at (standing (set places i (Some n)) (slots ++ t ∷ [])) j ≡ cond (eqb j i) (Some t)
+      (stand_at (standing places slots) j)
+  stand_push t j =
+      stand_is (set places i (Some n)) (slots ++ t ∷ [])
+      (let l = length-set places i (Some n) in omega (arith, l, h.few)) j
+      ∙ ⊎_elim
+      (λ (at : j ≡ i).
+      ap (slot_in (slots ++ t ∷ [])) (here_now j at) ∙ last slots n e
+      ∙ sym (ap (λ b. cond b (Some t) (stand_at (standing places slots) j)) (eq-eqb j i at)))
+      (λ (off : j ≡ i → ⊥).
+      ap (slot_in (slots ++ t ∷ [])) (away j off) ∙ kept j (get_or places j None) refl
+      ∙ sym (ap (λ b. cond b (Some t) (stand_at (standing places slots) j)) (ne_eqb j i off)
+      ∙ stand_is places slots h.few j))
+      (cases_eq j i)
+    where
+      last : (ss : List SlotState) (k : ℕ) → k ≡ length ss → slice_get (ss ++ t ∷ []) k ≡ Some t
+      last [] zero is = refl
+      last [] (suc k) is = absurd (omega arith)
+      last (s ∷ ss) zero is = absurd (omega arith)
+      last (s ∷ ss) (suc k) is = last ss k (omega arith)
+
+      front : (ss : List SlotState) (k : ℕ) → k < length ss → slice_get (ss ++ t ∷ []) k ≡ slice_get ss k
+      front [] k l = absurd (omega arith)
+      front (s ∷ ss) zero l = refl
+      front (s ∷ ss) (suc k) l = front ss k (omega arith)
+
+      kept : (j : ℕ) (o : Option ℕ) → get_or places j None ≡ o
+          → slot_in (slots ++ t ∷ []) (get_or places j None) ≡ standing_at places slots j
+      kept j None is = ap (slot_in (slots ++ t ∷ [])) is ∙ sym (ap (slot_in slots) is)
+      kept j (Some k) is =
+          ap (slot_in (slots ++ t ∷ [])) is ∙ front slots k (let l = h.within j k is in omega (arith, l))
+          ∙ sym (ap (slot_in slots) is)
+
+-- ---- a slot more, in a table that was lengthened
+
+module _ (places wide : List (Option ℕ)) (slots : List SlotState) (now : List (Option SlotState)) (n m i : ℕ)
+    (e : n ≡ length slots) (h : IsPlaced places n)
+    (view : standing places slots ≡ now) (none : stand_at now i ≡ None)
+    (few : length wide ≤ 4096) (same : (j : ℕ) → get_or wide j None ≡ get_or places j None)
+    (within : i < length wide) (len : m ≡ n) where
+  no_place : get_or wide i None ≡ None
+  no_place = same i ∙ go (get_or places i None)
+      (sym (somewhere places slots n e h i) ∙ ap (λ ss. is_some (stand_at ss i)) view ∙ ap is_some none)
+    where
+      go : (o : Option ℕ) → is_some o ≡ false → o ≡ None
+      go None f = refl
+      go (Some k) f = absurd (cc)
+
+  pub placed_stand : (more : ℕ) → more ≡ m + 1 → IsPlaced (set wide i (Some m)) more
+  placed_stand more is = rw len (placed_push wide slots n e (placed_wider places wide n few same h) i within
+      no_place more (omega arith))
+
+  pub stand_stand : (t : SlotState) (all : List SlotState) → all ≡ slots ++ t ∷ [] → (j : ℕ)
+      → stand_at (standing (set wide i (Some m)) all) j ≡ cond (eqb j i) (Some t) (stand_at now j)
+  stand_stand t all is j =
+      rw (len, is)
+      (stand_push wide slots n e (placed_wider places wide n few same h) i within no_place t j
+      ∙ ap (λ o. cond (eqb j i) (Some t) o)
+      (stand_is wide slots few j ∙ ap (slot_in slots) (same j) ∙ sym (stand_is places slots h.few j)
+      ∙ ap (λ ss. stand_at ss j) view))
+
+-- ---- what the table says of one instance, as the code reads it
+
+pub none_read : (places : List (Option ℕ)) (slots : List SlotState) (i : ℕ) (o : Option ℕ) (b : Bool)
+    → length places ≤ 4096 → i < length places → o ≡ get_or places i o
+    → is_some o ≡ not b → b ≡ true → stand_at (standing places slots) i ≡ None
+none_read places slots i o b few within read tells true_is =
+    stands_nowhere places slots few i (get_or_default places i None o within ∙ sym read ∙ go o (tells ∙ ap not true_is))
+  where
+    go : (o : Option ℕ) → is_some o ≡ false → o ≡ None
+    go None f = refl
+    go (Some k) f = absurd (cc)
+
+pub some_read : (places : List (Option ℕ)) (slots : List SlotState) (n i : ℕ) (o : Option ℕ) (b : Bool)
+    → n ≡ length slots → IsPlaced places n → i < length places → o ≡ get_or places i o
+    → is_some o ≡ not b → b ≡ false → is_none (stand_at (standing places slots) i) ≡ false
+some_read places slots n i o b e h within read tells false_is =
+    turn (stand_at (standing places slots) i)
+    (somewhere places slots n e h i ∙ ap is_some (get_or_default places i None o within ∙ sym read) ∙ tells
+    ∙ ap not false_is)
+  where
+    turn : (o : Option SlotState) → is_some o ≡ true → is_none o ≡ false
+    turn None f = absurd (cc)
+    turn (Some k) f = refl

@@ -1,0 +1,281 @@
+-- A loop that goes over the instances of a stretch.
+use Rattle.std.proofs.Common.{◌≡◌, ℕ, ◌+◌, ◌-◌, ◌<◌, ◌≤◌, Bool, true, false, cond, ◌&&◌, not, List, [], ◌∷◌, Option, None, Some, eqb, refl, sym, ◌∙◌, ap, arith, ⊎_elim}
+use Rattle.std.specs.Prelude.{is_none}
+use Rattle.std.specs.List.{count_by}
+use Rattle.std.specs.Option.{option_map}
+use Rattle.std.proofs.lemmas.Bool.{cases_Bool, cases_eq, cases_lt, eq-eqb, ne_eqb, and_left, and_right}
+use Rattle.mencius_base.specs.declared.message.Value.TheVariants.{Noop}
+use Rattle.mencius_base.specs.Members.{below, owner}
+use Rattle.coord_paxos.proofs.Below.{count_by-below_le, count_by-below_more}
+use Rattle.coord_paxos.specs.SlotState.{SlotState}
+use Rattle.coord_paxos.specs.Slot.{after_learn}
+use Rattle.coord_paxos.specs.Fresh.{new_slot}
+use Rattle.mencius_server.specs.declared.ranges.Span.{Span}
+use Rattle.mencius_server.specs.declared.stretch.Stretch.{Stretch}
+use Rattle.mencius_server.specs.Ranges.{covers}
+use Rattle.mencius_server.specs.Slots.{begun, begun_at, given, is_begun, is_in, is_lacking, is_learned, is_told, is_unlearned, prepare_at, prepare_of, stand_at, stood_at}
+use Rattle.mencius_server.proofs.Begins.{HasRoomFrom, room_here, room_more}
+use Rattle.mencius_server.proofs.Gaps.{room_gap, skipped_here, unowned, unskipped_before, unskipped_other, unskipped_past}
+use Rattle.mencius_server.proofs.Given.{given_at, given_kept}
+
+-- ---- which instances are in a stretch
+
+pub in_here : (t : Stretch) (j : ℕ) → owner t.members j ≡ t.server → t.first ≤ j → j < t.stop → is_in t j ≡ true
+in_here t j own low high = skipped_here t.members t.server t.first t.stop j own low high
+
+pub out_before : (t : Stretch) (j : ℕ) → j < t.first → is_in t j ≡ false
+out_before t j low = unskipped_before t.members t.server t.first t.stop j low
+
+pub out_past : (t : Stretch) (j : ℕ) → t.stop ≤ j → is_in t j ≡ false
+out_past t j past = unskipped_past t.members t.server t.first t.stop j past
+
+-- between one of them and the next
+pub out_between : (t : Stretch) (i next : ℕ) → owner t.members i ≡ t.server
+    → ((k : ℕ) → i + 1 ≤ k → owner t.members k ≡ owner t.members i → next ≤ k)
+    → (j : ℕ) → i + 1 ≤ j → j < next → is_in t j ≡ false
+out_between t i next own least j low high =
+    unskipped_other t.members t.server t.first t.stop j
+    (unowned t.members t.server (i + 1) next (λ k l mine. least k l (mine ∙ sym own)) j low high)
+
+-- ---- what a loop makes of the slots
+
+-- at the instances before i the slots are as f makes them, and from there on they are the old ones
+pub record IsWalked (f : ℕ → Option SlotState → Option SlotState) (old new : ℕ → Option SlotState) (i : ℕ) : Type 0
+  where
+    pub done : (j : ℕ) → j < i → new j ≡ f j (old j)
+    pub rest : (j : ℕ) → i ≤ j → new j ≡ old j
+
+module _ (f : ℕ → Option SlotState → Option SlotState) (old : ℕ → Option SlotState) where
+  pub walked_start : (first : ℕ) → ((j : ℕ) → j < first → f j (old j) ≡ old j) → IsWalked f old old first
+  walked_start first none = record { done = λ j low. sym (none j low); rest = λ j low. refl }
+
+  pub walked_more : (now new : ℕ → Option SlotState) (i next : ℕ) → i + 1 ≤ next
+      → ((j : ℕ) → i + 1 ≤ j → j < next → f j (old j) ≡ old j)
+      → new i ≡ f i (now i) → ((j : ℕ) → (j ≡ i → ⊥) → new j ≡ now j) → IsWalked f old now i → IsWalked f old new next
+  walked_more now new i next ahead none here away h = record {
+    done = λ j less. ⊎_elim
+        (λ (low : j < i). away j (λ at. absurd (omega arith)) ∙ h.done j low)
+        (λ (from : i ≤ j). ⊎_elim
+        (λ (at : j ≡ i). ap new at ∙ here ∙ ap (f i) (h.rest i (omega arith)) ∙ ap (λ k. f k (old k)) (sym at))
+        (λ (off : j ≡ i → ⊥). away j off ∙ h.rest j from ∙ sym (none j (omega arith) less))
+        (cases_eq j i))
+        (cases_lt j i);
+    rest = λ j low. let from : i ≤ j = omega arith in away j (λ at. absurd (omega arith)) ∙ h.rest j from;
+  }
+
+  pub walked_all : (new : ℕ → Option SlotState) (i : ℕ) → ((j : ℕ) → i ≤ j → f j (old j) ≡ old j)
+      → IsWalked f old new i → (j : ℕ) → new j ≡ f j (old j)
+  walked_all new i none h j =
+      ⊎_elim
+      (λ (low : j < i). h.done j low)
+      (λ (from : i ≤ j). h.rest j from ∙ sym (none j from))
+      (cases_lt j i)
+
+-- what is written at one instance
+pub written_here : (g : Option SlotState → Option SlotState) (now new : ℕ → Option SlotState) (i : ℕ)
+    → ((j : ℕ) → new j ≡ cond (eqb j i) (g (now j)) (now j)) → new i ≡ g (now i)
+written_here g now new i written = written i ∙ ap (λ b. cond b (g (now i)) (now i)) (eq-eqb i i refl)
+
+pub written_off : (g : Option SlotState → Option SlotState) (now new : ℕ → Option SlotState) (i : ℕ)
+    → ((j : ℕ) → new j ≡ cond (eqb j i) (g (now j)) (now j))
+    → (j : ℕ) → (j ≡ i → ⊥) → new j ≡ now j
+written_off g now new i written j off = written j ∙ ap (λ b. cond b (g (now j)) (now j)) (ne_eqb j i off)
+
+-- ---- no-op is learned
+
+pub given_out : (t : Stretch) (j : ℕ) (o : Option SlotState) → is_in t j ≡ false → option_map (given t j) o ≡ o
+given_out t j o e = given_kept t.members t.server t.first t.stop j o e
+
+pub given_in : (t : Stretch) (j : ℕ) (o : Option SlotState) → is_in t j ≡ true
+    → option_map (given t j) o ≡ option_map (λ u. after_learn u Noop) o
+given_in t j o e = given_at t.members t.server t.first t.stop j o e
+
+-- past the last slot of the stretch
+pub given_past : (t : Stretch) (end j : ℕ) (old : ℕ → Option SlotState)
+    → ((k : ℕ) → end ≤ k → k < t.stop → old k ≡ None) → end ≤ j → option_map (given t j) (old j) ≡ old j
+given_past t end j old none past = ⊎_elim
+    (λ (less : j < t.stop). let gone = none j past less in ap (option_map (given t j)) gone ∙ sym gone)
+    (λ (over : t.stop ≤ j). given_out t j (old j) (out_past t j over))
+    (cases_lt j t.stop)
+
+-- ---- what was told
+
+pub told_out : (t : Stretch) (rs : List Span) (ss : List (Option SlotState)) (j : ℕ) → is_in t j ≡ false
+    → is_told t rs ss j ≡ false
+told_out t rs ss j e = and_left _ _ e
+
+pub told_in : (t : Stretch) (rs : List Span) (ss : List (Option SlotState)) (j : ℕ) → is_in t j ≡ true
+    → is_told t rs ss j ≡ (not (covers rs j) && is_learned (stand_at ss j))
+told_in t rs ss j e = rw e refl
+
+pub told_past : (t : Stretch) (rs : List Span) (ss : List (Option SlotState)) (end : ℕ)
+    → ((k : ℕ) → end ≤ k → k < t.stop → stand_at ss k ≡ None)
+    → (j : ℕ) → end ≤ j → is_told t rs ss j ≡ false
+told_past t rs ss end none j past = ⊎_elim
+    (λ (less : j < t.stop). nowhere (is_in t j) (not (covers rs j)) (stand_at ss j) (none j past less))
+    (λ (over : t.stop ≤ j). told_out t rs ss j (out_past t j over))
+    (cases_lt j t.stop)
+  where
+    nowhere : (a b : Bool) (o : Option SlotState) → o ≡ None → (a && (b && is_learned o)) ≡ false
+    nowhere true true None e = refl
+    nowhere true false o e = refl
+    nowhere false b o e = refl
+    nowhere true true (Some t) e = absurd (cc)
+
+-- ---- first phases
+
+pub begun_out : (t : Stretch) (p j : ℕ) (o : Option SlotState) → is_in t j ≡ false → begun_at t p j o ≡ o
+begun_out t p j o e = rw e refl
+
+pub begun_in : (t : Stretch) (p j : ℕ) (o : Option SlotState) → is_in t j ≡ true
+    → begun_at t p j o ≡ option_map (begun t.members p) o
+begun_in t p j None e = rw e refl
+begun_in t p j (Some u) e = rw e (go (is_none u.learned) refl)
+  where
+    go : (b : Bool) → is_none u.learned ≡ b
+        → cond (is_none u.learned) (Some (begun t.members p u)) (Some u) ≡ Some (begun t.members p u)
+    go true e = rw e refl
+    go false e = rw e refl
+
+pub unbegun_out : (t : Stretch) (ss : List (Option SlotState)) (j : ℕ) → is_in t j ≡ false → is_begun t ss j ≡ false
+unbegun_out t ss j e = and_left _ _ e
+
+pub unlearned_in : (t : Stretch) (ss : List (Option SlotState)) (j : ℕ) → is_in t j ≡ true
+    → is_begun t ss j ≡ is_unlearned (stand_at ss j)
+unlearned_in t ss j e = rw e refl
+
+-- the message for one instance
+pub prepare_here : (t : Stretch) (p i : ℕ) (ss : List (Option SlotState)) (b : Bool) (o : Option SlotState)
+    → stand_at ss i ≡ o → b ≡ is_unlearned o
+    → prepare_at t.members p i o ≡ cond b (prepare_of t p ss i ∷ []) []
+prepare_here t p i ss b None e h = rw h refl
+prepare_here t p i ss b (Some u) e h = rw (h, e) refl
+
+-- ---- slots that are made to stand
+
+pub stood_out : (t : Stretch) (rs : List Span) (j : ℕ) (o : Option SlotState) → is_in t j ≡ false
+    → stood_at t rs j o ≡ o
+stood_out t rs j None e = rw e refl
+stood_out t rs j (Some u) e = refl
+
+pub stood_covered : (t : Stretch) (rs : List Span) (j : ℕ) (o : Option SlotState) → covers rs j ≡ true
+    → stood_at t rs j o ≡ o
+stood_covered t rs j None e = rw e (go (is_in t j))
+  where
+    go : (b : Bool) → cond (b && false) (Some (new_slot t.members)) None ≡ None
+    go true = refl
+    go false = refl
+stood_covered t rs j (Some u) e = refl
+
+-- where none is lacking
+pub stood_none : (t : Stretch) (rs : List Span) (ss : List (Option SlotState)) (j : ℕ)
+    → is_lacking t rs ss j ≡ false → stood_at t rs j (stand_at ss j) ≡ stand_at ss j
+stood_none t rs ss j e = go (stand_at ss j) refl
+  where
+    go : (o : Option SlotState) → stand_at ss j ≡ o → stood_at t rs j o ≡ o
+    go (Some u) is = refl
+    go None is = let no : (is_in t j && not (covers rs j)) ≡ false =
+        plain (is_in t j) (not (covers rs j))
+        (sym (ap (λ o. is_in t j && (not (covers rs j) && is_none o)) is) ∙ e) in
+        ap (λ b. cond b (Some (new_slot t.members)) None) no
+      where
+        plain : (a b : Bool) → (a && (b && true)) ≡ false → (a && b) ≡ false
+        plain true true e = e
+        plain true false e = refl
+        plain false b e = refl
+
+pub stood_in : (t : Stretch) (rs : List Span) (j : ℕ) (o : Option SlotState) → is_in t j ≡ true → covers rs j ≡ false
+    → cond (is_none o) (Some (new_slot t.members)) o ≡ stood_at t rs j o
+stood_in t rs j None e f = rw (e, f) refl
+stood_in t rs j (Some u) e f = refl
+
+pub lacking_in : (t : Stretch) (rs : List Span) (ss : List (Option SlotState)) (j : ℕ) → is_in t j ≡ true
+    → covers rs j ≡ false → is_lacking t rs ss j ≡ is_none (stand_at ss j)
+lacking_in t rs ss j e f = rw (e, f) refl
+
+pub lacking_out : (t : Stretch) (rs : List Span) (ss : List (Option SlotState)) (j : ℕ) → is_in t j ≡ false
+    → is_lacking t rs ss j ≡ false
+lacking_out t rs ss j e = and_left _ _ e
+
+pub lacking_covered : (t : Stretch) (rs : List Span) (ss : List (Option SlotState)) (j : ℕ) → covers rs j ≡ true
+    → is_lacking t rs ss j ≡ false
+lacking_covered t rs ss j e = rw e (and_right (is_in t j) _ refl)
+
+-- a slot that is made where none stands
+pub made_yes : {X : Type 0} (b d : Bool) (x y : X) → d ≡ true → cond b x y ≡ cond (b && d) x y
+made_yes true d x y e = rw e refl
+made_yes false d x y e = refl
+
+pub made_no : {X : Type 0} (b d : Bool) (x y : X) → d ≡ false → y ≡ cond (b && d) x y
+made_no true d x y e = rw e refl
+made_no false d x y e = refl
+
+module _ (t : Stretch) (rs : List Span) (old : List (Option SlotState)) (now : List (Option SlotState)) (i next : ℕ)
+    (own : owner t.members i ≡ t.server) (low : t.first ≤ i) (high : i < t.stop) (ahead : i + 1 ≤ next)
+    (least : (k : ℕ) → i + 1 ≤ k → owner t.members k ≡ owner t.members i → next ≤ k)
+    (walked : IsWalked (stood_at t rs) (stand_at old) (stand_at now) i) (cap len : ℕ)
+    (room : HasRoomFrom (is_lacking t rs old) t.stop (cap - len) i) where
+  start : stand_at now i ≡ stand_at old i
+  start = walked.rest i (omega arith)
+
+  between : (j : ℕ) → i + 1 ≤ j → j < next → stood_at t rs j (stand_at old j) ≡ stand_at old j
+  between j l h = stood_out t rs j (stand_at old j) (out_between t i next own least j l h)
+
+  gap : (j : ℕ) → i + 1 ≤ j → j < next → is_lacking t rs old j ≡ false
+  gap j l h = lacking_out t rs old j (out_between t i next own least j l h)
+
+  module _ (clear : covers rs i ≡ false) where
+    lacks : is_lacking t rs old i ≡ is_none (stand_at now i)
+    lacks = lacking_in t rs old i (in_here t i own low high) clear ∙ ap is_none (sym start)
+
+    pub filled_room : is_none (stand_at now i) ≡ true → len < cap
+    filled_room none = let some = room_here (is_lacking t rs old) t.stop (cap - len) i high (lacks ∙ none) room in
+        omega (arith, some)
+
+    module _ (new : List (Option SlotState))
+        (made : (j : ℕ) → stand_at new j ≡ cond (eqb j i && is_none (stand_at now i)) (Some (new_slot t.members))
+        (stand_at now j)) where
+      pub filled_walked : IsWalked (stood_at t rs) (stand_at old) (stand_at new) next
+      filled_walked = walked_more (stood_at t rs) (stand_at old) (stand_at now) (stand_at new) i next ahead between
+          (made i ∙ ap (λ b. cond (b && is_none (stand_at now i)) (Some (new_slot t.members)) (stand_at now i))
+          (eq-eqb i i refl)
+          ∙ stood_in t rs i (stand_at now i) (in_here t i own low high) clear)
+          (λ j off. made j ∙ ap (λ b. cond (b && is_none (stand_at now i)) (Some (new_slot t.members))
+          (stand_at now j)) (ne_eqb j i off))
+          walked
+
+    pub filled_more : (more : ℕ) → more ≡ len + cond (is_none (stand_at now i)) 1 0
+        → HasRoomFrom (is_lacking t rs old) t.stop (cap - more) next
+    filled_more more is = room_gap (is_lacking t rs old) t.stop (cap - more) (i + 1) next ahead gap
+        (room_more (is_lacking t rs old) t.stop (cap - len) (cap - more) i (go (is_none (stand_at now i)) refl) room)
+      where
+        go : (b : Bool) → is_none (stand_at now i) ≡ b → (cap - more) + cond (is_lacking t rs old i) 1 0 ≡ cap - len
+        go true e = let fits = filled_room e in let one : more ≡ len + 1 = is
+            ∙ ap (λ b. len + cond b 1 0) e in rw (lacks ∙ e) (omega (arith, fits, one))
+        go false e = let none : more ≡ len + 0 = is
+            ∙ ap (λ b. len + cond b 1 0) e in rw (lacks ∙ e) (omega (arith, none))
+
+  module _ (covered : covers rs i ≡ true) where
+    pub passed_walked : IsWalked (stood_at t rs) (stand_at old) (stand_at now) next
+    passed_walked = walked_more (stood_at t rs) (stand_at old) (stand_at now) (stand_at now) i next ahead between
+        (sym (stood_covered t rs i (stand_at now i) covered)) (λ j off. refl) walked
+
+    pub passed_room : HasRoomFrom (is_lacking t rs old) t.stop (cap - len) next
+    passed_room = room_gap (is_lacking t rs old) t.stop (cap - len) i next (omega arith)
+        (λ j l h. ⊎_elim
+        (λ (at : j ≡ i). ap (is_lacking t rs old) at ∙ lacking_covered t rs old i covered)
+        (λ (off : j ≡ i → ⊥). gap j (omega arith) h)
+        (cases_eq j i)) room
+
+-- a count of none
+pub none_of_all : (test : ℕ → Bool) (n : ℕ) → count_by test (below n) ≤ 0 → (j : ℕ) → j < n → test j ≡ false
+none_of_all test n few j less =
+    ⊎_elim
+    (λ (yes : test j ≡ true).
+    let more : count_by test (below (j + 1)) ≡ count_by test (below j) + 1 = count_by-below_more test j
+    ∙ ap (λ (b : Bool). count_by test (below j) + cond b 1 0) yes in
+    let all : count_by test (below (j + 1)) ≤ count_by test (below n) =
+    count_by-below_le test (j + 1) n (omega arith) in
+    absurd (omega (arith, more, all, few)))
+    (λ (no : test j ≡ false). no)
+    (cases_Bool (test j))

@@ -1,0 +1,23 @@
+use Rattle.std.proofs.Common.{◌<◌, ◌≤◌, ◌∙◌, [], ◌∷◌, ◌++◌, length, ap, arith}
+use Rattle.mencius_server.proofs.Places.{placed_stand, stand_stand}
+use Rattle.mencius_server.proofs.slots.Slots.stand.Goals as goal
+
+pub invariant_of-self-2 : goal.invariant_of-self-2
+invariant_of-self-2 c =
+    let few : length c.widen.new.places.items ≤ 4096 = omega (arith, c.widen.ensures.few, c.widen.new.places.ok.0) in
+    let within : c.args.inst < length c.widen.new.places.items =
+    omega (arith, c.in_ok-widen.ensures.reach, c.widen.new.places.ok.0) in
+    placed_stand c.self.inside.places.items c.widen.new.places.items c.self.inside.slots.items _ _ c.len.result
+    c.args.inst c.self.inside.slots.ok.0 c.self.invariant c.self.view_is
+    c.requires.none few c.widen.ensures.same within (c.len.ensures ∙ c.reserve.ensures.len) _
+    (omega (arith, c.len.ensures, c.push_reserved.ensures.len))
+
+pub returns-clause-ok : goal.returns-clause-ok
+returns-clause-ok c =
+    let few : length c.widen.new.places.items ≤ 4096 = omega (arith, c.widen.ensures.few, c.widen.new.places.ok.0) in
+    let within : c.args.inst < length c.widen.new.places.items =
+    omega (arith, c.in_ok-widen.ensures.reach, c.widen.new.places.ok.0) in
+    stand_stand c.self.inside.places.items c.widen.new.places.items c.self.inside.slots.items _ _ c.len.result
+    c.args.inst c.self.inside.slots.ok.0 c.self.invariant c.self.view_is
+    c.requires.none few c.widen.ensures.same within (c.len.ensures ∙ c.reserve.ensures.len) c.args.slot _
+    (c.push_reserved.ensures.items ∙ ap (λ xs. xs ++ c.args.slot ∷ []) c.reserve.ensures.items)

@@ -1,0 +1,52 @@
+use Rattle.std.proofs.Common.{◌≡◌, ◌+◌, ◌<◌, ◌≤◌, Bool, cond, ◌∙◌, ap, arith, rules, sym}
+use Rattle.std.specs.List.{count_by}
+use Rattle.mencius_server.specs.Slots.{is_told}
+use Rattle.coord_paxos.proofs.Below.{instances-below}
+use Rattle.mencius_server.proofs.Gaps.{count_gap, count_to, one_at_most}
+use Rattle.mencius_server.proofs.Skips.{count_more, count_none}
+use Rattle.mencius_server.proofs.Walks.{in_here, out_before, out_between, told_in, told_out, told_past}
+use Rattle.mencius_server.proofs.slots.Slots.told.Goals as goal
+
+pub loop-inst-init : goal.loop-inst-init
+loop-inst-init c = record {
+  own = c.requires.stretch.own;
+  low = omega arith;
+  counted = count_gap _ 0 _ 0 (omega arith)
+      (λ j low high. told_out c.args.stretch c.args.skipped.now c.args.self.now j
+      (out_before c.args.stretch j high)) (count_none _);
+  small = omega arith;
+}
+
+pub loop-inst-preserved : goal.loop-inst-preserved
+loop-inst-preserved c =
+    let inv = c.loop-inst.invariant in
+    let within : c.loop-inst.inst < c.args.stretch.stop =
+    omega (arith, c.loop-inst-test.true, c.end_of-stop.ensures.within) in
+    let ahead : c.loop-inst.inst + 1 ≤ c.next_owned-inst.result = c.next_owned-inst.ensures.above in
+    let one : c.from-told.result ≡ cond c.is_told.result 1 0 = search rules in
+    let here : c.from-told.result ≡ cond
+    (is_told c.args.stretch c.args.skipped.now c.args.self.now c.loop-inst.inst) 1 0 =
+    one ∙ ap (λ (b : Bool). cond b 1 0)
+    (c.is_told.ensures ∙ sym (told_in c.args.stretch c.args.skipped.now c.args.self.now c.loop-inst.inst
+    (in_here c.args.stretch c.loop-inst.inst inv.own inv.low within))) in
+    let few : c.from-told.result ≤ 1 = rw here (one_at_most _) in
+    record {
+      own = c.next_owned-inst.ensures.owned ∙ inv.own;
+      low = omega (arith, ahead, inv.low);
+      counted = count_gap _ (c.loop-inst.inst + 1) _ _ ahead
+          (λ j low high. told_out c.args.stretch c.args.skipped.now c.args.self.now j
+          (out_between c.args.stretch c.loop-inst.inst c.next_owned-inst.result inv.own
+          c.next_owned-inst.ensures.least j low high))
+          (count_more _ c.loop-inst.inst _ c.from-told.result here inv.counted);
+      small = omega (arith, few, ahead, inv.small);
+    }
+
+pub returns : goal.returns
+returns c =
+    (count_to _ c.loop-inst.inst 4096 c.loop-inst.told
+    (λ j low high. told_past c.args.stretch c.args.skipped.now c.args.self.now c.end_of-stop.result
+    c.end_of-stop.ensures.none j (omega (arith, low, c.loop-inst-test.false)))
+    (λ j low high. told_past c.args.stretch c.args.skipped.now c.args.self.now c.end_of-stop.result
+    c.end_of-stop.ensures.none j (omega (arith, low, c.end_of-stop.ensures.small)))
+    c.loop-inst.invariant.counted).counted
+    ∙ ap (count_by (is_told c.args.stretch c.args.skipped.now c.args.self.now)) (sym instances-below)

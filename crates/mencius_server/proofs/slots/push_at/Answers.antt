@@ -1,0 +1,64 @@
+use Rattle.std.proofs.Common.{◌≡◌, ◌<◌, ◌+◌, [], ◌∷◌, ◌++◌, Bool, cond, eqb, false, length, add-zero, ◌∙◌, ap, arith, refl, sym}
+use Rattle.std.specs.Prelude.{is_none, vec_len}
+use Rattle.coord_paxos.specs.Fresh.{new_slot}
+use Rattle.mencius_server.specs.Places.{standing}
+use Rattle.mencius_server.specs.Slots.{stand_at}
+use Rattle.mencius_server.proofs.Places.{none_read, placed_stand, some_read, stand_stand}
+use Rattle.mencius_server.proofs.Walks.{made_no, made_yes}
+use Rattle.mencius_server.proofs.slots.push_at.Goals as goal
+
+pub push_reserved-requires : goal.push_reserved-requires
+push_reserved-requires c =
+    let within : c.args.inst < length c.args.places.now.items =
+    omega (arith, c.requires.wide, c.args.places.now.ok.0) in
+    c.requires.room (ap is_none (none_read c.args.places.now.items c.args.slots.now.items c.args.inst
+    c.index.result.now c.is_none.result c.requires.placed.few within c.index.ensures c.is_none.ensures
+    c.if-is_none.true))
+
+pub returns-then-is_none-clause-placed : goal.returns-then-is_none-clause-placed
+returns-then-is_none-clause-placed c =
+    let within : c.args.inst < length c.args.places.now.items =
+    omega (arith, c.requires.wide, c.args.places.now.ok.0) in
+    let gone = none_read c.args.places.now.items c.args.slots.now.items c.args.inst c.index.result.now
+    c.is_none.result c.requires.placed.few within c.index.ensures c.is_none.ensures c.if-is_none.true in
+    placed_stand c.args.places.now.items c.args.places.now.items c.args.slots.now.items _ _ c.len-place.result
+    c.args.inst c.args.slots.now.ok.0 c.requires.placed refl
+    gone c.requires.placed.few (λ j. refl) within c.len-place.ensures _
+    (omega (arith, c.len-place.ensures, c.push_reserved.ensures.len))
+
+pub returns-then-is_none-clause-stand : goal.returns-then-is_none-clause-stand
+returns-then-is_none-clause-stand c = λ j.
+    let within : c.args.inst < length c.args.places.now.items =
+    omega (arith, c.requires.wide, c.args.places.now.ok.0) in
+    let gone = none_read c.args.places.now.items c.args.slots.now.items c.args.inst c.index.result.now
+    c.is_none.result c.requires.placed.few within c.index.ensures c.is_none.ensures c.if-is_none.true in
+    stand_stand c.args.places.now.items c.args.places.now.items c.args.slots.now.items _ _ c.len-place.result
+    c.args.inst c.args.slots.now.ok.0 c.requires.placed refl
+    gone c.requires.placed.few (λ j. refl) within c.len-place.ensures (new_slot c.args.members) _
+    (c.push_reserved.ensures.items ∙ ap (λ t. c.args.slots.now.items ++ t ∷ []) c.new.ensures) j
+    ∙ made_yes (eqb j c.args.inst) _ _ _ (ap is_none gone)
+
+pub returns-then-is_none-clause-more : goal.returns-then-is_none-clause-more
+returns-then-is_none-clause-more c =
+    let within : c.args.inst < length c.args.places.now.items =
+    omega (arith, c.requires.wide, c.args.places.now.ok.0) in
+    let gone = none_read c.args.places.now.items c.args.slots.now.items c.args.inst c.index.result.now
+    c.is_none.result c.requires.placed.few within c.index.ensures c.is_none.ensures c.if-is_none.true in
+    c.push_reserved.ensures.len ∙ ap (λ (b : Bool). vec_len c.args.slots.now + cond b 1 0) (sym (ap is_none gone))
+
+-- a slot stands there
+found : (c : goal.Else-is_none)
+    → is_none (stand_at (standing c.args.places.now.items c.args.slots.now.items) c.args.inst) ≡ false
+found c =
+    let within : c.args.inst < length c.args.places.now.items =
+    omega (arith, c.requires.wide, c.args.places.now.ok.0) in
+    some_read c.args.places.now.items c.args.slots.now.items _ c.args.inst c.index.result.now c.is_none.result
+    c.args.slots.now.ok.0 c.requires.placed within c.index.ensures
+    c.is_none.ensures c.if-is_none.false
+
+pub returns-else-is_none-clause-stand : goal.returns-else-is_none-clause-stand
+returns-else-is_none-clause-stand c = λ j. made_no (eqb j c.args.inst) _ _ _ (found c)
+
+pub returns-else-is_none-clause-more : goal.returns-else-is_none-clause-more
+returns-else-is_none-clause-more c =
+    sym (ap (λ (b : Bool). vec_len c.args.slots.now + cond b 1 0) (found c) ∙ add-zero _)

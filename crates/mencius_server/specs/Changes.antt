@@ -1,0 +1,22 @@
+-- What the changes of a slot make of it.
+use Rattle.std.specs.Prelude.{◌<◌}
+use Rattle.mencius_base.specs.Members.{Membership}
+use Rattle.coord_paxos.specs.SlotState.{SlotState}
+use Rattle.coord_paxos.specs.Slot.{after_accept, after_acceptance, after_learn, after_prepare, after_promise}
+use Rattle.mencius_server.specs.declared.change.Change.{Change}
+use Rattle.mencius_server.specs.declared.change.Change.TheVariants.{Promise, Accept, CountPromise, CountAccept, Learn}
+
+abbrev pub changed : SlotState → Change → SlotState
+changed t (Promise ballot) = after_prepare t ballot
+changed t (Accept ballot value) = after_accept t ballot value
+changed t (CountPromise from ballot vote) = after_promise t from ballot vote
+changed t (CountAccept from ballot) = after_acceptance t from ballot
+changed t (Learn value) = after_learn t value
+
+-- who promised or accepted is a member, and no promise is of ballot 0
+abbrev pub IsSaid : Membership → Change → Type 0
+IsSaid m (Promise ballot) = Unit {0}
+IsSaid m (Accept ballot value) = Unit {0}
+IsSaid m (CountPromise from ballot vote) = (from < m.count) × (0 < ballot)
+IsSaid m (CountAccept from ballot) = from < m.count
+IsSaid m (Learn value) = Unit {0}

@@ -1,0 +1,25 @@
+-- How the slots that stand are kept: a table of places, and the slots at them.
+use Rattle.std.specs.Prelude.{◌≡◌, ℕ, ◌<◌, ◌≤◌, List, Option, None, Some, is_some, length, map, slice_get, slice_index_or}
+use Rattle.std.specs.List.{count_by}
+use Rattle.mencius_base.specs.Members.{instances}
+use Rattle.coord_paxos.specs.SlotState.{SlotState}
+
+-- the slot at a place
+abbrev pub slot_in : List SlotState → Option ℕ → Option SlotState
+slot_in slots None = None
+slot_in slots (Some k) = slice_get slots k
+
+-- the slot that stands at an instance
+abbrev pub standing_at : List (Option ℕ) → List SlotState → ℕ → Option SlotState
+standing_at places slots j = slot_in slots (slice_index_or places j None)
+
+-- for each instance, the slot that stands there
+abbrev pub standing : List (Option ℕ) → List SlotState → List (Option SlotState)
+standing places slots = map (standing_at places slots) instances
+
+-- each place is a slot's, each slot has one, and no two instances have the same
+pub record IsPlaced (places : List (Option ℕ)) (slots : ℕ) : Type 0 where
+  pub few : length places ≤ 4096
+  pub within : (j k : ℕ) → slice_index_or places j None ≡ Some k → k < slots
+  pub apart : (i j k : ℕ) → slice_index_or places i None ≡ Some k → slice_index_or places j None ≡ Some k → i ≡ j
+  pub count : slots ≡ count_by is_some places

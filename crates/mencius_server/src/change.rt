@@ -1,0 +1,45 @@
+//! Changes of one slot.
+ghost use Rattle.mencius_server.specs.Changes.{IsSaid, changed};
+ghost use Rattle.std.specs.Prelude.{◌≡◌};
+
+use coord_paxos::Slot;
+use mencius_base::{Ballot, Value, Vote};
+
+/// What a message changes in one slot.
+///
+/// A slot is asked first what it would answer, then room is reserved for the messages, and then it is changed where
+/// it stands.
+#[derive(Clone, Copy, Debug)]
+pub(crate) enum Change {
+    Promise(Ballot),
+    Accept(Ballot, Value),
+    CountPromise(u8, Ballot, Option<Vote>),
+    CountAccept(u8, Ballot),
+    Learn(Value),
+}
+
+impl Change {
+    /// Makes the change at a slot.
+    pub(crate) fn make(self, slot: &mut Slot)
+        requires { IsSaid slot.old.members self }
+        ensures { slot.new ≡ changed slot.old self }
+    {
+        match self {
+            Change::Promise(ballot) => {
+                slot.prepare(ballot);
+            }
+            Change::Accept(ballot, value) => {
+                slot.accept(ballot, value);
+            }
+            Change::CountPromise(from, ballot, vote) => {
+                slot.add_promise(from, ballot, vote);
+            }
+            Change::CountAccept(from, ballot) => {
+                slot.add_accept(from, ballot);
+            }
+            Change::Learn(value) => {
+                slot.learn(value);
+            }
+        }
+    }
+}
