@@ -4,7 +4,7 @@
 
 use clap::Error;
 use clap::error::ErrorKind;
-use mencius_app::{AppFault, Std, Task, exit_status, read_command_line, replay};
+use mencius_app::{AppFault, Open, Std, Task, exit_status, read_command_line, replay, run};
 use std::process::ExitCode;
 
 // Says why the program ends, and with which status.
@@ -28,14 +28,6 @@ fn say<R: Print + Eprint>(rt: &R, error: &Error) -> ExitCode {
     ExitCode::from(error.exit_code() as u8)
 }
 
-fn perform(rt: &HostRuntime, task: Task) -> Result<(), AppFault> {
-    let mut source = Std::new(rt.stdin());
-    let mut sink = Std::new(rt.stdout());
-    match task {
-        Task::Replay => replay(rt.alloc(), &mut source, &mut sink),
-    }
-}
-
 fn main(rt: HostRuntime) -> ExitCode {
     let alloc = rt.alloc();
     let Ok(args) = std::env::args(&rt) else {
@@ -44,11 +36,20 @@ fn main(rt: HostRuntime) -> ExitCode {
     let Ok(words) = args.collect::<Vec<String>>(alloc) else {
         return fail(&rt, AppFault::NoMemory);
     };
-    match read_command_line(alloc, words.as_slice()) {
-        Ok(task) => match perform(&rt, task) {
-            Ok(()) => ExitCode::SUCCESS,
-            Err(fault) => fail(&rt, fault),
-        },
-        Err(error) => say(&rt, &error),
+    let task = match read_command_line(alloc, words.as_slice()) {
+        Ok(task) => task,
+        Err(error) => return say(&rt, &error),
+    };
+    let mut source = Std::new(rt.stdin());
+    let mut sink = Std::new(rt.stdout());
+    let done = match task {
+        Task::Replay => replay(alloc, &mut source, &mut sink),
+        Task::Run { with_journal, key } => {
+            run(&rt, alloc, &mut source, &mut sink, &Open, with_journal, key)
+        }
+    };
+    match done {
+        Ok(()) => ExitCode::SUCCESS,
+        Err(fault) => fail(&rt, fault),
     }
 }

@@ -89,6 +89,9 @@ both_given make f g ok same o p k t result is h i = made_given make (λ z. f z.0
 pub passed_on : {X : Type 0} (result answer : Result X AppFault) (fault : AppFault) → IsErrAnd result (λ e. e ≡ fault) → FailsBy fault answer → Gives result answer
 passed_on result answer fault h i = let p = err_from_is_err_and result h in rw (p.1, p.2) i
 
+pub passed_on_seen : {X Y : Type 0} (view : X → Y) (result : Result X AppFault) (answer : Result Y AppFault) (fault : AppFault) → IsErrAnd result (λ e. e ≡ fault) → FailsBy fault answer → Gives (seen view result) answer
+passed_on_seen view result answer fault h i = let p = err_from_is_err_and result h in rw (p.1, p.2) i
+
 pub passed_on_as : {X : Type 0} (result answer : Result X AppFault) (fault : AppFault) → IsErrAnd result (λ e. e ≡ fault) → answer ≡ Err fault → result ≡ answer
 passed_on_as result answer fault h i = let p = err_from_is_err_and result h in rw (p.1, p.2) (sym i)
 

@@ -1,5 +1,7 @@
--- The number and the name of each fault.
+-- The number and the name of each fault, and the faults of a board among them.
 use Rattle.std.specs.Prelude.{ℕ, List, codes}
+use Rattle.mencius_board.specs.declared.fault.BoardFault.{BoardFault}
+use Rattle.mencius_board.specs.declared.fault.BoardFault.TheVariants as board
 use Rattle.mencius_app.specs.declared.fault.AppFault.{AppFault}
 use Rattle.mencius_app.specs.declared.fault.AppFault.TheVariants.{NotJson, BadShape, BadLimit, ReadFailed, WriteFailed, NoMemory, BoardFailed}
 
@@ -20,3 +22,10 @@ fault_name ReadFailed = codes "ReadFailed"
 fault_name WriteFailed = codes "WriteFailed"
 fault_name NoMemory = codes "NoMemory"
 fault_name BoardFailed = codes "BoardFailed"
+
+-- want of memory is told as such
+abbrev pub fault_of_board : BoardFault → AppFault
+fault_of_board board.NoMemory = NoMemory
+fault_of_board board.NoReader = BoardFailed
+fault_of_board board.ShowRefused = BoardFailed
+fault_of_board board.NoWorker = BoardFailed

@@ -26,14 +26,21 @@ pub record Written : Type 0 where
 
 -- ---- the shape
 
+-- each item of a list, read in order
+unfoldable pub all_of : {X : Type 0} → (Data → Option X) → Items → Option (List X)
+all_of read no_items = Some []
+all_of read (item d ds) = do
+  x ← read d
+  xs ← all_of read ds
+  Some (x ∷ xs)
+
+-- a text, read by its words
+abbrev pub said_by : {X : Type 0} → (List (List ℕ) → Option X) → Data → Option X
+said_by read d = option_and_then (λ text. read (words text)) (as_str d)
+
 -- a list of texts, each an event's
-unfoldable pub events_of : Items → Option (List Event)
-events_of no_items = Some []
-events_of (item d ds) = do
-  text ← as_str d
-  event ← event_of (words text)
-  events ← events_of ds
-  Some (event ∷ events)
+abbrev pub events_of : Items → Option (List Event)
+events_of = all_of (said_by event_of)
 
 -- a field that is a whole number
 unfoldable pub whole_of : List ℕ → Data → Option ℕ
@@ -64,14 +71,14 @@ abbrev pub or_not_json : Option Data → Result Data AppFault
 or_not_json None = Err NotJson
 or_not_json (Some d) = Ok d
 
--- what is written in the value that there is
-abbrev pub written_there : Result Data AppFault → Result Written AppFault
-written_there (Err f) = Err f
-written_there (Ok d) = judged within (written_of d)
+-- what is read of the value that there is
+abbrev pub read_there : {X : Type 0} → (Data → Result X AppFault) → Result Data AppFault → Result X AppFault
+read_there read (Err f) = Err f
+read_there read (Ok d) = read d
 
 -- what the bytes say, or the fault that they have
 abbrev pub scenario : List ℕ → Result Written AppFault
-scenario bytes = written_there (or_not_json (json_of bytes))
+scenario bytes = read_there (λ d. judged within (written_of d)) (or_not_json (json_of bytes))
 
 -- what a scenario that was read says
 abbrev pub written_in : code.Scenario → Written

@@ -1,19 +1,29 @@
 //! The words after the program's name.
 
-ghost use Rattle.std.specs.Prelude.{◌≡◌, IfOk, map};
-ghost use Rattle.clap.specs.Words.{FailsBy, app_of, fault_of};
-ghost use Rattle.mencius_app.specs.CommandLine.{program};
+ghost use Rattle.std.specs.Prelude.{◌≡◌, false, IfOk, map, option_copied};
+ghost use Rattle.clap.specs.declared.builder.command.Command.TheViews.{out-Command as fields_of};
+ghost use Rattle.clap.specs.Words.{FailsBy, app_of, found_of, kind_of, rows_of, subcommand_rows_of};
+ghost use Rattle.mencius_app.specs.CommandLine.{asked, asked_by, asked_in, bad_key_faults, faults, has_flag, is_key, key_faults, program, run_task};
 ghost use Rattle.mencius_app.specs.Status.{status_of};
 
 use crate::fault::AppFault;
-use clap::{Command, Error};
+use clap::error::ErrorKind;
+use clap::{Arg, ArgAction, ArgMatches, Command, Error};
+use mencius_base::is_name;
 use std::alloc::{AllocError, Global};
 
 /// What a command line asks for.
 #[derive(Clone, Copy, Debug, PartialEq, Eq)]
-pub enum Task {
+pub enum Task<'a> {
     /// A replay of the scenario on standard input.
     Replay,
+    /// A run of the workers of the scenario on standard input.
+    Run {
+        /// Whether the journal is printed before the report.
+        with_journal: bool,
+        /// The key that is looked up at the end.
+        key: Option<&'a str>,
+    },
 }
 
 const ABOUT: &str =
@@ -27,13 +37,17 @@ schedule says which command is submitted where, which message reaches which serv
 when, which message is lost, which server suspects which, and who executes next. The
 cluster takes the schedule step by step, and what it prints is what Mencius does then.";
 
+const KEY_RULE: &str = "a key has 1 to 64 ASCII letters, digits, `_`, `-` or `.`";
+
 const TOP_NOTES: &str = "\
-Example, at the top of the repository:
+Examples, at the top of the repository:
   echo '{\"version\":1,\"servers\":1,\"events\":[\"submit 0 1.0 set a x\",
     \"deliver 0 0\",\"deliver 1 0\",\"execute 0\"]}' | ./mencius replay
+  ./mencius run --journal < examples/calm_run.json | sed -n 1p | ./mencius replay
 
-`./mencius replay --help` says what goes in and what comes out. The folder examples/ has
-schedules to try, and docs/FORMATS.md describes their format.";
+`./mencius replay --help` and `./mencius run --help` say what goes in and what comes out.
+The folder examples/ has schedules and runs to try, and docs/FORMATS.md describes both
+formats.";
 
 const REPLAY_ABOUT: &str =
     "Steps a new cluster through the scenario on standard input and prints a report";
@@ -82,6 +96,82 @@ Example, at the top of the repository:
 
 docs/FORMATS.md describes the format in full, and examples/ has schedules to try.";
 
+const RUN_ABOUT: &str = "Lets workers choose what happens to a new cluster and prints a report";
+
+const RUN_LONG_ABOUT: &str = "\
+Lets workers choose what happens to a new cluster and prints a report
+
+The workers share the cluster, each in a thread of its own. In each of its turns a worker
+draws three random words. They pick one event: submit the worker's next command, deliver or
+lose a message, suspect, retry or execute. The cluster takes the event or refuses it.
+
+The scenario on standard input is one JSON object with these fields and no other:
+
+  version   1
+  servers   1 to 7
+  workers   1 to 8
+  seed      0 to 18446744073709551615, which the random words grow from
+  turns     0 to 100000, for each worker
+  loss      0 to 32: so many of 64 choices lose a message
+  commands  a list for each server of the commands that are submitted there, each a text,
+            `ID set KEY TEXT`, `ID get KEY` or `ID del KEY`, as in a scenario of `replay`
+
+What is printed, in this order:
+
+  {\"events\":[..],\"servers\":N,\"version\":1}
+                            with --journal: the accepted events as a scenario of `replay`,
+                            which prints the report again
+  servers .., server .., reply ..
+                            the report, as `replay` prints it
+  lookup KEY =TEXT          with --lookup KEY: what the longest history leaves at KEY, this
+  lookup KEY none           .. text, or nothing
+
+With one worker a scenario always prints the same, byte for byte. With more, it is the
+machine that decides whose turn comes next, and the journal says what came of it.";
+
+const RUN_NOTES: &str = "\
+Exit status:
+  0  done
+  2  a bad command line, or a KEY that is no key
+  3  a bad scenario: 21 NotJson, 22 BadShape, 23 BadLimit
+  4  reading or writing failed: 24 ReadFailed, 25 WriteFailed
+  5  memory ran out: 26 NoMemory; a thread or the board failed: 27 BoardFailed
+From 3 on, standard error has the line `mencius: fault NUMBER NAME`, and nothing was
+printed, unless writing failed.
+
+Examples, at the top of the repository; the second replays a run:
+  ./mencius run --lookup a < examples/calm_run.json
+  ./mencius run --journal < examples/calm_run.json | sed -n 1p | ./mencius replay
+
+docs/FORMATS.md describes the format in full, and examples/ has runs to try.";
+
+const JOURNAL_HELP: &str = "First prints the accepted events, as a scenario of `replay`";
+
+const LOOKUP_HELP: &str =
+    "Last prints what the longest history leaves at KEY (`--lookup=KEY` where KEY begins with `-`)";
+
+// The task `run`, with its options.
+fn run_command<'a>(alloc: Global) -> Result<Command<'a>, AllocError>
+    ensures run { IfOk result (λ command. app_of command ≡ run_task) }
+    ensures local { IfOk result (λ command. (fields_of command).has_globals ≡ false) }
+{
+    let journal = Arg::new(alloc, "journal")
+        .long("journal")
+        .action(ArgAction::SetTrue)
+        .help(JOURNAL_HELP);
+    let lookup = Arg::new(alloc, "lookup")
+        .long("lookup")
+        .action(ArgAction::Set)
+        .value_name("KEY")
+        .help(LOOKUP_HELP);
+    Command::new(alloc, "run")
+        .about(RUN_ABOUT)
+        .long_about(RUN_LONG_ABOUT)
+        .after_help(RUN_NOTES)
+        .arg(journal)?
+        .arg(lookup)
+}
+
 // The command line that is read.
 fn command_line<'a>(alloc: Global) -> Result<Command<'a>, AllocError>
     ensures { IfOk result (λ command. app_of command ≡ program) }
@@ -95,24 +185,90 @@ fn command_line<'a>(alloc: Global) -> Result<Command<'a>, AllocError>
         .long_about(LONG_ABOUT)
         .after_help(TOP_NOTES)
         .subcommand_required(true)
-        .subcommand(replay)
+        .subcommand(replay)?
+        .subcommand(run_command(alloc)?)
 }
 
-/// What the words ask for, of which the first is the program's name. Which words are taken, and the
-/// kind of the error where they are not, is what `clap` says of a program with the one subcommand
-/// `replay`.
+// Whether a flag was given.
+fn has_flag(options: &ArgMatches, flag: &str) -> bool
+    ensures { result ≡ has_flag flag.now (rows_of (found_of options.now)) }
+{
+    match options.get_str(flag) {
+        Some(text) => text == "true",
+        None => false,
+    }
+}
+
+// The task that was asked for.
+fn task_of<'a>(matches: &ArgMatches<'a>) -> Task<'a>
+    ensures { asked_in result ≡ asked_by (subcommand_rows_of matches.now) }
+{
+    match matches.subcommand() {
+        Some(("run", options)) => Task::Run {
+            with_journal: has_flag(options, "journal"),
+            key: options.get_str("lookup"),
+        },
+        _ => Task::Replay,
+    }
+}
+
+// Whether a word is a key.
+fn is_key(word: &str) -> bool
+    ensures { result ≡ is_key word.now }
+{
+    is_name(word) && !word.is_empty() && word.len() <= 64
+}
+
+// The key that is to be looked up, where it is none.
+fn bad_key<'a>(task: &Task<'a>) -> Option<&'a str>
+    ensures { key_faults (asked_in task.now) ≡ bad_key_faults (option_copied result) }
+{
+    let Task::Run { key: Some(key), .. } = *task else {
+        return None;
+    };
+    if is_key(key) { None } else { Some(key) }
+}
+
+// The task, unless its key is none.
+fn with_good_key<'a>(
+    alloc: Global,
+    command: &mut Command,
+    task: Task<'a>,
+) -> Result<Task<'a>, Error>
+    ensures task { IfOk result (λ t. asked_in t ≡ asked_in task.entry) }
+    ensures faults { FailsBy (key_faults (asked_in task.entry)) result }
+{
+    match bad_key(&task) {
+        Some(key) => Err(key_error(alloc, command, key)?),
+        None => Ok(task),
+    }
+}
+
+// The error of a key that is none, in the form of `clap`'s own.
+fn key_error(alloc: Global, command: &mut Command, key: &str) -> Result<Error, AllocError>
+    ensures { IfOk result (λ e. kind_of e ≡ ErrorKind.ValueValidation) }
+{
+    let message = format!(in alloc; "invalid value '{key}' for '--lookup <KEY>': {KEY_RULE}")?;
+    command.error(ErrorKind::ValueValidation, message.as_str())
+}
+
+/// What the words ask for, of which the first is the program's name. Which words are taken, which
+/// task and which options they ask for, and the kind of the error where they are not taken, is what
+/// `clap` says of a program with the two subcommands `replay` and `run [--journal] [--lookup KEY]`;
+/// and a KEY that is no key of a command is refused.
 ///
 /// # Errors
 ///
 /// The error has the text to print, says whether it goes to standard error, and has the exit status:
-/// 0 where help was asked for, and 2 for a bad command line. Its kind is `OutOfMemory` where memory
-/// ran out, whatever the words.
-pub fn read_command_line<'a>(alloc: Global, words: &'a [String]) -> Result<Task, Error>
-    ensures { FailsBy (fault_of program (map (λ word. word.bytes.items) words.entry.now)) result }
+/// 0 where help was asked for, and 2 for a bad command line. Its kind is `ValueValidation` for a KEY
+/// that is none, and `OutOfMemory` where memory ran out, whatever the words.
+pub fn read_command_line<'a>(alloc: Global, words: &'a [String]) -> Result<Task<'a>, Error>
+    ensures task { IfOk result (λ task. asked_in task ≡ asked (map (λ word. word.bytes.items) words.entry.now)) }
+    ensures faults { FailsBy (faults (map (λ word. word.bytes.items) words.entry.now)) result }
 {
-    let command = command_line(alloc)?;
-    command.try_get_matches_from(words)?;
-    Ok(Task::Replay)
+    let mut command = command_line(alloc)?;
+    let matches = command.try_get_matches_from_mut(words)?;
+    with_good_key(alloc, &mut command, task_of(&matches))
 }
 
 /// The exit status of a run that ended with a fault: 3 for a bad scenario, 4 where reading or

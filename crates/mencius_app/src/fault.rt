@@ -1,6 +1,7 @@
 ghost use Rattle.std.specs.Prelude.{◌≡◌};
 ghost use Rattle.mencius_app.specs.Fault.{fault_name, fault_number};
 
+use mencius_board::BoardFault;
 use std::alloc::{AllocError, AllocFailed};
 use thiserror::Error;
 
@@ -72,5 +73,20 @@ impl<T: Drop> From<AllocFailed<T>> for AppFault {
 
     fn from(_refused: AllocFailed<T>) -> AppFault {
         AppFault::NoMemory
+    }
+}
+
+impl From<BoardFault> for AppFault {
+    ghost use Rattle.mencius_app.specs.Fault.{fault_of_board};
+
+    ghost from_gives = { λ board f. f ≡ fault_of_board board };
+
+    fn from(fault: BoardFault) -> AppFault {
+        match fault {
+            BoardFault::NoMemory => AppFault::NoMemory,
+            BoardFault::NoReader | BoardFault::ShowRefused | BoardFault::NoWorker => {
+                AppFault::BoardFailed
+            }
+        }
     }
 }

@@ -5,10 +5,13 @@
 mod command_line;
 mod event;
 mod fault;
+mod journal;
 mod judged;
+mod plan;
 mod printed;
 mod read;
 mod replaying;
+mod running;
 mod scenario;
 mod sink;
 mod source;
@@ -17,8 +20,11 @@ mod write;
 
 pub use command_line::{Task, exit_status, read_command_line};
 pub use fault::AppFault;
+pub use mencius_board::{Gate, Open};
+pub use plan::{RunScenario, read_plan};
 pub use printed::report;
 pub use replaying::replay;
+pub use running::run;
 pub use scenario::{Scenario, read_scenario};
 pub use sink::Sink;
 pub use source::{Source, Std};

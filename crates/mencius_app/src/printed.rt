@@ -85,7 +85,7 @@ fn push_history(text: &mut String, cluster: &Cluster, tickets: &[u32]) -> Result
     Ok(())
 }
 
-fn push_id(text: &mut String, id: CommandId) -> Result<(), AllocError>
+pub(crate) fn push_id(text: &mut String, id: CommandId) -> Result<(), AllocError>
     ensures { OnOk result (string_bytes text.new ≡ string_bytes text.old ++ id_text id) }
 {
     let client = id.client;

@@ -93,12 +93,16 @@ command_kept m w e t h =
     ap (λ xs. option_map (λ (x : Command × ℕ). x.0) (slice_get xs t)) (submitted-event m w e)
     ∙ ap (option_map (λ (x : Command × ℕ). x.0)) (slice_get-append (submitted w) (option_to_list (command_in (head e))) t h)
 
+-- two histories that have the same commands at the tickets below n
+pub commands_same : (v w : History) (n : ℕ) (ts : List ℕ) → ((t : ℕ) → t < n → command_at v t ≡ command_at w t) → AreBelow n ts → commands_of v ts ≡ commands_of w ts
+commands_same v w n [] same h = refl
+commands_same v w n (t ∷ ts) same h =
+    ap (λ o. cons_option o (commands_of v ts)) (same t h.0)
+    ∙ ap (cons_option (command_at w t)) (commands_same v w n ts same h.1)
+
 -- the commands of submitted tickets
 pub commands_kept : (m : Membership) (w : History) (e : Event) (ts : List ℕ) → AreBelow (length (submitted w)) ts → commands_of (with_event m w e) ts ≡ commands_of w ts
-commands_kept m w e [] h = refl
-commands_kept m w e (t ∷ ts) h =
-    ap (λ o. cons_option o (commands_of (with_event m w e) ts)) (command_kept m w e t h.0)
-    ∙ ap (cons_option (command_at w t)) (commands_kept m w e ts h.1)
+commands_kept m w e ts h = commands_same (with_event m w e) w (length (submitted w)) ts (command_kept m w e) h
 
 abbrev state_of : List Command → List ℕ → ExecutorState
 state_of cs h = record { store = store_after cs; history = h }

@@ -4,10 +4,13 @@ use Rattle.mencius_base.specs.declared.event.Event.{Event}
 use Rattle.mencius_base.specs.Members.{Membership}
 use Rattle.mencius_base.specs.History.{History}
 use Rattle.mencius_cluster.specs.Executed.{executed}
-use Rattle.mencius_cluster.specs.Laws.{IsCourse, Agreement, Learning, Comparing, Submitting, Once, Order, Unknown, Replied, Awaited, OneReply, Growing, LongestGrowing}
+use Rattle.mencius_cluster.specs.Replying.{longest_at}
+use Rattle.mencius_cluster.specs.Laws.{IsCourse, Agreement, Learning, Comparing, Submitting, Once, Order, Unknown, Replied, Awaited, OneReply, Growing, LongestGrowing, LongestCommandsGrowing}
 use Rattle.mencius_server.proofs.Lists.{get_in}
 use Rattle.mencius_server.proofs.Grown.{IsGrown}
 use Rattle.mencius_server.proofs.Journals.{grown_from}
+use Rattle.mencius_cluster.proofs.Kept.{history-below}
+use Rattle.mencius_cluster.proofs.Told.{told}
 use Rattle.mencius_cluster.proofs.Moments.{moment_past}
 use Rattle.mencius_cluster.proofs.Decisions.{learned_decided}
 use Rattle.mencius_cluster.proofs.Tickets.{identity_once}
@@ -61,3 +64,8 @@ growing m journal end w c a s = later.history_grows m w end (moment_past m journ
 
 pub longest_growing : LongestGrowing
 longest_growing m journal end w c a = longest.longest_grows m w end c.some_server (moment_past m journal w end a c.replays) (course_grown m journal end c)
+
+pub longest_commands_growing : LongestCommandsGrowing
+longest_commands_growing m journal end w c a =
+    longest.longest_commands_grow m w end c.some_server (moment_past m journal w end a c.replays) (course_grown m journal end c)
+    (history-below m w (longest_at m w) (told m w (record { journal = a.before; replays = a.replays })))

@@ -4,7 +4,7 @@ use Rattle.std.specs.Option.{option_map}
 use Rattle.mencius_base.specs.Members.{Membership}
 use Rattle.mencius_cluster.specs.declared.submission.Answered.{Answered}
 use Rattle.mencius_cluster.specs.declared.submission.Answered.TheVariants.{Pending, Given}
-pub use Rattle.mencius_cluster.specs.Replying.{Reply, NotYet, Is, command_at, commands_of, executor_at, place_of, reply_from, reply_at, reply_of_place, reply_of, longest_below, longest_at}
+pub use Rattle.mencius_cluster.specs.Replying.{Reply, NotYet, Is, command_at, commands_of, executor_at, place_of, reply_from, reply_at, reply_of_place, reply_of, longest_below, longest_at, longest_commands}
 
 -- a stored reply, its text as bytes
 abbrev pub bytes_in : Answered → Reply

@@ -11,8 +11,8 @@ abbrev pub executed : History → ℕ → List ℕ
 executed w s = filter_map (λ i. ticket_of (learned w s i)) (below (done w s))
 
 -- xs begins ys
-abbrev pub IsPrefix : List ℕ → List ℕ → Type 0
-IsPrefix xs ys = (rest : List ℕ) × (ys ≡ xs ++ rest)
+abbrev pub IsPrefix : {A : Type 0} → List A → List A → Type 0
+IsPrefix {A} xs ys = (rest : List A) × (ys ≡ xs ++ rest)
 
 -- one of them begins the other
 abbrev pub IsComparable : List ℕ → List ℕ → Type 0

@@ -13,7 +13,7 @@ use Rattle.mencius_server.specs.Next.{replay}
 use Rattle.mencius_base.specs.Command.{is_same_id}
 use Rattle.mencius_server.specs.Decided.{IsDecided}
 use Rattle.mencius_cluster.specs.Executed.{executed, IsPrefix, IsComparable}
-use Rattle.mencius_cluster.specs.Replying.{NotYet, Is, commands_of, longest_at, reply_of}
+use Rattle.mencius_cluster.specs.Replying.{NotYet, Is, commands_of, longest_at, longest_commands, reply_of}
 
 -- the journal of these servers makes the history `end`
 pub record IsCourse (m : Membership) (journal : List Event) (end : History) : Type 0 where
@@ -136,3 +136,9 @@ abbrev pub LongestGrowing : Type 0
 LongestGrowing =
     (m : Membership) (journal : List Event) (end w : History) → IsCourse m journal end → IsMoment m journal w
     → IsPrefix (executed w (longest_at m w)) (executed end (longest_at m end))
+
+-- and so do its commands
+abbrev pub LongestCommandsGrowing : Type 0
+LongestCommandsGrowing =
+    (m : Membership) (journal : List Event) (end w : History) → IsCourse m journal end → IsMoment m journal w
+    → IsPrefix (longest_commands m w) (longest_commands m end)

@@ -56,3 +56,7 @@ longest_below w best s = if nat_lt (length (executed w best)) (length (executed 
 -- the least server whose history is the longest
 abbrev pub longest_at : Membership → History → ℕ
 longest_at m w = fold (longest_below w) 0 (below m.count)
+
+-- the commands of the longest history, in order
+abbrev pub longest_commands : Membership → History → List Command
+longest_commands m w = commands_of w (executed w (longest_at m w))

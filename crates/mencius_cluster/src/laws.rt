@@ -10,7 +10,7 @@
 //! fixed. Nothing is said of progress: no theorem says that a command is ever decided. The proof is
 //! told in `docs/AGREEMENT.md`.
 
-ghost use Rattle.mencius_cluster.specs.Laws.{Agreement, Learning, Comparing, Submitting, Once, Order, Unknown, Replied, Awaited, OneReply, Growing, LongestGrowing};
+ghost use Rattle.mencius_cluster.specs.Laws.{Agreement, Learning, Comparing, Submitting, Once, Order, Unknown, Replied, Awaited, OneReply, Growing, LongestCommandsGrowing, LongestGrowing};
 
 /// Any two decided values of an instance are equal, also at two different moments; whatever a
 /// server learned is decided; and of the histories of any two servers, at any two moments, one
@@ -49,8 +49,10 @@ pub fn replies()
 {}
 
 /// Histories only grow: a server's history begins each of its later ones, and the longest history
-/// begins each later longest one, whichever server has it.
+/// begins each later longest one, whichever server has it. The same holds of the commands of the
+/// longest history, so whoever was shown them once is never shown fewer or others.
 pub fn growth()
     ensures histories { Growing }
     ensures longest { LongestGrowing }
+    ensures commands { LongestCommandsGrowing }
 {}

@@ -22,6 +22,22 @@ fn replay_is_asked_for(rt: HostRuntime) -> Result<(), Fail> {
 }
 
 #[test]
+fn runs_are_asked_for(rt: HostRuntime) -> Result<(), Fail> {
+    for (line, with_journal, key) in [
+        ("mencius run", false, None),
+        ("mencius run --journal", true, None),
+        ("mencius run --lookup a", false, Some("a")),
+        ("mencius run --lookup a_.-9 --journal", true, Some("a_.-9")),
+        ("mencius run --journal --lookup=-a", true, Some("-a")),
+    ] {
+        let given = words(rt.alloc(), line)?;
+        let task = read_command_line(rt.alloc(), given.as_slice()).map_err(|_| "refused")?;
+        assert_eq!(rt; task, Task::Run { with_journal, key }, "at {line}");
+    }
+    Ok(())
+}
+
+#[test]
 fn exit_statuses(rt: HostRuntime) -> Result<(), Fail> {
     for (fault, want) in [
         (AppFault::NotJson, 3),
@@ -44,11 +60,11 @@ fn bad_command_lines(rt: HostRuntime) -> Result<(), Fail> {
     for (line, want) in [
         (
             "mencius",
-            "error: 'mencius' requires a subcommand but one was not provided\n  [subcommands: replay, help]\n\nUsage: mencius <COMMAND>\n",
+            "error: 'mencius' requires a subcommand but one was not provided\n  [subcommands: replay, run, help]\n\nUsage: mencius <COMMAND>\n",
         ),
         (
-            "mencius run",
-            "error: unrecognized subcommand 'run'\n\nUsage: mencius <COMMAND>\n",
+            "mencius walk",
+            "error: unrecognized subcommand 'walk'\n\nUsage: mencius <COMMAND>\n",
         ),
         (
             "mencius replay now",
@@ -57,6 +73,26 @@ fn bad_command_lines(rt: HostRuntime) -> Result<(), Fail> {
         (
             "mencius --loud replay",
             "error: unexpected argument '--loud' found\n\nUsage: mencius <COMMAND>\n",
+        ),
+        (
+            "mencius run now",
+            "error: unexpected argument 'now' found\n\nUsage: mencius run [OPTIONS]\n",
+        ),
+        (
+            "mencius run --lookup",
+            "error: a value is required for '--lookup <KEY>' but none was supplied\n",
+        ),
+        (
+            "mencius run --lookup -a",
+            "error: unexpected argument '-a' found\n\nUsage: mencius run [OPTIONS]\n",
+        ),
+        (
+            "mencius run --lookup a!",
+            "error: invalid value 'a!' for '--lookup <KEY>': a key has 1 to 64 ASCII letters, digits, `_`, `-` or `.`\n\nUsage: mencius <COMMAND>\n",
+        ),
+        (
+            "mencius run --lookup=",
+            "error: invalid value '' for '--lookup <KEY>': a key has 1 to 64 ASCII letters, digits, `_`, `-` or `.`\n\nUsage: mencius <COMMAND>\n",
         ),
     ] {
         let given = words(rt.alloc(), line)?;
@@ -84,18 +120,21 @@ Usage: mencius <COMMAND>
 
 Commands:
   replay  Steps a new cluster through the scenario on standard input and prints a report
+  run     Lets workers choose what happens to a new cluster and prints a report
   help    Print this message or the help of the given subcommand(s)
 
 Options:
   -h, --help
           Print help (see a summary with '-h')
 
-Example, at the top of the repository:
+Examples, at the top of the repository:
   echo '{\"version\":1,\"servers\":1,\"events\":[\"submit 0 1.0 set a x\",
     \"deliver 0 0\",\"deliver 1 0\",\"execute 0\"]}' | ./mencius replay
+  ./mencius run --journal < examples/calm_run.json | sed -n 1p | ./mencius replay
 
-`./mencius replay --help` says what goes in and what comes out. The folder examples/ has
-schedules to try, and docs/FORMATS.md describes their format.
+`./mencius replay --help` and `./mencius run --help` say what goes in and what comes out.
+The folder examples/ has schedules and runs to try, and docs/FORMATS.md describes both
+formats.
 ";
 
 const REPLAY_HELP: &str = "\
@@ -148,12 +187,73 @@ Example, at the top of the repository:
 docs/FORMATS.md describes the format in full, and examples/ has schedules to try.
 ";
 
+const RUN_HELP: &str = "\
+Lets workers choose what happens to a new cluster and prints a report
+
+The workers share the cluster, each in a thread of its own. In each of its turns a worker
+draws three random words. They pick one event: submit the worker's next command, deliver or
+lose a message, suspect, retry or execute. The cluster takes the event or refuses it.
+
+The scenario on standard input is one JSON object with these fields and no other:
+
+  version   1
+  servers   1 to 7
+  workers   1 to 8
+  seed      0 to 18446744073709551615, which the random words grow from
+  turns     0 to 100000, for each worker
+  loss      0 to 32: so many of 64 choices lose a message
+  commands  a list for each server of the commands that are submitted there, each a text,
+            `ID set KEY TEXT`, `ID get KEY` or `ID del KEY`, as in a scenario of `replay`
+
+What is printed, in this order:
+
+  {\"events\":[..],\"servers\":N,\"version\":1}
+                            with --journal: the accepted events as a scenario of `replay`,
+                            which prints the report again
+  servers .., server .., reply ..
+                            the report, as `replay` prints it
+  lookup KEY =TEXT          with --lookup KEY: what the longest history leaves at KEY, this
+  lookup KEY none           .. text, or nothing
+
+With one worker a scenario always prints the same, byte for byte. With more, it is the
+machine that decides whose turn comes next, and the journal says what came of it.
+
+Usage: mencius run [OPTIONS]
+
+Options:
+      --journal
+          First prints the accepted events, as a scenario of `replay`
+
+      --lookup <KEY>
+          Last prints what the longest history leaves at KEY (`--lookup=KEY` where KEY begins with `-`)
+
+  -h, --help
+          Print help (see a summary with '-h')
+
+Exit status:
+  0  done
+  2  a bad command line, or a KEY that is no key
+  3  a bad scenario: 21 NotJson, 22 BadShape, 23 BadLimit
+  4  reading or writing failed: 24 ReadFailed, 25 WriteFailed
+  5  memory ran out: 26 NoMemory; a thread or the board failed: 27 BoardFailed
+From 3 on, standard error has the line `mencius: fault NUMBER NAME`, and nothing was
+printed, unless writing failed.
+
+Examples, at the top of the repository; the second replays a run:
+  ./mencius run --lookup a < examples/calm_run.json
+  ./mencius run --journal < examples/calm_run.json | sed -n 1p | ./mencius replay
+
+docs/FORMATS.md describes the format in full, and examples/ has runs to try.
+";
+
 #[test]
 fn help(rt: HostRuntime) -> Result<(), Fail> {
     for (line, want) in [
         ("mencius --help", HELP),
         ("mencius replay --help", REPLAY_HELP),
         ("mencius help replay", REPLAY_HELP),
+        ("mencius run --help", RUN_HELP),
+        ("mencius help run", RUN_HELP),
     ] {
         let given = words(rt.alloc(), line)?;
         let Err(asked) = read_command_line(rt.alloc(), given.as_slice()) else {

@@ -1,9 +1,11 @@
 //! Readers and writers that do as they are told, and scenarios made in memory.
 
-use mencius_app::{AppFault, Sink, Source, Std, replay};
+use mencius_app::{AppFault, Sink, Source, Std, replay, report};
+use mencius_cluster::Cluster;
 use std::alloc::{AllocError, Global};
 use std::io;
 use std::io::{ErrorKind, Read, Write};
+use std::process::Abort;
 
 /// Answers Interrupted so many times, then gives the bytes in pieces, and fails at one of its calls.
 #[derive(Drop)]
@@ -104,6 +106,22 @@ pub fn replay_from<R: Source>(
         trouble_at: 0,
     });
     replay(alloc, source, &mut sink)
+}
+
+/// The report of a cluster.
+pub fn report_of<R: Abort>(rt: &R, alloc: Global, cluster: &Cluster) -> Vec<u8> {
+    let mut taken = Vec::new(alloc);
+    let mut sink = Std::new(Page {
+        taken: &mut taken,
+        piece: usize::MAX,
+        interruptions: 0,
+        calls: 0,
+        trouble: Trouble::None,
+        trouble_at: 0,
+    });
+    let answer = report(alloc, cluster, &mut sink);
+    assert_eq!(rt; answer, Ok(()));
+    taken
 }
 
 /// A scenario as it is written.

@@ -1,9 +1,9 @@
 //! Tests of the whole program: worked schedules, the greatest ones that a cluster takes, journals
-//! stepped through again, hostile input, failing readers and writers, and the texts of the command
+//! stepped through again, runs of workers, hostile input, failing readers and writers, and the texts of the command
 //! line.
 //!
-//! The module [`conclusions`] is no test: it proves what a caller of a cluster can conclude from
-//! public clauses alone.
+//! The modules [`conclusions`] and [`readings`] are no tests: they prove what a caller of a cluster, or
+//! of a board and its readers, can conclude from public clauses alone.
 #![tactic(auto)]
 
 #[cfg(test)]
@@ -19,6 +19,9 @@ mod fixtures;
 mod journal_again;
 #[cfg(test)]
 mod limits;
+pub mod readings;
+#[cfg(test)]
+mod runs;
 #[cfg(test)]
 mod schedules;
 #[cfg(test)]

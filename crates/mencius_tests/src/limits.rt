@@ -1,6 +1,8 @@
 //! The greatest schedules that a cluster takes: each runs into one of its limits.
 
 use crate::fixtures::{Script, replayed};
+use mencius_base::{Command, CommandId, Event, Key, Members, Op};
+use mencius_cluster::{Cluster, Effect};
 use std::alloc::{AllocError, Global};
 use std::process::Abort;
 use std::test::Fail;
@@ -72,6 +74,40 @@ fn long_skip(rt: HostRuntime) -> Result<(), Fail> {
     want.push_str("server 2 front 4097 done 0 history -\n")?;
     expect_pending(&mut want, 1365)?;
     assert_prints(&rt, alloc, script, &want)?;
+    Ok(())
+}
+
+// A server that hears one Skip of 1,365 instances learns them all by one event.
+#[test]
+fn long_skip_is_learned_at_once(rt: HostRuntime) -> Result<(), Fail> {
+    let alloc = rt.alloc();
+    let members = Members::new(3).ok_or("three")?;
+    let mut cluster = Cluster::new(alloc, members).map_err(|_| "no cluster")?;
+    for number in 0..1_365 {
+        let key = Key::new(String::from_str(alloc, "a")?);
+        let id = CommandId { client: 1, number };
+        let command = Command::new(id, Op::Get { key }).map_err(|_| "no command")?;
+        let step = cluster.step(Event::Submit { server: 2, command });
+        assert!(rt; step.is_ok(), "{number}");
+    }
+    let heard = Event::Deliver {
+        message: 1_364,
+        server: 0,
+    };
+    let step = cluster.step(heard);
+    assert!(rt; step.is_ok());
+    let skip = Event::Deliver {
+        message: 1_365,
+        server: 1,
+    };
+    assert_eq!(rt;
+        cluster.step(skip),
+        Ok(Effect {
+            first: 1_367,
+            sent: 0,
+            learned: 1_365
+        })
+    );
     Ok(())
 }
 

@@ -6,3 +6,6 @@ returns-clause-histories c = theorem.growing
 
 pub returns-clause-longest : goal.returns-clause-longest
 returns-clause-longest c = theorem.longest_growing
+
+pub returns-clause-commands : goal.returns-clause-commands
+returns-clause-commands c = theorem.longest_commands_growing

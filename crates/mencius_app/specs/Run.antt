@@ -1,0 +1,80 @@
+-- The text of a run, and which input it is of.
+use Rattle.std.specs.Prelude.{◌≡◌, ◌⊎◌, ℕ, Bool, true, nat_lt, if◌then◌else◌, IfSome, Result, Ok, Err, List, [], ◌∷◌, ◌++◌, length, codes, Option, Some, None}
+use Rattle.std.specs.FinMap as finite
+use Rattle.map_exec.specs.Store.{store_after}
+use Rattle.mencius_base.specs.declared.command.Command.{Command}
+use Rattle.mencius_server.specs.Next.{replay}
+use Rattle.mencius_cluster.specs.Answers.{commands_of, longest_at}
+use Rattle.mencius_cluster.specs.Executed.{executed}
+use Rattle.mencius_cluster.specs.State.{ClusterState, history_of}
+use Rattle.mencius_app.specs.declared.fault.AppFault.{AppFault}
+use Rattle.mencius_app.specs.declared.fault.AppFault.TheVariants.{BadLimit, BoardFailed, NoMemory}
+use Rattle.mencius_app.specs.Ends.{most_bytes}
+use Rattle.mencius_app.specs.Journal.{ReadsBack, journal_text}
+use Rattle.mencius_app.specs.Plan.{WrittenPlan, plan}
+use Rattle.mencius_app.specs.Report.{former_text, line_feed, report_text}
+
+-- ---- the text
+
+-- the journal, as one line, where it is asked for
+abbrev pub journal_line : Bool → ClusterState → List ℕ
+journal_line asked c = if asked then journal_text c.members.count c.journal ++ line_feed else []
+
+-- the commands of the longest history, in order
+abbrev pub longest_of : ClusterState → List Command
+longest_of c = commands_of (history_of c) (executed (history_of c) (longest_at c.members (history_of c)))
+
+-- what their map holds at a key
+abbrev pub held_at : ClusterState → List ℕ → Option (List ℕ)
+held_at c key = finite.get (store_after (longest_of c)) key
+
+abbrev pub held_line : List ℕ → Option (List ℕ) → List ℕ
+held_line key held = codes "lookup " ++ (key ++ 32 ∷ (former_text held ++ line_feed))
+
+-- what was found at the key, where one was looked up
+abbrev pub found_line : Option (List ℕ) → Option (List ℕ) → List ℕ
+found_line None found = []
+found_line (Some key) found = held_line key found
+
+-- what the map holds at the key, where one is looked up
+abbrev pub lookup_line : Option (List ℕ) → ClusterState → List ℕ
+lookup_line None c = []
+lookup_line (Some key) c = held_line key (held_at c key)
+
+-- the journal's line, the report, and the lookup
+abbrev pub run_text : Bool → Option (List ℕ) → ClusterState → List ℕ
+run_text with_journal key c = journal_line with_journal c ++ (report_text c.members (history_of c) ++ lookup_line key c)
+
+-- what was found at the key, where one is looked up
+abbrev pub IsFound : Option (List ℕ) → ClusterState → Option (List ℕ) → Type 0
+IsFound None c found = Unit {0}
+IsFound (Some key) c found = found ≡ held_at c key
+
+-- ---- the input
+
+-- what the input of a run says: a plan, or the fault of a bad one
+abbrev pub plan_input_of : List ℕ → Result WrittenPlan AppFault
+plan_input_of bytes = if nat_lt most_bytes (length bytes) then Err BadLimit else plan bytes
+
+-- the fault is one that the input has, where it is known
+abbrev pub IsPlanFaultOf : Option (List ℕ) → AppFault → Type 0
+IsPlanFaultOf known fault = IfSome known (λ bytes. plan_input_of bytes ≡ Err fault)
+
+-- memory ran out, or the board failed: no fault of the input, the reader or the writer
+abbrev pub IsOwnFault : AppFault → Type 0
+IsOwnFault fault = (fault ≡ NoMemory) ⊎ (fault ≡ BoardFailed)
+
+-- ---- the whole
+
+-- a text of a run by all that a reader has, so far as that is known: that of a cluster, whose journal replays, and
+-- whose journal's line says it again
+pub record IsRunOf (known : Option (List ℕ)) (with_journal : Bool) (key : Option (List ℕ)) (text : List ℕ)
+    : Type 0 where
+  pub bytes : List ℕ
+  pub whole : IfSome known (λ all. all ≡ bytes)
+  pub written : WrittenPlan
+  pub says : plan_input_of bytes ≡ Ok written
+  pub cluster : ClusterState
+  pub replays : replay cluster.members cluster.journal ≡ Ok (history_of cluster)
+  pub run : text ≡ run_text with_journal key cluster
+  pub reads_back : with_journal ≡ true → ReadsBack cluster

@@ -1,0 +1,32 @@
+-- Three words more are three steps more.
+use Rattle.std.proofs.Common.{◌≡◌, ℕ, zero, suc, ◌+◌, ◌*◌, refl, ap, sym, ◌∙◌, arith}
+use Rattle.rand_pcg.specs.Lcg.{Lcg, advance, next_state, state_after, started, increment_of}
+use Rattle.rand_pcg.specs.Pcg.{multiplier_64}
+use Rattle.mencius_board.specs.Choices.{drawing_after, drawn, first_drawing, one_on, three_on}
+
+one_later : (w m p n s : ℕ) → state_after w m p (suc n) s ≡ next_state w m p (state_after w m p n s)
+unfolding state_after
+one_later w m p zero s = refl
+one_later w m p (suc n) s = one_later w m p n (next_state w m p s)
+
+advance_more : (n : ℕ) (g : Lcg) → advance 64 multiplier_64 (suc n) g ≡ one_on (advance 64 multiplier_64 n g)
+advance_more n g = ap (λ (s : ℕ). record g { state = s }) (one_later 64 multiplier_64 g.increment n g.state)
+
+three_more : (t : ℕ) (g : Lcg)
+    → three_on (advance 64 multiplier_64 (3 * t) g) ≡ advance 64 multiplier_64 (3 * (t + 1)) g
+three_more t g =
+    let n : ℕ = 3 * t in
+    let up : 3 * (t + 1) ≡ suc (suc (suc n)) = omega arith in
+    sym (ap (λ (k : ℕ). advance 64 multiplier_64 k g) up ∙ (advance_more (suc (suc n)) g ∙ (ap one_on (advance_more (suc n) g) ∙ ap (λ (h : Lcg). one_on (one_on h)) (advance_more n g))))
+
+none_yet : (g : Lcg) → advance 64 multiplier_64 (3 * 0) g ≡ g
+unfolding state_after
+none_yet g = refl
+
+-- a worker before its first turn
+pub first_is : (seed worker : ℕ) → first_drawing seed worker ≡ drawing_after seed worker 0
+first_is seed worker = ap (λ (g : Lcg). record { worker = worker; generator = g }) (sym (none_yet (started 64 multiplier_64 seed (increment_of 64 worker))))
+
+-- and after one turn more
+pub turn_more : (seed worker t : ℕ) → drawn (drawing_after seed worker t) ≡ drawing_after seed worker (t + 1)
+turn_more seed worker t = ap (λ (g : Lcg). record { worker = worker; generator = g }) (three_more t (started 64 multiplier_64 seed (increment_of 64 worker)))

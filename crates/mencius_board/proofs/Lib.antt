@@ -1,0 +1,13 @@
+pub mod Prefixes
+pub mod Adding
+pub mod Steps
+pub mod Entries
+pub mod Copying
+pub mod Growing
+pub mod Sound
+pub mod Drawn
+pub mod Ended
+pub mod Walked
+pub mod Queue
+pub mod Taken
+pub mod Worked

@@ -1,0 +1,53 @@
+-- What every board keeps, over the fields of a board.
+use Rattle.std.proofs.Common.{◌≡◌, ℕ, List, [], ◌++◌, Option, Some, take, sym, ap, subst, ◌∙◌, arith}
+use Rattle.std.proofs.lemmas.List.{take-append-le}
+use mathlib.Core.List.{IsPrefix}
+use Rattle.mencius_base.specs.declared.command.Command.{Command}
+use Rattle.mencius_cluster.specs.State.{ClusterState}
+use Rattle.mencius_board.specs.declared.version.Operation.{Operation}
+use Rattle.mencius_board.specs.Marks.{MarkState, VersionState, mark_of}
+use Rattle.mencius_board.specs.Shown.{book_of}
+use Rattle.mencius_board.specs.Pending.{AreHanded, added}
+use Rattle.mencius_board.specs.Boards.{IsSound, IsSteady, longest}
+use Rattle.mencius_board.proofs.Prefixes.{prefix_empty, prefix_trans, prefix_length, take_begins}
+
+-- the first commands of a list are the first of each that it begins
+handed_grows : (shown : List Command) (os : List Operation) (n : ℕ) (xs ys : List Command) → IsPrefix xs ys
+    → AreHanded shown os n xs → AreHanded shown os n ys
+handed_grows shown os n xs ys p h = record {
+  many = omega (arith, h.many, prefix_length xs ys p);
+  first = h.first ∙ (sym (take-append-le n xs p.0 h.many) ∙ ap (λ l. take n l) p.1);
+}
+
+-- a board stays sound where its cluster's longest history grows
+pub sound_grows : (x y : ClusterState) (log opening : MarkState) (seen : Option MarkState) (shown : VersionState) (os : List Operation) (n : ℕ) → IsSteady y × IsPrefix (longest x) (longest y)
+    → IsSound x log opening seen shown os n → IsSound y log opening seen shown os n
+sound_grows x y log opening seen shown os n p s = record {
+  steady = p.0;
+  marked = s.marked;
+  handed_is = handed_grows shown.list os n (longest x) (longest y) p.1 s.handed_is;
+  begins = prefix_trans log.log (longest x) (longest y) s.begins p.1;
+  opening_is = s.opening_is;
+  seen_is = s.seen_is;
+}
+
+-- what is shown and what is pending begin the longest history
+pub shown_first : (x : ClusterState) (shown : List Command) (os : List Operation) (n : ℕ)
+    → AreHanded shown os n (longest x) → IsPrefix (shown ++ added os) (longest x)
+shown_first x shown os n h = subst (λ (l : List Command). IsPrefix l (longest x)) (sym h.first) (take_begins n (longest x))
+
+-- nothing is shown yet
+pub sound_new : (x : ClusterState) (log opening : MarkState) (seen : Option MarkState) (shown : VersionState) (os : List Operation) → IsSteady x → log.log ≡ [] → opening ≡ log
+    → book_of seen ≡ Some opening.book → shown ≡ record { mark = opening; list = opening.log } → added os ≡ []
+    → IsSound x log opening seen shown os 0
+sound_new x log opening seen shown os steady empty same seen_is is none =
+    let empty_mark : opening.log ≡ [] = ap (λ (m : MarkState). m.log) same ∙ empty in
+    let list : shown.list ≡ [] = ap (λ (s : VersionState). s.list) is ∙ empty_mark in
+    record {
+      steady = steady;
+      marked = record { book_is = ap (λ (s : VersionState). s.mark.book) is ∙ ap (λ (m : MarkState). m.book) same; log_is = ap (λ (s : VersionState). s.mark.log) is ∙ sym (ap (λ (s : VersionState). s.list) is) };
+      handed_is = record { many = omega arith; first = ap (λ (l : List Command). l ++ added os) list ∙ none };
+      begins = subst (λ (l : List Command). IsPrefix l (longest x)) (sym empty) (prefix_empty (longest x));
+      opening_is = same ∙ ap (λ (l : List Command). mark_of log.book l) empty;
+      seen_is = seen_is ∙ ap (λ (m : MarkState). Some m.book) same;
+    }

@@ -1,0 +1,9 @@
+use Rattle.mencius_board.proofs.Growing.{answer_grows}
+use Rattle.mencius_board.proofs.Sound.{sound_grows}
+use Rattle.mencius_board.proofs.board.Board.step.Goals as goal
+
+pub invariant_of-self : goal.invariant_of-self
+invariant_of-self c =
+    let x = c.self.inside.cluster in
+    let y = c.step.new.self in
+    sound_grows x y _ _ _ _ _ _ (answer_grows x y c.args.event c.step.result c.self.invariant.steady c.step.ensures.effect c.step.ensures.err) c.self.invariant

@@ -1,0 +1,13 @@
+use Rattle.std.proofs.Common.{◌≡◌, ap, ◌∙◌}
+use Rattle.mencius_board.specs.Choices.{ChooserState, drawn}
+use Rattle.mencius_board.proofs.Drawn.{first_is, turn_more}
+use Rattle.mencius_board.proofs.workers.work.Goals as goal
+
+pub loop-turn-init : goal.loop-turn-init
+loop-turn-init g c =
+    c.into_progress-progress.ensures ∙ (ap (λ (x : ChooserState). x.drawing) c.new.ensures ∙ first_is c.args.plan.now.seed c.args.worker)
+
+pub loop-turn-preserved : goal.loop-turn-preserved
+loop-turn-preserved g c =
+    let post : c.lend-next.result.0.drawing ≡ drawn c.loop-turn.progress.drawing = c.lend-next.ensures.2.met in
+    post ∙ (ap drawn c.loop-turn.invariant ∙ turn_more c.args.plan.now.seed c.args.worker c.loop-turn.turn)

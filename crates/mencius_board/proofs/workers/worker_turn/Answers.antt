@@ -1,0 +1,18 @@
+use denote.Enum.Bare.{same_false}
+use Rattle.std.proofs.Common.{sym, subst, inr}
+use Rattle.mencius_base.specs.contracts.refusal.Refusal.{the_type}
+use Rattle.mencius_cluster.specs.State.{ClusterState}
+use Rattle.mencius_board.specs.Choices.{IsChosen}
+use Rattle.mencius_board.proofs.workers.worker_turn.Goals as goal
+
+pub returns-else-eq-clause-turn : goal.returns-else-eq-clause-turn
+returns-else-eq-clause-turn c = record {
+  event = c.in-Ok.event;
+  chosen = subst (λ (x : ClusterState). IsChosen c.args.chooser.now x c.in-Ok.event c.choose.new.self) c.cluster.ensures.cluster c.in-Ok.ensures;
+  stepped = inr (record {
+    refusal = c.in-Err.refusal;
+    is = c.in-Err.ensures.refusal;
+    memory = same_false the_type _ _ (sym c.if-eq.ensures);
+    same = c.in-Err.ensures.err;
+  });
+}

@@ -1,0 +1,45 @@
+-- A board, as contracts see it, and what its type keeps.
+use Rattle.std.specs.Prelude.{ℕ, ◌≡◌, ◌≤◌, List, [], Option, Some, Ok}
+use mathlib.Core.List.{IsPrefix}
+use Rattle.logbook.specs.Pages.{Book}
+use Rattle.mencius_base.specs.declared.command.Command.{Command}
+use Rattle.mencius_server.specs.Next.{replay}
+use Rattle.mencius_cluster.specs.Laws.{LongestCommandsGrowing}
+use Rattle.mencius_cluster.specs.Replying.{longest_commands}
+use Rattle.mencius_cluster.specs.State.{ClusterState, history_of}
+use Rattle.mencius_board.specs.Marks.{MarkState, VersionState, mark_of}
+use Rattle.mencius_board.specs.Shown.{book_of}
+use Rattle.mencius_board.specs.declared.version.Operation.{Operation}
+use Rattle.mencius_board.specs.Pending.{AreHanded, IsMarked}
+
+-- which board it is, its cluster, the list that is shown, what is to be shown next, and how many readers may still be made
+pub record BoardState : Type 0 where
+  pub book : Book
+  pub cluster : ClusterState
+  pub shown : List Command
+  pub pending : List Command
+  pub places : ℕ
+
+-- a board on which nothing is shown yet
+abbrev pub new_board : Book → ClusterState → ℕ → BoardState
+new_board b c readers = record { book = b; cluster = c; shown = []; pending = []; places = readers }
+
+-- the commands of the cluster's longest history, in order
+unfoldable pub longest : ClusterState → List Command
+longest c = longest_commands c.members (history_of c)
+
+-- what a board relies on of its cluster: there are servers, the journal replays, and the longest history only grows
+pub record IsSteady (c : ClusterState) : Type 0 where
+  pub some_server : 1 ≤ c.members.count
+  pub replays : replay c.members c.journal ≡ Ok (history_of c)
+  pub grows : LongestCommandsGrowing
+
+-- what every board keeps: what is shown and then what is pending begins the longest history. The log has the commands
+-- that were ever to be shown, the opening is its mark when it was empty, and n commands were handed to the writer
+pub record IsSound (cluster : ClusterState) (log opening : MarkState) (seen : Option MarkState) (shown : VersionState) (pending : List Operation) (n : ℕ) : Type 0 where
+  pub steady : IsSteady cluster
+  pub marked : IsMarked log.book shown
+  pub handed_is : AreHanded shown.list pending n (longest cluster)
+  pub begins : IsPrefix log.log (longest cluster)
+  pub opening_is : opening ≡ mark_of log.book []
+  pub seen_is : book_of seen ≡ Some log.book

@@ -1,0 +1,109 @@
+-- What a worker's words are, and what they make it do.
+use Rattle.std.specs.Prelude.{◌≡◌, ◌*◌, ℕ, Bool, true, false, List, [], ◌∷◌, Option, Some, None}
+use Rattle.rand_pcg.specs.Lcg.{Lcg, advance, increment_of, next, started}
+use Rattle.rand_pcg.specs.Pcg.{multiplier_64, output_xsh_rr}
+use Rattle.mencius_base.specs.declared.command.Command.{Command}
+use Rattle.mencius_base.specs.declared.event.Event.{Event}
+use Rattle.mencius_base.specs.declared.event.Event.TheVariants.{Submit}
+use Rattle.mencius_board.specs.declared.choice.Pick.{Pick}
+use Rattle.mencius_board.specs.declared.choice.Pick.TheVariants.{NextCommand, Is}
+use Rattle.mencius_board.specs.declared.plan.Place.{Place}
+use Rattle.mencius_cluster.specs.State.{ClusterState}
+use Rattle.mencius_board.specs.Picks.{pick_of}
+use Rattle.mencius_board.specs.Plans.{PlanState, after_place, commands_of_worker, own_command}
+
+-- a worker's number, and the generator that it draws from
+pub record Drawing : Type 0 where
+  pub worker : ℕ
+  pub generator : Lcg
+
+-- how far a worker's choices have come: what it draws from, and where its next command stands, if one is left
+pub record ProgressState : Type 0 where
+  pub drawing : Drawing
+  pub next : Option Place
+
+-- a worker's choices: its plan, what it draws from, and its commands that are left, each with its server
+pub record ChooserState : Type 0 where
+  pub plan : PlanState
+  pub drawing : Drawing
+  pub left : List (ℕ × Command)
+
+-- ---- words
+
+-- the generator after one word
+abbrev pub one_on : Lcg → Lcg
+one_on g = next 64 multiplier_64 g
+
+-- and after three
+abbrev pub three_on : Lcg → Lcg
+three_on g = one_on (one_on (one_on g))
+
+-- three words are drawn
+abbrev pub drawn : Drawing → Drawing
+drawn d = record { worker = d.worker; generator = three_on d.generator }
+
+abbrev pub word_of : Lcg → ℕ
+word_of g = output_xsh_rr g.state
+
+-- the next three words
+abbrev pub words_of : Lcg → List ℕ
+words_of g = word_of g ∷ word_of (one_on g) ∷ word_of (one_on (one_on g)) ∷ []
+
+-- a worker of this seed before its first turn, and after so many turns
+abbrev pub first_drawing : ℕ → ℕ → Drawing
+first_drawing seed worker = record { worker = worker; generator = started 64 multiplier_64 seed (increment_of 64 worker) }
+
+abbrev pub drawing_after : ℕ → ℕ → ℕ → Drawing
+drawing_after seed worker turns = record { worker = worker; generator = advance 64 multiplier_64 (3 * turns) (started 64 multiplier_64 seed (increment_of 64 worker)) }
+
+-- ---- commands
+
+-- a list behind its first item, where there is one
+abbrev pub led_by : {A : Type 0} → Option A → List A → List A
+led_by None rest = []
+led_by (Some x) rest = x ∷ rest
+
+-- the worker's commands from its next one on
+abbrev pub left_at : PlanState → ℕ → Option Place → List (ℕ × Command)
+left_at p worker None = []
+left_at p worker (Some place) = led_by (own_command p worker place.row place.server) (after_place p worker place)
+
+abbrev pub is_any : {A : Type 0} → List A → Bool
+is_any [] = false
+is_any (x ∷ xs) = true
+
+-- a worker that has not chosen yet
+abbrev pub first_chooser : PlanState → ℕ → ChooserState
+first_chooser p worker = record { plan = p; drawing = first_drawing p.seed worker; left = commands_of_worker p worker }
+
+-- the worker of this plan that has come so far
+abbrev pub chooser_at : PlanState → ProgressState → ChooserState
+chooser_at p x = record { plan = p; drawing = x.drawing; left = left_at p x.drawing.worker x.next }
+
+-- the worker's plan, number and generator after so many turns
+pub record HasTurned (c : ChooserState) (p : PlanState) (worker turns : ℕ) : Type 0 where
+  pub plan : c.plan ≡ p
+  pub drawing : c.drawing ≡ drawing_after p.seed worker turns
+
+-- ---- choices
+
+-- what the next words of a worker pick on this cluster
+abbrev pub picked : ChooserState → ClusterState → Pick
+picked c x = pick_of x c.plan.loss (is_any c.left) (words_of c.drawing.generator)
+
+-- the event that a pick is, and the commands that it leaves
+abbrev pub IsTaken : Pick → List (ℕ × Command) → Event → List (ℕ × Command) → Type 0
+IsTaken (Is x) left e rest = (e ≡ x) × (rest ≡ left)
+IsTaken NextCommand [] e rest = ⊥
+IsTaken NextCommand (first ∷ others) e rest = (e ≡ Submit first.0 first.1) × (rest ≡ others)
+
+-- a choice: three words are drawn, and the event is what they pick. A command that is chosen is no longer left
+pub record IsChosen (old : ChooserState) (x : ClusterState) (e : Event) (new : ChooserState) : Type 0 where
+  pub plan : new.plan ≡ old.plan
+  pub drawing : new.drawing ≡ drawn old.drawing
+  pub taken : IsTaken (picked old x) old.left e new.left
+
+-- a choice that is refused for want of memory: the words are drawn, and the command that they pick stays the next one
+pub record IsPutOff (old : ChooserState) (x : ClusterState) (new : ChooserState) : Type 0 where
+  pub picks : picked old x ≡ NextCommand
+  pub same : new ≡ record old { drawing = drawn old.drawing }

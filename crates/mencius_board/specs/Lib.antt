@@ -1,0 +1,12 @@
+pub mod Picks
+pub mod Plans
+pub mod Choices
+pub mod Marks
+pub mod Rules
+pub mod Maps
+pub mod Shown
+pub mod Pending
+pub mod Boards
+pub mod Faults
+pub mod Turns
+pub mod Running

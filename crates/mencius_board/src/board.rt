@@ -1,0 +1,188 @@
+ghost use Rattle.std.specs.Prelude.{◌≡◌, ◌≤◌, ◌<◌, ◌-◌, ◌++◌, [], IfOk, IfErr, OnOk, OnErr, MatchResult};
+ghost use mathlib.Core.List.{IsPrefix};
+ghost use Rattle.mencius_cluster.specs.State.{IsRefusal, IsStepped};
+ghost use Rattle.mencius_board.specs.declared.fault.BoardFault.TheVariants.{NoMemory, NoReader};
+ghost use Rattle.mencius_board.specs.Marks.{mark_of};
+ghost use Rattle.mencius_board.specs.Boards.{longest, new_board};
+ghost use Rattle.mencius_board.specs.Faults.{IsShowFault};
+
+use crate::fault::BoardFault;
+use crate::longest::copy_longest;
+use crate::news::News;
+use crate::pending::{hand_over, record};
+use crate::reader::Reader;
+use crate::shown::{Notes, Showing, publish};
+use crate::shown_log::{Mark, ShownLog};
+use crate::version::Version;
+use core::mem::replace_with;
+use mencius_base::{Event, Refusal};
+use mencius_cluster::{Cluster, Effect, laws};
+use std::alloc::Global;
+use std::marker::Model;
+use std::sync::Wait;
+
+/// A cluster that threads step one at a time, and what of its longest history readers are shown.
+///
+/// Contracts see which board it is, the cluster, the list of commands that is shown, what is to be
+/// shown next, and how many readers may still be made. The type keeps that the two lists, one after
+/// the other, begin the longest history; so that holds whenever a lock on a board is got, whoever
+/// had it before.
+///
+/// A board cannot be dropped: it is used up by [`Board::end`].
+pub struct Board {
+    cluster: Cluster,
+    // The commands that were ever to be shown.
+    log: ShownLog,
+    // The mark of the log when it was empty.
+    opening: Mark,
+    // So many readers may still be made.
+    places: u8,
+    writer: Showing,
+    // So many commands were handed to the writer.
+    handed: usize,
+}
+
+impl Model for Board {
+    ghost use Rattle.std.specs.Prelude.{drop};
+    ghost use Rattle.left_right.specs.Sides.{view as known};
+    ghost use Rattle.mencius_board.specs.Pending.{added};
+    ghost use Rattle.mencius_board.specs.Boards.{BoardState, IsSound};
+
+    ghost Value = { BoardState };
+
+    ghost view = { λ b. record {
+      book = b.log.book;
+      cluster = b.cluster;
+      shown = b.writer.desk.shown.value.list;
+      pending = added (drop b.writer.behind b.writer.log.items);
+      places = b.places;
+    } };
+
+    ghost invariant = { λ b. IsSound b.cluster b.log b.opening (known b.writer.desk.place)
+        b.writer.desk.shown.value (drop b.writer.behind b.writer.log.items) b.handed };
+}
+
+impl Board {
+    /// A board over a cluster, for 1 to 16 readers, on which nothing is shown yet; or `NoMemory`.
+    ///
+    /// It takes `Wait` although there is nobody to wait for: the opening list is published, and
+    /// publishing takes it.
+    pub fn new<R: Wait>(
+        rt: &R,
+        alloc: Global,
+        cluster: Cluster,
+        readers: u8,
+    ) -> Result<Board, BoardFault>
+        requires { (0 < readers) × (readers ≤ 16) }
+        ensures board { IfOk result (λ b. b ≡ new_board b.book cluster readers) }
+        ensures err { IfErr result (λ f. f ≡ NoMemory) }
+    {
+        // What every cluster promises: the board's type keeps it from here on.
+        laws::growth();
+        cluster.servers();
+        cluster.members();
+        let log = ShownLog::new();
+        let opening = log.mark();
+        let first = Version::new(alloc, log.mark());
+        let second = Version::new(alloc, log.mark());
+        let Ok(writer) = Showing::new(alloc, first, second, usize::from(readers)) else {
+            return Err(BoardFault::NoMemory);
+        };
+        let (writer, shown) = publish(rt, &opening, writer);
+        let Ok(()) = shown else {
+            drop(writer.take(rt));
+            return Err(BoardFault::NoMemory);
+        };
+        Ok(Board {
+            cluster,
+            log,
+            opening,
+            places: readers,
+            writer,
+            handed: 0,
+        })
+    }
+
+    /// Takes one event, as [`Cluster::step`] does, with its refusals. What is shown stays.
+    pub fn step(&mut self, event: Event) -> Result<Effect, Refusal>
+        ensures effect { IfOk result (λ x. IsStepped self.old.cluster self.new.cluster event x.first x.sent x.learned) }
+        ensures refusal { IfErr result (IsRefusal self.old.cluster event) }
+        ensures err { OnErr result (self.new ≡ self.old) }
+        ensures rest { self.new ≡ record self.old { cluster = self.new.cluster } }
+    {
+        self.cluster.step(event)
+    }
+
+    /// The cluster. What is shown, and then what is to be shown next, begin its longest history.
+    pub fn cluster(&self) -> &Cluster
+        ensures cluster { result.now ≡ self.now.cluster }
+        ensures begins { IsPrefix (self.now.shown ++ self.now.pending) (longest self.now.cluster) }
+    {
+        &self.cluster
+    }
+
+    /// Shows the longest history, all at once, and answers what is shown. It may wait for readers
+    /// to leave what was shown before. Its work is the new commands, and one copy for the News.
+    ///
+    /// `NoMemory` comes where a copy is refused, `ShowRefused` where handing over or publishing is,
+    /// whatever the cause. Cluster and what is shown then stay; some of the new commands may be
+    /// handed over already, and the next call shows them.
+    pub fn show<R: Wait>(&mut self, rt: &R, alloc: Global) -> Result<News, BoardFault>
+        ensures shown { OnOk result (self.new ≡ record self.old { shown = longest self.old.cluster; pending = [] }) }
+        ensures news { IfOk result (λ n. n ≡ mark_of self.old.book (longest self.old.cluster)) }
+        ensures err { OnErr result (self.new ≡ record self.old { pending = self.new.pending }) }
+        ensures fault { IfErr result IsShowFault }
+    {
+        let Ok(list) = copy_longest(alloc, &self.cluster) else {
+            return Err(BoardFault::NoMemory);
+        };
+        hand_over(list.as_slice(), &mut self.handed, &mut self.writer)?;
+        if !record(list.as_slice(), &mut self.log) {
+            return Err(BoardFault::ShowRefused);
+        }
+        let mark = self.log.mark();
+        let Ok(()) = replace_with(&mut self.writer, rt, |writer, rt| {
+            publish(rt, &mark, writer)
+        }) else {
+            return Err(BoardFault::ShowRefused);
+        };
+        Ok(News::new(mark, list))
+    }
+
+    /// Makes a reader, whose floor is empty; `NoReader` once as many were made as `new` was told, or
+    /// where `left_right` gives none.
+    pub fn reader(&mut self) -> Result<Reader, BoardFault>
+        ensures some { OnOk result (0 < self.old.places) }
+        ensures ok { OnOk result (self.new ≡ record self.old { places = self.old.places - 1 }) }
+        ensures reader { IfOk result (λ r. r ≡ mark_of self.old.book []) }
+        ensures err { OnErr result (self.new ≡ self.old) }
+        ensures fault { IfErr result (λ f. f ≡ NoReader) }
+    {
+        if self.places == 0 {
+            return Err(BoardFault::NoReader);
+        }
+        let Ok(mut home) = self.writer.factory().reader() else {
+            return Err(BoardFault::NoReader);
+        };
+        self.places -= 1;
+        home.learn::<Notes>(self.writer.tell::<Notes>());
+        Ok(Reader::new(home, self.opening.again()))
+    }
+
+    /// Uses the board up, and gives its cluster. It may wait for readers to leave; lookups that
+    /// enter later are refused.
+    pub fn end<R: Wait>(self, rt: &R) -> Cluster
+        ensures { result ≡ self.cluster }
+    {
+        let Board {
+            cluster,
+            log: _log,
+            opening: _opening,
+            places: _,
+            writer,
+            handed: _,
+        } = self;
+        drop(writer.take(rt));
+        cluster
+    }
+}

@@ -1,0 +1,142 @@
+//! What a worker chooses.
+ghost use Rattle.std.specs.Prelude.{◌≡◌, ◌+◌, ◌<◌, ◌^◌, ◌∷◌, [], MatchOption, MatchResult, OnSome, IfSome};
+ghost use Rattle.mencius_base.specs.declared.event.Event.TheVariants.{Submit};
+ghost use Rattle.mencius_board.specs.Plans.{after_place};
+ghost use Rattle.mencius_board.specs.Choices.{IsChosen, IsPutOff, chooser_at, drawn, first_chooser, words_of};
+
+use crate::choice::Pick;
+use crate::plan::{Place, Plan};
+use crate::table::pick;
+use mencius_base::{Command, Event, NoMemory};
+use mencius_cluster::Cluster;
+use rand_core::utils::NextWord;
+use rand_pcg::Lcg64Xsh32;
+use std::marker::Model;
+
+/// How far a worker's choices have come. It borrows nothing, so that a thread can hand it back.
+#[derive(Drop)]
+pub struct Progress {
+    worker: u8,
+    generator: Lcg64Xsh32,
+    // Where the worker's next command stands, if one is left.
+    next: Option<Place>,
+}
+
+impl Model for Progress {
+    ghost use Rattle.mencius_board.specs.Choices.{ProgressState};
+
+    ghost Value = { ProgressState };
+
+    ghost view = { λ p. record { drawing = record { worker = p.worker; generator = p.generator }; next = p.next } };
+}
+
+/// The choices of one worker. They follow from the plan, the worker's number and the clusters that
+/// it is shown, and from nothing else.
+///
+/// Contracts see the plan, the number with the generator, and the worker's commands that are left,
+/// in the order in which they come.
+#[derive(Drop)]
+pub struct Chooser<'a> {
+    plan: &'a Plan,
+    progress: Progress,
+}
+
+impl<'a> Model for Chooser<'a> {
+    ghost use Rattle.mencius_board.specs.Choices.{ChooserState, chooser_at};
+
+    ghost Value = { ChooserState };
+
+    ghost view = { λ c. chooser_at c.plan.now c.progress };
+}
+
+impl<'a> Chooser<'a> {
+    /// The choices of a worker of the plan, numbered from 0. It draws from the generator
+    /// `Lcg64Xsh32` of the plan's seed and the worker's number, and takes no memory.
+    pub fn new(plan: &'a Plan, worker: u8) -> Chooser<'a>
+        requires { worker < plan.now.workers }
+        ensures { result ≡ first_chooser plan.now worker }
+    {
+        let progress = Progress {
+            worker,
+            generator: Lcg64Xsh32::new(plan.seed(), u64::from(worker)),
+            next: plan.find_from_row(worker, 0),
+        };
+        Chooser { plan, progress }
+    }
+
+    // The worker of this plan whose choices have come so far.
+    pub(crate) fn of(plan: &'a Plan, progress: Progress) -> Chooser<'a>
+        ensures { result ≡ chooser_at plan.now progress }
+    {
+        Chooser { plan, progress }
+    }
+
+    pub(crate) fn into_progress(self) -> Progress
+        ensures { result.drawing ≡ self.entry.drawing }
+    {
+        let Chooser { plan: _, progress } = self;
+        progress
+    }
+
+    /// Draws three words, and answers what they pick on this cluster: an event, or the worker's next
+    /// command with the server whose list it stands in. A command is chosen once, also where the
+    /// cluster then refuses it.
+    ///
+    /// `NoMemory` comes only where the words pick the next command: a copy of it was refused. The
+    /// words are drawn then too, and the command stays the next one.
+    pub fn choose(&mut self, cluster: &Cluster) -> Result<Event, NoMemory>
+        ensures { MatchResult result (λ e. IsChosen self.old cluster.now e self.new)
+            (λ _. IsPutOff self.old cluster.now self.new) }
+    {
+        let words = self.draw();
+        let next = self.find_command();
+        match pick(words, self.plan.loss(), next.is_some(), cluster) {
+            Pick::Is(event) => Ok(event),
+            Pick::NextCommand => {
+                let (place, command) = next.unwrap();
+                self.submit(place, command)
+            }
+        }
+    }
+
+    // Submits a command, the worker's next one, and moves on to the one after it.
+    fn submit(&mut self, place: Place, command: &Command) -> Result<Event, NoMemory>
+        requires server { place.server < 7 }
+        requires row { place.row + 1 < 2 ^ 64 }
+        requires next { self.old.left
+            ≡ (place.server, command.now) ∷ after_place self.old.plan self.old.drawing.worker place }
+        ensures { let rest = after_place self.old.plan self.old.drawing.worker place in
+            MatchResult result
+            (λ e. (e ≡ Submit place.server command.now) × (self.new ≡ record self.old { left = rest }))
+            (λ _. self.new ≡ self.old) }
+    {
+        let command = command.clone()?;
+        self.progress.next = self.plan.find_after(self.progress.worker, place);
+        let server = place.server;
+        Ok(Event::Submit { server, command })
+    }
+
+    // The worker's next command, and where it stands.
+    fn find_command(&self) -> Option<(Place, &'a Command)>
+        ensures next { MatchOption result (self.now.left ≡ [])
+            (λ x. self.now.left
+            ≡ (x.0.server, x.1.now) ∷ after_place self.now.plan self.now.drawing.worker x.0) }
+        ensures server { IfSome result (λ x. x.0.server < 7) }
+        ensures row { IfSome result (λ x. x.0.row + 1 < 2 ^ 64) }
+    {
+        let place = self.progress.next?;
+        let command = self.plan.own_command(self.progress.worker, place)?;
+        Some((place, command))
+    }
+
+    // The next three words.
+    fn draw(&mut self) -> [u32; 3]
+        ensures words { result ≡ words_of self.old.drawing.generator }
+        ensures drawn { self.new ≡ record self.old { drawing = drawn self.old.drawing } }
+    {
+        let first = self.progress.generator.next_word();
+        let second = self.progress.generator.next_word();
+        let third = self.progress.generator.next_word();
+        [first, second, third]
+    }
+}

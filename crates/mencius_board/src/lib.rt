@@ -1,0 +1,39 @@
+//! The board: a cluster that threads step one at a time, and readers that look up keys beside them
+//! without a lock.
+//!
+//! A [`Board`] holds the cluster. Whoever has it steps it, one event after the other; threads share
+//! it under a `Mutex`. [`Board::show`] shows readers the commands of the longest history at once.
+//! A [`Reader`] looks up a key in the map that these commands make, and never waits. Beside its
+//! answers it keeps a floor, the longest list that it saw or was told of by a [`News`]: no later
+//! answer comes from a shorter list.
+//!
+//! [`run_workers`] lets threads step a board, each by the words of a random generator of its own:
+//! [`pick`] says which event three words make.
+#![tactic(auto)]
+
+mod board;
+mod choice;
+mod chooser;
+mod fault;
+mod longest;
+mod news;
+mod pending;
+mod plan;
+mod reader;
+mod shown;
+mod shown_log;
+mod table;
+#[cfg(test)]
+mod tests;
+mod version;
+mod workers;
+
+pub use board::Board;
+pub use choice::Pick;
+pub use chooser::Chooser;
+pub use fault::BoardFault;
+pub use news::News;
+pub use plan::Plan;
+pub use reader::Reader;
+pub use table::pick;
+pub use workers::{Gate, Open, lend, run_workers, worker_turn};

@@ -1,0 +1,36 @@
+ghost use Rattle.std.specs.Prelude.{◌≡◌, ◌<◌, ◌^◌, ◌++◌, IfOk, OnOk, length};
+ghost use Rattle.mencius_base.specs.History.{option_to_list};
+ghost use Rattle.mencius_cluster.specs.Replying.{command_at};
+ghost use Rattle.mencius_cluster.specs.State.{history_of};
+ghost use Rattle.mencius_board.specs.Boards.{longest};
+
+use mencius_base::{Command, NoMemory};
+use mencius_cluster::Cluster;
+use std::alloc::Global;
+
+/// A copy of the commands of the longest history, in order.
+pub fn copy_longest(alloc: Global, cluster: &Cluster) -> Result<Vec<Command>, NoMemory>
+    ensures list { IfOk result (λ v. v.items ≡ longest cluster.now) }
+    ensures limit { IfOk result (λ v. length v.items < 2 ^ 32) }
+{
+    let server = cluster.longest();
+    // No history is longer than this, which is asked for that alone.
+    let _done = cluster.done(server).unwrap();
+    let tickets = cluster.history(server).unwrap();
+    let mut list = Vec::with_capacity(alloc, tickets.len())?;
+    for ticket in tickets {
+        push_command(&mut list, cluster, *ticket)?;
+    }
+    Ok(list)
+}
+
+// Adds a copy of the command of a ticket, if there is one.
+fn push_command(list: &mut Vec<Command>, cluster: &Cluster, ticket: u32) -> Result<(), NoMemory>
+    ensures { OnOk result (list.new.items
+        ≡ list.old.items ++ option_to_list (command_at (history_of cluster.now) ticket)) }
+{
+    if let Some(command) = cluster.command(ticket) {
+        list.push(command.clone()?)?;
+    }
+    Ok(())
+}

@@ -1,0 +1,134 @@
+//! The rule under which readers enter what the writer shows.
+ghost use Rattle.std.specs.Prelude.{◌≡◌, ◌≤◌, ◌++◌, Some, IfOk, IfErr, length, drop, MatchResult, [], option_copied, option_map};
+ghost use Rattle.std.specs.String.{string_bytes};
+ghost use Rattle.left_right.specs.Sides.{view};
+ghost use Rattle.logbook.specs.Pages.{Book};
+ghost use Rattle.mencius_board.specs.Faults.{IsLookupFault};
+ghost use Rattle.mencius_board.specs.Maps.{value_at};
+ghost use Rattle.mencius_board.specs.Shown.{Follows, book_of};
+ghost use Rattle.mencius_board.specs.Pending.{IsMarked, added};
+
+use crate::fault::BoardFault;
+use crate::shown_log::Mark;
+use crate::version::{Operation, Version};
+use atomic_table::{Join, Split};
+use crossbeam_utils::rule::{Outcome, Protocol};
+use left_right::reader::Reader;
+use left_right::writer::Writer;
+use std::alloc::AllocError;
+use std::sync::Wait;
+
+/// The rule: what is shown belongs to one log, and only grows. Each knows what it has seen of it.
+pub struct Published;
+
+impl Protocol<Version, Option<Mark>> for Published {
+    ghost use Rattle.std.specs.Prelude.{None};
+    ghost use Rattle.mencius_board.specs.Shown.{Keeps};
+
+    ghost holds = { Keeps };
+
+    ghost first = { None };
+}
+
+/// What is shown was seen.
+pub struct Sees;
+
+impl Outcome<Version, Option<Mark>> for Sees {
+    ghost use Rattle.mencius_board.specs.Shown.{Shows};
+
+    ghost then = { Shows };
+}
+
+/// Notes are copies of what the writer has seen.
+pub struct Notes;
+
+impl Split<Option<Mark>> for Notes {
+    ghost left = { λ v. v };
+
+    ghost right = { λ v. v };
+}
+
+impl Join<Option<Mark>> for Notes {
+    ghost use Rattle.std.specs.Prelude.{None};
+
+    ghost both = { λ v w. w };
+
+    ghost spent = { None };
+}
+
+/// A reader that is not reading.
+pub type Home = Reader<Version, Option<Mark>, Published>;
+
+pub type Showing = Writer<Version, Operation, Option<Mark>, Published>;
+
+/// What one reading found: the mark of all that is shown, how much that is, and the text at the key.
+#[derive(Drop)]
+pub struct Found {
+    pub mark: Mark,
+    pub count: u32,
+    pub text: Option<String>,
+}
+
+/// Enters what is shown and looks up a key, with room for its text. `NoReader` comes where the
+/// writer is gone.
+pub fn read(home: Home, key: &str, room: String, least: u32) -> (Home, Result<Found, BoardFault>)
+    requires { string_bytes room ≡ [] }
+    ensures book { (b : Book) → book_of (view home.place) ≡ Some b → book_of (view result.0.place) ≡ Some b }
+    ensures follows { IfOk result.1 (λ f. Follows (view home.place) f.mark) }
+    ensures text { IfOk result.1 (λ f. option_map string_bytes f.text ≡ value_at key.now f.mark.log) }
+    ensures count { IfOk result.1 (λ f. (f.count ≡ length f.mark.log) × (least ≤ f.count)) }
+    ensures fault { IfErr result.1 IsLookupFault }
+{
+    let reading = match home.enter_as::<Sees>() {
+        Ok(reading) => reading,
+        Err(home) => return (home, Err(BoardFault::NoReader)),
+    };
+    let store = reading.get();
+    let mark = store.mark();
+    let len = store.commands().len();
+    let copied = copy_into(room, store.get(key));
+    let home = reading.leave();
+    let Ok(text) = copied else {
+        return (home, Err(BoardFault::NoMemory));
+    };
+    match u32::try_from(len) {
+        Ok(count) if count >= least => (home, Ok(Found { mark, count, text })),
+        _ => (home, Err(BoardFault::NoReader)),
+    }
+}
+
+// A copy of the text, if there is one.
+fn copy_into(mut room: String, text: Option<&str>) -> Result<Option<String>, AllocError>
+    requires { string_bytes room ≡ [] }
+    ensures { IfOk result (λ t. option_map string_bytes t ≡ option_copied text.entry) }
+{
+    let Some(text) = text else {
+        return Ok(None);
+    };
+    room.push_str(text)?;
+    Ok(Some(room))
+}
+
+/// Shows all that is pending at once, where that makes all of this log. Where it is refused, what
+/// is shown and the commands that are pending stay.
+pub fn publish<R: Wait>(
+    rt: &R,
+    log: &Mark,
+    mut writer: Showing,
+) -> (Showing, Result<(), AllocError>)
+    requires marked { IsMarked log.now.book writer.desk.shown.value }
+    requires whole { writer.desk.shown.value.list ++ added (drop writer.behind writer.log.items) ≡ log.now.log }
+    ensures seen { MatchResult result.1 (λ _. book_of (view result.0.desk.place) ≡ Some log.now.book)
+        (λ _. view result.0.desk.place ≡ view writer.desk.place) }
+    ensures shown { MatchResult result.1
+        (λ _. result.0.desk.shown.value ≡ record { mark = log.now; list = log.now.log })
+        (λ _. result.0.desk.shown.value ≡ writer.desk.shown.value) }
+    ensures pending { let after = added (drop result.0.behind result.0.log.items) in
+        MatchResult result.1 (λ _. after ≡ [])
+        (λ _. after ≡ added (drop writer.behind writer.log.items)) }
+{
+    let Ok(()) = writer.append(Operation::Stamp(log.again())) else {
+        return (writer, Err(AllocError));
+    };
+    writer.publish_as::<Sees, R>(rt)
+}

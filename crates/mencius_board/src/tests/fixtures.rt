@@ -1,0 +1,53 @@
+//! Commands, clusters and boards that the tests share.
+ghost use Rattle.std.specs.Prelude.{◌≡◌};
+
+use crate::Board;
+use mencius_base::{Command, CommandId, Event, Key, Members, Op, Text};
+use mencius_cluster::Cluster;
+use std::alloc::Global;
+use std::panic::Expect;
+use std::process::Abort;
+
+// Client 1's command of a number, which binds the key `a` to a text.
+pub fn set_a<R: Abort>(rt: &R, alloc: Global, number: u32, text: String) -> Command {
+    let key = Key::new(String::from_str(alloc, "a").expect(rt, "memory"));
+    let text = Text::new(text);
+    let id = CommandId { client: 1, number };
+    Command::new(id, Op::Set { key, text }).expect(rt, "a command")
+}
+
+// The same, where the text is the number itself.
+pub fn set_number<R: Abort>(rt: &R, alloc: Global, number: u32) -> Command {
+    let text = format!(in alloc; "{number}").expect(rt, "memory");
+    set_a(rt, alloc, number, text)
+}
+
+// Binds the key `a` to `x`.
+pub fn set_x<R: Abort>(rt: &R, alloc: Global) -> Command {
+    let text = String::from_str(alloc, "x").expect(rt, "memory");
+    set_a(rt, alloc, 0, text)
+}
+
+pub fn new_cluster<R: Abort>(rt: &R, alloc: Global, servers: u8) -> Cluster {
+    let members = Members::new(servers).expect(rt, "members");
+    Cluster::new(alloc, members).expect(rt, "memory")
+}
+
+// Takes an event that is accepted, and answers the number of the first message that it sends.
+fn take<R: Abort>(rt: &R, board: &mut Board, event: Event) -> u32
+    ensures { board.new.book ≡ board.old.book }
+{
+    let effect = board.step(event).expect(rt, "an accepted event");
+    effect.first
+}
+
+// The only server suggests, accepts, learns and executes a command.
+pub fn decide<R: Abort>(rt: &R, board: &mut Board, command: Command)
+    ensures { board.new.book ≡ board.old.book }
+{
+    let server = 0;
+    let message = take(rt, board, Event::Submit { server, command });
+    let message = take(rt, board, Event::Deliver { message, server });
+    take(rt, board, Event::Deliver { message, server });
+    take(rt, board, Event::Execute { server });
+}

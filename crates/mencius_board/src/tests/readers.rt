@@ -1,0 +1,138 @@
+//! Readers find what was shown, told or not, also beside a thread that steps.
+ghost use Rattle.std.specs.Prelude.{◌≡◌};
+
+use super::fixtures::{decide, new_cluster, set_number, set_x};
+use crate::{Board, BoardFault, News, Reader};
+use std::alloc::Global;
+use std::panic::Expect;
+use std::process::Abort;
+use std::sync::Wait;
+use std::test::Fail;
+use std::thread;
+
+// The count, what is found at `a`, and the count again, all after learning. It has no `Wait`, so it
+// neither takes a lock nor waits.
+fn learn_and_look(
+    alloc: Global,
+    reader: &mut Reader,
+    news: News,
+) -> Result<(u32, Option<String>, u32), BoardFault>
+    requires { news.book ≡ reader.old.book }
+{
+    let before = reader.count();
+    reader.learn(news);
+    let told = reader.count();
+    let found = reader.lookup(alloc, "a")?;
+    Ok((before, found, told))
+}
+
+fn is_text(found: &Option<String>, text: &str) -> bool {
+    match found {
+        Some(found) => found.as_str() == text,
+        None => false,
+    }
+}
+
+// After the events of the schedule one_server.
+fn told_and_untold<R: Wait + Abort>(
+    rt: &R,
+    alloc: Global,
+    board: &mut Board,
+) -> Result<(), BoardFault> {
+    let mut told = board.reader()?;
+    let mut untold = board.reader()?;
+    assert!(rt; board.reader().is_err());
+    decide(rt, board, set_x(rt, alloc));
+    assert!(rt; told.lookup(alloc, "a")?.is_none());
+    let news = board.show(rt, alloc)?;
+    assert_eq!(rt; (news.count(), news.commands().len()), (1, 1));
+    let (before, found, after) = learn_and_look(alloc, &mut told, news)?;
+    assert_eq!(rt; (before, after), (0, 1));
+    assert!(rt; is_text(&found, "x"));
+    assert!(rt; is_text(&untold.lookup(alloc, "a")?, "x"));
+    assert_eq!(rt; untold.count(), 1);
+    assert!(rt; untold.lookup(alloc, "b")?.is_none());
+    for _ in 0..3 {
+        assert!(rt; is_text(&told.lookup(alloc, "a")?, "x"));
+        assert!(rt; is_text(&untold.lookup(alloc, "a")?, "x"));
+    }
+    Ok(())
+}
+
+#[test]
+fn two_readers_find_what_is_shown(rt: HostRuntime) -> Result<(), Fail> {
+    let alloc = rt.alloc();
+    let cluster = new_cluster(&rt, alloc, 1);
+    let mut board = Board::new(&rt, alloc, cluster, 2)?;
+    let answer = told_and_untold(&rt, alloc, &mut board);
+    let cluster = board.end(&rt);
+    answer?;
+    assert_eq!(rt; (cluster.commands(), cluster.events()), (1, 4));
+    Ok(())
+}
+
+// Two readers, each told that `a` is 1, from two calls of `show` with no step between them.
+fn two_told<R: Wait + Abort>(
+    rt: &R,
+    alloc: Global,
+    board: &mut Board,
+) -> Result<(Reader, Reader), BoardFault> {
+    let mut first = board.reader()?;
+    let mut second = board.reader()?;
+    decide(rt, board, set_number(rt, alloc, 1));
+    first.learn(board.show(rt, alloc)?);
+    second.learn(board.show(rt, alloc)?);
+    Ok((first, second))
+}
+
+// Steps and shows rising numbers.
+fn show_rising<R: Wait + Abort>(
+    rt: &R,
+    alloc: Global,
+    board: &mut Board,
+) -> Result<(), BoardFault> {
+    for number in 2..200 {
+        decide(rt, board, set_number(rt, alloc, number));
+        drop(board.show(rt, alloc)?);
+    }
+    Ok(())
+}
+
+// Whether each of 1,000 lookups finds a number, none below 1 or the one before.
+fn finds_rising(alloc: Global, mut reader: Reader) -> bool {
+    let mut least = 1u32;
+    for _ in 0..1000 {
+        match reader.lookup(alloc, "a") {
+            Ok(Some(text)) => match text.as_str().parse::<u32>() {
+                Ok(found) if found >= least => least = found,
+                _ => return false,
+            },
+            _ => return false,
+        }
+    }
+    true
+}
+
+#[test]
+fn readers_beside_a_thread_that_steps(rt: HostRuntime) -> Result<(), Fail> {
+    let alloc = rt.alloc();
+    let cluster = new_cluster(&rt, alloc, 1);
+    let mut board = Board::new(&rt, alloc, cluster, 2)?;
+    let (first, second) = two_told(&rt, alloc, &mut board).expect(&rt, "two readers");
+    let lent = &mut board;
+    let (stepped, found) = thread::join(
+        &rt,
+        || show_rising(&rt, alloc, lent).is_ok(),
+        || {
+            thread::join(
+                &rt,
+                || finds_rising(alloc, first),
+                || finds_rising(alloc, second),
+            )
+        },
+    );
+    let cluster = board.end(&rt);
+    assert!(rt; stepped && found.0 && found.1);
+    assert_eq!(rt; cluster.commands(), 199);
+    Ok(())
+}

@@ -1,0 +1,122 @@
+//! Workers run side by side, each turn passes the gate and steps the board.
+use super::fixtures::{new_cluster, set_number};
+use crate::{Board, Chooser, Gate, Open, Plan, lend, run_workers, worker_turn};
+use std::alloc::Global;
+use std::panic::Expect;
+use std::process::Abort;
+use std::sync::Mutex;
+use std::sync::atomic::{AtomicBool, AtomicU64, Ordering};
+use std::test::Fail;
+
+// Workers of some turns over three servers, each of which has one command.
+fn plan_of<R: Abort>(rt: &R, alloc: Global, workers: u8, turns: u32) -> Plan {
+    let mut lists = Vec::new(alloc);
+    for number in 0..3 {
+        let mut list = Vec::new(alloc);
+        list.push(set_number(rt, alloc, number))
+            .expect(rt, "memory");
+        lists.push(list).expect(rt, "memory");
+    }
+    Plan::new(workers, 1, turns, 4, lists).expect(rt, "a plan")
+}
+
+// Counts how often each of two workers passes.
+#[derive(Drop)]
+struct Counting {
+    passed: [AtomicU64; 2],
+}
+
+impl Gate for Counting {
+    fn pass(&self, worker: u8) {
+        if let Some(count) = self.passed.get(usize::from(worker)) {
+            count.fetch_add(1, Ordering::SeqCst);
+        }
+    }
+}
+
+#[test]
+fn each_turn_passes_the_gate(rt: HostRuntime) -> Result<(), Fail> {
+    let alloc = rt.alloc();
+    let plan = plan_of(&rt, alloc, 2, 2000);
+    let gate = Counting {
+        passed: [AtomicU64::new(0), AtomicU64::new(0)],
+    };
+    let board = Board::new(&rt, alloc, new_cluster(&rt, alloc, 3), 1)?;
+    let board = Mutex::new(board);
+    let ran = run_workers(&rt, alloc, &board, &plan, &gate).map(|choosers| choosers.len());
+    let shown = lend(&rt, &board, |board| board.show(&rt, alloc).is_ok());
+    let cluster = board.into_inner().end(&rt);
+    assert_eq!(rt; ran, Ok(2));
+    assert!(rt; shown);
+    assert!(rt;
+        gate.passed
+            .iter()
+            .all(|count| count.load(Ordering::SeqCst) == 2000)
+    );
+    assert!(rt; 0 < cluster.events());
+    Ok(())
+}
+
+// Lets each of two workers set its own flag and look for the other's, so often at most.
+#[derive(Drop)]
+struct Meeting {
+    here: [AtomicBool; 2],
+    missed: AtomicBool,
+}
+
+const LOOKS: u32 = 100_000_000;
+
+impl Gate for Meeting {
+    fn pass(&self, worker: u8) {
+        let (own, other) = if worker == 0 {
+            (&self.here[0], &self.here[1])
+        } else {
+            (&self.here[1], &self.here[0])
+        };
+        own.store(true, Ordering::SeqCst);
+        for _ in 0..LOOKS {
+            if other.load(Ordering::SeqCst) {
+                return;
+            }
+        }
+        self.missed.store(true, Ordering::SeqCst);
+    }
+}
+
+#[test]
+fn two_workers_meet(rt: HostRuntime) -> Result<(), Fail> {
+    let alloc = rt.alloc();
+    let plan = plan_of(&rt, alloc, 2, 1);
+    let gate = Meeting {
+        here: [AtomicBool::new(false), AtomicBool::new(false)],
+        missed: AtomicBool::new(false),
+    };
+    let board = Mutex::new(Board::new(&rt, alloc, new_cluster(&rt, alloc, 3), 1)?);
+    let ran = run_workers(&rt, alloc, &board, &plan, &gate).map(|choosers| choosers.len());
+    drop(board.into_inner().end(&rt));
+    assert_eq!(rt; ran, Ok(2));
+    assert!(rt; gate.here.iter().all(|here| here.load(Ordering::SeqCst)));
+    assert!(rt; !gate.missed.load(Ordering::SeqCst));
+    Ok(())
+}
+
+#[test]
+fn one_worker_steps_as_an_owned_board_does(rt: HostRuntime) -> Result<(), Fail> {
+    let alloc = rt.alloc();
+    let plan = plan_of(&rt, alloc, 1, 2000);
+    let board = Mutex::new(Board::new(&rt, alloc, new_cluster(&rt, alloc, 3), 1)?);
+    let ran = run_workers(&rt, alloc, &board, &plan, &Open).map(|choosers| choosers.len());
+    let in_thread = board.into_inner().end(&rt);
+    assert_eq!(rt; ran, Ok(1));
+    let mut owned = Board::new(&rt, alloc, new_cluster(&rt, alloc, 3), 1)?;
+    let mut chooser = Chooser::new(&plan, 0);
+    let mut fine = true;
+    for _ in 0..2000 {
+        fine = fine && worker_turn(&mut owned, &mut chooser).is_ok();
+    }
+    let cluster = owned.end(&rt);
+    assert!(rt; fine);
+    assert!(rt; cluster.journal() == in_thread.journal());
+    assert!(rt; 0 < cluster.commands());
+    Ok(())
+}

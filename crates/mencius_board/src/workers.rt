@@ -1,0 +1,226 @@
+//! Workers that step one board in threads of their own.
+ghost use Rattle.std.specs.Prelude.{◌≡◌, ◌<◌, ◌≤◌, ℕ, IfOk, vec_len, vec_capacity, slice_index_or};
+ghost use Rattle.std.specs.Fn.{FnOnceReturnsAtMut};
+ghost use Rattle.mencius_board.specs.Choices.{drawing_after, drawn};
+ghost use Rattle.mencius_board.specs.Turns.{EndsTurn};
+ghost use Rattle.mencius_board.specs.Running.{Answers, EndsAs, HaveDrawn, HaveTurned};
+
+use crate::board::Board;
+use crate::chooser::{Chooser, Progress};
+use crate::fault::BoardFault;
+use crate::plan::Plan;
+use mencius_base::Refusal;
+use std::alloc::Global;
+use std::sync::{Mutex, Wait};
+use std::thread;
+use std::thread::{Promise, PromisedHandle, Scope, Threads};
+
+/// One turn of a worker: chooses one event, as [`Chooser::choose`] does, and steps the board by it.
+/// A refusal other than for want of memory ends the turn well.
+///
+/// `NoMemory` comes where the choice or the step is refused for want of memory; the board is then as
+/// it was, and the chooser as the choice left it.
+pub fn worker_turn(board: &mut Board, chooser: &mut Chooser) -> Result<(), BoardFault>
+    ensures turn { EndsTurn chooser.old chooser.new board.old board.new result }
+    ensures drawn { chooser.new.drawing ≡ drawn chooser.old.drawing }
+{
+    let Ok(event) = chooser.choose(board.cluster()) else {
+        return Err(BoardFault::NoMemory);
+    };
+    match board.step(event) {
+        Ok(_) => Ok(()),
+        Err(refusal) => {
+            if refusal == Refusal::NoMemory {
+                return Err(BoardFault::NoMemory);
+            }
+            Ok(())
+        }
+    }
+}
+
+/// What a worker passes before each of its turns, and before it takes the lock: a place to count
+/// turns, to slow workers down or to let them meet. Threads share it.
+pub trait Gate {
+    /// A worker, given by its number, is about to take a turn.
+    fn pass(&self, worker: u8);
+}
+
+/// Lets each worker pass at once.
+pub struct Open;
+
+impl Gate for Open {
+    fn pass(&self, _worker: u8) {}
+}
+
+/// Takes the lock, and lends what lies under it.
+///
+/// It is generic in what that is: to let a lock's guard go asks how the value in it would be
+/// dropped, and a board can't be dropped.
+pub fn lend<B, X, R: Wait, F: FnOnce(&mut B) -> X>(rt: &R, lock: &Mutex<B>, f: F) -> X
+    requires { F.IsAlwaysCallable f }
+    ensures { (old new : B) × FnOnceReturnsAtMut F.FnOnce f old result new }
+{
+    let mut held = lock.lock(rt);
+    f(&mut held)
+}
+
+// All turns of one worker.
+fn work<R: Wait, G: Gate>(
+    rt: &R,
+    alloc: Global,
+    board: &Mutex<Board>,
+    plan: &Plan,
+    gate: &G,
+    worker: u8,
+) -> Result<Progress, BoardFault>
+    requires { worker < plan.now.workers }
+    ensures { IfOk result (λ p. p.drawing ≡ drawing_after plan.now.seed worker plan.now.turns) }
+{
+    let mut progress = Chooser::new(plan, worker).into_progress();
+    for turn in 0..plan.turns() {
+        gate.pass(worker);
+        let shows = worker == 0 && turn % 64 == 63;
+        let (next, answer) = lend(
+            rt,
+            board,
+            |board| -> (Progress, Result<(), BoardFault>)
+                ensures { result.0.drawing ≡ drawn progress.drawing }
+            { take_turn(rt, alloc, board, plan, progress, shows) },
+        );
+        progress = next;
+        answer?;
+    }
+    Ok(progress)
+}
+
+// One turn, after which the longest history is shown where it is to be.
+fn take_turn<R: Wait>(
+    rt: &R,
+    alloc: Global,
+    board: &mut Board,
+    plan: &Plan,
+    progress: Progress,
+    shows: bool,
+) -> (Progress, Result<(), BoardFault>)
+    ensures { result.0.drawing ≡ drawn progress.drawing }
+{
+    let mut chooser = Chooser::of(plan, progress);
+    let mut answer = worker_turn(board, &mut chooser);
+    if shows && answer.is_ok() {
+        answer = board.show(rt, alloc).map(|_news| ());
+    }
+    (chooser.into_progress(), answer)
+}
+
+// What a worker's thread is to answer.
+#[derive(Clone, Copy)]
+struct ProgressOf {
+    seed: u64,
+    worker: u8,
+    turns: u32,
+}
+
+impl Promise<Result<Progress, BoardFault>> for ProgressOf {
+    ghost use Rattle.std.specs.Prelude.{◌≡◌, IfOk};
+    ghost use Rattle.mencius_board.specs.Choices.{drawing_after};
+
+    ghost kept_by = { λ p r. IfOk r (λ d. d.drawing ≡ drawing_after p.seed p.worker p.turns) };
+}
+
+// A worker's thread, if it could be started.
+type Running = Option<PromisedHandle<Result<Progress, BoardFault>, ProgressOf>>;
+
+fn join_one<R: Threads>(rt: &R, child: Running) -> Result<Progress, BoardFault>
+    ensures { EndsAs child result }
+{
+    match child {
+        Some(child) => child.join(rt),
+        None => Err(BoardFault::NoWorker),
+    }
+}
+
+// Joins each worker, until one has a fault. The scope waits for the others.
+fn gather<R: Threads>(
+    rt: &R,
+    mut ends: Vec<Progress>,
+    running: Vec<Running>,
+    plan: &Plan,
+) -> Result<Vec<Progress>, BoardFault>
+    requires empty { vec_len ends ≡ 0 }
+    requires room { vec_len running ≤ vec_capacity ends }
+    requires each { (k : ℕ) (d : _) → k < vec_len running
+        → Answers plan.now.seed plan.now.turns k (slice_index_or running.items k d) }
+    ensures len { IfOk result (λ v. vec_len v ≡ vec_len running) }
+    ensures each { IfOk result (λ v. HaveDrawn v.items plan.now (vec_len running)) }
+{
+    for child in running {
+        let end = join_one(rt, child)?;
+        ends.push_reserved(end);
+    }
+    Ok(ends)
+}
+
+// Starts the workers in a scope, and joins them.
+fn start_all<'s, E, R: Threads + Wait + Sync + 's, G: Gate + Sync + 's>(
+    scope: &Scope<'s, E>,
+    rt: &'s R,
+    alloc: Global,
+    board: &'s Mutex<Board>,
+    plan: &'s Plan,
+    gate: &'s G,
+) -> Result<Vec<Progress>, BoardFault>
+    ensures len { IfOk result (λ v. vec_len v ≡ plan.now.workers) }
+    ensures each { IfOk result (λ v. HaveDrawn v.items plan.now plan.now.workers) }
+{
+    let many = usize::from(plan.workers());
+    let Ok(ends) = Vec::with_capacity(alloc, many) else {
+        return Err(BoardFault::NoMemory);
+    };
+    let Ok(mut running) = Vec::with_capacity(alloc, many) else {
+        return Err(BoardFault::NoMemory);
+    };
+    for worker in 0..plan.workers() {
+        let promise = ProgressOf {
+            seed: plan.seed(),
+            worker,
+            turns: plan.turns(),
+        };
+        let child = scope.spawn_with(promise, move || work(rt, alloc, board, plan, gate, worker));
+        running.push_reserved(child.ok());
+    }
+    gather(rt, ends, running, plan)
+}
+
+/// Runs each worker of the plan in a thread of its own, all of its turns, and gives the choosers by
+/// worker number.
+///
+/// A turn passes the gate, takes the lock and makes one [`worker_turn`]. Worker 0 also shows the
+/// longest history after each 64th turn of its own, under the same taking of the lock. A worker ends
+/// at its first fault. `NoMemory` comes first, where there is no memory to start with, and then the
+/// fault of the worker of least number.
+pub fn run_workers<'p, R: Threads + Wait + Sync, G: Gate + Sync>(
+    rt: &R,
+    alloc: Global,
+    board: &Mutex<Board>,
+    plan: &'p Plan,
+    gate: &G,
+) -> Result<Vec<Chooser<'p>>, BoardFault>
+    ensures len { IfOk result (λ v. vec_len v ≡ plan.now.workers) }
+    ensures each { IfOk result (λ v. HaveTurned v.items plan.now) }
+{
+    let Ok(mut choosers) = Vec::with_capacity(alloc, usize::from(plan.workers())) else {
+        return Err(BoardFault::NoMemory);
+    };
+    let ends = thread::scope(
+        thread::scope_env(),
+        rt,
+        |scope| -> Result<Vec<Progress>, BoardFault>
+            ensures { IfOk result (λ v. (vec_len v ≡ plan.entry.now.workers)
+                × HaveDrawn v.items plan.entry.now plan.entry.now.workers) }
+        { start_all(scope, rt, alloc, board, plan, gate) },
+    )?;
+    for end in ends {
+        choosers.push_reserved(Chooser::of(plan, end));
+    }
+    Ok(choosers)
+}
