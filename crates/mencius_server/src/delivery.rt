@@ -301,6 +301,10 @@ impl Server {
             return Ok(0);
         }
         let value = self.known.accept_answer(inst, from, ballot);
+        if value.is_none() && self.known.has_accepter(inst, from) {
+            // It was counted before, and decides nothing.
+            return Ok(0);
+        }
         out.reserve(u32::from(value.is_some()))?;
         self.change(inst, Change::CountAccept(from, ballot))?;
         match value {

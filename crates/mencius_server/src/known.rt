@@ -149,6 +149,20 @@ impl Known {
         }
     }
 
+    /// Whether a server's acceptance at the ballot that is tried was counted at an instance.
+    pub(crate) fn has_accepter(&self, inst: u32, from: u8) -> bool
+        requires { inst < 4096 }
+        ensures { result ≡ true → slice_index_or (known_slot self.now inst).accepters from false ≡ true }
+    {
+        match self.slots.get(inst) {
+            Some(slot) => {
+                let accepts = slot.accepts();
+                (from as usize) < accepts.len() && accepts[from as usize]
+            }
+            None => false,
+        }
+    }
+
     /// Changes an instance's slot where it stands. It comes to stand where none did, which alone takes memory.
     pub(crate) fn change(&mut self, inst: u32, change: Change) -> Result<(), Refusal>
         requires small { inst < 4096 }
