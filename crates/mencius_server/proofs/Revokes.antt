@@ -1,7 +1,7 @@
 -- What a survey of a server's instances says of why a suspicion of it is refused.
-use Rattle.std.proofs.Common.{◌≡◌, ℕ, ◌<◌, ◌≤◌, Bool, true, false, Some, cond, eqb, filter, refl, sym, ◌∙◌, ap}
+use Rattle.std.proofs.Common.{◌≡◌, ℕ, ◌<◌, ◌≤◌, true, false, Some, cond, eqb, filter, sym, ◌∙◌, ap}
 use Rattle.std.specs.List.{count_by, list_any}
-use Rattle.std.proofs.lemmas.Bool.{eq-eqb, ne_eqb}
+use Rattle.std.proofs.lemmas.Bool.{ne_eqb}
 use Rattle.mencius_base.specs.declared.refusal.Refusal.TheVariants.{NothingToRevoke, RoundsFull}
 use Rattle.mencius_base.specs.Members.{Membership, instances}
 use Rattle.mencius_base.specs.Outbox.{Outgoing, outbox_full}
@@ -9,7 +9,7 @@ use Rattle.mencius_server.specs.declared.survey.Survey.{Survey}
 use Rattle.mencius_server.specs.Known.{KnownState, is_open, known_slot}
 use Rattle.mencius_server.specs.Machine.{is_round_full, is_suspected, round_after, suspect_cause}
 use Rattle.mencius_server.specs.State.{ServerState}
-use Rattle.mencius_server.specs.Surveys.{IsSurvey}
+use Rattle.mencius_server.specs.Surveys.{IsSurvey, survey_cause}
 use Rattle.mencius_server.proofs.Begins.{rounds_small, suspect_cause_is}
 use Rattle.mencius_server.proofs.Invariant.{full_shown, open_count, open_rounds}
 
@@ -22,19 +22,14 @@ module _ (m : Membership) (p f : ℕ) (k : KnownState) (now : ServerState) (q : 
   full_is : v.is_full ≡ list_any (is_round_full now) (filter (is_suspected now q) instances)
   full_is = survey.full ∙ full_shown m p f k now q shown same
 
-  cause_is : (o : Outgoing) (b d : Bool) → (p ≡ q → ⊥) → eqb v.open_count 0 ≡ b → v.is_full ≡ d
-      → suspect_cause now o q ≡ cond b (Some NothingToRevoke) (cond d (Some RoundsFull) (outbox_full o v.open_count))
-  cause_is o b d other none full =
-      suspect_cause_is now o q b d (ne_eqb now.id q (λ e. other (ap (λ (s : ServerState). s.id) shown ∙ e)))
-      (ap (λ (n : ℕ). eqb n 0) (sym count_is) ∙ none) (sym full_is ∙ full)
-      ∙ ap (λ (n : ℕ). cond b (Some NothingToRevoke) (cond d (Some RoundsFull) (outbox_full o n))) (sym count_is)
-
-  pub nothing_to_revoke : (o : Outgoing) → (p ≡ q → ⊥) → v.open_count ≡ 0 → suspect_cause now o q ≡ Some NothingToRevoke
-  nothing_to_revoke o other none = cause_is o true v.is_full other (eq-eqb _ 0 none) refl
-
-  pub only_full : (o : Outgoing) → (p ≡ q → ⊥) → (v.open_count ≡ 0 → ⊥) → v.is_full ≡ false
-      → suspect_cause now o q ≡ outbox_full o v.open_count
-  only_full o other some room = cause_is o false false other (ne_eqb _ 0 some) room
+  -- the suspicion is refused for what the survey shows
+  pub cause_is : (o : Outgoing) → (p ≡ q → ⊥) → suspect_cause now o q ≡ survey_cause v o
+  cause_is o other =
+      suspect_cause_is now o q (eqb v.open_count 0) v.is_full
+      (ne_eqb now.id q (λ e. other (ap (λ (s : ServerState). s.id) shown ∙ e)))
+      (ap (λ (n : ℕ). eqb n 0) (sym count_is)) (sym full_is)
+      ∙ ap (λ (n : ℕ). cond (eqb v.open_count 0) (Some NothingToRevoke) (cond v.is_full (Some RoundsFull) (outbox_full o n)))
+      (sym count_is)
 
   pub rounds_left : v.is_full ≡ false → (j : ℕ) → j < 4096 → is_open k q f j ≡ true
       → round_after k.members (known_slot k j) ≤ 65535

@@ -1,7 +1,10 @@
 -- What a suspicion of a server would begin.
-use Rattle.std.specs.Prelude.{◌≡◌, ℕ, ◌+◌, ◌<◌, Bool, false, List, None, Option, Some, if◌then◌else◌, ◌||◌, is_none, min, nat_lt, slice_index_or}
+use Rattle.std.specs.Prelude.{◌≡◌, ℕ, ◌+◌, ◌<◌, Bool, false, List, None, Option, Some, if◌then◌else◌, ◌||◌, ◌==◌, is_none, min, nat_lt, slice_index_or}
 use Rattle.std.specs.List.{count_by, filter, list_any}
+use Rattle.mencius_base.specs.declared.refusal.Refusal.{Refusal}
+use Rattle.mencius_base.specs.declared.refusal.Refusal.TheVariants.{NothingToRevoke, RoundsFull}
 use Rattle.mencius_base.specs.Members.{Membership, instances}
+use Rattle.mencius_base.specs.Outbox.{Outgoing, outbox_full}
 use Rattle.coord_paxos.specs.SlotState.{SlotState}
 use Rattle.mencius_server.specs.Machine.{round_after}
 use Rattle.mencius_server.specs.Known.{IsSound, KnownState, is_bare, is_open, is_round_full_at, known_of}
@@ -27,6 +30,12 @@ surveyed m v t stands = if is_none t.learned
       is_full = v.is_full || nat_lt 65535 (round_after m t);
     }
     else v
+
+-- why a suspicion of which this was found is refused, want of memory aside
+abbrev pub survey_cause : Survey → Outgoing → Option Refusal
+survey_cause v o = if v.open_count == 0
+    then Some NothingToRevoke
+    else if v.is_full then Some RoundsFull else outbox_full o v.open_count
 
 -- the instances of q from one on before which none is open, up to a front
 pub record IsOpenStretch (k : KnownState) (q front : ℕ) (t : Stretch) : Type 0 where

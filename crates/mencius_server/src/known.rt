@@ -246,21 +246,27 @@ impl Known {
     }
 
     /// What a suspicion of a server would begin, up to a front.
-    ///
-    /// It looks at each of the server's instances once, and not again before something changes: a suspicion that is
-    /// refused again and again costs no more than a look-up.
-    pub(crate) fn survey(&mut self, suspected: u8, front: u32) -> Survey
-        requires suspected { suspected < self.old.members.count }
+    pub(crate) fn survey(&self, suspected: u8, front: u32) -> Survey
+        requires suspected { suspected < self.now.members.count }
         requires near { front ≤ 4102 }
-        ensures survey { IsSurvey self.old suspected front result }
-        ensures same { self.new ≡ self.old }
+        ensures { IsSurvey self.now suspected front result }
     {
-        if let Some(survey) = self.surveys.find(suspected, front) {
-            return survey;
+        // The proof reads off the count that there are few members.
+        let _few = self.members.count();
+        match self.surveys.find(suspected, front) {
+            Some(survey) => survey,
+            None => self.survey_all(suspected, front),
         }
-        let survey = self.survey_all(suspected, front);
+    }
+
+    /// Keeps what was found until something changes: a suspicion that is refused again and again looks at each
+    /// instance once.
+    pub(crate) fn remember(&mut self, suspected: u8, front: u32, survey: Survey)
+        requires suspected { suspected < self.old.members.count }
+        requires survey { IsSurvey self.old suspected front survey }
+        ensures { self.new ≡ self.old }
+    {
         self.surveys.keep(suspected, front, survey);
-        survey
     }
 
     // Looks at each instance of a server up to a front.

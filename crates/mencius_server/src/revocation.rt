@@ -60,13 +60,10 @@ impl Server {
             return Err(Refusal::SelfSuspect);
         }
         let survey = self.known.survey(suspected, self.front);
-        if survey.open_count == 0 {
-            return Err(Refusal::NothingToRevoke);
+        if let Err(refusal) = survey.reserve(out) {
+            self.known.remember(suspected, self.front, survey);
+            return Err(refusal);
         }
-        if survey.is_full {
-            return Err(Refusal::RoundsFull);
-        }
-        out.reserve(survey.open_count)?;
         self.known
             .begin_all(self.id, suspected, self.front, survey.bare_count, out)
     }

@@ -1,12 +1,13 @@
 //! What a suspicion would begin.
-ghost use Rattle.mencius_server.specs.Surveys.{surveyed};
+ghost use Rattle.mencius_base.specs.Refusal.{IsRefusedFor};
+ghost use Rattle.mencius_server.specs.Surveys.{survey_cause, surveyed};
 ghost use Rattle.mencius_server.specs.declared.survey.Survey.{Survey};
 ghost use Rattle.mencius_server.specs.declared.survey.Found.{Found};
-ghost use Rattle.std.specs.Prelude.{◌≡◌, ℕ, ◌+◌, ◌<◌, ◌≤◌, ◌==◌, false, true, slice_index_or, IfSome, None, Some, if◌then◌else◌};
+ghost use Rattle.std.specs.Prelude.{◌≡◌, ℕ, ◌+◌, ◌<◌, ◌≤◌, ◌==◌, false, true, slice_index_or, IfSome, None, OnOk, Some, if◌then◌else◌};
 
 use crate::revocation::round_after;
 use coord_paxos::Slot;
-use mencius_base::Members;
+use mencius_base::{Members, Outbox, Refusal};
 use std::marker::Model;
 
 /// What a suspicion of a server would begin, found without a change.
@@ -45,6 +46,23 @@ impl Survey {
             bare_count: self.bare_count,
             is_full: self.is_full || round_after(members, slot) > 65535,
         }
+    }
+
+    /// Makes room for the Prepares that the suspicion sends, where it is not to be refused.
+    pub(crate) fn reserve(&self, out: &mut Outbox) -> Result<(), Refusal>
+        ensures refusal { IsRefusedFor (survey_cause self.now out.old) result }
+        ensures rounds { OnOk result (self.now.is_full ≡ false) }
+        ensures room { OnOk result (self.now.open_count ≤ out.new.room) }
+        ensures messages { out.new.messages ≡ out.old.messages }
+        ensures limit { out.new.limit ≡ out.old.limit }
+    {
+        if self.open_count == 0 {
+            return Err(Refusal::NothingToRevoke);
+        }
+        if self.is_full {
+            return Err(Refusal::RoundsFull);
+        }
+        out.reserve(self.open_count)
     }
 
     /// With an instance that lacks a slot.

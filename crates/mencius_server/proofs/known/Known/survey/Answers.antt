@@ -1,7 +1,9 @@
-use Rattle.mencius_server.proofs.Opens.{kept}
+use Rattle.std.proofs.Common.{subst}
+use Rattle.mencius_server.specs.Known.{KnownState}
+use Rattle.mencius_server.specs.Surveys.{IsSurvey}
 use Rattle.mencius_server.proofs.known.Known.survey.Goals as goal
 
-pub invariant_of-self : goal.invariant_of-self
-invariant_of-self c =
-    kept c.self.inside.members c.self.inside.slots c.self.inside.skipped.items c.self.inside.learned_below c.self.inside.surveys c.keep.new.self c.args.self.now c.args.suspected c.args.front
-    c.survey_all-survey.result c.self.view_is c.survey_all-survey.ensures c.keep.ensures c.self.invariant
+pub returns-in-Some : goal.returns-in-Some
+returns-in-Some c =
+    subst (λ (k : KnownState). IsSurvey k c.args.suspected c.args.front c.in-Some.survey) c.self.view_is
+    (c.self.invariant.found c.args.suspected _ c.in-Some.ensures)
