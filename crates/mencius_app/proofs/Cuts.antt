@@ -1,10 +1,11 @@
 -- The words of a text that is cut at its first space.
-use Rattle.std.proofs.Common.{◌≡◌, ◌⊎◌, inl, inr, ℕ, ◌<◌, ◌==◌, ◌≢◌, List, [], ◌∷◌, length, Option, Some, None, MatchOption, Bool, true, false, cond, refl, ap, sym, ◌∙◌, arith, suc, slice_index}
-use Rattle.std.specs.Borrow.{Bor}
-use Rattle.std.specs.List.{onto_first, list_all}
+use Rattle.std.proofs.Common.{◌≡◌, ◌⊎◌, inl, inr, ℕ, ◌<◌, ◌==◌, List, [], ◌∷◌, length, Option, Some, None, Bool, true, false, cond, refl, ap, sym, ◌∙◌, arith, suc, get_or, ◌+◌, ◌≤◌, ltb, take, drop}
+use Rattle.std.specs.Option.{unwrap_or}
+use Rattle.std.specs.List.{slice_split, onto_first, list_all, position, position_or_len}
 use Rattle.std.specs.Char.{is_ascii_digit}
-use Rattle.std.proofs.lemmas.Bool.{ne_eqb, eqb-true, and_left, and_right, cases_Bool, both_ways}
-use Rattle.std.proofs.lemmas.Str.Pattern.{split_once_first, split_parts, IsSplitOnceResult}
+use Rattle.std.proofs.lemmas.Bool.{eqb-true, and_left, and_right, cases_Bool, both_ways, ltb-true, ltb-false}
+use Rattle.std.proofs.lemmas.List.Quantifiers.{position-Some}
+use Rattle.std.proofs.lemmas.List.Sums.{fails_before_first}
 use Rattle.std.proofs.lemmas.List.Splits.{slice_split_first, slice_split-cons_no}
 use Rattle.mencius_base.specs.Command.{is_name, is_name_byte}
 use Rattle.mencius_app.specs.Words.{parts, is_number, number_of, name_of, only}
@@ -12,16 +13,44 @@ use Rattle.mencius_app.proofs.Numbers.{number_digits}
 
 -- ---- a cut
 
-uncut : (c : ℕ) (text : List ℕ) → ((i : ℕ) → i < length text → slice_index text i ≢ c) → parts c text ≡ text ∷ []
-uncut c [] h = refl
-uncut c (b ∷ bs) h = slice_split-cons_no (λ x. x == c) b bs (ne_eqb b c (h 0 (omega arith))) ∙ ap (onto_first b) (uncut c bs (λ i l. h (suc i) (omega arith)))
+-- where a byte stands first, if anywhere
+at_place : (p : ℕ → Bool) (text : List ℕ) (i : ℕ) → position p text ≡ Some i
+    → (i ≡ position_or_len p text) × (position_or_len p text < length text)
+at_place p text i e = by_test (ltb (position_or_len p text) (length text)) refl e
+  where
+    by_test : (t : Bool) → ltb (position_or_len p text) (length text) ≡ t
+        → cond t (Some (position_or_len p text)) None ≡ Some i
+        → (i ≡ position_or_len p text) × (position_or_len p text < length text)
+    by_test true less is = (ap (λ (o : Option ℕ). unwrap_or o 0) (sym is), ltb-true _ _ less)
+    by_test false less is = absurd (cc)
 
--- the text is one part, or its first part and the parts of what follows
-pub cut_parts : (c : ℕ) (text : List ℕ) (r : Option (Bor (List ℕ) × Bor (List ℕ))) → c < 128 → IsSplitOnceResult c text r → MatchOption r (parts c text ≡ text ∷ []) (λ x. parts c text ≡ x.0.now ∷ parts c x.1.now)
-cut_parts c text None small h = uncut c text (split_parts c text None h small)
-cut_parts c text (Some x) small h =
-    let f = split_once_first c text (Some x) h small in
-    rw (f.1, f.2) (slice_split_first (λ b. b == c) text 0 f.0)
+pub found_byte : (c : ℕ) (text : List ℕ) (i : ℕ) → position (λ b. b == c) text ≡ Some i
+    → (i < length text) × (get_or text i 0 ≡ c)
+found_byte c text i e = let f = position-Some (λ b. b == c) text i 0 e in (f.0, eqb-true _ _ f.1)
+
+-- the first part, and the parts of what follows
+pub found_parts : (c : ℕ) (text : List ℕ) (i : ℕ) → position (λ b. b == c) text ≡ Some i
+    → parts c text ≡ take i text ∷ parts c (drop (i + 1) text)
+found_parts c text i e =
+    let f = at_place (λ b. b == c) text i e in
+    rw f.0 (slice_split_first (λ b. b == c) text 0 f.1)
+
+uncut : (p : ℕ → Bool) (text : List ℕ) → ((i : ℕ) → i < length text → p (get_or text i 0) ≡ false)
+    → slice_split p text ≡ text ∷ []
+uncut p [] h = refl
+uncut p (b ∷ bs) h = slice_split-cons_no p b bs (h 0 (omega arith))
+    ∙ ap (onto_first b) (uncut p bs (λ i l. h (suc i) (omega arith)))
+
+-- the text is one part
+pub lacking_parts : (c : ℕ) (text : List ℕ) → position (λ b. b == c) text ≡ None → parts c text ≡ text ∷ []
+lacking_parts c text e = by_test (ltb (position_or_len (λ b. b == c) text) (length text)) refl e
+  where
+    by_test : (t : Bool) → ltb (position_or_len (λ b. b == c) text) (length text) ≡ t
+        → cond t (Some (position_or_len (λ b. b == c) text)) None ≡ None → parts c text ≡ text ∷ []
+    by_test true less is = absurd (cc)
+    by_test false past is =
+        let far : length text ≤ position_or_len (λ b. b == c) text = ltb-false _ _ past in
+        uncut (λ b. b == c) text (λ i l. fails_before_first (λ b. b == c) text i 0 (omega arith))
 
 -- ---- a word that is all the rest
 

@@ -1,22 +1,29 @@
-ghost use Rattle.std.specs.Prelude.{◌≡◌, ◌∷◌, [], ◌<◌, MatchResult};
-ghost use Rattle.std.specs.List.{list_all};
+ghost use Rattle.std.specs.Prelude.{◌≡◌, ◌∷◌, [], ◌<◌, ◌==◌, MatchResult};
+ghost use Rattle.std.specs.List.{list_all, position};
 ghost use Rattle.std.specs.Char.{is_ascii_digit};
 ghost use Rattle.mencius_app.specs.Judged.{judged};
 ghost use Rattle.mencius_app.specs.Words.{is_number, is_u8, is_u32, number_of, parts};
 
 use crate::fault::AppFault;
 
-/// The text before the first `at` and the text behind it. A text that has none is a bad shape.
-pub(crate) fn cut(text: &str, at: char) -> Result<(&str, &str), AppFault>
+/// The text before the first byte `at` and the text behind it. A text that has none is a bad shape.
+pub(crate) fn cut(text: &str, at: u8) -> Result<(&str, &str), AppFault>
     requires { at < 128 }
     ensures { MatchResult result
         (λ p. parts at text.now ≡ p.0.now ∷ parts at p.1.now)
         (λ f. (f ≡ AppFault.BadShape) × (parts at text.now ≡ text.now ∷ [])) }
 {
-    match text.split_once(at) {
-        Some(parts) => Ok(parts),
+    match first_of(text, at) {
+        Some(place) => Ok((&text[..place], &text[place + 1..])),
         None => Err(AppFault::BadShape),
     }
+}
+
+// Where a byte stands first.
+fn first_of(text: &str, wanted: u8) -> Option<usize>
+    ensures { result ≡ position (λ b. b == wanted) text.now }
+{
+    text.as_bytes().iter().position(|b| *b == wanted)
 }
 
 fn are_digits(bytes: &[u8]) -> bool

@@ -7,8 +7,6 @@
 mod cluster;
 pub mod laws;
 mod submission;
-#[cfg(test)]
-mod tests;
 
 pub use cluster::{Cluster, Effect};
 pub use submission::Answered;

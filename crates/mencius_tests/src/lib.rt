@@ -1,4 +1,4 @@
-//! Tests of the whole program: worked schedules, the greatest ones that a cluster takes, journals
+//! Tests of the whole program: worked schedules, each call of a cluster, the greatest ones that a cluster takes, journals
 //! stepped through again, runs of workers, hostile input, failing readers and writers, and the texts of the command
 //! line.
 //!
@@ -6,6 +6,8 @@
 //! of a board and its readers, can conclude from public clauses alone.
 #![tactic(auto)]
 
+#[cfg(test)]
+mod calls;
 #[cfg(test)]
 mod command_line;
 pub mod conclusions;
