@@ -1,6 +1,6 @@
 //! The report of a cluster.
 
-ghost use Rattle.std.specs.Prelude.{◌≡◌, ◌<◌, ◌⊎◌, ◌++◌, ◌∷◌, length, string_bytes, Some, IfErr, IfOk, IsErrOf, OnOk, option_copied, unwrap_or};
+ghost use Rattle.std.specs.Prelude.{◌≡◌, ◌<◌, ◌⊎◌, ◌++◌, ◌∷◌, length, decimal, string_bytes, Some, IfErr, IfOk, IsErrOf, OnOk, option_copied, unwrap_or};
 ghost use Rattle.std.specs.Io.KnownBytes.{Appends, Keeps};
 ghost use Rattle.mencius_app.specs.Ends.{HasFailed, WritesFront};
 ghost use Rattle.mencius_app.specs.Report.{answer_text, counts_line, history_text, id_text, reply_line, reply_lines, reply_of_command, report_text, server_line, server_lines, spaced_id};
@@ -11,6 +11,7 @@ ghost use Rattle.mencius_cluster.specs.State.{history_of};
 use crate::fault::AppFault;
 use crate::sink::Sink;
 use crate::write::write_all;
+use itoa::Buffer;
 use mencius_base::CommandId;
 use mencius_cluster::{Answered, Cluster};
 use std::alloc::{AllocError, Global};
@@ -88,9 +89,16 @@ fn push_history(text: &mut String, cluster: &Cluster, tickets: &[u32]) -> Result
 pub(crate) fn push_id(text: &mut String, id: CommandId) -> Result<(), AllocError>
     ensures { OnOk result (string_bytes text.new ≡ string_bytes text.old ++ id_text id) }
 {
-    let client = id.client;
-    let number = id.number;
-    write!(text, "{client}.{number}")
+    push_number(text, id.client)?;
+    text.push('.')?;
+    push_number(text, id.number)
+}
+
+// Adds a number's digits. A report has as many identities as there are commands, and `write!` takes three times as long.
+fn push_number(text: &mut String, number: u32) -> Result<(), AllocError>
+    ensures { OnOk result (string_bytes text.new ≡ string_bytes text.old ++ decimal number) }
+{
+    text.push_str(Buffer::new().format(number))
 }
 
 fn push_replies(text: &mut String, cluster: &Cluster) -> Result<(), AllocError>
