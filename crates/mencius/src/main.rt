@@ -45,6 +45,7 @@ fn main(rt: HostRuntime) -> ExitCode {
     let done = match task {
         Task::Replay => replay(alloc, &mut source, &mut sink),
         Task::Run { with_journal, key } => {
+            let key = key.as_deref();
             run(&rt, alloc, &mut source, &mut sink, &Open, with_journal, key)
         }
     };

@@ -1,27 +1,8 @@
--- The number and the name of each fault, and the faults of a board among them.
-use Rattle.std.specs.Prelude.{ℕ, List, codes}
+-- The faults of a board, among those that end a run.
 use Rattle.mencius_board.specs.declared.fault.BoardFault.{BoardFault}
 use Rattle.mencius_board.specs.declared.fault.BoardFault.TheVariants as board
-use Rattle.mencius_app.specs.declared.fault.AppFault.{AppFault}
-use Rattle.mencius_app.specs.declared.fault.AppFault.TheVariants.{NotJson, BadShape, BadLimit, ReadFailed, WriteFailed, NoMemory, BoardFailed}
-
-abbrev pub fault_number : AppFault → ℕ
-fault_number NotJson = 21
-fault_number BadShape = 22
-fault_number BadLimit = 23
-fault_number ReadFailed = 24
-fault_number WriteFailed = 25
-fault_number NoMemory = 26
-fault_number BoardFailed = 27
-
-abbrev pub fault_name : AppFault → List ℕ
-fault_name NotJson = codes "NotJson"
-fault_name BadShape = codes "BadShape"
-fault_name BadLimit = codes "BadLimit"
-fault_name ReadFailed = codes "ReadFailed"
-fault_name WriteFailed = codes "WriteFailed"
-fault_name NoMemory = codes "NoMemory"
-fault_name BoardFailed = codes "BoardFailed"
+use Rattle.mencius_input.specs.declared.fault.AppFault.{AppFault}
+use Rattle.mencius_input.specs.declared.fault.AppFault.TheVariants.{NoMemory, BoardFailed}
 
 -- want of memory is told as such
 abbrev pub fault_of_board : BoardFault → AppFault

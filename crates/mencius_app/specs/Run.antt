@@ -7,11 +7,11 @@ use Rattle.mencius_server.specs.Next.{replay}
 use Rattle.mencius_cluster.specs.Answers.{commands_of, longest_at}
 use Rattle.mencius_cluster.specs.Executed.{executed}
 use Rattle.mencius_cluster.specs.State.{ClusterState, history_of}
-use Rattle.mencius_app.specs.declared.fault.AppFault.{AppFault}
-use Rattle.mencius_app.specs.declared.fault.AppFault.TheVariants.{BadLimit, BoardFailed, NoMemory}
-use Rattle.mencius_app.specs.Ends.{most_bytes}
+use Rattle.mencius_input.specs.declared.fault.AppFault.{AppFault}
+use Rattle.mencius_input.specs.declared.fault.AppFault.TheVariants.{BadLimit, BoardFailed, NoMemory}
+use Rattle.mencius_input.specs.Ends.{most_bytes}
 use Rattle.mencius_app.specs.Journal.{ReadsBack, journal_text}
-use Rattle.mencius_app.specs.Plan.{WrittenPlan, plan}
+use Rattle.mencius_input.specs.Plan.{WrittenPlan, plan}
 use Rattle.mencius_app.specs.Report.{former_text, line_feed, report_text}
 
 -- ---- the text

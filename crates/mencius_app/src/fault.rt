@@ -1,92 +1,19 @@
+//! The faults of a board, among those that end a run.
+
 ghost use Rattle.std.specs.Prelude.{◌≡◌};
-ghost use Rattle.mencius_app.specs.Fault.{fault_name, fault_number};
+ghost use Rattle.mencius_app.specs.Fault.{fault_of_board};
 
 use mencius_board::BoardFault;
-use std::alloc::{AllocError, AllocFailed};
-use thiserror::Error;
+use mencius_input::AppFault;
 
-/// Why a run ended without doing its work.
-#[derive(Clone, Copy, Debug, PartialEq, Eq, Error)]
-pub enum AppFault {
-    #[error("the scenario is not JSON")]
-    NotJson,
-    #[error("the scenario has another shape than a scenario")]
-    BadShape,
-    #[error("a number, a length or the whole scenario is past its limit")]
-    BadLimit,
-    #[error("the scenario could not be read to its end")]
-    ReadFailed,
-    #[error("the text could not be written to its end")]
-    WriteFailed,
-    #[error("memory ran out")]
-    NoMemory,
-    #[error("the board that the workers share failed")]
-    BoardFailed,
-}
-
-impl AppFault {
-    /// The number of the fault, 21 to 27, as the program prints it.
-    pub fn number(&self) -> u8
-        ensures { result ≡ fault_number self.now }
-    {
-        match self {
-            AppFault::NotJson => 21,
-            AppFault::BadShape => 22,
-            AppFault::BadLimit => 23,
-            AppFault::ReadFailed => 24,
-            AppFault::WriteFailed => 25,
-            AppFault::NoMemory => 26,
-            AppFault::BoardFailed => 27,
-        }
-    }
-
-    /// The name of the fault, as the program prints it.
-    pub fn name(&self) -> &'static str
-        ensures { result.now ≡ fault_name self.now }
-    {
-        match self {
-            AppFault::NotJson => "NotJson",
-            AppFault::BadShape => "BadShape",
-            AppFault::BadLimit => "BadLimit",
-            AppFault::ReadFailed => "ReadFailed",
-            AppFault::WriteFailed => "WriteFailed",
-            AppFault::NoMemory => "NoMemory",
-            AppFault::BoardFailed => "BoardFailed",
-        }
-    }
-}
-
-impl From<AllocError> for AppFault {
-    ghost use Rattle.mencius_app.specs.declared.fault.AppFault.TheVariants as fault;
-
-    ghost from_gives = { λ _ f. f ≡ fault.NoMemory };
-
-    fn from(_refused: AllocError) -> AppFault {
-        AppFault::NoMemory
-    }
-}
-
-impl<T: Drop> From<AllocFailed<T>> for AppFault {
-    ghost use Rattle.mencius_app.specs.declared.fault.AppFault.TheVariants as fault;
-
-    ghost from_gives = { λ _ f. f ≡ fault.NoMemory };
-
-    fn from(_refused: AllocFailed<T>) -> AppFault {
-        AppFault::NoMemory
-    }
-}
-
-impl From<BoardFault> for AppFault {
-    ghost use Rattle.mencius_app.specs.Fault.{fault_of_board};
-
-    ghost from_gives = { λ board f. f ≡ fault_of_board board };
-
-    fn from(fault: BoardFault) -> AppFault {
-        match fault {
-            BoardFault::NoMemory => AppFault::NoMemory,
-            BoardFault::NoReader | BoardFault::ShowRefused | BoardFault::NoWorker => {
-                AppFault::BoardFailed
-            }
+/// The fault that ends a run whose board had this one.
+pub(crate) fn fault_of_board(fault: BoardFault) -> AppFault
+    ensures { result ≡ fault_of_board fault }
+{
+    match fault {
+        BoardFault::NoMemory => AppFault::NoMemory,
+        BoardFault::NoReader | BoardFault::ShowRefused | BoardFault::NoWorker => {
+            AppFault::BoardFailed
         }
     }
 }

@@ -1,20 +1,12 @@
-//! What the scenario of a run says.
+//! The plan that the workers of a run follow, of the scenario that was read.
 
-ghost use Rattle.std.specs.Prelude.{◌≡◌, Ok, Err, map, vec_len, ◌==◌, ◌&&◌, if◌then◌else◌};
-ghost use Rattle.std.specs.List.{list_all};
-ghost use Rattle.serde_json.specs.View.{items_view, view};
-ghost use Rattle.mencius_app.specs.Judged.{Gives, judged, seen};
-ghost use Rattle.mencius_app.specs.Grammar.{command_of, command_within};
-ghost use Rattle.mencius_app.specs.Scenario.{all_of, said_by};
-ghost use Rattle.mencius_app.specs.Plan.{commands_of, numbers_of, numbers_within, plan, plan_in, plan_of, plan_within};
+ghost use Rattle.mencius_app.specs.Plan.{plan_in};
+ghost use Rattle.mencius_input.specs.Judged.{Gives, seen};
+ghost use Rattle.mencius_input.specs.Plan.{plan};
 
-use crate::event::parse_command;
-use crate::fault::AppFault;
-use crate::judged::keep;
-use crate::scenario::{parse_json, whole_in};
-use mencius_base::{Command, Members};
+use mencius_base::Members;
 use mencius_board::Plan;
-use serde_json::Value;
+use mencius_input::{AppFault, RunInput, read_run_input};
 use std::alloc::Global;
 
 /// What a scenario of `run` says: a cluster, and what workers do on it.
@@ -33,137 +25,17 @@ pub struct RunScenario {
 pub fn read_plan(alloc: Global, bytes: &[u8]) -> Result<RunScenario, AppFault>
     ensures { Gives (seen plan_in result) (plan bytes.now) }
 {
-    let value = parse_json(alloc, bytes)?;
-    run_scenario_in(alloc, &value)
-}
-
-// The fields that are whole numbers.
-#[derive(Clone, Copy)]
-struct Numbers {
-    version: u64,
-    servers: u64,
-    workers: u64,
-    seed: u64,
-    turns: u64,
-    loss: u64,
-}
-
-// The fields of a value that are whole numbers, where all of them are there.
-#[tactic(auto, unfolding(crate::specs::Plan::numbers_of))]
-fn numbers_in(value: &Value) -> Option<Numbers>
-    ensures { result ≡ numbers_of (view value.now) }
-{
-    Some(Numbers {
-        version: whole_in(value, "version")?,
-        servers: whole_in(value, "servers")?,
-        workers: whole_in(value, "workers")?,
-        seed: whole_in(value, "seed")?,
-        turns: whole_in(value, "turns")?,
-        loss: whole_in(value, "loss")?,
-    })
-}
-
-// The scenario that a value is: seven fields and no other.
-#[tactic(auto, using(crate::proofs::Json::field_count), unfolding(crate::specs::Plan::plan_of))]
-fn run_scenario_in(alloc: Global, value: &Value) -> Result<RunScenario, AppFault>
-    ensures { Gives (seen plan_in result) (judged plan_within (plan_of (view value.now))) }
-{
-    let Some(fields) = value.as_object() else {
-        return Err(AppFault::BadShape);
-    };
-    if fields.len() != 7 {
-        return Err(AppFault::BadShape);
-    }
-    let Some(numbers) = numbers_in(value) else {
-        return Err(AppFault::BadShape);
-    };
-    let Some(lists) = value.get("commands").and_then(Value::as_array) else {
-        return Err(AppFault::BadShape);
-    };
-    let commands = lists_in(alloc, lists.as_slice())?;
-    fitted(numbers, commands)
-}
-
-// The scenario of these numbers and commands, where they are within the limits.
-fn fitted(numbers: Numbers, commands: Vec<Vec<Command>>) -> Result<RunScenario, AppFault>
-    ensures { seen plan_in result ≡ (if numbers_within numbers && (vec_len commands == numbers.servers)
-        then Ok (record { numbers = numbers; commands = map (λ l. l.items) commands.items })
-        else Err AppFault.BadLimit) }
-{
-    if numbers.version != 1 || commands.len() as u64 != numbers.servers {
-        return Err(AppFault::BadLimit);
-    }
-    let Ok(servers) = u8::try_from(numbers.servers) else {
-        return Err(AppFault::BadLimit);
-    };
-    let Ok(workers) = u8::try_from(numbers.workers) else {
-        return Err(AppFault::BadLimit);
-    };
-    let Ok(turns) = u32::try_from(numbers.turns) else {
-        return Err(AppFault::BadLimit);
-    };
-    let Ok(loss) = u8::try_from(numbers.loss) else {
-        return Err(AppFault::BadLimit);
-    };
-    let Some(members) = Members::new(servers) else {
-        return Err(AppFault::BadLimit);
-    };
-    let Some(plan) = Plan::new(workers, numbers.seed, turns, loss, commands) else {
-        return Err(AppFault::BadLimit);
-    };
-    Ok(RunScenario { members, plan })
-}
-
-// The command that an item of a list says.
-fn command_at(alloc: Global, item: &Value) -> Result<Command, AppFault>
-    ensures { Gives result (judged command_within (said_by command_of (view item.now))) }
-{
-    match item.as_str() {
-        Some(text) => parse_command(alloc, text),
-        None => Err(AppFault::BadShape),
-    }
-}
-
-// The commands that an item of the list of lists says.
-fn commands_at(alloc: Global, item: &Value) -> Result<Vec<Command>, AppFault>
-    ensures { Gives (seen (λ v. v.items) result) (judged (list_all command_within) (commands_of (view item.now))) }
-{
-    match item.as_array() {
-        Some(items) => commands_in(alloc, items.as_slice()),
-        None => Err(AppFault::BadShape),
-    }
-}
-
-// The commands that a list of texts says.
-fn commands_in(alloc: Global, items: &[Value]) -> Result<Vec<Command>, AppFault>
-    ensures { Gives (seen (λ v. v.items) result)
-        (judged (list_all command_within) (all_of (said_by command_of) (items_view items.now))) }
-{
-    let mut commands = Vec::new(alloc);
-    let mut fits = true;
-    for item in items {
-        keep(&mut commands, &mut fits, command_at(alloc, item))?;
-    }
-    if fits {
-        Ok(commands)
-    } else {
-        Err(AppFault::BadLimit)
-    }
-}
-
-// The lists of commands that a list of lists says.
-fn lists_in(alloc: Global, items: &[Value]) -> Result<Vec<Vec<Command>>, AppFault>
-    ensures { Gives (seen (λ v. map (λ l. l.items) v.items) result)
-        (judged (list_all (list_all command_within)) (all_of commands_of (items_view items.now))) }
-{
-    let mut lists = Vec::new(alloc);
-    let mut fits = true;
-    for item in items {
-        keep(&mut lists, &mut fits, commands_at(alloc, item))?;
-    }
-    if fits {
-        Ok(lists)
-    } else {
-        Err(AppFault::BadLimit)
+    let RunInput {
+        members,
+        workers,
+        seed,
+        turns,
+        loss,
+        commands,
+    } = read_run_input(alloc, bytes)?;
+    match Plan::new(workers, seed, turns, loss, commands) {
+        Some(plan) => Ok(RunScenario { members, plan }),
+        // The input is within the limits, so that there is a plan.
+        None => Err(AppFault::BadLimit),
     }
 }

@@ -2,18 +2,16 @@
 
 ghost use Rattle.std.specs.Prelude.{◌≡◌, ◌<◌, ◌⊎◌, ◌++◌, ◌∷◌, length, decimal, string_bytes, Some, IfErr, IfOk, IsErrOf, OnOk, option_copied, unwrap_or};
 ghost use Rattle.std.specs.Io.KnownBytes.{Appends, Keeps};
-ghost use Rattle.mencius_app.specs.Ends.{HasFailed, WritesFront};
+ghost use Rattle.mencius_input.specs.Ends.{HasFailed, WritesFront};
 ghost use Rattle.mencius_app.specs.Report.{answer_text, counts_line, history_text, id_text, reply_line, reply_lines, reply_of_command, report_text, server_line, server_lines, spaced_id};
 ghost use Rattle.mencius_base.specs.History.{submitted};
 ghost use Rattle.mencius_cluster.specs.Answers.{reply_of};
 ghost use Rattle.mencius_cluster.specs.State.{history_of};
 
-use crate::fault::AppFault;
-use crate::sink::Sink;
-use crate::write::write_all;
 use itoa::Buffer;
 use mencius_base::CommandId;
 use mencius_cluster::{Answered, Cluster};
+use mencius_input::{AppFault, Sink, write_all};
 use std::alloc::{AllocError, Global};
 
 /// Writes the report of a cluster, whole.

@@ -29,9 +29,15 @@ fn runs_are_asked_for(rt: HostRuntime) -> Result<(), Fail> {
         ("mencius run --lookup a", false, Some("a")),
         ("mencius run --lookup a_.-9 --journal", true, Some("a_.-9")),
         ("mencius run --journal --lookup=-a", true, Some("-a")),
+        ("mencius run --lookup -a --journal", true, Some("-a")),
+        ("mencius run --lookup --journal", false, Some("--journal")),
     ] {
         let given = words(rt.alloc(), line)?;
         let task = read_command_line(rt.alloc(), given.as_slice()).map_err(|_| "refused")?;
+        let key = match key {
+            Some(key) => Some(String::from_str(rt.alloc(), key)?),
+            None => None,
+        };
         assert_eq!(rt; task, Task::Run { with_journal, key }, "at {line}");
     }
     Ok(())
@@ -83,8 +89,8 @@ fn bad_command_lines(rt: HostRuntime) -> Result<(), Fail> {
             "error: a value is required for '--lookup <KEY>' but none was supplied\n",
         ),
         (
-            "mencius run --lookup -a",
-            "error: unexpected argument '-a' found\n\nUsage: mencius run [OPTIONS]\n",
+            "mencius run --lookup -a!",
+            "error: invalid value '-a!' for '--lookup <KEY>': a key has 1 to 64 ASCII letters, digits, `_`, `-` or `.`\n\nUsage: mencius <COMMAND>\n",
         ),
         (
             "mencius run --lookup a!",
@@ -225,7 +231,7 @@ Options:
           First prints the accepted events, as a scenario of `replay`
 
       --lookup <KEY>
-          Last prints what the longest history leaves at KEY (`--lookup=KEY` where KEY begins with `-`)
+          Last prints what the longest history leaves at KEY
 
   -h, --help
           Print help (see a summary with '-h')

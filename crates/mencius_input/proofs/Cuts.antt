@@ -1,0 +1,100 @@
+-- The words of a text that is cut at its first space.
+use Rattle.std.proofs.Common.{◌≡◌, ◌⊎◌, inl, inr, ℕ, ◌<◌, ◌==◌, List, [], ◌∷◌, length, Option, Some, None, Bool, true, false, cond, refl, ap, sym, ◌∙◌, arith, suc, get_or, ◌+◌, ◌≤◌, ltb, take, drop}
+use Rattle.std.specs.Option.{unwrap_or}
+use Rattle.std.specs.List.{slice_split, onto_first, list_all, position, position_or_len}
+use Rattle.std.specs.Char.{is_ascii_digit}
+use Rattle.std.proofs.lemmas.Bool.{eqb-true, and_left, and_right, cases_Bool, both_ways, ltb-true, ltb-false}
+use Rattle.std.proofs.lemmas.List.Quantifiers.{position-Some}
+use Rattle.std.proofs.lemmas.List.Sums.{fails_before_first}
+use Rattle.std.proofs.lemmas.List.Splits.{slice_split_first, slice_split-cons_no}
+use Rattle.mencius_base.specs.Command.{is_name, is_name_byte}
+use Rattle.mencius_input.specs.Words.{parts, is_number, number_of, name_of, only}
+use Rattle.mencius_input.proofs.Numbers.{number_digits}
+
+-- ---- a cut
+
+-- where a byte stands first, if anywhere
+at_place : (p : ℕ → Bool) (text : List ℕ) (i : ℕ) → position p text ≡ Some i
+    → (i ≡ position_or_len p text) × (position_or_len p text < length text)
+at_place p text i e = by_test (ltb (position_or_len p text) (length text)) refl e
+  where
+    by_test : (t : Bool) → ltb (position_or_len p text) (length text) ≡ t
+        → cond t (Some (position_or_len p text)) None ≡ Some i
+        → (i ≡ position_or_len p text) × (position_or_len p text < length text)
+    by_test true less is = (ap (λ (o : Option ℕ). unwrap_or o 0) (sym is), ltb-true _ _ less)
+    by_test false less is = absurd (cc)
+
+pub found_byte : (c : ℕ) (text : List ℕ) (i : ℕ) → position (λ b. b == c) text ≡ Some i
+    → (i < length text) × (get_or text i 0 ≡ c)
+found_byte c text i e = let f = position-Some (λ b. b == c) text i 0 e in (f.0, eqb-true _ _ f.1)
+
+-- the first part, and the parts of what follows
+pub found_parts : (c : ℕ) (text : List ℕ) (i : ℕ) → position (λ b. b == c) text ≡ Some i
+    → parts c text ≡ take i text ∷ parts c (drop (i + 1) text)
+found_parts c text i e =
+    let f = at_place (λ b. b == c) text i e in
+    rw f.0 (slice_split_first (λ b. b == c) text 0 f.1)
+
+uncut : (p : ℕ → Bool) (text : List ℕ) → ((i : ℕ) → i < length text → p (get_or text i 0) ≡ false)
+    → slice_split p text ≡ text ∷ []
+uncut p [] h = refl
+uncut p (b ∷ bs) h = slice_split-cons_no p b bs (h 0 (omega arith))
+    ∙ ap (onto_first b) (uncut p bs (λ i l. h (suc i) (omega arith)))
+
+-- the text is one part
+pub lacking_parts : (c : ℕ) (text : List ℕ) → position (λ b. b == c) text ≡ None → parts c text ≡ text ∷ []
+lacking_parts c text e = by_test (ltb (position_or_len (λ b. b == c) text) (length text)) refl e
+  where
+    by_test : (t : Bool) → ltb (position_or_len (λ b. b == c) text) (length text) ≡ t
+        → cond t (Some (position_or_len (λ b. b == c) text)) None ≡ None → parts c text ≡ text ∷ []
+    by_test true less is = absurd (cc)
+    by_test false past is =
+        let far : length text ≤ position_or_len (λ b. b == c) text = ltb-false _ _ past in
+        uncut (λ b. b == c) text (λ i l. fails_before_first (λ b. b == c) text i 0 (omega arith))
+
+-- ---- a word that is all the rest
+
+first_part : (c : ℕ) (text : List ℕ) → (p : List ℕ) × (ps : List (List ℕ)) × (parts c text ≡ p ∷ ps)
+first_part c [] = ([], [], refl)
+first_part c (b ∷ bs) = by_test (b == c) (first_part c bs)
+  where
+    by_test : (t : Bool) → (p : List ℕ) × (ps : List (List ℕ)) × (parts c bs ≡ p ∷ ps) → (p : List ℕ) × (ps : List (List ℕ)) × (cond t ([] ∷ parts c bs) (onto_first b (parts c bs)) ≡ p ∷ ps)
+    by_test true f = ([], parts c bs, refl)
+    by_test false f = (b ∷ f.0, f.1, ap (onto_first b) f.2)
+
+-- there are two parts at least, and a byte that fails the test
+abbrev HasMore : (ℕ → Bool) → List ℕ → List (List ℕ) → Type 0
+HasMore test text ps = (x : List ℕ) × (y : List ℕ) × (ys : List (List ℕ)) × (ps ≡ x ∷ y ∷ ys) × (list_all test text ≡ false)
+
+one_or_more : (test : ℕ → Bool) (c : ℕ) → test c ≡ false → (text : List ℕ) → (parts c text ≡ text ∷ []) ⊎ HasMore test text (parts c text)
+one_or_more test c lacks [] = inl refl
+one_or_more test c lacks (b ∷ bs) = by_test (b == c) refl (one_or_more test c lacks bs) (first_part c bs)
+  where
+    by_test : (t : Bool) → (b == c) ≡ t → (parts c bs ≡ bs ∷ []) ⊎ HasMore test bs (parts c bs) → (p : List ℕ) × (ps : List (List ℕ)) × (parts c bs ≡ p ∷ ps) → (cond t ([] ∷ parts c bs) (onto_first b (parts c bs)) ≡ (b ∷ bs) ∷ []) ⊎ HasMore test (b ∷ bs) (cond t ([] ∷ parts c bs) (onto_first b (parts c bs)))
+    by_test true is rest f = inr ([], f.0, f.1, ap (λ ps. [] ∷ ps) f.2, and_left (test b) (list_all test bs) (ap test (eqb-true b c is) ∙ lacks))
+    by_test false is (inl one) f = inl (ap (onto_first b) one)
+    by_test false is (inr more) f = inr (b ∷ more.0, more.1, more.2, ap (onto_first b) more.3, and_right (test b) (list_all test bs) more.4)
+
+-- a reader that takes no byte at which the text is cut reads the whole rest
+only_rest : {X : Type 0} (test : ℕ → Bool) (read : List ℕ → Option X) → ((word : List ℕ) → list_all test word ≡ false → read word ≡ None) → (c : ℕ) → test c ≡ false → (text : List ℕ) → only read (parts c text) ≡ read text
+only_rest test read none c lacks text = elim (one_or_more test c lacks text) [
+  | inl one ↦ ap (only read) one
+  | inr more ↦ ap (only read) more.3 ∙ sym (none text more.4)
+]
+
+number_none : (word : List ℕ) → list_all is_ascii_digit word ≡ false → number_of word ≡ None
+unfolding number_of
+number_none word lacks = elim (cases_Bool (is_number word)) [
+  | inl e ↦ absurd (both_ways _ lacks (number_digits word e))
+  | inr e ↦ rw e refl
+]
+
+name_none : (word : List ℕ) → list_all is_name_byte word ≡ false → name_of word ≡ None
+unfolding name_of is_name
+name_none word lacks = rw lacks refl
+
+pub only_number : (c : ℕ) → is_ascii_digit c ≡ false → (text : List ℕ) → only number_of (parts c text) ≡ number_of text
+only_number = only_rest is_ascii_digit number_of number_none
+
+pub only_name : (text : List ℕ) → only name_of (parts 32 text) ≡ name_of text
+only_name = only_rest is_name_byte name_of name_none 32 refl

@@ -1,0 +1,9 @@
+pub mod Known
+pub mod CommandLines
+pub mod Numbers
+pub mod Judging
+pub mod Cuts
+pub mod Reading
+pub mod Json
+pub mod Listed
+pub mod Plans

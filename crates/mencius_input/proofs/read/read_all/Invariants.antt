@@ -1,0 +1,16 @@
+use Rattle.std.proofs.Common.{◌≡◌, ◌⊎◌, ◌≤◌, ◌+◌, ◌-◌, vec_len}
+use Rattle.std.specs.Io.KnownBytes.{Consumes}
+use Rattle.mencius_input.specs.Ends.{most_bytes, most_failures}
+use Rattle.mencius_input.proofs.read.read_all.Given as goal
+
+abbrev pub invariant-loop-buf : goal.invariant-loop-buf
+invariant-loop-buf g l = record {
+  within : vec_len l.bytes ≤ most_bytes + 1;
+  retried : l.retries ≤ 1000;
+  taken : Consumes (g.R.Source.remaining l.initial.source) (g.R.Source.remaining l.source) l.bytes.items;
+  few : g.R.Source.failed l.source ≤ g.R.Source.failed l.initial.source + l.retries;
+  counted : (g.R.Source.failed l.initial.source ≤ g.R.Source.failed l.source) ⊎ (g.R.Source.failed l.source ≡ most_failures);
+}
+
+abbrev pub decreases-loop-buf : goal.decreases-loop-buf
+decreases-loop-buf g l = (most_bytes + 1 - vec_len l.bytes) + (1000 - l.retries)

@@ -1,0 +1,18 @@
+use Rattle.std.proofs.Common.{rules, arith, drop, length, length-drop}
+use Rattle.std.specs.Prelude.{nat_lt}
+use Rattle.std.proofs.lemmas.List.{take_rest}
+use Rattle.mencius_input.proofs.Known.{appends_further, took_some}
+use Rattle.mencius_input.proofs.write.write_all.Goals as goal
+
+pub loop-written-preserved-in-Ok : goal.loop-written-preserved-in-Ok
+loop-written-preserved-in-Ok g c =
+    let rest = take_rest c.args.text.now c.loop-written.written in
+    let sent = rw rest at c.in-Ok.ensures in
+    let unfailed = took_some (nat_lt 0 (length (drop c.loop-written.written c.args.text.now))) c.in-Ok.n (g.W.Sink.failed c.loop-written.sink) (g.W.Sink.failed c.write.new.self) sent.count c.in-Ok.n-test.1 in
+    record {
+      within = omega (arith, sent.bound, length-drop c.loop-written.written c.args.text.now);
+      retried = search rules;
+      front = appends_further _ _ _ _ _ _ c.loop-written.invariant.front sent.bytes;
+      few = omega arith;
+      counted = rw unfailed c.loop-written.invariant.counted;
+    }

@@ -1,0 +1,9 @@
+pub mod Fault
+pub mod Status
+pub mod Ends
+pub mod CommandLine
+pub mod Judged
+pub mod Words
+pub mod Grammar
+pub mod Scenario
+pub mod Plan

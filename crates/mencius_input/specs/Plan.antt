@@ -1,0 +1,76 @@
+-- What the bytes of a run's scenario say: a cluster, and the plan that workers follow on it.
+use Rattle.std.specs.Prelude.{ℕ, ◌==◌, ◌&&◌, List, length, map, codes, Bool, Option, Some, None, option_and_then, Result, nat_le, if◌then◌else◌}
+use Rattle.std.specs.List.{list_all}
+use Rattle.serde_json.specs.Data.{Data}
+use Rattle.serde_json.specs.Find.{as_object, as_array, get}
+use Rattle.serde_json.specs.Events.{members_len}
+use Rattle.mencius_base.specs.Request.{Request}
+use Rattle.mencius_input.specs.declared.fault.AppFault.{AppFault}
+use Rattle.mencius_input.specs.declared.plan.Numbers.{Numbers}
+use Rattle.mencius_input.specs.declared.plan.RunInput as code
+use Rattle.mencius_input.specs.Judged.{judged}
+use Rattle.mencius_input.specs.Grammar.{command_of, command_within}
+use Rattle.mencius_input.specs.Scenario.{◌>>=◌, all_of, json_of, or_not_json, read_there, said_by, whole_of}
+
+-- the numbers, and a list of commands for each server
+pub record WrittenPlan : Type 0 where
+  pub numbers : Numbers
+  pub commands : List (List Request)
+
+-- ---- the shape
+
+unfoldable pub numbers_of : Data → Option Numbers
+numbers_of d = do
+  version ← whole_of (codes "version") d
+  servers ← whole_of (codes "servers") d
+  workers ← whole_of (codes "workers") d
+  seed ← whole_of (codes "seed") d
+  turns ← whole_of (codes "turns") d
+  loss ← whole_of (codes "loss") d
+  Some (record { version = version; servers = servers; workers = workers; seed = seed; turns = turns; loss = loss })
+
+-- a list of texts, each a command's
+abbrev pub commands_of : Data → Option (List Request)
+commands_of d = option_and_then (all_of (said_by command_of)) (as_array d)
+
+-- an object with these seven fields and no other
+unfoldable pub plan_of : Data → Option WrittenPlan
+plan_of d = do
+  fields ← as_object d
+  numbers ← numbers_of d
+  lists ← option_and_then as_array (get (codes "commands") d)
+  commands ← all_of commands_of lists
+  if members_len fields == 7 then Some (record { numbers = numbers; commands = commands }) else None
+
+-- ---- the limits
+
+abbrev pub numbers_within : Numbers → Bool
+numbers_within n =
+    (n.version == 1) && (nat_le 1 n.servers && nat_le n.servers 7) && (nat_le 1 n.workers && nat_le n.workers 8)
+    && nat_le n.turns 100000 && nat_le n.loss 32
+
+-- as many lists as there are servers
+abbrev pub plan_within : WrittenPlan → Bool
+plan_within p =
+    (numbers_within p.numbers && (length p.commands == p.numbers.servers))
+    && list_all (list_all command_within) p.commands
+
+-- ---- the bytes
+
+-- what the bytes say, or the fault that they have
+abbrev pub plan : List ℕ → Result WrittenPlan AppFault
+plan bytes = read_there (λ d. judged plan_within (plan_of d)) (or_not_json (json_of bytes))
+
+-- what a run's scenario that was read says
+abbrev pub run_in : code.RunInput → WrittenPlan
+run_in s = record {
+  numbers = record {
+    version = 1;
+    servers = s.members.count;
+    workers = s.workers;
+    seed = s.seed;
+    turns = s.turns;
+    loss = s.loss;
+  };
+  commands = map (λ l. l.items) s.commands.items;
+}

@@ -1,0 +1,85 @@
+-- What the bytes of a scenario say, or what is wrong with them.
+use Rattle.std.specs.Prelude.{ℕ, ◌==◌, ◌&&◌, List, [], ◌∷◌, codes, Bool, Option, Some, None, option_and_then, Result, Ok, Err, nat_le, if◌then◌else◌}
+use Rattle.std.specs.List.{list_all}
+use Rattle.std.specs.Str.{is_utf8}
+use Rattle.serde_json.specs.Data.{Data, Items, no_items, item}
+use Rattle.serde_json.specs.Find.{as_object, as_array, as_str, as_number, as_u64, get}
+use Rattle.serde_json.specs.Events.{members_len}
+use Rattle.serde_json.specs.Read.{read}
+use Rattle.mencius_base.specs.declared.event.Event.{Event}
+use Rattle.mencius_input.specs.declared.fault.AppFault.{AppFault}
+use Rattle.mencius_input.specs.declared.fault.AppFault.TheVariants.{NotJson}
+use Rattle.mencius_input.specs.declared.scenario.Scenario as code
+use Rattle.mencius_input.specs.Judged.{judged}
+use Rattle.mencius_input.specs.Words.{words}
+use Rattle.mencius_input.specs.Grammar.{event_of, event_within}
+
+infixl 10 ◌>>=◌
+abbrev pub ◌>>=◌ : {X Y : Type 0} → Option X → (X → Option Y) → Option Y
+o >>= f = option_and_then f o
+
+-- a version, a number of servers, and events in order
+pub record Written : Type 0 where
+  pub version : ℕ
+  pub servers : ℕ
+  pub events : List Event
+
+-- ---- the shape
+
+-- each item of a list, read in order
+unfoldable pub all_of : {X : Type 0} → (Data → Option X) → Items → Option (List X)
+all_of read no_items = Some []
+all_of read (item d ds) = do
+  x ← read d
+  xs ← all_of read ds
+  Some (x ∷ xs)
+
+-- a text, read by its words
+abbrev pub said_by : {X : Type 0} → (List (List ℕ) → Option X) → Data → Option X
+said_by read d = option_and_then (λ text. read (words text)) (as_str d)
+
+-- a list of texts, each an event's
+abbrev pub events_of : Items → Option (List Event)
+events_of = all_of (said_by event_of)
+
+-- a field that is a whole number
+unfoldable pub whole_of : List ℕ → Data → Option ℕ
+whole_of name d = option_and_then as_u64 (option_and_then as_number (get name d))
+
+-- an object with these three fields and no other
+unfoldable pub written_of : Data → Option Written
+written_of d = do
+  fields ← as_object d
+  version ← whole_of (codes "version") d
+  servers ← whole_of (codes "servers") d
+  items ← option_and_then as_array (get (codes "events") d)
+  events ← events_of items
+  if members_len fields == 3 then Some (record { version = version; servers = servers; events = events }) else None
+
+-- ---- the limits
+
+abbrev pub within : Written → Bool
+within w = (w.version == 1) && (nat_le 1 w.servers && nat_le w.servers 7) && list_all event_within w.events
+
+-- ---- the bytes
+
+-- the value that the bytes are as JSON, in UTF-8
+unfoldable pub json_of : List ℕ → Option Data
+json_of bytes = if is_utf8 bytes then read bytes else None
+
+abbrev pub or_not_json : Option Data → Result Data AppFault
+or_not_json None = Err NotJson
+or_not_json (Some d) = Ok d
+
+-- what is read of the value that there is
+abbrev pub read_there : {X : Type 0} → (Data → Result X AppFault) → Result Data AppFault → Result X AppFault
+read_there read (Err f) = Err f
+read_there read (Ok d) = read d
+
+-- what the bytes say, or the fault that they have
+abbrev pub scenario : List ℕ → Result Written AppFault
+scenario bytes = read_there (λ d. judged within (written_of d)) (or_not_json (json_of bytes))
+
+-- what a scenario that was read says
+abbrev pub written_in : code.Scenario → Written
+written_in s = record { version = 1; servers = s.members.count; events = s.events.items }

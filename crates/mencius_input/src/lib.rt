@@ -1,0 +1,24 @@
+//! What the input of the program says, read exactly: its command line, and the bytes of a scenario,
+//! over readers and writers that count their failures; and the faults that end a run.
+#![tactic(auto)]
+
+mod command_line;
+mod event;
+mod fault;
+mod judged;
+mod plan;
+mod read;
+mod scenario;
+mod sink;
+mod source;
+mod words;
+mod write;
+
+pub use command_line::{Task, exit_status, read_command_line};
+pub use fault::AppFault;
+pub use plan::{RunInput, read_run_input};
+pub use read::read_all;
+pub use scenario::{Scenario, read_scenario};
+pub use sink::Sink;
+pub use source::{Source, Std};
+pub use write::write_all;

@@ -1,0 +1,72 @@
+ghost use Rattle.std.specs.Prelude.{◌≡◌, ◌∷◌, [], ◌<◌, ◌==◌, MatchResult};
+ghost use Rattle.std.specs.List.{list_all, position};
+ghost use Rattle.std.specs.Char.{is_ascii_digit};
+ghost use Rattle.mencius_input.specs.Judged.{judged};
+ghost use Rattle.mencius_input.specs.Words.{is_number, is_u8, is_u32, number_of, parts};
+
+use crate::fault::AppFault;
+
+/// The text before the first byte `at` and the text behind it. A text that has none is a bad shape.
+pub(crate) fn cut(text: &str, at: u8) -> Result<(&str, &str), AppFault>
+    requires { at < 128 }
+    ensures { MatchResult result
+        (λ p. parts at text.now ≡ p.0.now ∷ parts at p.1.now)
+        (λ f. (f ≡ AppFault.BadShape) × (parts at text.now ≡ text.now ∷ [])) }
+{
+    match first_of(text, at) {
+        Some(place) => Ok((&text[..place], &text[place + 1..])),
+        None => Err(AppFault::BadShape),
+    }
+}
+
+// Where a byte stands first.
+fn first_of(text: &str, wanted: u8) -> Option<usize>
+    ensures { result ≡ position (λ b. b == wanted) text.now }
+{
+    text.as_bytes().iter().position(|b| *b == wanted)
+}
+
+fn are_digits(bytes: &[u8]) -> bool
+    ensures { result ≡ list_all is_ascii_digit bytes.now }
+{
+    bytes.iter().all(|b| b.is_ascii_digit())
+}
+
+// Whether the word is `0`, or digits of which the first is not 0.
+fn is_number(word: &str) -> bool
+    ensures { result ≡ is_number word.now }
+{
+    match word.as_bytes().split_first() {
+        None => false,
+        Some((b'0', rest)) => rest.is_empty(),
+        Some((first, rest)) => first.is_ascii_digit() && are_digits(rest),
+    }
+}
+
+/// The number that a word is, 0 to 255. Another word is a bad shape.
+#[tactic(auto, using(crate::proofs::Numbers::parsed), unfolding(crate::specs::Words::number_of))]
+pub(crate) fn parse_u8(word: &str) -> Result<u8, AppFault>
+    ensures { result ≡ judged is_u8 (number_of word.now) }
+{
+    if !is_number(word) {
+        return Err(AppFault::BadShape);
+    }
+    match word.parse::<u8>() {
+        Ok(n) => Ok(n),
+        Err(_) => Err(AppFault::BadLimit),
+    }
+}
+
+/// The number that a word is, 0 to 4,294,967,295. Another word is a bad shape.
+#[tactic(auto, using(crate::proofs::Numbers::parsed), unfolding(crate::specs::Words::number_of))]
+pub(crate) fn parse_u32(word: &str) -> Result<u32, AppFault>
+    ensures { result ≡ judged is_u32 (number_of word.now) }
+{
+    if !is_number(word) {
+        return Err(AppFault::BadShape);
+    }
+    match word.parse::<u32>() {
+        Ok(n) => Ok(n),
+        Err(_) => Err(AppFault::BadLimit),
+    }
+}
