@@ -17,7 +17,9 @@ three_more : (t : ℕ) (g : Lcg)
 three_more t g =
     let n : ℕ = 3 * t in
     let up : 3 * (t + 1) ≡ suc (suc (suc n)) = omega arith in
-    sym (ap (λ (k : ℕ). advance 64 multiplier_64 k g) up ∙ (advance_more (suc (suc n)) g ∙ (ap one_on (advance_more (suc n) g) ∙ ap (λ (h : Lcg). one_on (one_on h)) (advance_more n g))))
+    sym (ap (λ (k : ℕ). advance 64 multiplier_64 k g) up
+    ∙ (advance_more (suc (suc n)) g
+    ∙ (ap one_on (advance_more (suc n) g) ∙ ap (λ (h : Lcg). one_on (one_on h)) (advance_more n g))))
 
 none_yet : (g : Lcg) → advance 64 multiplier_64 (3 * 0) g ≡ g
 unfolding state_after
@@ -25,8 +27,10 @@ none_yet g = refl
 
 -- a worker before its first turn
 pub first_is : (seed worker : ℕ) → first_drawing seed worker ≡ drawing_after seed worker 0
-first_is seed worker = ap (λ (g : Lcg). record { worker = worker; generator = g }) (sym (none_yet (started 64 multiplier_64 seed (increment_of 64 worker))))
+first_is seed worker = ap (λ (g : Lcg). record { worker = worker; generator = g })
+    (sym (none_yet (started 64 multiplier_64 seed (increment_of 64 worker))))
 
 -- and after one turn more
 pub turn_more : (seed worker t : ℕ) → drawn (drawing_after seed worker t) ≡ drawing_after seed worker (t + 1)
-turn_more seed worker t = ap (λ (g : Lcg). record { worker = worker; generator = g }) (three_more t (started 64 multiplier_64 seed (increment_of 64 worker)))
+turn_more seed worker t = ap (λ (g : Lcg). record { worker = worker; generator = g })
+    (three_more t (started 64 multiplier_64 seed (increment_of 64 worker)))

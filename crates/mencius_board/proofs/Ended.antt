@@ -1,11 +1,11 @@
--- What a worker's thread answered, once it is joined.
-use Rattle.std.proofs.Common.{◌≡◌, ℕ, Option, Some, None, Ok, ◌∙◌, ap}
+-- What a worker's thread answered, once it is joined, and what all of them then come to.
+use Rattle.std.proofs.Common.{ℕ, Option, Some, None, subst, inl, inr}
 use Rattle.core.specs.declared.thread.PromisedHandle.{PromisedHandle}
 use Rattle.mencius_board.specs.declared.workers.ProgressOf.{ProgressOf}
-use Rattle.mencius_board.specs.Choices.{ProgressState, drawing_after}
-use Rattle.mencius_board.specs.Running.{Answers, EndsAs}
+use Rattle.mencius_board.specs.Plans.{PlanState}
+use Rattle.mencius_board.specs.Running.{Answers, EndState, EndsAs, HasEnded, IsEndOf}
 
-pub ended : {T : Type 0} (E : Type 0) (o : Option (PromisedHandle T ProgressOf)) (seed turns k : ℕ) (d : ProgressState) → Answers seed turns k o → EndsAs {E = E} o (Ok d)
-    → d.drawing ≡ drawing_after seed k turns
-ended E None seed turns k d a e = absurd e
-ended E (Some h) seed turns k d a e = e ∙ ap (λ (p : ProgressOf). drawing_after p.seed p.worker p.turns) a
+pub ended : {T : Type 0} (o : Option (PromisedHandle T ProgressOf)) (p : PlanState) (k : ℕ) (end : EndState)
+    → Answers p.seed p.turns k o → EndsAs o end → IsEndOf p k end
+ended None p k end a e = inr e
+ended (Some h) p k end a e = inl (subst (λ (q : ProgressOf). HasEnded q.seed q.worker q.turns end) a e)

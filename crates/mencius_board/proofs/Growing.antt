@@ -30,11 +30,14 @@ longest_grows x y e first sent learned s step =
     let more = s.grows x.members (x.journal ++ e ∷ []) (history_of y) (history_of x)
     (record { some_server = s.some_server; replays = all })
     (record { before = x.journal; after = e ∷ []; splits = refl; replays = s.replays }) in
-    subst (λ (m : Membership). IsPrefix (longest_commands x.members (history_of x)) (longest_commands m (history_of y))) (sym step.members) (more.0, sym more.1)
+    subst (λ (m : Membership). IsPrefix (longest_commands x.members (history_of x)) (longest_commands m (history_of y)))
+    (sym step.members) (more.0, sym more.1)
 
 -- an event is accepted, or nothing changes
 pub answer_grows : (x y : ClusterState) (e : Event) (r : Result Effect Refusal) → IsSteady x
     → IfOk r (λ f. IsStepped x y e f.first f.sent f.learned) → OnErr r (y ≡ x)
     → IsSteady y × IsPrefix (longest x) (longest y)
-answer_grows x y e (Ok f) s step none = (steady_next x y e f.first f.sent f.learned s step, longest_grows x y e f.first f.sent f.learned s step)
-answer_grows x y e (Err r) s step none = subst (λ (z : ClusterState). IsSteady z × IsPrefix (longest x) (longest z)) (sym none) (s, prefix_self (longest x))
+answer_grows x y e (Ok f) s step none =
+    (steady_next x y e f.first f.sent f.learned s step, longest_grows x y e f.first f.sent f.learned s step)
+answer_grows x y e (Err r) s step none =
+    subst (λ (z : ClusterState). IsSteady z × IsPrefix (longest x) (longest z)) (sym none) (s, prefix_self (longest x))

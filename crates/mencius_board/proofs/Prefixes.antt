@@ -1,5 +1,6 @@
 -- Beginnings of one list.
-use Rattle.std.proofs.Common.{◌≡◌, ℕ, zero, suc, ◌≤◌, ◌⊎◌, List, [], ◌∷◌, ◌++◌, take, length, refl, ap, sym, ◌∙◌, inl, inr, ⊎_elim, arith, append_assoc, length-append}
+use Rattle.std.proofs.Common.{◌≡◌, ℕ, zero, suc, ◌≤◌, ◌⊎◌, List, [], ◌∷◌, ◌++◌, take, length, refl, ap, sym, ◌∙◌, inl}
+use Rattle.std.proofs.Common.{inr, ⊎_elim, arith, append_assoc, length-append}
 use Rattle.std.proofs.lemmas.List.{append-nil}
 use mathlib.Core.List.{IsPrefix}
 
@@ -39,7 +40,9 @@ prefix_whole (x ∷ xs) (y ∷ ys) p le =
 -- of two lists of which one begins the other the shorter begins the longer
 pub shorter_begins : {A : Type 0} (xs ys : List A) → IsPrefix xs ys ⊎ IsPrefix ys xs → length xs ≤ length ys
     → IsPrefix xs ys
-shorter_begins xs ys either le = ⊎_elim (λ (p : IsPrefix xs ys). p) (λ (q : IsPrefix ys xs). ([], append-nil xs ∙ sym (prefix_whole ys xs q le))) either
+shorter_begins xs ys either le =
+    ⊎_elim (λ (p : IsPrefix xs ys). p)
+    (λ (q : IsPrefix ys xs). ([], append-nil xs ∙ sym (prefix_whole ys xs q le))) either
 
 pub take_begins : {A : Type 0} (n : ℕ) (xs : List A) → IsPrefix (take n xs) xs
 take_begins zero xs = (xs, refl)

@@ -1,9 +1,11 @@
 -- The order in which a worker's commands come, one place after the other.
-use Rattle.std.proofs.Common.{◌≡◌, ℕ, suc, ◌+◌, ◌-◌, ◌<◌, ◌≤◌, List, [], ◌∷◌, ◌++◌, Option, Some, None, is_some, false, length, refl, sym, ap, ◌∙◌, arith, filter_map}
+use Rattle.std.proofs.Common.{◌≡◌, ℕ, suc, ◌+◌, ◌-◌, ◌<◌, ◌≤◌, List, [], ◌∷◌, ◌++◌, Option, Some, None, is_some, false}
+use Rattle.std.proofs.Common.{length, refl, sym, ap, ◌∙◌, arith, filter_map}
 use Rattle.std.specs.List.{cons_option, flat_map, range_with_len}
 use Rattle.mencius_base.specs.declared.command.Command.{Command}
 use Rattle.mencius_board.specs.declared.plan.Place.{Place}
-use Rattle.mencius_board.specs.Plans.{IsFound, IsLed, PlanState, after_place, from_to, own_command, row_count, row_from, rows_from}
+use Rattle.mencius_board.specs.Plans.{IsFound, IsLed, PlanState, after_place, from_to, own_command, row_count, row_from}
+use Rattle.mencius_board.specs.Plans.{rows_from}
 use Rattle.mencius_board.specs.Choices.{left_at, led_by}
 
 from_to-more : (a b : ℕ) → a < b → from_to a b ≡ a ∷ from_to (a + 1) b
@@ -23,12 +25,14 @@ row_from-none p worker row s h = ap (filter_map (own_command p worker row)) (fro
 -- a server with no command of the worker's at the row is passed over
 pub row_from-skip : (p : PlanState) (worker row s : ℕ) → s < length p.commands → own_command p worker row s ≡ None
     → row_from p worker row s ≡ row_from p worker row (s + 1)
-row_from-skip p worker row s h none = row_from-more p worker row s h ∙ ap (λ o. cons_option o (row_from p worker row (s + 1))) none
+row_from-skip p worker row s h none = row_from-more p worker row s h
+    ∙ ap (λ o. cons_option o (row_from p worker row (s + 1))) none
 
 pub row_from-first : (p : PlanState) (worker row s : ℕ) (x : ℕ × Command) → s < length p.commands
     → own_command p worker row s ≡ Some x
     → row_from p worker row s ≡ x ∷ row_from p worker row (s + 1)
-row_from-first p worker row s x h some = row_from-more p worker row s h ∙ ap (λ o. cons_option o (row_from p worker row (s + 1))) some
+row_from-first p worker row s x h some = row_from-more p worker row s h
+    ∙ ap (λ o. cons_option o (row_from p worker row (s + 1))) some
 
 -- one row more
 pub rows_from-more : (p : PlanState) (worker row : ℕ) → row < row_count p.commands

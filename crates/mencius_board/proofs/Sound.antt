@@ -20,7 +20,8 @@ handed_grows shown os n xs ys p h = record {
 }
 
 -- a board stays sound where its cluster's longest history grows
-pub sound_grows : (x y : ClusterState) (log opening : MarkState) (seen : Option MarkState) (shown : VersionState) (os : List Operation) (n : ℕ) → IsSteady y × IsPrefix (longest x) (longest y)
+pub sound_grows : (x y : ClusterState) (log opening : MarkState) (seen : Option MarkState) (shown : VersionState)
+    (os : List Operation) (n : ℕ) → IsSteady y × IsPrefix (longest x) (longest y)
     → IsSound x log opening seen shown os n → IsSound y log opening seen shown os n
 sound_grows x y log opening seen shown os n p s = record {
   steady = p.0;
@@ -34,10 +35,12 @@ sound_grows x y log opening seen shown os n p s = record {
 -- what is shown and what is pending begin the longest history
 pub shown_first : (x : ClusterState) (shown : List Command) (os : List Operation) (n : ℕ)
     → AreHanded shown os n (longest x) → IsPrefix (shown ++ added os) (longest x)
-shown_first x shown os n h = subst (λ (l : List Command). IsPrefix l (longest x)) (sym h.first) (take_begins n (longest x))
+shown_first x shown os n h = subst (λ (l : List Command). IsPrefix l (longest x)) (sym h.first)
+    (take_begins n (longest x))
 
 -- nothing is shown yet
-pub sound_new : (x : ClusterState) (log opening : MarkState) (seen : Option MarkState) (shown : VersionState) (os : List Operation) → IsSteady x → log.log ≡ [] → opening ≡ log
+pub sound_new : (x : ClusterState) (log opening : MarkState) (seen : Option MarkState) (shown : VersionState)
+    (os : List Operation) → IsSteady x → log.log ≡ [] → opening ≡ log
     → book_of seen ≡ Some opening.book → shown ≡ record { mark = opening; list = opening.log } → added os ≡ []
     → IsSound x log opening seen shown os 0
 sound_new x log opening seen shown os steady empty same seen_is is none =
@@ -45,7 +48,12 @@ sound_new x log opening seen shown os steady empty same seen_is is none =
     let list : shown.list ≡ [] = ap (λ (s : VersionState). s.list) is ∙ empty_mark in
     record {
       steady = steady;
-      marked = record { book_is = ap (λ (s : VersionState). s.mark.book) is ∙ ap (λ (m : MarkState). m.book) same; log_is = ap (λ (s : VersionState). s.mark.log) is ∙ sym (ap (λ (s : VersionState). s.list) is) };
+      marked = record {
+        book_is = ap (λ (s : VersionState). s.mark.book) is
+            ∙ ap (λ (m : MarkState). m.book) same;
+        log_is = ap (λ (s : VersionState). s.mark.log) is
+            ∙ sym (ap (λ (s : VersionState). s.list) is);
+      };
       handed_is = record { many = omega arith; first = ap (λ (l : List Command). l ++ added os) list ∙ none };
       begins = subst (λ (l : List Command). IsPrefix l (longest x)) (sym empty) (prefix_empty (longest x));
       opening_is = same ∙ ap (λ (l : List Command). mark_of log.book l) empty;

@@ -1,5 +1,6 @@
 -- What a choice makes of a chooser.
-use Rattle.std.proofs.Common.{◌≡◌, ℕ, Bool, List, [], ◌∷◌, Option, Some, None, MatchOption, MatchResult, Result, Ok, Err, is_some, refl, sym, ap, subst, ◌∙◌}
+use Rattle.std.proofs.Common.{◌≡◌, ℕ, Bool, List, [], ◌∷◌, Option, Some, None, MatchOption, MatchResult, Result, Ok}
+use Rattle.std.proofs.Common.{Err, is_some, refl, sym, ap, subst, ◌∙◌}
 use Rattle.mencius_base.specs.declared.command.Command.{Command}
 use Rattle.mencius_base.specs.declared.event.Event.{Event}
 use Rattle.mencius_base.specs.declared.event.Event.TheVariants.{Submit}
@@ -33,7 +34,8 @@ event_chosen old new x e is made = record {
 }
 
 -- the next command is picked, and is chosen or stays
-pub command_chosen : {E : Type 0} (r : Result Event E) (old mid new : ChooserState) (x : ClusterState) (first : ℕ × Command) (rest : List (ℕ × Command)) → picked old x ≡ NextCommand
+pub command_chosen : {E : Type 0} (r : Result Event E) (old mid new : ChooserState) (x : ClusterState)
+    (first : ℕ × Command) (rest : List (ℕ × Command)) → picked old x ≡ NextCommand
     → mid ≡ record old { drawing = drawn old.drawing } → mid.left ≡ first ∷ rest
     → MatchResult r (λ e. (e ≡ Submit first.0 first.1) × (new ≡ record mid { left = rest })) (λ _. new ≡ mid)
     → MatchResult r (λ e. IsChosen old x e new) (λ _. IsPutOff old x new)
@@ -43,6 +45,7 @@ command_chosen (Ok e) old mid new x first rest is made left h =
     record {
       plan = ap (λ (c : ChooserState). c.plan) h.1 ∙ ap (λ (c : ChooserState). c.plan) made;
       drawing = ap (λ (c : ChooserState). c.drawing) h.1 ∙ ap (λ (c : ChooserState). c.drawing) made;
-      taken = subst (λ (p : Pick). IsTaken p old.left e new.left) (sym is) (subst (λ (xs : List (ℕ × Command)). IsTaken NextCommand xs e new.left) (sym was) taken);
+      taken = subst (λ (p : Pick). IsTaken p old.left e new.left) (sym is)
+          (subst (λ (xs : List (ℕ × Command)). IsTaken NextCommand xs e new.left) (sym was) taken);
     }
 command_chosen (Err f) old mid new x first rest is made left h = record { picks = is; same = h ∙ made }

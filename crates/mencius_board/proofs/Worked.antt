@@ -21,7 +21,8 @@ three_after journal = record { members = record { count = 3 }; journal = journal
 
 -- three servers, after a command that nobody suspects: four messages were sent
 abbrev after_one_command : ClusterState
-after_one_command = three_after (Submit 0 (get 0) ∷ Deliver 0 1 ∷ Deliver 0 0 ∷ Deliver 1 0 ∷ Deliver 2 0 ∷ Execute 0 ∷ [])
+after_one_command = three_after
+    (Submit 0 (get 0) ∷ Deliver 0 1 ∷ Deliver 0 0 ∷ Deliver 1 0 ∷ Deliver 2 0 ∷ Execute 0 ∷ [])
 
 abbrev words : ℕ → ℕ → ℕ → List ℕ
 words a b c = a ∷ b ∷ c ∷ []

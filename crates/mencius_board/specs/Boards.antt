@@ -12,7 +12,8 @@ use Rattle.mencius_board.specs.Shown.{book_of}
 use Rattle.mencius_board.specs.declared.version.Operation.{Operation}
 use Rattle.mencius_board.specs.Pending.{AreHanded, IsMarked}
 
--- which board it is, its cluster, the list that is shown, what is to be shown next, and how many readers may still be made
+-- which board it is, its cluster, the list that is shown, what is to be shown next, and how many readers may still be
+-- made
 pub record BoardState : Type 0 where
   pub book : Book
   pub cluster : ClusterState
@@ -36,7 +37,8 @@ pub record IsSteady (c : ClusterState) : Type 0 where
 
 -- what every board keeps: what is shown and then what is pending begins the longest history. The log has the commands
 -- that were ever to be shown, the opening is its mark when it was empty, and n commands were handed to the writer
-pub record IsSound (cluster : ClusterState) (log opening : MarkState) (seen : Option MarkState) (shown : VersionState) (pending : List Operation) (n : ℕ) : Type 0 where
+pub record IsSound (cluster : ClusterState) (log opening : MarkState) (seen : Option MarkState) (shown : VersionState)
+    (pending : List Operation) (n : ℕ) : Type 0 where
   pub steady : IsSteady cluster
   pub marked : IsMarked log.book shown
   pub handed_is : AreHanded shown.list pending n (longest cluster)

@@ -51,10 +51,16 @@ words_of g = word_of g ∷ word_of (one_on g) ∷ word_of (one_on (one_on g)) �
 
 -- a worker of this seed before its first turn, and after so many turns
 abbrev pub first_drawing : ℕ → ℕ → Drawing
-first_drawing seed worker = record { worker = worker; generator = started 64 multiplier_64 seed (increment_of 64 worker) }
+first_drawing seed worker = record {
+  worker = worker;
+  generator = started 64 multiplier_64 seed (increment_of 64 worker);
+}
 
 abbrev pub drawing_after : ℕ → ℕ → ℕ → Drawing
-drawing_after seed worker turns = record { worker = worker; generator = advance 64 multiplier_64 (3 * turns) (started 64 multiplier_64 seed (increment_of 64 worker)) }
+drawing_after seed worker turns = record {
+  worker = worker;
+  generator = advance 64 multiplier_64 (3 * turns) (started 64 multiplier_64 seed (increment_of 64 worker));
+}
 
 -- ---- commands
 

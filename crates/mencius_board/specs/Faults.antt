@@ -1,7 +1,7 @@
 -- Which faults a call may have.
-use Rattle.std.specs.Prelude.{◌≡◌, ◌⊎◌}
+use Rattle.std.specs.Prelude.{◌≡◌, ◌≤◌, ◌⊎◌, ℕ, Bool, true}
 use Rattle.mencius_board.specs.declared.fault.BoardFault.{BoardFault}
-use Rattle.mencius_board.specs.declared.fault.BoardFault.TheVariants.{NoMemory, NoReader, ShowRefused}
+use Rattle.mencius_board.specs.declared.fault.BoardFault.TheVariants.{NoMemory, NoReader, NoWorker, ShowRefused}
 
 -- of a call that shows
 abbrev pub IsShowFault : BoardFault → Type 0
@@ -10,3 +10,15 @@ IsShowFault f = (f ≡ NoMemory) ⊎ (f ≡ ShowRefused)
 -- of a call that looks up
 abbrev pub IsLookupFault : BoardFault → Type 0
 IsLookupFault f = (f ≡ NoMemory) ⊎ (f ≡ NoReader)
+
+-- of one turn of a worker, after which it shows or not
+abbrev pub IsTurnFault : Bool → BoardFault → Type 0
+IsTurnFault shows f = (f ≡ NoMemory) ⊎ ((f ≡ ShowRefused) × (shows ≡ true))
+
+-- of all turns of a worker, given by its number: worker 0 alone shows, after its 64th turn first
+abbrev pub IsWorkerFault : ℕ → ℕ → BoardFault → Type 0
+IsWorkerFault worker turns f = (f ≡ NoMemory) ⊎ ((f ≡ ShowRefused) × (worker ≡ 0) × (64 ≤ turns))
+
+-- of a run of workers, each of so many turns
+abbrev pub IsRunFault : ℕ → BoardFault → Type 0
+IsRunFault turns f = (f ≡ NoMemory) ⊎ ((f ≡ NoWorker) ⊎ ((f ≡ ShowRefused) × (64 ≤ turns)))

@@ -1,5 +1,6 @@
 -- What contracts see of a plan, and in which order the commands of a worker come.
-use Rattle.std.specs.Prelude.{◌≡◌, ◌≤◌, ℕ, ◌+◌, ◌-◌, ◌%◌, ◌==◌, List, [], ◌∷◌, ◌++◌, Option, Some, None, MatchOption, length, max, fold, slice_get, if◌then◌else◌}
+use Rattle.std.specs.Prelude.{◌≡◌, ◌≤◌, ℕ, ◌+◌, ◌-◌, ◌%◌, ◌==◌, List, [], ◌∷◌, ◌++◌, Option, Some, None, MatchOption}
+use Rattle.std.specs.Prelude.{length, max, fold, slice_get, if◌then◌else◌}
 use Rattle.std.specs.List.{filter_map, flat_map, range_with_len}
 use Rattle.std.specs.Option.{option_and_then, option_map}
 use Rattle.mencius_base.specs.declared.command.Command.{Command}
@@ -14,7 +15,8 @@ pub record PlanState : Type 0 where
   pub commands : List (List Command)
 
 abbrev pub plan_of : ℕ → ℕ → ℕ → ℕ → List (List Command) → PlanState
-plan_of workers seed turns loss commands = record { workers = workers; seed = seed; turns = turns; loss = loss; commands = commands }
+plan_of workers seed turns loss commands =
+    record { workers = workers; seed = seed; turns = turns; loss = loss; commands = commands }
 
 -- how many workers, turns, lost messages in 64 choices and lists a plan may have
 abbrev pub AreInRange : ℕ → ℕ → ℕ → ℕ → Type 0
@@ -31,7 +33,8 @@ row_count lists = fold (λ n list. max n (length list)) 0 lists
 -- the command at a row of a server's list, with the server, where the list is one of the worker's and has so many
 abbrev pub own_command : PlanState → ℕ → ℕ → ℕ → Option (ℕ × Command)
 own_command p worker row server =
-    if server % p.workers == worker then option_map (λ c. (server, c)) (option_and_then (λ list. slice_get list row) (slice_get p.commands server))
+    if server % p.workers == worker then option_map (λ c. (server, c))
+    (option_and_then (λ list. slice_get list row) (slice_get p.commands server))
     else None
 
 -- the worker's commands at a row, of the servers from s on
@@ -57,6 +60,7 @@ pub record IsLed (p : PlanState) (worker : ℕ) (place : Place) (all rest : List
   pub there : own_command p worker place.row place.server ≡ Some first
   pub is : all ≡ first ∷ rest
 
--- the place is the first of the worker's commands in this list, which is what is left from there on; none where it is empty
+-- the place is the first of the worker's commands in this list, which is what is left from there on; none where it is
+-- empty
 abbrev pub IsFound : PlanState → ℕ → Option Place → List (ℕ × Command) → Type 0
 IsFound p worker o all = MatchOption o (all ≡ []) (λ place. IsLed p worker place all (after_place p worker place))

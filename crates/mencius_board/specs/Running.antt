@@ -1,25 +1,50 @@
--- Which worker a running thread is.
-use Rattle.std.specs.Prelude.{ℕ, ◌≡◌, ◌<◌, List, slice_index_or, Option, Some, None, Result, Ok, Err}
+-- Which worker a running thread is, and how workers end.
+use Rattle.std.specs.Prelude.{ℕ, ◌≡◌, ◌<◌, ◌⊎◌, List, [], ◌∷◌, ◌++◌, slice_index_or, Option, Some, None, Result, Ok}
+use Rattle.std.specs.Prelude.{Err}
 use Rattle.core.specs.declared.thread.PromisedHandle.{PromisedHandle}
+use Rattle.mencius_board.specs.declared.fault.BoardFault.{BoardFault}
+use Rattle.mencius_board.specs.declared.fault.BoardFault.TheVariants.{NoWorker}
 use Rattle.mencius_board.specs.declared.workers.ProgressOf.{ProgressOf}
+use Rattle.mencius_board.specs.Faults.{IsWorkerFault}
 use Rattle.mencius_board.specs.Plans.{PlanState}
-use Rattle.mencius_board.specs.Choices.{ChooserState, HasTurned, ProgressState, drawing_after}
+use Rattle.mencius_board.specs.Choices.{ChooserState, HasTurned, ProgressState, chooser_at, drawing_after}
 
--- the thread, if there is one, is to answer how far worker k came
+-- how a worker ended
+abbrev pub EndState : Type 0
+EndState = Result ProgressState BoardFault
+
+-- the thread, if there is one, is to answer how worker k ended
 abbrev pub Answers : {T : Type 0} → ℕ → ℕ → ℕ → Option (PromisedHandle T ProgressOf) → Type 0
 Answers seed turns k None = Unit {0}
 Answers seed turns k (Some h) = h.promise ≡ record { seed = seed; worker = k; turns = turns }
 
--- what joining it gives
-abbrev pub EndsAs : {T E : Type 0} → Option (PromisedHandle T ProgressOf) → Result ProgressState E → Type 0
-EndsAs None (Ok d) = ⊥
-EndsAs None (Err e) = Unit {0}
-EndsAs (Some h) (Ok d) = d.drawing ≡ drawing_after h.promise.seed h.promise.worker h.promise.turns
-EndsAs (Some h) (Err e) = Unit {0}
+-- a worker that took turns drew three words in each of them, or ended at a fault that its turns may have
+abbrev pub HasEnded : ℕ → ℕ → ℕ → EndState → Type 0
+HasEnded seed worker turns (Ok d) = d.drawing ≡ drawing_after seed worker turns
+HasEnded seed worker turns (Err f) = IsWorkerFault worker turns f
 
--- each of n workers, by number, has drawn three words a turn
-abbrev pub HaveDrawn : List ProgressState → PlanState → ℕ → Type 0
-HaveDrawn xs p n = (k : ℕ) (d : ProgressState) → k < n → (slice_index_or xs k d).drawing ≡ drawing_after p.seed k p.turns
+-- what joining a worker's thread gives, if there is one
+abbrev pub EndsAs : {T : Type 0} → Option (PromisedHandle T ProgressOf) → EndState → Type 0
+EndsAs None end = end ≡ Err NoWorker
+EndsAs (Some h) end = HasEnded h.promise.seed h.promise.worker h.promise.turns end
+
+-- worker k of a plan took its turns, or its thread could not be started
+abbrev pub IsEndOf : PlanState → ℕ → EndState → Type 0
+IsEndOf p k end = HasEnded p.seed k p.turns end ⊎ (end ≡ Err NoWorker)
+
+-- each of n workers ended so, by number
+abbrev pub HaveEnded : List EndState → PlanState → ℕ → Type 0
+HaveEnded xs p n = (k : ℕ) (d : EndState) → k < n → IsEndOf p k (slice_index_or xs k d)
+
+-- what workers that ended so give, behind those that came before: their choosers, or the first fault
+abbrev pub settled_behind : PlanState → List ChooserState → List EndState → Result (List ChooserState) BoardFault
+settled_behind p done [] = Ok done
+settled_behind p done (Err f ∷ rest) = Err f
+settled_behind p done (Ok d ∷ rest) = settled_behind p (done ++ chooser_at p d ∷ []) rest
+
+-- the choosers of workers by number, or the fault of the first that has one
+abbrev pub settled : PlanState → List EndState → Result (List ChooserState) BoardFault
+settled p ends = settled_behind p [] ends
 
 -- each chooser of the plan, by worker number, has taken all turns
 abbrev pub HaveTurned : List ChooserState → PlanState → Type 0

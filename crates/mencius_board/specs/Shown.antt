@@ -17,7 +17,8 @@ book_of (Some v) = Some v.book
 
 -- the value's list is all of its mark, and what each has seen begins it
 abbrev pub Keeps : VersionState → List (Option MarkState) → Type 0
-Keeps x views = (x.mark.log ≡ x.list) × ((seat : ℕ) (v : Option MarkState) → get_elem? views seat ≡ some v → Follows v x.mark)
+Keeps x views = (x.mark.log ≡ x.list)
+    × ((seat : ℕ) (v : Option MarkState) → get_elem? views seat ≡ some v → Follows v x.mark)
 
 -- the value y was seen. What had been seen before begins its list
 abbrev pub Shows : Option MarkState → VersionState → VersionState → Option MarkState → Type 0

@@ -1,5 +1,5 @@
 -- What a worker's turn does.
-use Rattle.std.specs.Prelude.{◌≡◌, ◌≢◌, ◌⊎◌, Result, Ok, Err}
+use Rattle.std.specs.Prelude.{◌≡◌, ◌≢◌, ◌⊎◌, [], Bool, true, false, Result, Ok, Err}
 use Rattle.mencius_base.specs.declared.event.Event.{Event}
 use Rattle.mencius_base.specs.declared.refusal.Refusal.{Refusal}
 use Rattle.mencius_base.specs.declared.refusal.Refusal.TheVariants.{NoMemory}
@@ -7,7 +7,8 @@ use Rattle.mencius_cluster.specs.declared.cluster.Effect.{Effect}
 use Rattle.mencius_cluster.specs.State.{IsRefusal, IsStepped}
 use Rattle.mencius_board.specs.declared.fault.BoardFault.{BoardFault}
 use Rattle.mencius_board.specs.declared.fault.BoardFault.TheVariants.{NoMemory as No_memory}
-use Rattle.mencius_board.specs.Boards.{BoardState}
+use Rattle.mencius_board.specs.Boards.{BoardState, longest}
+use Rattle.mencius_board.specs.Faults.{IsShowFault}
 use Rattle.mencius_board.specs.Choices.{ChooserState, IsChosen, IsPutOff}
 
 -- the cluster accepted the event, and the rest of the board stayed
@@ -37,3 +38,23 @@ HasNoMemory c d x = IsPutOff c x.cluster d ⊎ ((e : Event) × IsChosen c x.clus
 abbrev pub EndsTurn : ChooserState → ChooserState → BoardState → BoardState → Result (Unit {0}) BoardFault → Type 0
 EndsTurn c d x y (Ok _) = IsTurn c d x y
 EndsTurn c d x y (Err f) = (f ≡ No_memory) × (y ≡ x) × HasNoMemory c d x
+
+-- what showing answers, and what it leaves of the board
+abbrev pub EndsShow : BoardState → BoardState → Result (Unit {0}) BoardFault → Type 0
+EndsShow x y (Ok _) = y ≡ record x { shown = longest x.cluster; pending = [] }
+EndsShow x y (Err f) = IsShowFault f × (y ≡ record x { pending = y.pending })
+
+-- what follows a turn that answered so: the longest history is shown where it is to be and the turn ended well
+abbrev pub IsAfterTurn : Bool → BoardState → BoardState → Result (Unit {0}) BoardFault → Result (Unit {0}) BoardFault
+    → Type 0
+IsAfterTurn true x y (Ok _) answer = EndsShow x y answer
+IsAfterTurn true x y (Err f) answer = (answer ≡ Err f) × (y ≡ x)
+IsAfterTurn false x y turned answer = (answer ≡ turned) × (y ≡ x)
+
+-- a turn, and what follows it
+pub record TakesTurn (c d : ChooserState) (x y : BoardState) (shows : Bool) (answer : Result (Unit {0}) BoardFault)
+    : Type 0 where
+  pub board : BoardState
+  pub turned : Result (Unit {0}) BoardFault
+  pub turn : EndsTurn c d x board turned
+  pub then_is : IsAfterTurn shows board y turned answer

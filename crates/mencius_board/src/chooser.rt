@@ -72,7 +72,7 @@ impl<'a> Chooser<'a> {
     }
 
     pub(crate) fn into_progress(self) -> Progress
-        ensures { result.drawing ≡ self.entry.drawing }
+        ensures { chooser_at self.entry.plan result ≡ self.entry }
     {
         let Chooser { plan: _, progress } = self;
         progress

@@ -1,9 +1,11 @@
 //! Workers that step one board in threads of their own.
-ghost use Rattle.std.specs.Prelude.{◌≡◌, ◌<◌, ◌≤◌, ℕ, IfOk, vec_len, vec_capacity, slice_index_or};
+ghost use Rattle.std.specs.Prelude.{◌≡◌, ◌<◌, ◌≤◌, ℕ, IfErr, IfOk, MatchResult, vec_len, vec_capacity, slice_index_or};
 ghost use Rattle.std.specs.Fn.{FnOnceReturnsAtMut};
-ghost use Rattle.mencius_board.specs.Choices.{drawing_after, drawn};
-ghost use Rattle.mencius_board.specs.Turns.{EndsTurn};
-ghost use Rattle.mencius_board.specs.Running.{Answers, EndsAs, HaveDrawn, HaveTurned};
+ghost use Rattle.mencius_board.specs.Choices.{chooser_at, drawn};
+ghost use Rattle.mencius_board.specs.Turns.{EndsTurn, IsAfterTurn, TakesTurn};
+ghost use Rattle.mencius_board.specs.Faults.{IsRunFault, IsTurnFault};
+ghost use Rattle.mencius_board.specs.Running.{Answers, EndsAs, HasEnded, HaveEnded, HaveTurned, settled};
+ghost use Rattle.mencius_board.specs.declared.fault.BoardFault.TheVariants.{NoMemory};
 
 use crate::board::Board;
 use crate::chooser::{Chooser, Progress};
@@ -64,6 +66,9 @@ pub fn lend<B, X, R: Wait, F: FnOnce(&mut B) -> X>(rt: &R, lock: &Mutex<B>, f: F
     f(&mut held)
 }
 
+// How a worker ended.
+type Ended = Result<Progress, BoardFault>;
+
 // All turns of one worker.
 fn work<R: Wait, G: Gate>(
     rt: &R,
@@ -72,9 +77,9 @@ fn work<R: Wait, G: Gate>(
     plan: &Plan,
     gate: &G,
     worker: u8,
-) -> Result<Progress, BoardFault>
+) -> Ended
     requires { worker < plan.now.workers }
-    ensures { IfOk result (λ p. p.drawing ≡ drawing_after plan.now.seed worker plan.now.turns) }
+    ensures { HasEnded plan.now.seed worker plan.now.turns result }
 {
     let mut progress = Chooser::new(plan, worker).into_progress();
     for turn in 0..plan.turns() {
@@ -84,7 +89,7 @@ fn work<R: Wait, G: Gate>(
             rt,
             board,
             |board| -> (Progress, Result<(), BoardFault>)
-                ensures { result.0.drawing ≡ drawn progress.drawing }
+                ensures { (result.0.drawing ≡ drawn progress.drawing) × IfErr result.1 (IsTurnFault shows) }
             { take_turn(rt, alloc, board, plan, progress, shows) },
         );
         progress = next;
@@ -102,14 +107,33 @@ fn take_turn<R: Wait>(
     progress: Progress,
     shows: bool,
 ) -> (Progress, Result<(), BoardFault>)
-    ensures { result.0.drawing ≡ drawn progress.drawing }
+    ensures turn { TakesTurn (chooser_at plan.now progress) (chooser_at plan.now result.0) board.old board.new
+        shows result.1 }
+    ensures drawn { result.0.drawing ≡ drawn progress.drawing }
+    ensures fault { IfErr result.1 (IsTurnFault shows) }
 {
     let mut chooser = Chooser::of(plan, progress);
-    let mut answer = worker_turn(board, &mut chooser);
-    if shows && answer.is_ok() {
-        answer = board.show(rt, alloc).map(|_news| ());
-    }
+    let turned = worker_turn(board, &mut chooser);
+    let answer = show_after(rt, alloc, board, turned, shows);
     (chooser.into_progress(), answer)
+}
+
+// Shows the longest history where it is to be shown and the turn ended well.
+fn show_after<R: Wait>(
+    rt: &R,
+    alloc: Global,
+    board: &mut Board,
+    turned: Result<(), BoardFault>,
+    shows: bool,
+) -> Result<(), BoardFault>
+    ensures { IsAfterTurn shows board.old board.new turned result }
+{
+    if !shows {
+        return turned;
+    }
+    turned?;
+    drop(board.show(rt, alloc)?);
+    Ok(())
 }
 
 // What a worker's thread is to answer.
@@ -121,16 +145,15 @@ struct ProgressOf {
 }
 
 impl Promise<Result<Progress, BoardFault>> for ProgressOf {
-    ghost use Rattle.std.specs.Prelude.{◌≡◌, IfOk};
-    ghost use Rattle.mencius_board.specs.Choices.{drawing_after};
+    ghost use Rattle.mencius_board.specs.Running.{HasEnded};
 
-    ghost kept_by = { λ p r. IfOk r (λ d. d.drawing ≡ drawing_after p.seed p.worker p.turns) };
+    ghost kept_by = { λ p r. HasEnded p.seed p.worker p.turns r };
 }
 
 // A worker's thread, if it could be started.
 type Running = Option<PromisedHandle<Result<Progress, BoardFault>, ProgressOf>>;
 
-fn join_one<R: Threads>(rt: &R, child: Running) -> Result<Progress, BoardFault>
+fn join_one<R: Threads>(rt: &R, child: Running) -> Ended
     ensures { EndsAs child result }
 {
     match child {
@@ -139,28 +162,28 @@ fn join_one<R: Threads>(rt: &R, child: Running) -> Result<Progress, BoardFault>
     }
 }
 
-// Joins each worker, until one has a fault. The scope waits for the others.
+// Joins each worker, and gives how it ended, by worker number.
 fn gather<R: Threads>(
     rt: &R,
-    mut ends: Vec<Progress>,
+    mut ends: Vec<Ended>,
     running: Vec<Running>,
     plan: &Plan,
-) -> Result<Vec<Progress>, BoardFault>
+) -> Vec<Ended>
     requires empty { vec_len ends ≡ 0 }
     requires room { vec_len running ≤ vec_capacity ends }
     requires each { (k : ℕ) (d : _) → k < vec_len running
         → Answers plan.now.seed plan.now.turns k (slice_index_or running.items k d) }
-    ensures len { IfOk result (λ v. vec_len v ≡ vec_len running) }
-    ensures each { IfOk result (λ v. HaveDrawn v.items plan.now (vec_len running)) }
+    ensures len { vec_len result ≡ vec_len running }
+    ensures each { HaveEnded result.items plan.now (vec_len running) }
 {
     for child in running {
-        let end = join_one(rt, child)?;
+        let end = join_one(rt, child);
         ends.push_reserved(end);
     }
-    Ok(ends)
+    ends
 }
 
-// Starts the workers in a scope, and joins them.
+// Starts the workers in a scope, and joins them. Only want of memory keeps it from starting.
 fn start_all<'s, E, R: Threads + Wait + Sync + 's, G: Gate + Sync + 's>(
     scope: &Scope<'s, E>,
     rt: &'s R,
@@ -168,9 +191,10 @@ fn start_all<'s, E, R: Threads + Wait + Sync + 's, G: Gate + Sync + 's>(
     board: &'s Mutex<Board>,
     plan: &'s Plan,
     gate: &'s G,
-) -> Result<Vec<Progress>, BoardFault>
+) -> Result<Vec<Ended>, BoardFault>
     ensures len { IfOk result (λ v. vec_len v ≡ plan.now.workers) }
-    ensures each { IfOk result (λ v. HaveDrawn v.items plan.now plan.now.workers) }
+    ensures each { IfOk result (λ v. HaveEnded v.items plan.now plan.now.workers) }
+    ensures err { IfErr result (λ f. f ≡ NoMemory) }
 {
     let many = usize::from(plan.workers());
     let Ok(ends) = Vec::with_capacity(alloc, many) else {
@@ -188,7 +212,25 @@ fn start_all<'s, E, R: Threads + Wait + Sync + 's, G: Gate + Sync + 's>(
         let child = scope.spawn_with(promise, move || work(rt, alloc, board, plan, gate, worker));
         running.push_reserved(child.ok());
     }
-    gather(rt, ends, running, plan)
+    Ok(gather(rt, ends, running, plan))
+}
+
+// The choosers by worker number, or the fault of the worker of least number that has one.
+fn settle<'p>(
+    plan: &'p Plan,
+    ends: Vec<Ended>,
+    mut choosers: Vec<Chooser<'p>>,
+) -> Result<Vec<Chooser<'p>>, BoardFault>
+    requires empty { vec_len choosers ≡ 0 }
+    requires room { vec_len ends ≤ vec_capacity choosers }
+    ensures { MatchResult result (λ v. settled plan.now ends.items ≡ Ok v.items)
+        (λ f. settled plan.now ends.items ≡ Err f) }
+{
+    for end in ends {
+        let progress = end?;
+        choosers.push_reserved(Chooser::of(plan, progress));
+    }
+    Ok(choosers)
 }
 
 /// Runs each worker of the plan in a thread of its own, all of its turns, and gives the choosers by
@@ -196,8 +238,9 @@ fn start_all<'s, E, R: Threads + Wait + Sync + 's, G: Gate + Sync + 's>(
 ///
 /// A turn passes the gate, takes the lock and makes one [`worker_turn`]. Worker 0 also shows the
 /// longest history after each 64th turn of its own, under the same taking of the lock. A worker ends
-/// at its first fault. `NoMemory` comes first, where there is no memory to start with, and then the
-/// fault of the worker of least number.
+/// at its first fault, and all others go on. `NoMemory` comes first, where there is no memory to start
+/// with, and then the fault of the worker of least number that has one: want of memory, `NoWorker`
+/// where its thread could not be started, or, of worker 0 and from its 64th turn on, `ShowRefused`.
 pub fn run_workers<'p, R: Threads + Wait + Sync, G: Gate + Sync>(
     rt: &R,
     alloc: Global,
@@ -207,20 +250,18 @@ pub fn run_workers<'p, R: Threads + Wait + Sync, G: Gate + Sync>(
 ) -> Result<Vec<Chooser<'p>>, BoardFault>
     ensures len { IfOk result (λ v. vec_len v ≡ plan.now.workers) }
     ensures each { IfOk result (λ v. HaveTurned v.items plan.now) }
+    ensures fault { IfErr result (IsRunFault plan.now.turns) }
 {
-    let Ok(mut choosers) = Vec::with_capacity(alloc, usize::from(plan.workers())) else {
+    let Ok(choosers) = Vec::with_capacity(alloc, usize::from(plan.workers())) else {
         return Err(BoardFault::NoMemory);
     };
     let ends = thread::scope(
         thread::scope_env(),
         rt,
-        |scope| -> Result<Vec<Progress>, BoardFault>
-            ensures { IfOk result (λ v. (vec_len v ≡ plan.entry.now.workers)
-                × HaveDrawn v.items plan.entry.now plan.entry.now.workers) }
+        |scope| -> Result<Vec<Ended>, BoardFault>
+            ensures { MatchResult result (λ v. (vec_len v ≡ plan.entry.now.workers)
+                × HaveEnded v.items plan.entry.now plan.entry.now.workers) (λ f. f ≡ NoMemory) }
         { start_all(scope, rt, alloc, board, plan, gate) },
     )?;
-    for end in ends {
-        choosers.push_reserved(Chooser::of(plan, end));
-    }
-    Ok(choosers)
+    settle(plan, ends, choosers)
 }

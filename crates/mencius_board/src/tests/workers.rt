@@ -4,12 +4,13 @@ use crate::{Board, Chooser, Gate, Open, Plan, lend, run_workers, worker_turn};
 use std::alloc::Global;
 use std::panic::Expect;
 use std::process::Abort;
-use std::sync::Mutex;
 use std::sync::atomic::{AtomicBool, AtomicU64, Ordering};
+use std::sync::{Mutex, Wait};
 use std::test::Fail;
+use std::thread;
 
 // Workers of some turns over three servers, each of which has one command.
-fn plan_of<R: Abort>(rt: &R, alloc: Global, workers: u8, turns: u32) -> Plan {
+fn plan_of<R: Abort>(rt: &R, alloc: Global, workers: u8, seed: u64, turns: u32) -> Plan {
     let mut lists = Vec::new(alloc);
     for number in 0..3 {
         let mut list = Vec::new(alloc);
@@ -17,7 +18,7 @@ fn plan_of<R: Abort>(rt: &R, alloc: Global, workers: u8, turns: u32) -> Plan {
             .expect(rt, "memory");
         lists.push(list).expect(rt, "memory");
     }
-    Plan::new(workers, 1, turns, 4, lists).expect(rt, "a plan")
+    Plan::new(workers, seed, turns, 4, lists).expect(rt, "a plan")
 }
 
 // Counts how often each of two workers passes.
@@ -37,7 +38,7 @@ impl Gate for Counting {
 #[test]
 fn each_turn_passes_the_gate(rt: HostRuntime) -> Result<(), Fail> {
     let alloc = rt.alloc();
-    let plan = plan_of(&rt, alloc, 2, 2000);
+    let plan = plan_of(&rt, alloc, 2, 1, 2000);
     let gate = Counting {
         passed: [AtomicU64::new(0), AtomicU64::new(0)],
     };
@@ -66,6 +67,16 @@ struct Meeting {
 
 const LOOKS: u32 = 100_000_000;
 
+// Whether the flag is set before so many looks are over.
+fn is_set_within(flag: &AtomicBool, looks: u32) -> bool {
+    for _ in 0..looks {
+        if flag.load(Ordering::SeqCst) {
+            return true;
+        }
+    }
+    false
+}
+
 impl Gate for Meeting {
     fn pass(&self, worker: u8) {
         let (own, other) = if worker == 0 {
@@ -74,19 +85,16 @@ impl Gate for Meeting {
             (&self.here[1], &self.here[0])
         };
         own.store(true, Ordering::SeqCst);
-        for _ in 0..LOOKS {
-            if other.load(Ordering::SeqCst) {
-                return;
-            }
+        if !is_set_within(other, LOOKS) {
+            self.missed.store(true, Ordering::SeqCst);
         }
-        self.missed.store(true, Ordering::SeqCst);
     }
 }
 
 #[test]
 fn two_workers_meet(rt: HostRuntime) -> Result<(), Fail> {
     let alloc = rt.alloc();
-    let plan = plan_of(&rt, alloc, 2, 1);
+    let plan = plan_of(&rt, alloc, 2, 1, 1);
     let gate = Meeting {
         here: [AtomicBool::new(false), AtomicBool::new(false)],
         missed: AtomicBool::new(false),
@@ -100,10 +108,55 @@ fn two_workers_meet(rt: HostRuntime) -> Result<(), Fail> {
     Ok(())
 }
 
+// Lets the only worker take its turn once another thread has the lock, and tells that thread so.
+#[derive(Drop)]
+struct Late {
+    held: AtomicBool,
+    passed: AtomicBool,
+}
+
+impl Gate for Late {
+    fn pass(&self, _worker: u8) {
+        is_set_within(&self.held, LOOKS);
+        self.passed.store(true, Ordering::SeqCst);
+    }
+}
+
+// Keeps the lock until the worker passes the gate, and so much longer that it comes to the lock.
+fn keep_lock<R: Wait>(rt: &R, board: &Mutex<Board>, gate: &Late) -> bool {
+    lend(rt, board, |_board| {
+        gate.held.store(true, Ordering::SeqCst);
+        let passed = is_set_within(&gate.passed, LOOKS);
+        let never = AtomicBool::new(false);
+        passed && !is_set_within(&never, LOOKS / 50)
+    })
+}
+
+#[test]
+fn a_turn_waits_for_the_lock(rt: HostRuntime) -> Result<(), Fail> {
+    let alloc = rt.alloc();
+    // The first words of this seed pick the next command.
+    let plan = plan_of(&rt, alloc, 1, 24, 1);
+    let gate = Late {
+        held: AtomicBool::new(false),
+        passed: AtomicBool::new(false),
+    };
+    let board = Mutex::new(Board::new(&rt, alloc, new_cluster(&rt, alloc, 3), 1)?);
+    let (kept, ran) = thread::join(
+        &rt,
+        || keep_lock(&rt, &board, &gate),
+        || run_workers(&rt, alloc, &board, &plan, &gate).is_ok(),
+    );
+    let cluster = board.into_inner().end(&rt);
+    assert!(rt; kept && ran);
+    assert_eq!(rt; (cluster.commands(), cluster.events()), (1, 1));
+    Ok(())
+}
+
 #[test]
 fn one_worker_steps_as_an_owned_board_does(rt: HostRuntime) -> Result<(), Fail> {
     let alloc = rt.alloc();
-    let plan = plan_of(&rt, alloc, 1, 2000);
+    let plan = plan_of(&rt, alloc, 1, 1, 2000);
     let board = Mutex::new(Board::new(&rt, alloc, new_cluster(&rt, alloc, 3), 1)?);
     let ran = run_workers(&rt, alloc, &board, &plan, &Open).map(|choosers| choosers.len());
     let in_thread = board.into_inner().end(&rt);

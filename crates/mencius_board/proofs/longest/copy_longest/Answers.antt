@@ -23,8 +23,10 @@ returns-clause-list c =
     let x = c.args.cluster.now in
     let w = history_of x in
     let tickets : c.unwrap-tickets.result.now ≡ executed w c.longest-server.result = search rules in
-    let all : take c.loop-ticket.ticket-index c.unwrap-tickets.result.now ≡ c.unwrap-tickets.result.now = take_whole c.loop-ticket.ticket-index c.unwrap-tickets.result.now c.loop-ticket-test.false in
-    c.loop-ticket.invariant ∙ (ap (commands_of w) (all ∙ tickets) ∙ ap (λ (s : ℕ). commands_of w (executed w s)) c.longest-server.ensures.place)
+    let all : take c.loop-ticket.ticket-index c.unwrap-tickets.result.now ≡ c.unwrap-tickets.result.now =
+    take_whole c.loop-ticket.ticket-index c.unwrap-tickets.result.now c.loop-ticket-test.false in
+    c.loop-ticket.invariant ∙ (ap (commands_of w) (all ∙ tickets)
+    ∙ ap (λ (s : ℕ). commands_of w (executed w s)) c.longest-server.ensures.place)
 
 pub returns-clause-limit : goal.returns-clause-limit
 returns-clause-limit c =

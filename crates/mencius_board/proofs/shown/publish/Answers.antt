@@ -10,8 +10,11 @@ publish_as-requires g c next is =
     let now : VersionState = c.args.writer.desk.shown.value in
     let h : MarkState = c.args.log.now in
     let old : List Operation = drop c.args.writer.behind c.args.writer.log.items in
-    stamped_turns _ _ c.append.new.self.desk.shown.value now next old _ h c.again.result (ap (λ d. d.shown.value) c.append.ensures.desk) c.in-Ok.ensures.pending c.again.ensures
+    stamped_turns _ _ c.append.new.self.desk.shown.value now next old _ h c.again.result
+    (ap (λ d. d.shown.value) c.append.ensures.desk) c.in-Ok.ensures.pending c.again.ensures
     c.requires.marked c.requires.whole is
 
 pub returns-clause-pending : goal.returns-clause-pending
-returns-clause-pending g c = pending_then _ _ _ _ _ (drop c.args.writer.behind c.args.writer.log.items) c.again.result c.in-Ok.ensures.pending c.publish_as.ensures.values
+returns-clause-pending g c = pending_then _ _ _ _ _
+    (drop c.args.writer.behind c.args.writer.log.items) c.again.result c.in-Ok.ensures.pending
+    c.publish_as.ensures.values

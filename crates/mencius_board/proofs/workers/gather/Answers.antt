@@ -1,8 +1,7 @@
 use Rattle.std.specs.Prelude.{◌≡◌, ℕ, ◌+◌, ◌<◌, get_or, length, vec_len}
 use Rattle.std.proofs.Common.{rules, arith, add-zero, subst, sym}
 use Rattle.std.specs.Vec.Iter.{into_iter_items, into_iter_len}
-use Rattle.mencius_board.specs.Choices.{ProgressState, drawing_after}
-use Rattle.mencius_board.specs.Running.{Answers}
+use Rattle.mencius_board.specs.Running.{Answers, EndState, IsEndOf}
 use Rattle.mencius_board.proofs.Ended.{ended}
 use Rattle.mencius_board.proofs.Walked.{first_of, more_of}
 use Rattle.mencius_board.proofs.workers.gather.Goals as goal
@@ -12,16 +11,23 @@ loop-child-preserved g c =
     let was = c.loop-child.invariant in let done : ℕ = vec_len c.loop-child.ends in
     let seed : ℕ = c.args.plan.now.seed in let turns : ℕ = c.args.plan.now.turns in
     let step = c.in-Some.ensures.steps in
-    let two = first_of (λ k o. Answers seed turns (done + k) o) (into_iter_len c.loop-child.child-iterator) (into_iter_len c.next.new.self) _ _ c.in-Some.child step.0 step.1 was.2 in
+    let many : ℕ = into_iter_len c.loop-child.child-iterator in
+    let left : ℕ = into_iter_len c.next.new.self in
+    let two = first_of (λ k o. Answers seed turns (done + k) o) many left _ _ c.in-Some.child step.0 step.1 was.2 in
     let next : Answers seed turns done c.in-Some.child = rw add-zero at two.0 in
-    let drawn : c.in_ok-end.end.drawing ≡ drawing_after seed done turns = ended _ c.in-Some.child seed turns done c.in_ok-end.end next c.in_ok-end.ensures in
+    let end : EndState = c.join_one-end.result in
+    let is_end : IsEndOf c.args.plan.now done end =
+    ended c.in-Some.child c.args.plan.now done end next c.join_one-end.ensures in
     let longer : vec_len c.push_reserved.new.self ≡ done + 1 = c.push_reserved.ensures.len in (
       omega (arith, was.0, longer, step.1),
       search rules,
-      (λ k d below. let e : done + (k + 1) ≡ vec_len c.push_reserved.new.self + k = omega (arith, longer) in subst (λ (n : ℕ). Answers seed turns n (get_or (into_iter_items c.next.new.self) k d)) e (two.1 k d below)),
+      (λ k d below.
+          let e : done + (k + 1) ≡ vec_len c.push_reserved.new.self + k = omega (arith, longer) in
+          subst (λ (n : ℕ). Answers seed turns n (get_or (into_iter_items c.next.new.self) k d)) e (two.1 k d below)),
       λ k d below.
           let len : length c.loop-child.ends.items ≡ done = sym c.loop-child.ends.ok.0 in
           let small : k < length c.loop-child.ends.items + 1 = omega (arith, len, longer, below) in
-          let is : c.in_ok-end.end.drawing ≡ drawing_after seed (length c.loop-child.ends.items) turns = rw len drawn in
-          rw c.push_reserved.ensures.items (more_of (λ (i : ℕ) (x : ProgressState). x.drawing ≡ drawing_after seed i turns) k c.loop-child.ends.items c.in_ok-end.end d (λ j e b. was.3 j e (omega (arith, len, b))) is small),
+          let is : IsEndOf c.args.plan.now (length c.loop-child.ends.items) end = rw len is_end in
+          rw c.push_reserved.ensures.items (more_of (IsEndOf c.args.plan.now) k c.loop-child.ends.items end d
+          (λ j e b. was.3 j e (omega (arith, len, b))) is small),
     )

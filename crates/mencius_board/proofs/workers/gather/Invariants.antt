@@ -1,7 +1,6 @@
 use Rattle.std.specs.Prelude.{◌≡◌, ℕ, ◌+◌, ◌<◌, ◌≤◌, get_or, vec_items, vec_len, vec_capacity}
 use Rattle.std.specs.Vec.Iter.{into_iter_items, into_iter_len}
-use Rattle.mencius_board.specs.Choices.{drawing_after}
-use Rattle.mencius_board.specs.Running.{Answers}
+use Rattle.mencius_board.specs.Running.{Answers, HaveEnded}
 use Rattle.mencius_board.proofs.workers.gather.Given as goal
 
 abbrev pub invariant-loop-child : goal.invariant-loop-child
@@ -9,5 +8,6 @@ invariant-loop-child g l =
     let done = vec_len l.ends in let rest = l.child-iterator in
     (done + into_iter_len rest ≡ vec_len l.fn.running)
     × (vec_len l.fn.running ≤ vec_capacity l.ends)
-    × ((k : ℕ) (d : _) → k < into_iter_len rest → Answers l.plan.seed l.plan.turns (done + k) (get_or (into_iter_items rest) k d))
-    × ((k : ℕ) (d : _) → k < done → (get_or (vec_items l.ends) k d).drawing ≡ drawing_after l.plan.seed k l.plan.turns)
+    × ((k : ℕ) (d : _) → k < into_iter_len rest
+    → Answers l.plan.seed l.plan.turns (done + k) (get_or (into_iter_items rest) k d))
+    × HaveEnded (vec_items l.ends) l.plan done

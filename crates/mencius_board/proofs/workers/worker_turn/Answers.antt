@@ -8,7 +8,8 @@ use Rattle.mencius_board.proofs.workers.worker_turn.Goals as goal
 pub returns-else-eq-clause-turn : goal.returns-else-eq-clause-turn
 returns-else-eq-clause-turn c = record {
   event = c.in-Ok.event;
-  chosen = subst (λ (x : ClusterState). IsChosen c.args.chooser.now x c.in-Ok.event c.choose.new.self) c.cluster.ensures.cluster c.in-Ok.ensures;
+  chosen = subst (λ (x : ClusterState). IsChosen c.args.chooser.now x c.in-Ok.event c.choose.new.self)
+      c.cluster.ensures.cluster c.in-Ok.ensures;
   stepped = inr (record {
     refusal = c.in-Err.refusal;
     is = c.in-Err.ensures.refusal;

@@ -6,4 +6,5 @@ pub invariant_of-self : goal.invariant_of-self
 invariant_of-self c =
     let x = c.self.inside.cluster in
     let y = c.step.new.self in
-    sound_grows x y _ _ _ _ _ _ (answer_grows x y c.args.event c.step.result c.self.invariant.steady c.step.ensures.effect c.step.ensures.err) c.self.invariant
+    sound_grows x y _ _ _ _ _ _ (answer_grows x y c.args.event c.step.result c.self.invariant.steady
+    c.step.ensures.effect c.step.ensures.err) c.self.invariant
