@@ -1,30 +1,22 @@
 -- How each line of a history changes a slot.
-use Rattle.std.proofs.Common.{◌≡◌, ℕ, ◌<◌, ◌≤◌, Bool, true, false, List, ◌∷◌, Option, Some, None, max, map, refl, sym, ◌∙◌, ap, arith, eqb, ◌&&◌}
+use Rattle.std.proofs.Common.{◌≡◌, ℕ, ◌<◌, ◌≤◌, Bool, List, ◌∷◌, Option, Some, None, max, map, refl, sym, ◌∙◌, ap, arith, eqb}
 use Rattle.std.specs.List.{list_any}
 use Rattle.mencius_base.specs.declared.message.Message.{Message}
-use Rattle.mencius_base.specs.declared.message.Message.TheVariants.{Suggest, Skip, Accepted, Promise, Propose, Learn}
+use Rattle.mencius_base.specs.declared.message.Message.TheVariants.{Suggest, Accepted, Promise, Propose}
 use Rattle.mencius_base.specs.declared.message.Value.{Value}
 use Rattle.mencius_base.specs.declared.message.Value.TheVariants.{Ticket}
 use Rattle.mencius_base.specs.declared.message.Vote.{Vote}
 use Rattle.mencius_base.specs.Members.{Membership, below, owner}
-use Rattle.mencius_base.specs.History.{Line, Heard, Sent, Learned, History, earlier, heard, sent}
-use Rattle.coord_paxos.specs.Instance.{promised_by, promised, proposed_by, proposed, accepted_by, accepted, greater, vote_at, vote_of, learned_by, learned, tried_by, trying, reported, promisers, accepters, is_promise, is_acceptance, highest_vote, vote_reported}
-use Rattle.coord_paxos.proofs.Lines.{max-zero, earlier-none, greater-none, greatest_quiet, oldest_quiet, oldest_stays, vote_of_same, accepted_small, greater_above}
-use Rattle.std.proofs.lemmas.Bool.{eq-eqb, ne_eqb, lt-ltb}
+use Rattle.mencius_model.specs.History.{Line, Heard, Sent, Learned, History, earlier, heard, sent}
+use Rattle.mencius_model.specs.Instance.{promised_by, promised, proposed_by, proposed, accepted_by, accepted, greater, vote_at, vote_of, learned_by, learned, tried_by, trying, reported, promisers, accepters, is_promise, is_acceptance, highest_vote, vote_reported, IsVoted}
+use Rattle.mencius_model.proofs.Lines.{max-zero, earlier-none, greater-none, greatest_quiet, oldest_quiet, oldest_stays, vote_of_same, accepted_small, greater_above}
+use Rattle.std.proofs.lemmas.Bool.{eq-eqb, lt-ltb}
 use Rattle.std.specs.Prelude.{slice_get}
 use Rattle.coord_paxos.specs.Slot.{with_accept, with_promise}
-use Rattle.coord_paxos.proofs.Tally.{heard_more, or-true, tally_quiet, tally_more, votes_quiet, votes_more}
+use Rattle.mencius_model.proofs.Tally.{heard_more, or-true, tally_quiet, tally_more, votes_quiet, votes_more}
 use Rattle.coord_paxos.specs.SlotState.{SlotState}
 use Rattle.coord_paxos.specs.Reached.{if_own, slot_at}
-pub use Rattle.coord_paxos.specs.Reached.{IsVoted}
-
--- a line that says nothing of p's slot for i
-pub record IsQuiet (p i : ℕ) (l : Line) : Type 0 where
-  pub promised : promised_by p i l ≡ 0
-  pub proposed : (b : ℕ) → proposed_by i b l ≡ None
-  pub accepted : accepted_by p i l ≡ None
-  pub learned : learned_by p i l ≡ None
-  pub tried : tried_by p i l ≡ 0
+use Rattle.mencius_model.proofs.Quiet.{IsQuiet, quiet_heard, IsUncounted}
 
 -- two slots with the same parts
 same_parts : (m n : Membership) (a b : ℕ) (c d : Option Vote) (e f : Option Value) (g h : ℕ) (i j : Option Vote) (k l : Option Value) (q r s t : List Bool)
@@ -77,15 +69,6 @@ slot_at-unsaid m w l p i quiet =
 
 pub slot_at-quiet : (m : Membership) (w : History) (l : Line) (p i : ℕ) → IsQuiet p i l → heard (l ∷ w) p ≡ heard w p → slot_at m (l ∷ w) p i ≡ slot_at m w p i
 slot_at-quiet m w l p i quiet deaf = slot_at-unsaid m w l p i quiet ∙ ap (slot_hearing m w p i) deaf
-
-pub quiet_heard : (k p i : ℕ) → IsQuiet p i (Heard k p)
-quiet_heard k p i = record { promised = refl; proposed = λ b. refl; accepted = refl; learned = refl; tried = refl }
-
--- a message that counts in no tally of the ballot that p tries at i
-pub record IsUncounted (i b : ℕ) (x : Message) : Type 0 where
-  pub promise : (q : ℕ) → is_promise i b q x ≡ false
-  pub acceptance : (q : ℕ) → is_acceptance i b q x ≡ false
-  pub report : vote_reported i b x ≡ None
 
 pub slot_at-heard : (m : Membership) (w : History) (k p i : ℕ) (x : Message) → slice_get (sent w) k ≡ Some x
     → IsUncounted i (trying w p i) x → slot_at m (Heard k p ∷ w) p i ≡ slot_at m w p i
@@ -210,39 +193,3 @@ pub slot_at-learned : (m : Membership) (w : History) (p i : ℕ) (v : Value) →
 slot_at-learned m w p i v unlearned =
     slot_at-learning m w p i v
     ∙ ap (λ (o : Option Value). record (slot_at m w p i) { learned = earlier o (Some v) }) unlearned
-
--- what p says of one instance is quiet for another
-both-false : (t : Bool) → (t && false) ≡ false
-both-false true = refl
-both-false false = refl
-
-pub quiet_accepted : (p q i b j : ℕ) → (j ≡ i → ⊥) → IsQuiet p j (Sent (Accepted p q i b))
-quiet_accepted p q i b j ne =
-    let other : (eqb p p && eqb i j) ≡ false = rw (ne_eqb i j (λ e. ne (sym e))) (both-false (eqb p p)) in
-    record { promised = rw other; proposed = λ c. refl; accepted = rw other; learned = refl; tried = refl }
-
-pub quiet_promise : (p q i b j : ℕ) (v : Option Vote) → (j ≡ i → ⊥) → IsQuiet p j (Sent (Promise p q i b v))
-quiet_promise p q i b j v ne =
-    let other : (eqb p p && eqb i j) ≡ false = rw (ne_eqb i j (λ e. ne (sym e))) (both-false (eqb p p)) in
-    record { promised = rw other; proposed = λ c. refl; accepted = refl; learned = refl; tried = refl }
-
-pub quiet_propose : (p i b j : ℕ) (v : Value) → (j ≡ i → ⊥) → IsQuiet p j (Sent (Propose p i b v))
-quiet_propose p i b j v ne =
-    let other : eqb i j ≡ false = ne_eqb i j (λ e. ne (sym e)) in
-    record { promised = refl; proposed = λ c. rw other; accepted = refl; learned = refl; tried = refl }
-
-pub quiet_suggest : (p i t j : ℕ) → (j ≡ i → ⊥) → IsQuiet p j (Sent (Suggest p i t))
-quiet_suggest p i t j ne =
-    let other : eqb i j ≡ false = ne_eqb i j (λ e. ne (sym e)) in
-    record { promised = refl; proposed = λ c. rw other; accepted = refl; learned = refl; tried = refl }
-
-pub quiet_learned : (p i j : ℕ) (v : Value) → (j ≡ i → ⊥) → IsQuiet p j (Learned p i v)
-quiet_learned p i j v ne =
-    let other : (eqb p p && eqb i j) ≡ false = rw (ne_eqb i j (λ e. ne (sym e))) (both-false (eqb p p)) in
-    record { promised = refl; proposed = λ c. refl; accepted = refl; learned = rw other; tried = refl }
-
-pub quiet_skip : (p q f s j : ℕ) → IsQuiet p j (Sent (Skip q f s))
-quiet_skip p q f s j = record { promised = refl; proposed = λ c. refl; accepted = refl; learned = refl; tried = refl }
-
-pub quiet_learn : (p q i j : ℕ) (v : Value) → IsQuiet p j (Sent (Learn q i v))
-quiet_learn p q i j v = record { promised = refl; proposed = λ c. refl; accepted = refl; learned = refl; tried = refl }

@@ -8,19 +8,20 @@ use Rattle.mencius_base.specs.declared.message.Message.TheVariants.{Suggest, Ski
 use Rattle.mencius_base.specs.declared.message.Value.{Value}
 use Rattle.mencius_base.specs.declared.message.Vote.{Vote}
 use Rattle.mencius_base.specs.Members.{Membership, below, owner}
-use Rattle.mencius_base.specs.History.{Line, Heard, Sent, Learned, History, earlier, followed_by, heard, sent}
-use Rattle.coord_paxos.specs.Instance.{accepted, accepters, greater, higher_vote, highest_vote, is_acceptance, is_promise, learned, promised, promisers, proposed, proposed_by, reported, tried_by, trying, value_or_noop, vote, vote_of, vote_reported}
+use Rattle.mencius_model.specs.History.{Line, Heard, Sent, Learned, History, earlier, followed_by, heard, sent}
+use Rattle.mencius_model.specs.Instance.{accepted, accepters, greater, higher_vote, highest_vote, is_acceptance, is_promise, learned, promised, promisers, proposed, proposed_by, reported, tried_by, trying, value_or_noop, vote, vote_of, vote_reported, IsUntried, IsVoted}
 use Rattle.coord_paxos.specs.SlotState.{SlotState}
 use Rattle.coord_paxos.specs.Fresh.{new_slot}
 use Rattle.coord_paxos.specs.Slot.{accept_answer, after_accept, after_acceptance, after_begin, after_learn, after_prepare, after_promise, answer_of, is_majority, learning, prepare_answer, promise_answer, proposing, to_learn, to_propose, with_accept, with_promise}
-use Rattle.coord_paxos.specs.Reached.{IsUntried, IsVoted, if_own, slot_at}
+use Rattle.coord_paxos.specs.Reached.{if_own, slot_at}
 use Rattle.coord_paxos.specs.Laws.{accept_lines, counts, decision_due, decision_lines, prepare_lines, proposal_due, proposal_lines, touches}
 use Rattle.coord_paxos.specs.declared.Answer.TheVariants.{Promise as Promised, Silent}
-use Rattle.coord_paxos.proofs.Below.{count_by-map, map-below_constant, map-below_same}
-use Rattle.coord_paxos.proofs.Lines.{earlier-none, greater-none, max-zero, greatest_quiet, oldest_quiet, vote_of_same}
-use Rattle.coord_paxos.proofs.Reports.{Stands-heard, any_again, higher_vote-stands}
-use Rattle.coord_paxos.proofs.SlotHistory.{IsQuiet, IsUncounted, quiet_heard, quiet_learn, same_slot, slot_at-accepted, slot_at-heard, slot_at-heard_acceptance, slot_at-heard_promise, slot_at-learned, slot_at-learning, slot_at-promised, slot_at-proposed, slot_at-proposing, slot_at-quiet, slot_at-unsaid, slot_hearing}
-use Rattle.coord_paxos.proofs.Tally.{heard_more, or-true, votes_more}
+use Rattle.mencius_model.proofs.Below.{count_by-map, map-below_constant, map-below_same}
+use Rattle.mencius_model.proofs.Lines.{earlier-none, greater-none, max-zero, greatest_quiet, oldest_quiet, vote_of_same}
+use Rattle.mencius_model.proofs.Reports.{Stands-heard, any_again, higher_vote-stands}
+use Rattle.mencius_model.proofs.Quiet.{IsQuiet, IsUncounted, quiet_heard, quiet_learn}
+use Rattle.coord_paxos.proofs.SlotHistory.{same_slot, slot_at-accepted, slot_at-heard, slot_at-heard_acceptance, slot_at-heard_promise, slot_at-learned, slot_at-learning, slot_at-promised, slot_at-proposed, slot_at-proposing, slot_at-quiet, slot_at-unsaid, slot_hearing}
+use Rattle.mencius_model.proofs.Tally.{heard_more, or-true, votes_more}
 
 -- ---- nothing
 

@@ -7,11 +7,11 @@ use Rattle.mencius_base.specs.declared.message.Value.{Value}
 use Rattle.mencius_base.specs.declared.message.Value.TheVariants.{Ticket}
 use Rattle.mencius_base.specs.declared.message.Vote.{Vote}
 use Rattle.mencius_base.specs.Members.{Membership, owner}
-use Rattle.mencius_base.specs.History.{Line, Heard, Sent, Learned, History, followed_by, heard, sent}
-use Rattle.coord_paxos.specs.Instance.{are_majority, accepters, learned, promised, promisers, proposed, reported, trying, value_or_noop, vote}
+use Rattle.mencius_model.specs.History.{Line, Heard, Sent, Learned, History, followed_by, heard, sent}
+use Rattle.mencius_model.specs.Instance.{are_majority, accepters, learned, promised, promisers, proposed, reported, trying, value_or_noop, vote, IsUntried, IsVoted}
 use Rattle.coord_paxos.specs.Fresh.{new_slot}
 use Rattle.coord_paxos.specs.Slot.{accept_answer, after_accept, after_acceptance, after_begin, after_learn, after_prepare, after_promise, prepare_answer, promise_answer}
-use Rattle.coord_paxos.specs.Reached.{IsUntried, IsVoted, slot_at}
+use Rattle.coord_paxos.specs.Reached.{slot_at}
 use Rattle.coord_paxos.specs.declared.Answer.{Answer}
 use Rattle.coord_paxos.specs.declared.Answer.TheVariants.{Promise as Promised, Known, Silent}
 
@@ -193,23 +193,3 @@ abbrev pub LeavesRepeats : Type 0
 LeavesRepeats =
     (m : Membership) (w : History) (k p i : ℕ) (x : Message) → slice_get (sent w) k ≡ Some x → Contains (heard w p) x
     → slot_at m (Heard k p ∷ w) p i ≡ slot_at m w p i
-
--- ---- the vote reported
-
--- p heard a promise of ballot b of i that reports the vote v
-abbrev pub HearsReport : History → ℕ → ℕ → ℕ → Vote → Type 0
-HearsReport w p i b v = (from : ℕ) × (to : ℕ) × Contains (heard w p) (Promise from to i b (Some v))
-
--- the vote reported is one of those in the promises heard, and none of them has a greater ballot
-abbrev pub ReportsHeard : Type 0
-ReportsHeard =
-    (w : History) (p i b : ℕ) (v : Vote) → reported w p i b ≡ Some v → HearsReport w p i b v
-
-abbrev pub ReportsGreatest : Type 0
-ReportsGreatest =
-    (w : History) (p i b : ℕ) (u v : Vote) → reported w p i b ≡ Some v → HearsReport w p i b u → u.ballot ≤ v.ballot
-
--- where a vote was heard, one is reported
-abbrev pub ReportsSome : Type 0
-ReportsSome =
-    (w : History) (p i b : ℕ) (u : Vote) → HearsReport w p i b u → reported w p i b ≢ None

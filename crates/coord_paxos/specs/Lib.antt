@@ -1,4 +1,3 @@
-pub mod Instance
 pub mod SlotState
 pub mod Fresh
 pub mod Slot

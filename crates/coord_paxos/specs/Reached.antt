@@ -1,9 +1,9 @@
 -- What a slot holds, asked of the history.
-use Rattle.std.specs.Prelude.{◌≡◌, ℕ, false, Option, Some, None, ◌==◌, nat_lt, if◌then◌else◌, ◌||◌, map}
+use Rattle.std.specs.Prelude.{ℕ, Option, None, ◌==◌, nat_lt, if◌then◌else◌, ◌||◌, map}
 use Rattle.mencius_base.specs.declared.message.Value.{Value}
 use Rattle.mencius_base.specs.Members.{Membership, below, owner}
-use Rattle.mencius_base.specs.History.{History}
-use Rattle.coord_paxos.specs.Instance.{promised, vote, learned, trying, reported, proposed, promisers, accepted, accepters}
+use Rattle.mencius_model.specs.History.{History}
+use Rattle.mencius_model.specs.Instance.{promised, vote, learned, trying, reported, proposed, promisers, accepters}
 use Rattle.coord_paxos.specs.SlotState.{SlotState}
 
 -- what was proposed at ballot b of i, as far as p may have proposed it: at ballot 0 only the owner does
@@ -27,13 +27,3 @@ slot_at m w p i = record {
   promisers = map (promisers w p i (trying w p i)) (below m.count);
   accepters = map (accepters w p i (trying w p i)) (below m.count);
 }
-
--- what p accepted at i had been proposed, as in every history that comes about
-pub record IsVoted (w : History) (p i : ℕ) : Type 0 where
-  pub proposal : (b : ℕ) → accepted w p i ≡ Some b → (v : Value) × (proposed w i b ≡ Some v)
-
--- nothing came yet of ballot b of i: p heard no promise of it and no acceptance, and nothing is proposed at it
-pub record IsUntried (w : History) (p i b : ℕ) : Type 0 where
-  pub unpromised : (q : ℕ) → promisers w p i b q ≡ false
-  pub unaccepted : (q : ℕ) → accepters w p i b q ≡ false
-  pub unsaid : proposed w i b ≡ None

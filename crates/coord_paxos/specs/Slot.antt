@@ -4,7 +4,7 @@ use Rattle.std.specs.List.{count_by}
 use Rattle.mencius_base.specs.declared.message.Value.{Value}
 use Rattle.mencius_base.specs.declared.message.Vote.{Vote}
 use Rattle.mencius_base.specs.Members.{Membership, majority}
-use Rattle.coord_paxos.specs.Instance.{higher_vote, value_or_noop}
+use Rattle.mencius_model.specs.Instance.{higher_vote, value_or_noop}
 use Rattle.coord_paxos.specs.SlotState.{SlotState}
 use Rattle.coord_paxos.specs.Fresh.{nobody}
 use Rattle.coord_paxos.specs.declared.Answer.{Answer}

@@ -6,7 +6,8 @@
 //! slot of server p at instance i, asked of the history w.
 
 ghost use Rattle.coord_paxos.specs.CallLaws.{AcceptanceRepeats, BeginEmpties, FirstStands, GreaterReplaces, LearnedStays, LearnsOwnProposal, PromiseBinds, PromiseGrows, PromiseRepeats, PromisesAbove, ProposalStays, ProposesOnce};
-ghost use Rattle.coord_paxos.specs.Laws.{Accepts, AnswersAcceptances, AnswersKnown, AnswersNothing, AnswersPromise, AnswersPromises, Begins, CountsAcceptances, CountsPromises, IgnoresAcceptances, IgnoresPromises, LeavesProposals, LeavesRepeats, LeavesSuggestions, LeavesUncounted, LeavesUntouched, Learns, Prepares, ReportsGreatest, ReportsHeard, ReportsSome, Starts, Suggests};
+ghost use Rattle.coord_paxos.specs.Laws.{Accepts, AnswersAcceptances, AnswersKnown, AnswersNothing, AnswersPromise, AnswersPromises, Begins, CountsAcceptances, CountsPromises, IgnoresAcceptances, IgnoresPromises, LeavesProposals, LeavesRepeats, LeavesSuggestions, LeavesUncounted, LeavesUntouched, Learns, Prepares, Starts, Suggests};
+ghost use Rattle.mencius_model.specs.Laws.{ReportsGreatest, ReportsHeard, ReportsSome};
 
 /// Where nothing happened, the slot is [`Slot::new`](crate::Slot::new)'s, and the owner's first
 /// suggestion leaves what [`suggest`](crate::Slot::suggest) makes of it.

@@ -10,7 +10,7 @@
 ghost use Rattle.std.specs.Prelude.{◌≡◌, ◌<◌, ◌≤◌, ◌==◌, Some, None, is_none, nat_le, slice_set, take, true};
 ghost use Rattle.coord_paxos.specs.Fresh.{new_slot};
 ghost use Rattle.coord_paxos.specs.Slot.{accept_answer, after_accept, after_acceptance, after_begin, after_learn, after_prepare, after_promise, is_majority, prepare_answer, promise_answer, to_learn, to_propose, with_accept, with_promise};
-ghost use Rattle.coord_paxos.specs.Instance.{higher_vote, value_or_noop};
+ghost use Rattle.mencius_model.specs.Instance.{higher_vote, value_or_noop};
 ghost use Rattle.mencius_base.specs.declared.message.Value.TheVariants.{Ticket};
 
 use mencius_base::{Ballot, Members, Value, Vote};

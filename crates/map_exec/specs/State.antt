@@ -3,7 +3,7 @@ use Rattle.std.specs.Prelude.{ℕ, List, [], ◌∷◌, ◌++◌, refl}
 use Rattle.std.specs.Coded.{Coded, code_by, coded×, coded_list, coded_ℕ}
 use Rattle.std.specs.FinMap as finite
 use Rattle.mencius_base.specs.declared.command.Command.{Command}
-use Rattle.map_exec.specs.Store.{Store, apply}
+use Rattle.mencius_model.specs.Store.{Store, apply}
 
 pub record ExecutorState : Type 0 where
   pub store : Store

@@ -3,11 +3,11 @@ use Rattle.std.specs.Prelude.{ℕ, List, [], ◌∷◌, ◌++◌, codes, decimal
 use Rattle.std.specs.List.{flat_map, range_with_len}
 use Rattle.mencius_base.specs.declared.command.Command.{Command}
 use Rattle.mencius_base.specs.declared.command.CommandId.{CommandId}
-use Rattle.mencius_base.specs.History.{History, events, sent, submitted}
+use Rattle.mencius_model.specs.History.{History, events, sent, submitted}
 use Rattle.mencius_base.specs.Members.{Membership}
-use Rattle.mencius_server.specs.Server.{done, front}
-use Rattle.mencius_cluster.specs.Answers.{Reply, Is, command_at, reply_of}
-use Rattle.mencius_cluster.specs.Executed.{executed}
+use Rattle.mencius_model.specs.Server.{done, front}
+use Rattle.mencius_model.specs.Replying.{Reply, Is, command_at, reply_of}
+use Rattle.mencius_model.specs.Executed.{executed}
 
 abbrev pub id_text : CommandId → List ℕ
 id_text id = decimal id.client ++ 46 ∷ decimal id.number

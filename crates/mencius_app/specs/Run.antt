@@ -1,11 +1,11 @@
 -- The text of a run, and which input it is of.
 use Rattle.std.specs.Prelude.{◌≡◌, ◌⊎◌, ℕ, Bool, true, nat_lt, if◌then◌else◌, IfSome, Result, Ok, Err, List, [], ◌∷◌, ◌++◌, length, codes, Option, Some, None}
 use Rattle.std.specs.FinMap as finite
-use Rattle.map_exec.specs.Store.{store_after}
+use Rattle.mencius_model.specs.Store.{store_after}
 use Rattle.mencius_base.specs.declared.command.Command.{Command}
-use Rattle.mencius_server.specs.Next.{replay}
-use Rattle.mencius_cluster.specs.Answers.{commands_of, longest_at}
-use Rattle.mencius_cluster.specs.Executed.{executed}
+use Rattle.mencius_model.specs.Next.{replay}
+use Rattle.mencius_model.specs.Replying.{commands_of, longest_at}
+use Rattle.mencius_model.specs.Executed.{executed}
 use Rattle.mencius_cluster.specs.State.{ClusterState, history_of}
 use Rattle.mencius_input.specs.declared.fault.AppFault.{AppFault}
 use Rattle.mencius_input.specs.declared.fault.AppFault.TheVariants.{BadLimit, BoardFailed, NoMemory}

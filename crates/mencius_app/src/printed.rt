@@ -4,8 +4,8 @@ ghost use Rattle.std.specs.Prelude.{◌≡◌, ◌<◌, ◌⊎◌, ◌++◌, ◌
 ghost use Rattle.std.specs.Io.KnownBytes.{Appends, Keeps};
 ghost use Rattle.mencius_input.specs.Ends.{HasFailed, WritesFront};
 ghost use Rattle.mencius_app.specs.Report.{answer_text, counts_line, history_text, id_text, reply_line, reply_lines, reply_of_command, report_text, server_line, server_lines, spaced_id};
-ghost use Rattle.mencius_base.specs.History.{submitted};
-ghost use Rattle.mencius_cluster.specs.Answers.{reply_of};
+ghost use Rattle.mencius_model.specs.History.{submitted};
+ghost use Rattle.mencius_model.specs.Replying.{reply_of};
 ghost use Rattle.mencius_cluster.specs.State.{history_of};
 
 use itoa::Buffer;

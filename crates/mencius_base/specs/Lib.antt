@@ -4,4 +4,3 @@ pub mod Command
 pub mod Message
 pub mod Refusal
 pub mod Outbox
-pub mod History

@@ -4,9 +4,9 @@ use mathlib.Core.List.{IsPrefix}
 use Rattle.mencius_base.specs.declared.event.Event.{Event}
 use Rattle.mencius_base.specs.declared.refusal.Refusal.{Refusal}
 use Rattle.mencius_base.specs.Members.{Membership}
-use Rattle.mencius_server.specs.Next.{replay}
+use Rattle.mencius_model.specs.Next.{replay}
 use Rattle.mencius_cluster.specs.declared.cluster.Effect.{Effect}
-use Rattle.mencius_cluster.specs.Replying.{longest_commands}
+use Rattle.mencius_model.specs.Replying.{longest_commands}
 use Rattle.mencius_cluster.specs.State.{ClusterState, IsStepped, history_of}
 use Rattle.mencius_board.specs.Boards.{IsSteady, longest}
 use Rattle.mencius_board.proofs.Prefixes.{prefix_self}

@@ -3,9 +3,9 @@ use Rattle.std.specs.Prelude.{ℕ, ◌≡◌, ◌≤◌, List, [], Option, Some,
 use mathlib.Core.List.{IsPrefix}
 use Rattle.logbook.specs.Pages.{Book}
 use Rattle.mencius_base.specs.declared.command.Command.{Command}
-use Rattle.mencius_server.specs.Next.{replay}
-use Rattle.mencius_cluster.specs.Laws.{LongestCommandsGrowing}
-use Rattle.mencius_cluster.specs.Replying.{longest_commands}
+use Rattle.mencius_model.specs.Next.{replay}
+use Rattle.mencius_model.specs.Laws.{LongestCommandsGrowing}
+use Rattle.mencius_model.specs.Replying.{longest_commands}
 use Rattle.mencius_cluster.specs.State.{ClusterState, history_of}
 use Rattle.mencius_board.specs.Marks.{MarkState, VersionState, mark_of}
 use Rattle.mencius_board.specs.Shown.{book_of}

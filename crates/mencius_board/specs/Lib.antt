@@ -3,7 +3,6 @@ pub mod Plans
 pub mod Choices
 pub mod Marks
 pub mod Rules
-pub mod Maps
 pub mod Shown
 pub mod Pending
 pub mod Boards

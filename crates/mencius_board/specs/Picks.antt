@@ -4,7 +4,7 @@ use Rattle.std.specs.Prelude.{slice_get, slice_index, if◌then◌else◌}
 use Rattle.mencius_base.specs.declared.event.Event.TheVariants.{Deliver, Execute, Lose, Retry, Suspect}
 use Rattle.mencius_base.specs.declared.message.Message.{Message}
 use Rattle.mencius_base.specs.declared.message.Message.TheVariants.{Accepted, Promise}
-use Rattle.mencius_base.specs.History.{sent}
+use Rattle.mencius_model.specs.History.{sent}
 use Rattle.mencius_cluster.specs.State.{ClusterState, history_of}
 use Rattle.mencius_board.specs.declared.choice.Pick.{Pick}
 use Rattle.mencius_board.specs.declared.choice.Pick.TheVariants.{NextCommand, Is}

@@ -1,6 +1,6 @@
 ghost use Rattle.std.specs.Prelude.{◌≡◌, ◌<◌, ◌^◌, ◌++◌, IfOk, OnOk, length};
-ghost use Rattle.mencius_base.specs.History.{option_to_list};
-ghost use Rattle.mencius_cluster.specs.Replying.{command_at};
+ghost use Rattle.mencius_model.specs.History.{option_to_list};
+ghost use Rattle.mencius_model.specs.Replying.{command_at};
 ghost use Rattle.mencius_cluster.specs.State.{history_of};
 ghost use Rattle.mencius_board.specs.Boards.{longest};
 

@@ -4,7 +4,7 @@ ghost use Rattle.std.specs.String.{string_bytes};
 ghost use Rattle.left_right.specs.Sides.{view};
 ghost use Rattle.logbook.specs.Pages.{Book};
 ghost use Rattle.mencius_board.specs.Faults.{IsLookupFault};
-ghost use Rattle.mencius_board.specs.Maps.{value_at};
+ghost use Rattle.mencius_model.specs.Store.{value_at};
 ghost use Rattle.mencius_board.specs.Shown.{Follows, book_of};
 ghost use Rattle.mencius_board.specs.Pending.{IsMarked, added};
 

@@ -1,6 +1,6 @@
 //! The table by which three words pick an event.
 ghost use Rattle.std.specs.Prelude.{◌≡◌, ◌<◌, ◌%◌, length, slice_get, slice_index};
-ghost use Rattle.mencius_base.specs.History.{sent};
+ghost use Rattle.mencius_model.specs.History.{sent};
 ghost use Rattle.mencius_cluster.specs.State.{history_of};
 ghost use Rattle.mencius_board.specs.Picks.{addressee_or, message_named, pick_by, pick_of};
 

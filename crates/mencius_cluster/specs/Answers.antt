@@ -2,9 +2,13 @@
 use Rattle.std.specs.Prelude.{ℕ, Option, Some, None, nat_lt, if◌then◌else◌, string_bytes}
 use Rattle.std.specs.Option.{option_map}
 use Rattle.mencius_base.specs.Members.{Membership}
+use Rattle.mencius_model.specs.Replying.{Reply, NotYet, Is, commands_of}
 use Rattle.mencius_cluster.specs.declared.submission.Answered.{Answered}
 use Rattle.mencius_cluster.specs.declared.submission.Answered.TheVariants.{Pending, Given}
-pub use Rattle.mencius_cluster.specs.Replying.{Reply, NotYet, Is, command_at, commands_of, executor_at, place_of, reply_from, reply_at, reply_of_place, reply_of, longest_below, longest_at, longest_commands}
+use Rattle.mencius_model.specs.History.{History}
+use Rattle.mencius_model.specs.Executed.{executed}
+use Rattle.mencius_model.specs.Store.{store_after}
+use Rattle.map_exec.specs.State.{ExecutorState}
 
 -- a stored reply, its text as bytes
 abbrev pub bytes_in : Answered → Reply
@@ -18,3 +22,7 @@ of_member m s o = if nat_lt s m.count then o else None
 -- the same, where there always is an answer
 abbrev pub if_member : {A : Type 0} → Membership → ℕ → A → Option A
 if_member m s x = of_member m s (Some x)
+
+-- the executor of a server
+abbrev pub executor_at : History → ℕ → ExecutorState
+executor_at w s = record { store = store_after (commands_of w (executed w s)); history = executed w s }

@@ -1,20 +1,15 @@
 -- What an execution does to a server's executor and to the stored commands.
-use Rattle.std.specs.Prelude.{◌≡◌, ℕ, Bool, true, false, List, Option, Some, slice_get, ◌==◌, ◌<◌}
+use Rattle.std.specs.Prelude.{◌≡◌, ℕ, List, Some, slice_get, ◌==◌, ◌<◌}
 use Rattle.std.specs.FinMap as finite
 use Rattle.indexmap.specs.IndexMap.{set_value_at}
 use Rattle.mencius_base.specs.declared.message.Value.{Value}
 use Rattle.mencius_base.specs.declared.message.Value.TheVariants.{Noop, Ticket}
 use Rattle.map_exec.specs.State.{ExecutorState, after_execution}
-use Rattle.map_exec.specs.Store.{key_of}
+use Rattle.mencius_model.specs.Store.{key_of}
 use Rattle.mencius_cluster.specs.declared.submission.Submission.{Submission}
-use Rattle.mencius_cluster.specs.Answers.{Reply, NotYet, Is, bytes_in}
+use Rattle.mencius_cluster.specs.Answers.{bytes_in}
 use Rattle.mencius_cluster.specs.Tables.{Row}
-
--- the reply that stays: the first one that the home gave
-abbrev pub first_reply : Bool → Reply → Option (List ℕ) → Reply
-first_reply true NotYet text = Is text
-first_reply true (Is old) text = Is old
-first_reply false r text = r
+use Rattle.mencius_model.specs.Replying.{first_reply}
 
 -- server s executed the command of ticket t: x became y, and the command's row has the reply if s is its home
 pub record IsExecution (s t : ℕ) (x y : ExecutorState) (old new : List Row) : Type 0 where

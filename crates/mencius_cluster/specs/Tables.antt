@@ -10,15 +10,16 @@ use Rattle.mencius_base.specs.declared.event.Event.{Event}
 use Rattle.mencius_base.specs.declared.event.Event.TheVariants.{Submit, Deliver, Lose, Suspect, Retry, Execute}
 use Rattle.mencius_base.specs.Members.{Membership, below, most_events, most_messages}
 use Rattle.mencius_base.specs.Outbox.{Outgoing}
-use Rattle.mencius_base.specs.History.{History, events, sent, submitted}
-use Rattle.mencius_server.specs.Server.{done}
-use Rattle.mencius_server.specs.Next.{is_loss, replay}
+use Rattle.mencius_model.specs.History.{History, events, sent, submitted}
+use Rattle.mencius_model.specs.Server.{done}
+use Rattle.mencius_model.specs.Next.{is_loss, replay, history_or_none}
 use Rattle.mencius_server.specs.State.{ServerState}
 use Rattle.mencius_server.specs.Reached.{server_at}
 use Rattle.map_exec.specs.State.{ExecutorState}
 use Rattle.mencius_cluster.specs.declared.submission.Submission.{Submission}
-use Rattle.mencius_cluster.specs.State.{entries_of, history_or_none}
-use Rattle.mencius_cluster.specs.Answers.{executor_at, reply_at, bytes_in}
+use Rattle.mencius_cluster.specs.State.{entries_of}
+use Rattle.mencius_cluster.specs.Answers.{executor_at, bytes_in}
+use Rattle.mencius_model.specs.Replying.{reply_at}
 
 -- an identity, with what is stored of its command
 abbrev pub Row : Type 0

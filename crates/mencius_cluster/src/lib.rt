@@ -5,8 +5,8 @@
 #![tactic(auto)]
 
 mod cluster;
-pub mod laws;
 mod submission;
 
 pub use cluster::{Cluster, Effect};
+pub use mencius_model::laws;
 pub use submission::Answered;

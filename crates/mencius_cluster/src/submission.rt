@@ -6,9 +6,10 @@ ghost use Rattle.mencius_cluster.specs.declared.submission.Answered.TheVariants.
 ghost use Rattle.std.specs.FinMap as finite;
 ghost use Rattle.mencius_base.specs.declared.refusal.Refusal.TheVariants.{NoMemory};
 ghost use Rattle.map_exec.specs.State.{after_execution};
-ghost use Rattle.map_exec.specs.Store.{key_of};
+ghost use Rattle.mencius_model.specs.Store.{key_of};
 ghost use Rattle.mencius_cluster.specs.Answers.{bytes_in};
-ghost use Rattle.mencius_cluster.specs.Performed.{IsPerformed, IsTicketBelow, first_reply};
+ghost use Rattle.mencius_cluster.specs.Performed.{IsPerformed, IsTicketBelow};
+ghost use Rattle.mencius_model.specs.Replying.{first_reply};
 
 use indexmap::IndexMap;
 use map_exec::{Executor, Reply};

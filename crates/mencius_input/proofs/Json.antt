@@ -1,11 +1,9 @@
 -- Whether the bytes are JSON.
-use Rattle.std.proofs.Common.{◌≡◌, List, ℕ, None, true, false, refl, cond, Bool}
-use Rattle.std.specs.Prelude.{IsUtf8}
+use Rattle.std.proofs.Common.{◌≡◌, List, ℕ, None, true, false, refl, cond, Bool, length}
+use Rattle.std.specs.Prelude.{IsUtf8, String}
 use Rattle.std.specs.Str.{is_utf8}
 use Rattle.std.proofs.lemmas.Str.{IsUtf8-from_is_utf8, is_utf8-from_IsUtf8}
-use Rattle.std.specs.Prelude.{String}
 use Rattle.std.specs.declared.alloc.Global.{Global}
-use Rattle.std.proofs.Common.{length}
 use Rattle.serde_json.specs.Events.{members_len}
 use Rattle.serde_json.specs.View.{members_view}
 use Rattle.serde_json.proofs.Views.{members_len-members_view}

@@ -10,10 +10,9 @@ use Rattle.mencius_base.specs.declared.refusal.Refusal.{Refusal}
 use Rattle.mencius_base.specs.declared.refusal.Refusal.TheVariants.{NoMemory, NothingToRevoke, RoundsFull}
 use Rattle.mencius_base.specs.Outbox.{Outgoing, outbox_full}
 use Rattle.mencius_base.specs.Refusal.{IsRefusedFor}
-use Rattle.mencius_base.specs.Members.{first_item}
+use Rattle.mencius_base.specs.Members.{first_item, Membership, below, instances, owner}
 use Rattle.mencius_base.specs.declared.message.Message.{Message}
-use Rattle.mencius_base.specs.Members.{Membership, below, instances, owner}
-use Rattle.coord_paxos.proofs.Below.{any-filter, any-instances, count_by-below_le, count_by-below_more, filter-below_more, filter-below_zero, get_or-map-instances, length-map-instances}
+use Rattle.mencius_model.proofs.Below.{any-filter, any-instances, count_by-below_le, count_by-below_more, filter-below_more, filter-below_zero, get_or-map-instances, length-map-instances}
 use Rattle.coord_paxos.specs.SlotState.{SlotState}
 use Rattle.coord_paxos.specs.Fresh.{new_slot}
 use Rattle.coord_paxos.specs.Slot.{after_begin}

@@ -8,7 +8,7 @@ use Rattle.std.proofs.lemmas.Bool.{cases_Bool, and_left, and_parts, and_right, e
 use Rattle.mencius_base.specs.declared.message.Message.{Message}
 use Rattle.mencius_base.specs.declared.message.Message.TheVariants.{Prepare}
 use Rattle.mencius_base.specs.Members.{Membership, below, instances, owner}
-use Rattle.coord_paxos.proofs.Below.{count_by-below_none, filter-below_more, filter-below_none, filter-below_zero, get_or-map-instances, instances-below}
+use Rattle.mencius_model.proofs.Below.{count_by-below_none, filter-below_more, filter-below_none, filter-below_zero, get_or-map-instances, instances-below}
 use Rattle.coord_paxos.specs.SlotState.{SlotState}
 use Rattle.coord_paxos.specs.Slot.{after_begin}
 use Rattle.coord_paxos.specs.Fresh.{new_slot}

@@ -5,7 +5,7 @@ use Rattle.std.proofs.Math.Nat.{div-add-mod, mul-le-mul_left, mod-eq_of_lt, add-
 use Rattle.std.proofs.lemmas.Bool.{cases_eq, cases_lt, eq-eqb, ne_eqb, and_right}
 use Rattle.mencius_base.proofs.Owned.{first_owned_least, first_owned_owner}
 use Rattle.mencius_base.specs.Members.{Membership, below, first_owned, owner}
-use Rattle.coord_paxos.proofs.Below.{count_by-below_more, count_by-below_zero}
+use Rattle.mencius_model.proofs.Below.{count_by-below_more, count_by-below_zero}
 use Rattle.mencius_server.specs.declared.ranges.Span.{Span}
 use Rattle.mencius_server.specs.Ranges.{IsOwned, IsRising, covers, is_within, reach_of}
 use Rattle.mencius_server.proofs.Spans.{within_before, within_past, within_yes}

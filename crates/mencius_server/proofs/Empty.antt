@@ -3,8 +3,8 @@ use Rattle.std.proofs.Common.{◌≡◌, ℕ, ◌<◌, ◌≤◌, List, [], map,
 use Rattle.std.specs.Prelude.{replicate}
 use Rattle.std.proofs.lemmas.List.{length-replicate}
 use Rattle.mencius_base.specs.Members.{Membership, instances}
-use Rattle.mencius_server.specs.Server.{front}
-use Rattle.coord_paxos.proofs.Below.{instances-below, map-below_constant}
+use Rattle.mencius_model.specs.Server.{front}
+use Rattle.mencius_model.proofs.Below.{instances-below, map-below_constant}
 use Rattle.coord_paxos.proofs.SlotLaws.{slot_at-empty}
 use Rattle.coord_paxos.specs.Fresh.{new_slot}
 use Rattle.coord_paxos.specs.Reached.{slot_at}

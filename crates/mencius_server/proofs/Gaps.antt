@@ -5,7 +5,7 @@ use Rattle.std.specs.Prelude.{is_none}
 use Rattle.std.proofs.lemmas.Bool.{and_left, and_right, cases_eq, cases_lt, eq-eqb, le-leb, le-ltb, lt-leb, lt-ltb, ne_eqb}
 use Rattle.mencius_base.specs.declared.message.Message.{Message}
 use Rattle.mencius_base.specs.Members.{Membership, below, owner}
-use Rattle.coord_paxos.proofs.Below.{count_by-below_none, filter-below_none}
+use Rattle.mencius_model.proofs.Below.{count_by-below_none, filter-below_none}
 use Rattle.coord_paxos.specs.SlotState.{SlotState}
 use Rattle.mencius_server.specs.State.{ServerState, slot}
 use Rattle.mencius_server.specs.Machine.{is_free_at, is_revoked, is_skipped, slot_given}

@@ -1,26 +1,22 @@
 -- What a server does on a message is what the model says.
 use Rattle.std.proofs.Common.{◌≡◌, ℕ, List, ◌∷◌, ◌++◌, Some, Result, Ok, Err, OnOk, IfOk, length, ap, subst, sym, ◌∙◌, true}
-use Rattle.std.specs.Prelude.{slice_get}
+use Rattle.std.specs.Prelude.{slice_get, IsTrue}
 use Rattle.mencius_base.specs.declared.refusal.Refusal.{Refusal}
 use Rattle.mencius_base.specs.Outbox.{Outgoing, outbox_full}
 use Rattle.mencius_base.specs.Refusal.{IsRefusedFor}
 use Rattle.mencius_base.specs.declared.message.Message.{Message}
 use Rattle.mencius_base.specs.declared.event.Event.TheVariants.{Deliver}
-use Rattle.mencius_base.specs.History.{History, sent}
-use Rattle.mencius_server.specs.Next.{lines, learnings}
-use Rattle.mencius_base.specs.History.{messages_of}
+use Rattle.mencius_model.specs.History.{History, sent, messages_of, Heard, Line, followed_by}
+use Rattle.mencius_model.specs.Next.{lines, learnings, with_event, delivery, on_accepted, on_message, on_promise}
 use Rattle.mencius_server.specs.State.{ServerState}
 use Rattle.mencius_server.specs.Machine.{sent_on, after_hearing, learned_on}
-use Rattle.mencius_server.specs.Reached.{IsAt, IsStep, refusal_of, server_at, with_event}
-use Rattle.std.specs.Prelude.{IsTrue}
+use Rattle.mencius_server.specs.Reached.{IsAt, IsStep, refusal_of, server_at}
 use Rattle.std.proofs.lemmas.Bool.{and_parts, eqb-true, ltb-true}
 use Rattle.mencius_base.specs.declared.message.Message.TheVariants.{Suggest, Skip, Accepted, Prepare, Promise, Propose, Learn}
 use Rattle.mencius_base.specs.Members.{Membership}
-use Rattle.mencius_base.specs.History.{Heard, Line, followed_by}
-use Rattle.mencius_server.specs.Next.{delivery, on_accepted, on_message, on_promise}
 use Rattle.mencius_base.specs.Message.{goes_to, is_addressed, is_within}
-use Rattle.coord_paxos.proofs.SlotHistory.{IsVoted}
-use Rattle.mencius_server.proofs.Sound.{IsSound, sound}
+use Rattle.mencius_model.specs.Instance.{IsVoted}
+use Rattle.mencius_model.proofs.Sound.{IsSound, sound}
 use Rattle.mencius_server.proofs.ServerHistory.{Meets, meets_propose}
 use Rattle.mencius_server.proofs.HearsSkip.{meets_skip}
 use Rattle.mencius_server.proofs.HearsMore.{meets_accepted, meets_learn, meets_prepare, meets_promise, meets_suggest}

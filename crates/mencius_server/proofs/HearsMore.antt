@@ -7,19 +7,18 @@ use Rattle.mencius_base.specs.declared.message.Value.{Value}
 use Rattle.mencius_base.specs.declared.message.Value.TheVariants.{Ticket}
 use Rattle.mencius_base.specs.declared.message.Vote.{Vote}
 use Rattle.mencius_base.specs.Members.{Membership, below, first_owned, majority, owner}
-use Rattle.mencius_base.specs.History.{Line, Heard, Sent, Learned, History, followed_by, sent}
-use Rattle.coord_paxos.specs.Instance.{promised, proposed, trying, learned, accepted, accepters, promisers, reported, vote}
-use Rattle.mencius_server.specs.Server.{front}
-use Rattle.coord_paxos.specs.Instance.{are_majority, value_or_noop}
-use Rattle.mencius_base.specs.History.{messages_of}
-use Rattle.mencius_server.specs.Next.{learnings, on_suggest, on_prepare, on_accepted, on_promise, on_learn, decision, promise}
-use Rattle.coord_paxos.proofs.Lines.{greater-none}
-use Rattle.coord_paxos.proofs.Below.{count_by-map}
+use Rattle.mencius_model.specs.History.{Line, Heard, Sent, Learned, History, followed_by, sent, messages_of}
+use Rattle.mencius_model.specs.Instance.{promised, proposed, trying, learned, accepted, accepters, promisers, reported, vote, are_majority, value_or_noop, IsVoted}
+use Rattle.mencius_model.specs.Server.{front}
+use Rattle.mencius_model.specs.Next.{learnings, on_suggest, on_prepare, on_accepted, on_promise, on_learn, decision, promise}
+use Rattle.mencius_model.proofs.Lines.{greater-none}
+use Rattle.mencius_model.proofs.Below.{count_by-map}
 use Rattle.coord_paxos.specs.SlotState.{SlotState}
 use Rattle.coord_paxos.specs.Slot.{accept_answer, promise_answer, after_promise, proposing, to_propose, with_promise, after_accept, after_prepare, after_learn, after_acceptance, is_majority, learning, to_learn, with_accept}
 use Rattle.coord_paxos.specs.Reached.{if_own, slot_at}
-use Rattle.coord_paxos.proofs.SlotHistory.{slot_at-quiet, slot_at-heard, slot_at-heard_acceptance, slot_at-heard_promise, slot_at-proposed, quiet_propose, IsVoted, slot_at-accepted, slot_at-promised, slot_at-learned, quiet_accepted, quiet_promise, quiet_learned, quiet_learn, quiet_skip, IsUncounted}
-use Rattle.coord_paxos.proofs.Tally.{or-true}
+use Rattle.coord_paxos.proofs.SlotHistory.{slot_at-quiet, slot_at-heard, slot_at-heard_acceptance, slot_at-heard_promise, slot_at-proposed, slot_at-accepted, slot_at-promised, slot_at-learned}
+use Rattle.mencius_model.proofs.Quiet.{quiet_propose, quiet_accepted, quiet_promise, quiet_learned, quiet_learn, quiet_skip, IsUncounted}
+use Rattle.mencius_model.proofs.Tally.{or-true}
 use Rattle.mencius_server.specs.State.{slot, with_slot, with_slot_and_front}
 use Rattle.mencius_server.specs.Machine.{next_front, decision_sent, one_if_some, proposal_sent}
 use Rattle.mencius_server.specs.Reached.{server_at}

@@ -7,17 +7,17 @@ use Rattle.mencius_base.specs.declared.message.Message.TheVariants.{Skip}
 use Rattle.mencius_base.specs.declared.message.Value.{Value}
 use Rattle.mencius_base.specs.declared.message.Value.TheVariants.{Noop}
 use Rattle.mencius_base.specs.Members.{Membership, below, instances}
-use Rattle.mencius_base.specs.History.{Heard, Learned, Line, History, earlier, followed_by, sent}
-use Rattle.coord_paxos.specs.Instance.{learned, trying}
-use Rattle.mencius_server.specs.Server.{front}
-use Rattle.mencius_server.specs.Next.{is_given_up, is_learning, learnings, on_skip}
-use Rattle.mencius_base.specs.History.{messages_of}
-use Rattle.coord_paxos.proofs.Below.{map-instances_same}
+use Rattle.mencius_model.specs.History.{Heard, Learned, Line, History, earlier, followed_by, sent, messages_of}
+use Rattle.mencius_model.specs.Instance.{learned, trying}
+use Rattle.mencius_model.specs.Server.{front}
+use Rattle.mencius_model.specs.Next.{is_given_up, is_learning, learnings, on_skip}
+use Rattle.mencius_model.proofs.Below.{map-instances_same}
 use Rattle.coord_paxos.specs.SlotState.{SlotState}
 use Rattle.coord_paxos.specs.Fresh.{new_slot}
 use Rattle.coord_paxos.specs.Slot.{after_learn}
 use Rattle.coord_paxos.specs.Reached.{slot_at}
-use Rattle.coord_paxos.proofs.SlotHistory.{IsUncounted, quiet_learned, slot_at-heard, slot_at-learning, slot_at-quiet}
+use Rattle.mencius_model.proofs.Quiet.{IsUncounted, quiet_learned}
+use Rattle.coord_paxos.proofs.SlotHistory.{slot_at-heard, slot_at-learning, slot_at-quiet}
 use Rattle.mencius_server.specs.State.{ServerState}
 use Rattle.mencius_server.specs.Machine.{is_given, is_skipped, slot_given}
 use Rattle.mencius_server.specs.Reached.{server_at}

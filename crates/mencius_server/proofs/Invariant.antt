@@ -1,23 +1,21 @@
 -- Each change of a server's fields keeps what they keep.
-use Rattle.std.proofs.Common.{◌≡◌, ℕ, ◌+◌, ◌<◌, ◌≤◌, ◌⊎◌, ◌||◌, Bool, true, false, Option, None, Some, inl, inr, ⊎_elim, cond, eqb, get_or, length, List, set, refl, sym, ◌∙◌, ap, subst, arith}
+use Rattle.std.proofs.Common.{◌≡◌, ℕ, ◌+◌, ◌<◌, ◌≤◌, ◌⊎◌, ◌||◌, Bool, true, false, Option, None, Some, inl, inr, ⊎_elim, cond, eqb, get_or, length, List, set, refl, sym, ◌∙◌, ap, subst, arith, filter, map, ltb, min}
 use Rattle.std.specs.Prelude.{is_none}
 use Rattle.std.proofs.lemmas.Bool.{and_parts, cases_Bool, cases_lt, eqb-true, leb-true, ne_eqb}
 use Rattle.mencius_base.specs.declared.message.Value.{Value}
 use Rattle.mencius_base.specs.declared.message.Value.TheVariants.{Noop, Ticket}
 use Rattle.mencius_base.specs.Members.{Membership, instances, owner}
-use Rattle.coord_paxos.proofs.Below.{get_or-map-instances, length-map-instances}
+use Rattle.mencius_model.proofs.Below.{get_or-map-instances, length-map-instances}
 use Rattle.coord_paxos.specs.SlotState.{SlotState}
 use Rattle.coord_paxos.specs.Fresh.{new_slot}
 use Rattle.coord_paxos.specs.Slot.{after_learn}
 use Rattle.mencius_server.specs.Kept.{IsKept}
 use Rattle.mencius_server.specs.Notes.{Noted}
 use Rattle.mencius_server.specs.Machine.{after_skip, after_submit, after_suspect, is_revoked, is_round_full, is_skipped, is_suspected, is_ticket, round_after, slot_given, slot_revoked, suggested_at, suggested_in}
-use Rattle.mencius_server.specs.Server.{is_noop, ticket_of}
+use Rattle.mencius_model.specs.Server.{is_noop, ticket_of}
 use Rattle.mencius_server.specs.State.{FitsAt, IsServer, ServerState, slot, with_slot_and_front}
 use Rattle.mencius_server.specs.Known.{KnownState, is_open, is_round_full_at, known_after_skip, known_after_suspect, known_slot, with_known}
 use Rattle.std.specs.List.{count_by, list_any}
-use Rattle.std.proofs.Common.{filter, map}
-use Rattle.std.proofs.Common.{ltb, min}
 use Rattle.std.proofs.lemmas.List.{get_or-set_other, get_or_past, length-set}
 use Rattle.mencius_server.proofs.Begins.{IsServer-suspect}
 use Rattle.mencius_server.proofs.Gaps.{unrevoked_other}

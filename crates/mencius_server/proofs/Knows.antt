@@ -7,7 +7,7 @@ use Rattle.std.proofs.lemmas.List.{get_or-set_other}
 use Rattle.std.proofs.lemmas.Grind.{get_or-set_at}
 use Rattle.std.proofs.lemmas.Bool.{cases_eq, cases_lt, eq-eqb, ne_eqb}
 use Rattle.mencius_base.specs.Members.{Membership, below, instances, owner}
-use Rattle.coord_paxos.proofs.Below.{get_or-map-instances, instances-below, map-below_by, map-instances_same, map-instances_set}
+use Rattle.mencius_model.proofs.Below.{get_or-map-instances, instances-below, map-below_by, map-instances_same, map-instances_set}
 use Rattle.coord_paxos.specs.SlotState.{SlotState}
 use Rattle.coord_paxos.specs.Fresh.{new_slot}
 use Rattle.coord_paxos.specs.Slot.{learning, proposing, to_learn, to_propose, with_accept, with_promise}

@@ -8,11 +8,11 @@ use Rattle.std.proofs.lemmas.Grind.{get_or-set_at}
 use Rattle.mencius_base.specs.declared.message.Value.{Value}
 use Rattle.mencius_base.specs.declared.message.Value.TheVariants.{Ticket}
 use Rattle.mencius_base.specs.Members.{instances, owner}
-use Rattle.coord_paxos.proofs.Below.{any-instances, any-instances_found}
+use Rattle.mencius_model.proofs.Below.{any-instances, any-instances_found}
 use Rattle.coord_paxos.specs.SlotState.{SlotState}
 use Rattle.coord_paxos.specs.Fresh.{new_slot}
 use Rattle.mencius_server.specs.Machine.{after_submit, is_suggested_past, is_ticket, suggested_at, waits_at, waits_with}
-use Rattle.mencius_server.specs.Server.{is_noop, ticket_of, unless}
+use Rattle.mencius_model.specs.Server.{is_noop, ticket_of, unless}
 use Rattle.mencius_server.specs.State.{IsServer, ServerState, slot}
 
 -- two tests that follow from each other

@@ -6,7 +6,7 @@ use Rattle.std.proofs.lemmas.Grind.{get_or-set_at}
 use Rattle.mencius_base.specs.Members.{Membership, owner}
 use Rattle.coord_paxos.specs.SlotState.{SlotState}
 use Rattle.mencius_server.specs.Machine.{is_ticket, suggested_in}
-use Rattle.mencius_server.specs.Server.{ticket_of}
+use Rattle.mencius_model.specs.Server.{ticket_of}
 use Rattle.mencius_server.proofs.Gaps.{unowned}
 
 or-false : (b : Bool) → (b || false) ≡ b

@@ -5,7 +5,7 @@ use Rattle.std.specs.List.{count_by}
 use Rattle.std.proofs.Math.Nat.{mul-div_cancel_left}
 use Rattle.std.proofs.lemmas.Bool.{cases_Bool, and_left, and_parts, and_right, leb-true, ltb-true}
 use Rattle.mencius_base.specs.Members.{below, first_owned, instances, owner}
-use Rattle.coord_paxos.proofs.Below.{instances-below}
+use Rattle.mencius_model.proofs.Below.{instances-below}
 use Rattle.coord_paxos.specs.SlotState.{SlotState}
 use Rattle.mencius_server.specs.Ranges.{IsOwned, IsRising, covers, is_within, joined, reach_of}
 use Rattle.mencius_server.specs.Slots.{is_in, is_learned, is_told, stand_at}

@@ -5,7 +5,7 @@ use Rattle.std.specs.List.{count_by, list_any}
 use Rattle.std.proofs.Math.Nat.{mod-lt, zero-div}
 use Rattle.std.proofs.lemmas.Bool.{and_left, and_parts, and_right, cases_Bool, cases_eq, cases_lt, eq-eqb, eqb-true, le-leb, ltb-true, ne_eqb, or_cases}
 use Rattle.mencius_base.specs.Members.{Membership, below, first_owned, instances, owner}
-use Rattle.coord_paxos.proofs.Below.{filter-below_more, filter-below_none, filter-below_zero, filter-instances_same, instances-below}
+use Rattle.mencius_model.proofs.Below.{filter-below_more, filter-below_none, filter-below_zero, filter-instances_same, instances-below}
 use Rattle.coord_paxos.specs.SlotState.{SlotState}
 use Rattle.mencius_server.specs.Machine.{is_revoked, round_after}
 use Rattle.coord_paxos.specs.Fresh.{new_slot}

@@ -7,7 +7,7 @@ use Rattle.std.proofs.lemmas.List.Sums.{sum_by-cons, sum_by-set}
 use Rattle.std.proofs.lemmas.Option.{slice_get-get_or}
 use Rattle.std.proofs.lemmas.Grind.{get_or-set_at}
 use Rattle.std.proofs.lemmas.Bool.{cases_eq, cases_lt, eq-eqb, ne_eqb}
-use Rattle.coord_paxos.proofs.Below.{get_or-map-instances, length-map-instances, map-instances_set}
+use Rattle.mencius_model.proofs.Below.{get_or-map-instances, length-map-instances, map-instances_set}
 use Rattle.coord_paxos.specs.SlotState.{SlotState}
 use Rattle.mencius_server.specs.Places.{IsPlaced, slot_in, standing, standing_at}
 use Rattle.mencius_server.specs.Slots.{stand_at}

@@ -6,17 +6,17 @@ use Rattle.mencius_base.specs.declared.message.Message.{Message}
 use Rattle.mencius_base.specs.declared.message.Message.TheVariants.{Accepted, Propose}
 use Rattle.mencius_base.specs.declared.message.Value.{Value}
 use Rattle.mencius_base.specs.Members.{Membership}
-use Rattle.mencius_base.specs.History.{Line, Heard, Sent, History, followed_by, sent}
-use Rattle.coord_paxos.specs.Instance.{promised, proposed, trying}
-use Rattle.mencius_server.specs.Server.{front}
-use Rattle.mencius_base.specs.History.{messages_of}
-use Rattle.mencius_server.specs.Next.{learnings, on_propose}
-use Rattle.coord_paxos.proofs.Below.{get_or-map-instances, map-instances_same, map-instances_set}
+use Rattle.mencius_model.specs.History.{Line, Heard, Sent, History, followed_by, sent, messages_of}
+use Rattle.mencius_model.specs.Instance.{promised, proposed, trying}
+use Rattle.mencius_model.specs.Server.{front}
+use Rattle.mencius_model.specs.Next.{learnings, on_propose}
+use Rattle.mencius_model.proofs.Below.{get_or-map-instances, map-instances_same, map-instances_set}
 use Rattle.coord_paxos.specs.SlotState.{SlotState}
 use Rattle.coord_paxos.specs.Fresh.{new_slot}
 use Rattle.coord_paxos.specs.Slot.{after_accept}
 use Rattle.coord_paxos.specs.Reached.{slot_at}
-use Rattle.coord_paxos.proofs.SlotHistory.{slot_at-quiet, slot_at-heard, slot_at-accepted, quiet_accepted, IsUncounted}
+use Rattle.coord_paxos.proofs.SlotHistory.{slot_at-quiet, slot_at-heard, slot_at-accepted}
+use Rattle.mencius_model.proofs.Quiet.{quiet_accepted, IsUncounted}
 use Rattle.mencius_server.specs.State.{ServerState, slot, with_slot, with_slot_and_front}
 use Rattle.mencius_server.specs.Machine.{sent_on, after_hearing, learned_on}
 use Rattle.mencius_server.specs.Reached.{server_at}

@@ -8,26 +8,25 @@ use Rattle.mencius_base.specs.declared.refusal.Refusal.{Refusal}
 use Rattle.mencius_base.specs.declared.message.Message.{Message}
 use Rattle.mencius_base.specs.declared.message.Message.TheVariants.{Suggest}
 use Rattle.mencius_base.specs.declared.message.Value.TheVariants.{Ticket}
-use Rattle.mencius_base.specs.Members.{Membership, owner}
+use Rattle.mencius_base.specs.Members.{Membership, owner, first_item}
 use Rattle.mencius_base.specs.Outbox.{Outgoing}
 use Rattle.mencius_base.specs.Refusal.{IsRefusedFor}
-use Rattle.mencius_base.specs.History.{Line, Retried, Sent, Submitted, History, followed_by, greatest, heard, submitted}
-use Rattle.coord_paxos.specs.Instance.{accepted, proposed, proposed_by, tried_by, trying}
-use Rattle.mencius_server.specs.Server.{free, front, front_by, is_free, waiting}
-use Rattle.mencius_server.specs.Next.{again, lines, suggestion}
-use Rattle.mencius_base.specs.Members.{first_item}
-use Rattle.mencius_base.specs.History.{messages_of}
-use Rattle.coord_paxos.proofs.Below.{IsFound, find-instances_found, find-instances_same}
-use Rattle.coord_paxos.proofs.Lines.{greater-none, greatest_quiet, oldest_quiet, oldest_stays}
+use Rattle.mencius_model.specs.History.{Line, Retried, Sent, Submitted, History, followed_by, greatest, heard, submitted, messages_of}
+use Rattle.mencius_model.specs.Instance.{accepted, proposed, proposed_by, tried_by, trying, IsVoted}
+use Rattle.mencius_model.specs.Server.{free, front, front_by, is_free, waiting}
+use Rattle.mencius_model.specs.Next.{again, lines, suggestion}
+use Rattle.mencius_model.proofs.Below.{IsFound, find-instances_found, find-instances_same}
+use Rattle.mencius_model.proofs.Lines.{greater-none, greatest_quiet, oldest_quiet, oldest_stays}
 use Rattle.coord_paxos.specs.SlotState.{SlotState}
 use Rattle.coord_paxos.specs.Reached.{slot_at}
-use Rattle.coord_paxos.proofs.SlotHistory.{IsQuiet, IsVoted, quiet_suggest, slot_at-quiet, slot_at-suggested}
+use Rattle.mencius_model.proofs.Quiet.{IsQuiet, quiet_suggest}
+use Rattle.coord_paxos.proofs.SlotHistory.{slot_at-quiet, slot_at-suggested}
 use Rattle.mencius_server.specs.State.{ServerState, with_slot_and_front}
 use Rattle.mencius_server.specs.Machine.{after_retry, after_submit_at, first_waiting, free_at, is_free_at, retry_cause, retry_sent, submit_cause, submit_sent}
 use Rattle.mencius_server.specs.Reached.{IsAt, IsStep, refusal_of, server_at}
 use Rattle.mencius_server.proofs.ServerHistory.{server_unchanged, server_written, slot-server_at}
 use Rattle.mencius_server.proofs.Waits.{first_waiting_same}
-use Rattle.mencius_server.proofs.Sound.{IsSound, sound}
+use Rattle.mencius_model.proofs.Sound.{IsSound, sound}
 
 -- the server finds the free instance that the history has
 free-server_at : (m : Membership) (w : History) (p : ℕ) → free_at (server_at m w p) ≡ free m w p

@@ -10,27 +10,25 @@ use Rattle.mencius_base.specs.declared.refusal.Refusal.TheVariants.{MessagesFull
 use Rattle.mencius_base.specs.declared.message.Message.{Message}
 use Rattle.mencius_base.specs.declared.message.Message.TheVariants.{Prepare, Propose}
 use Rattle.mencius_base.specs.declared.message.Value.{Value}
-use Rattle.mencius_base.specs.Members.{Membership, ballot_of, below, instances, most_rounds, owner}
+use Rattle.mencius_base.specs.Members.{Membership, ballot_of, below, instances, most_rounds, owner, first_item}
 use Rattle.mencius_base.specs.Outbox.{Outgoing}
 use Rattle.mencius_base.specs.Refusal.{IsRefusedFor}
-use Rattle.mencius_base.specs.History.{Line, Sent, Suspected, History, followed_by, heard}
-use Rattle.coord_paxos.specs.Instance.{accepted, accepted_by, accepters, highest_vote, is_acceptance, is_promise, learned_by, promised_by, promisers, proposed, proposed_by, tried_by, trying, vote_of, vote_reported}
-use Rattle.mencius_server.specs.Server.{front, front_by, is_suspect, suspects}
-use Rattle.mencius_server.specs.Next.{IsReached, first_cause, found_by_server, next_round, preparation}
-use Rattle.mencius_base.specs.Members.{first_item}
-use Rattle.mencius_base.specs.History.{messages_of}
-use Rattle.coord_paxos.proofs.Below.{any-map, filter-instances_same, map-filter-instances_same, map-instances_same}
-use Rattle.coord_paxos.proofs.Lines.{greater-none, greatest_quiet, oldest_quiet, vote_of_same}
-use Rattle.mencius_server.proofs.Lists.{IsIn}
-use Rattle.mencius_server.proofs.Grown.{IsGrown}
-use Rattle.mencius_server.proofs.State.{acceptance_in, proposal_in, same}
-use Rattle.mencius_server.proofs.Hearing.{accepters_accepted, promiser}
-use Rattle.mencius_server.proofs.Journals.{reached_grown}
-use Rattle.mencius_server.proofs.Sources.{acceptance_asked, prepare_right, prepare_within, promise_asked, propose_ballot, propose_within}
+use Rattle.mencius_model.specs.History.{Line, Sent, Suspected, History, followed_by, heard, messages_of}
+use Rattle.mencius_model.specs.Instance.{accepted, accepted_by, accepters, highest_vote, is_acceptance, is_promise, learned_by, promised_by, promisers, proposed, proposed_by, tried_by, trying, vote_of, vote_reported, IsUntried}
+use Rattle.mencius_model.specs.Server.{front, front_by, is_suspect, suspects}
+use Rattle.mencius_model.specs.Next.{IsReached, first_cause, found_by_server, next_round, preparation}
+use Rattle.mencius_model.proofs.Below.{any-map, filter-instances_same, map-filter-instances_same, map-instances_same}
+use Rattle.mencius_model.proofs.Lines.{greater-none, greatest_quiet, oldest_quiet, vote_of_same}
+use Rattle.mencius_model.proofs.Lists.{IsIn}
+use Rattle.mencius_model.proofs.Grown.{IsGrown}
+use Rattle.mencius_model.proofs.State.{acceptance_in, proposal_in, same}
+use Rattle.mencius_model.proofs.Hearing.{accepters_accepted, promiser}
+use Rattle.mencius_model.proofs.Journals.{reached_grown}
+use Rattle.mencius_model.proofs.Sources.{acceptance_asked, prepare_right, prepare_within, promise_asked, propose_ballot, propose_within}
 use Rattle.coord_paxos.specs.SlotState.{SlotState}
 use Rattle.coord_paxos.specs.Fresh.{new_slot}
 use Rattle.coord_paxos.specs.Slot.{after_begin}
-use Rattle.coord_paxos.specs.Reached.{IsUntried, if_own, slot_at}
+use Rattle.coord_paxos.specs.Reached.{if_own, slot_at}
 use Rattle.coord_paxos.proofs.SlotHistory.{same_slot}
 use Rattle.coord_paxos.proofs.SlotLaws.{slot_trying, slot_untried}
 use Rattle.mencius_server.specs.State.{ServerState}

@@ -4,22 +4,20 @@ use Rattle.std.specs.List.{list_any}
 use Rattle.std.proofs.lemmas.Bool.{and_parts, eq-eqb, eqb-true}
 use Rattle.mencius_base.specs.declared.message.Message.TheVariants.{Suggest}
 use Rattle.mencius_base.specs.declared.message.Value.{Value}
-use Rattle.mencius_base.specs.Members.{Membership, instances, owner}
-use Rattle.mencius_base.specs.History.{Line, Sent, History}
-use Rattle.coord_paxos.specs.Instance.{learned, proposed, trying}
-use Rattle.mencius_server.specs.Server.{is_noop, is_suggestion_past, suggested, suggested_by, unless, waiting, waiting_at, waits}
-use Rattle.mencius_server.specs.Next.{IsReached}
-use Rattle.mencius_base.specs.Members.{first_item}
-use Rattle.mencius_server.specs.Server.{ticket_of}
-use Rattle.coord_paxos.proofs.Below.{any-instances, any-instances_found, filter_map-instances_same}
+use Rattle.mencius_base.specs.Members.{Membership, instances, owner, first_item}
+use Rattle.mencius_model.specs.History.{Line, Sent, History}
+use Rattle.mencius_model.specs.Instance.{learned, proposed, trying}
+use Rattle.mencius_model.specs.Server.{is_noop, is_suggestion_past, suggested, suggested_by, unless, waiting, waiting_at, waits, ticket_of}
+use Rattle.mencius_model.specs.Next.{IsReached}
+use Rattle.mencius_model.proofs.Below.{any-instances, any-instances_found, filter_map-instances_same}
 use Rattle.mencius_server.proofs.Lost.{both_ways, ticket_is}
-use Rattle.mencius_server.proofs.Lists.{IsIn, any_in, in_any}
-use Rattle.mencius_server.proofs.Grown.{IsGrown}
-use Rattle.mencius_server.proofs.State.{oldest_none, same, same_two, start_in, suggested_in}
-use Rattle.mencius_server.proofs.Steps.{suggest_proposed}
-use Rattle.mencius_server.proofs.Owners.{suggest_once, suggest_owner, suggest_small}
-use Rattle.mencius_server.proofs.Journals.{reached_grown, some_server_of}
-use Rattle.mencius_server.proofs.Sources.{own_untried}
+use Rattle.mencius_model.proofs.Lists.{IsIn, any_in, in_any}
+use Rattle.mencius_model.proofs.Grown.{IsGrown}
+use Rattle.mencius_model.proofs.State.{oldest_none, same, same_two, start_in, suggested_in}
+use Rattle.mencius_model.proofs.Steps.{suggest_proposed}
+use Rattle.mencius_model.proofs.Owners.{suggest_once, suggest_owner, suggest_small}
+use Rattle.mencius_model.proofs.Journals.{reached_grown, some_server_of}
+use Rattle.mencius_model.proofs.Sources.{own_untried}
 use Rattle.coord_paxos.specs.SlotState.{SlotState}
 use Rattle.coord_paxos.specs.Reached.{if_own}
 use Rattle.mencius_server.specs.Machine.{first_waiting, is_suggested_past, is_ticket, suggested_at, waits_at, waits_with}

@@ -1,6 +1,3 @@
-pub mod Server
-pub mod Next
-pub mod Decided
 pub mod State
 pub mod Notes
 pub mod Kept

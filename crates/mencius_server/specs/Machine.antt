@@ -8,7 +8,7 @@ use Rattle.mencius_base.specs.declared.message.Message.TheVariants.{Suggest, Ski
 use Rattle.mencius_base.specs.declared.message.Value.{Value}
 use Rattle.mencius_base.specs.declared.message.Value.TheVariants.{Noop, Ticket}
 use Rattle.mencius_base.specs.declared.message.Vote.{Vote}
-use Rattle.mencius_base.specs.Members.{Membership, ballot_of, owner, first_owned, instances, round}
+use Rattle.mencius_base.specs.Members.{Membership, ballot_of, owner, first_owned, instances, round, first_item}
 use Rattle.coord_paxos.specs.SlotState.{SlotState}
 use Rattle.coord_paxos.specs.declared.Answer.{Answer}
 use Rattle.coord_paxos.specs.declared.Answer.TheVariants.{Promise as Promised, Known, Silent}
@@ -16,10 +16,8 @@ use Rattle.coord_paxos.specs.Slot.{after_accept, after_begin, after_prepare, aft
 use Rattle.mencius_base.specs.declared.refusal.Refusal.{Refusal}
 use Rattle.mencius_base.specs.declared.refusal.Refusal.TheVariants.{InstancesFull, MessagesFull, NothingToRevoke, NothingWaiting, RoundsFull, SelfSuspect}
 use Rattle.mencius_base.specs.Outbox.{Outgoing, outbox_full}
-use Rattle.mencius_server.specs.Server.{is_noop, unless}
-use Rattle.mencius_server.specs.Next.{first_cause}
-use Rattle.mencius_base.specs.Members.{first_item}
-use Rattle.mencius_server.specs.Server.{ticket_of}
+use Rattle.mencius_model.specs.Server.{is_noop, unless, ticket_of}
+use Rattle.mencius_model.specs.Next.{first_cause}
 use Rattle.mencius_server.specs.State.{ServerState, slot, with_slot, with_slot_and_front}
 
 -- a suggestion past the own front gives up the own instances before it

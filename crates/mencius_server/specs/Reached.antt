@@ -1,14 +1,12 @@
 -- A server's state, asked of the history, and what a call has to do with an event of that history.
-use Rattle.std.specs.Prelude.{◌≡◌, ℕ, ◌∷◌, ◌++◌, length, map}
+use Rattle.std.specs.Prelude.{◌≡◌, ℕ, ◌++◌, length, map, Option}
 use Rattle.mencius_base.specs.declared.event.Event.{Event}
 use Rattle.mencius_base.specs.declared.refusal.Refusal.{Refusal}
-use Rattle.std.specs.Prelude.{Option}
 use Rattle.mencius_base.specs.Members.{Membership, instances}
 use Rattle.mencius_base.specs.Outbox.{Outgoing}
-use Rattle.mencius_base.specs.History.{History, followed_by}
-use Rattle.mencius_server.specs.Server.{front}
-use Rattle.mencius_server.specs.Next.{IsReached, lines, head, found_by_server, first_cause}
-use Rattle.mencius_base.specs.History.{messages_of}
+use Rattle.mencius_model.specs.History.{History, messages_of}
+use Rattle.mencius_model.specs.Server.{front}
+use Rattle.mencius_model.specs.Next.{IsReached, lines, found_by_server, first_cause, with_event}
 use Rattle.coord_paxos.specs.Reached.{slot_at}
 use Rattle.mencius_server.specs.State.{ServerState}
 
@@ -20,10 +18,6 @@ server_at m w p = record { members = m; id = p; front = front m w p; slots = map
 pub record IsAt (w : History) (s : ServerState) : Type 0 where
   pub reached : IsReached s.members w
   pub state : s ≡ server_at s.members w s.id
-
--- the history after an event
-abbrev pub with_event : Membership → History → Event → History
-with_event m w e = followed_by (head e ∷ w) (lines m w e)
 
 -- the server did its part in an event: the event's messages are sent, and its state is that of the longer history
 pub record IsStep (w : History) (e : Event) (old new : ServerState) (before after : Outgoing) : Type 0 where

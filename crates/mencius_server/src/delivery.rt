@@ -1,7 +1,7 @@
 //! What a server does on each message, Rule 2 among it.
 ghost use Rattle.coord_paxos.specs.Fresh.{new_slot};
 ghost use Rattle.coord_paxos.specs.Slot.{accept_answer};
-ghost use Rattle.mencius_base.specs.History.{History, sent};
+ghost use Rattle.mencius_model.specs.History.{History, sent};
 ghost use Rattle.mencius_base.specs.Members.{below, instances};
 ghost use Rattle.mencius_base.specs.Message.{is_addressed};
 ghost use Rattle.mencius_base.specs.Outbox.{outbox_full};
@@ -11,7 +11,7 @@ ghost use Rattle.mencius_base.specs.declared.message.Message.TheVariants.{Prepar
 ghost use Rattle.mencius_base.specs.declared.message.Value.TheVariants.{Noop};
 ghost use Rattle.mencius_base.specs.declared.refusal.Refusal.TheVariants.{NoMemory};
 ghost use Rattle.mencius_server.specs.Machine.{IsUndone, accepted_sent, after_accepted, after_hearing, after_learn_at, after_skip, given_count, is_given, slot_given, after_prepare_at, after_promise_at, after_propose, after_suggest, learned_on, one_if_some, prepare_sent, promise_sent, propose_sent, sent_on, skip_sent, suggest_sent, next_front};
-ghost use Rattle.mencius_server.specs.Next.{learnings, lines};
+ghost use Rattle.mencius_model.specs.Next.{learnings, lines};
 ghost use Rattle.mencius_server.specs.Reached.{IsAt, IsStep, refusal_of};
 ghost use Rattle.mencius_server.specs.State.{slot};
 ghost use Rattle.std.specs.List.{count_by};

@@ -4,7 +4,7 @@ ghost use Rattle.mencius_base.specs.declared.refusal.Refusal.TheVariants.{NoMemo
 ghost use Rattle.mencius_server.specs.Known.{known_slot};
 ghost use Rattle.mencius_server.specs.Machine.{is_ticket, suggested_in};
 ghost use Rattle.mencius_server.specs.Notes.{nothing_noted};
-ghost use Rattle.mencius_server.specs.Server.{ticket_of};
+ghost use Rattle.mencius_model.specs.Server.{ticket_of};
 ghost use Rattle.std.specs.Prelude.{◌≡◌, ℕ, ◌<◌, ◌≤◌, ◌⊎◌, ◌||◌, Some, false, length, min, slice_index_or, vec_len, IfErr, OnErr, OnOk};
 
 use crate::known::Known;

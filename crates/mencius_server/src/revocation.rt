@@ -1,7 +1,7 @@
 //! Rule 3: first phases at the instances of a server that is suspected.
 ghost use Rattle.coord_paxos.specs.Fresh.{new_slot};
 ghost use Rattle.coord_paxos.specs.Slot.{after_begin};
-ghost use Rattle.mencius_base.specs.History.{History, sent};
+ghost use Rattle.mencius_model.specs.History.{History, sent};
 ghost use Rattle.mencius_base.specs.Members.{below, instances, owner};
 ghost use Rattle.mencius_base.specs.Refusal.{IsRefusedFor};
 ghost use Rattle.mencius_base.specs.declared.event.Event.TheVariants.{Suspect};

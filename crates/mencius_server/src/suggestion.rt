@@ -1,5 +1,5 @@
 //! Rules 1 and 4: where a ticket is suggested, and which tickets wait to be suggested again.
-ghost use Rattle.mencius_base.specs.History.{History, sent, submitted};
+ghost use Rattle.mencius_model.specs.History.{History, sent, submitted};
 ghost use Rattle.mencius_base.specs.Members.{instances, owner, first_item};
 ghost use Rattle.mencius_base.specs.Refusal.{IsRefusedFor};
 ghost use Rattle.mencius_base.specs.declared.command.Command.{Command};
@@ -9,7 +9,7 @@ ghost use Rattle.mencius_base.specs.declared.refusal.Refusal.TheVariants.{NoMemo
 ghost use Rattle.mencius_server.specs.Known.{known_slot};
 ghost use Rattle.mencius_server.specs.Machine.{after_submit, suggested_in, IsUndone, after_submit_at, free_at, submit_cause, submit_sent, after_retry, first_waiting, is_suggested_past, is_ticket, retry_cause, retry_sent, suggested_at, waits_at};
 ghost use Rattle.mencius_server.specs.Reached.{IsAt, IsStep, refusal_of};
-ghost use Rattle.mencius_server.specs.Server.{waiting, ticket_of};
+ghost use Rattle.mencius_model.specs.Server.{waiting, ticket_of};
 ghost use Rattle.mencius_server.specs.State.{slot};
 ghost use Rattle.std.specs.List.{list_any};
 ghost use Rattle.std.specs.Prelude.{◌≡◌, ℕ, IfOk, ◌⊎◌, ◌||◌, IfErr, IfNone, None, false, is_none, min, slice_index_or, true, vec_len, ◌+◌, ◌<◌, ◌≤◌, ◌++◌, ◌==◌, length, OnOk, OnErr, IfSome, Some, ◌&&◌};

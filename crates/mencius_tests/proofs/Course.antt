@@ -2,10 +2,10 @@
 use Rattle.std.proofs.Common.{◌≡◌, ℕ, ◌≤◌, List, [], ◌++◌, Ok, sym, append-nil}
 use Rattle.mencius_base.specs.declared.event.Event.{Event}
 use Rattle.mencius_base.specs.Members.{Membership}
-use Rattle.mencius_base.specs.History.{History}
-use Rattle.mencius_server.specs.Next.{replay}
-use Rattle.mencius_cluster.specs.Executed.{executed, IsPrefix, IsComparable}
-use Rattle.mencius_cluster.specs.Laws.{Comparing, Growing, IsMoment}
+use Rattle.mencius_model.specs.History.{History}
+use Rattle.mencius_model.specs.Next.{replay}
+use Rattle.mencius_model.specs.Executed.{executed, IsPrefix, IsComparable}
+use Rattle.mencius_model.specs.Laws.{Comparing, Growing, IsMoment}
 
 -- the end of a journal is one of its moments
 whole : (m : Membership) (journal : List Event) (w : History) → replay m journal ≡ Ok w → IsMoment m journal w

@@ -7,9 +7,9 @@
 ghost use Rattle.std.specs.Prelude.{List, ◌≡◌, ◌≤◌, ◌<◌, ◌⊎◌, ◌++◌, ◌↔◌, OnOk, OnErr, IfOk, IfErr, IfSome, IsErrOf, IsSome};
 ghost use Rattle.mencius_base.specs.declared.event.Event.{Event};
 ghost use Rattle.mencius_base.specs.declared.refusal.Refusal.TheVariants.{BadServer, NoMemory};
-ghost use Rattle.mencius_cluster.specs.Executed.{IsComparable, IsPrefix, executed};
+ghost use Rattle.mencius_model.specs.Executed.{IsComparable, IsPrefix, executed};
 ghost use Rattle.mencius_cluster.specs.State.{history_of};
-ghost use Rattle.mencius_app.specs.Replay.{accepted_from};
+ghost use Rattle.mencius_model.specs.Outcomes.{accepted_from};
 
 use mencius_base::{Event, Refusal};
 use mencius_cluster::{Cluster, laws};

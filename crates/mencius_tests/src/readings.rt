@@ -5,7 +5,7 @@ ghost use Rattle.std.specs.Prelude.{◌≡◌, OnOk, IfOk, length, option_map};
 ghost use Rattle.std.specs.String.{string_bytes};
 ghost use mathlib.Core.List.{IsPrefix};
 ghost use Rattle.mencius_board.specs.Boards.{longest};
-ghost use Rattle.mencius_board.specs.Maps.{value_at};
+ghost use Rattle.mencius_model.specs.Store.{value_at};
 
 use mencius_board::{Board, BoardFault, News, Reader};
 use std::alloc::Global;

@@ -2,10 +2,10 @@ use Rattle.std.proofs.Common.{◌≡◌, ℕ, Option, Some, refl, subst}
 use Rattle.std.proofs.lemmas.Bool.{eq-eqb}
 use Rattle.mencius_base.specs.declared.message.Message.TheVariants.{Promise}
 use Rattle.mencius_base.specs.declared.message.Vote.{Vote}
-use Rattle.mencius_base.specs.History.{History, heard}
-use Rattle.coord_paxos.specs.Instance.{reported, vote_reported}
-use Rattle.coord_paxos.specs.Laws.{HearsReport}
-use Rattle.coord_paxos.proofs.Reports.{Stands, Stands-heard, highest_vote-heard}
+use Rattle.mencius_model.specs.History.{History, heard}
+use Rattle.mencius_model.specs.Instance.{reported, vote_reported}
+use Rattle.mencius_model.specs.Laws.{HearsReport}
+use Rattle.mencius_model.proofs.Reports.{Stands, Stands-heard, highest_vote-heard}
 use Rattle.coord_paxos.proofs.laws.reports_greatest.Goals as goal
 
 -- the vote reported stands against each that was heard

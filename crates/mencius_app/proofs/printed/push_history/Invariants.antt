@@ -1,7 +1,7 @@
 use Rattle.std.proofs.Common.{◌≡◌, ◌++◌, take, string_bytes}
 use Rattle.std.specs.List.{flat_map}
 use Rattle.mencius_app.specs.Report.{spaced_id}
-use Rattle.mencius_cluster.specs.Answers.{command_at}
+use Rattle.mencius_model.specs.Replying.{command_at}
 use Rattle.mencius_cluster.specs.State.{history_of}
 use Rattle.mencius_app.proofs.printed.push_history.Given as goal
 

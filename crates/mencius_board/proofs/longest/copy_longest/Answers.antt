@@ -1,9 +1,9 @@
 use Rattle.std.proofs.Common.{◌≡◌, ◌++◌, ℕ, List, arith, rules, sym, ap, ◌∙◌, length, take, get_or}
 use Rattle.mencius_base.specs.declared.command.Command.{Command}
-use Rattle.mencius_base.specs.History.{option_to_list}
-use Rattle.mencius_server.specs.Server.{done}
-use Rattle.mencius_cluster.specs.Executed.{executed}
-use Rattle.mencius_cluster.specs.Replying.{command_at, commands_of}
+use Rattle.mencius_model.specs.History.{option_to_list}
+use Rattle.mencius_model.specs.Server.{done}
+use Rattle.mencius_model.specs.Executed.{executed}
+use Rattle.mencius_model.specs.Replying.{command_at, commands_of}
 use Rattle.mencius_cluster.specs.State.{history_of}
 use Rattle.mencius_board.specs.Boards.{longest}
 use Rattle.mencius_board.proofs.Copying.{commands_next, longest_few, take_whole}

@@ -1,6 +1,6 @@
 use Rattle.std.proofs.Common.{◌≡◌, arith, false, inl, inr, refl, rules, subst, sym, ap, ◌∙◌, min}
 use Rattle.mencius_server.specs.Changes.{IsSaid}
-use Rattle.mencius_server.specs.Server.{is_noop}
+use Rattle.mencius_model.specs.Server.{is_noop}
 use Rattle.mencius_server.specs.State.{ServerState}
 use Rattle.mencius_server.proofs.Keeping.{change_kept}
 use Rattle.mencius_server.proofs.Server.change.Goals as goal

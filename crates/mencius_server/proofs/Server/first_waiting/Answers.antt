@@ -1,5 +1,5 @@
 use Rattle.std.proofs.Common.{sym}
-use Rattle.coord_paxos.proofs.Below.{first_item-instances, first_item-instances_none}
+use Rattle.mencius_model.proofs.Below.{first_item-instances, first_item-instances_none}
 use Rattle.mencius_server.specs.Machine.{waits_at}
 use Rattle.mencius_server.proofs.Server.first_waiting.Goals as goal
 

@@ -1,6 +1,6 @@
 use Rattle.std.proofs.Common.{◌≡◌, ◌+◌, arith, false, true, rules, sym}
 use Rattle.std.specs.Prelude.{is_none}
-use Rattle.coord_paxos.proofs.Below.{find-instances, find-instances_none}
+use Rattle.mencius_model.proofs.Below.{find-instances, find-instances_none}
 use Rattle.mencius_server.specs.Machine.{is_free_at}
 use Rattle.mencius_server.specs.State.{slot}
 use Rattle.mencius_server.proofs.Gaps.{known_unfree, none_more, other_unfree, unowned}

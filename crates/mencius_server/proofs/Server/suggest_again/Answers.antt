@@ -1,6 +1,6 @@
 use Rattle.std.proofs.Common.{◌≡◌, ◌++◌, None, OnOk, Some, ap, subst, sym}
 use Rattle.mencius_base.specs.Refusal.{IsRefusedFor, cause_or_memory}
-use Rattle.coord_paxos.proofs.Below.{first_item-instances, first_item-instances_none}
+use Rattle.mencius_model.proofs.Below.{first_item-instances, first_item-instances_none}
 use Rattle.mencius_server.specs.Machine.{after_submit_at, first_waiting, free_at, retry_cause, submit_cause, submit_sent, waits_at}
 use Rattle.mencius_server.specs.State.{ServerState}
 use Rattle.mencius_server.proofs.Server.suggest_again.Goals as goal

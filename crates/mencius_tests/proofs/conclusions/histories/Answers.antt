@@ -1,5 +1,5 @@
 use Rattle.std.proofs.Common.{◌≡◌, ◌<◌, ◌≤◌, [], arith, rules, sym, append-nil}
-use Rattle.mencius_cluster.specs.Executed.{executed}
+use Rattle.mencius_model.specs.Executed.{executed}
 use Rattle.mencius_cluster.specs.State.{history_of}
 use Rattle.mencius_tests.proofs.Course.{comparable}
 use Rattle.mencius_tests.proofs.conclusions.histories.Goals as goal

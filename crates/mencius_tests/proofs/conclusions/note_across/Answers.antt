@@ -1,7 +1,7 @@
 use Rattle.std.proofs.Common.{◌≡◌, ◌≤◌, Ok, arith, rules, subst}
 use Rattle.mencius_base.specs.Members.{Membership}
-use Rattle.mencius_server.specs.Next.{replay}
-use Rattle.mencius_cluster.specs.Executed.{executed}
+use Rattle.mencius_model.specs.Next.{replay}
+use Rattle.mencius_model.specs.Executed.{executed}
 use Rattle.mencius_cluster.specs.State.{history_of}
 use Rattle.mencius_tests.proofs.Course.{comparable, grows}
 use Rattle.mencius_tests.proofs.conclusions.note_across.Goals as goal

@@ -1,5 +1,5 @@
 use Rattle.std.proofs.Common.{List}
-use Rattle.mencius_app.specs.Replay.{Outcome}
+use Rattle.mencius_model.specs.Outcomes.{Outcome}
 use Rattle.mencius_app.proofs.Stepped.{IsReplayed}
 use Rattle.mencius_tests.proofs.conclusions.step_all.Given as goal
 

@@ -1,8 +1,0 @@
-use Rattle.mencius_cluster.proofs.Theorems as theorem
-use Rattle.mencius_cluster.proofs.laws.once.Goals as goal
-
-pub returns-clause-submitted : goal.returns-clause-submitted
-returns-clause-submitted c = theorem.submitting
-
-pub returns-clause-once : goal.returns-clause-once
-returns-clause-once c = theorem.once

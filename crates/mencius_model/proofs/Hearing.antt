@@ -1,0 +1,167 @@
+-- What a server heard was sent; its tallies; the highest vote that it heard of.
+use Rattle.std.proofs.Common.{◌≡◌, ℕ, ◌≤◌, Bool, true, false, cond, ◌&&◌, eqb, ltb, List, [], ◌∷◌, ◌⊎◌, inl, inr, refl, sym, ap, ◌∙◌, arith, Option, Some, None, eqb-true, ltb-true, ltb-false, slice_get, map, fold}
+use Rattle.std.proofs.lemmas.Bool.{and_parts, cases_Bool}
+use Rattle.mencius_base.specs.declared.message.Message.{Message}
+use Rattle.mencius_base.specs.declared.message.Message.TheVariants.{Accepted, Promise}
+use Rattle.mencius_base.specs.declared.message.Vote.{Vote}
+use Rattle.mencius_model.specs.History.{Heard, Sent, History, sent, heard, option_to_list}
+use Rattle.mencius_model.specs.Instance.{promisers, is_promise, accepters, is_acceptance, higher_vote, vote_reported, reported, has_accepted}
+use Rattle.mencius_model.proofs.Lists.{IsIn, in_append, any_in, get_in}
+use Rattle.mencius_model.proofs.Grown.{Reaches, HasPromised}
+use Rattle.mencius_model.proofs.State.{sent_in, in_acceptance, same_two}
+
+in_get : (x : Message) (xs : List Message) (k : ℕ) → IsIn x (option_to_list (slice_get xs k)) → IsIn x xs
+in_get x xs k h = go x xs (slice_get xs k) refl h where
+  go : (x : Message) (xs : List Message) (o : Option Message) → slice_get xs k ≡ o → IsIn x (option_to_list o)
+      → IsIn x xs
+  go x xs None e h = absurd h
+  go x xs (Some y) e (inl s) = rw s (get_in xs k y e)
+  go x xs (Some y) e (inr s) = absurd s
+
+pub heard_in : (w : History) (p : ℕ) (x : Message) → IsIn x (heard w p) → IsIn (Sent x) w
+heard_in [] p x h = absurd h
+heard_in (Heard k d ∷ w) p x h =
+    elim (cases_Bool (eqb d p)) [
+      | inl e ↦
+          elim (in_append x (heard w p) (option_to_list (slice_get (sent w) k)) (rw e at h)) [
+            | inl a ↦ inr (heard_in w p x a)
+            | inr a ↦ inr (sent_in x w (in_get x (sent w) k a))
+          ]
+      | inr e ↦ inr (heard_in w p x (rw e at h))
+    ]
+heard_in (_ ∷ w) p x h = inr (heard_in w p x h)
+
+-- ---- tallies
+
+promise_message : (i b q : ℕ) (x : Message) → is_promise i b q x ≡ true
+    → (to : ℕ) × (v : Option Vote) × (Promise q to i b v ≡ x)
+promise_message i b q (Promise from to inst ballot vote) h =
+    let r = and_parts (eqb inst i && eqb ballot b) (eqb from q) h in
+    let s = and_parts (eqb inst i) (eqb ballot b) r.0 in
+    let e = eqb-true inst i s.0 in
+    let f = eqb-true ballot b s.1 in
+    let g = eqb-true from q r.1 in
+    (to, vote, cc)
+promise_message i b q _ h = absurd (cc)
+
+acceptance_message : (i b q : ℕ) (x : Message) → is_acceptance i b q x ≡ true → (to : ℕ) × (Accepted q to i b ≡ x)
+acceptance_message i b q (Accepted from to inst ballot) h =
+    let r = and_parts (eqb inst i && eqb ballot b) (eqb from q) h in
+    let s = and_parts (eqb inst i) (eqb ballot b) r.0 in
+    let e = eqb-true inst i s.0 in
+    let f = eqb-true ballot b s.1 in
+    let g = eqb-true from q r.1 in
+    (to, cc)
+acceptance_message i b q _ h = absurd (cc)
+
+pub accepters_accepted : (w : History) (p i b q : ℕ) → accepters w p i b q ≡ true → has_accepted w i b q ≡ true
+accepters_accepted w p i b q h =
+    let r = any_in (is_acceptance i b q) (heard w p) h in
+    let s = acceptance_message i b q r.0 r.2 in
+    in_acceptance w i b q s.0 (rw s.1 (heard_in w p r.0 r.1))
+
+-- ---- the highest vote
+
+higher_left : (u : Vote) (o : Option Vote) → (x : Vote) × (higher_vote (Some u) o ≡ Some x) × (u.ballot ≤ x.ballot)
+higher_left u None = (u, refl, omega arith)
+higher_left u (Some v) =
+    elim (cases_Bool (ltb u.ballot v.ballot)) [
+      | inl e ↦ (v, rw e, omega (arith, ltb-true u.ballot v.ballot e))
+      | inr e ↦ (u, rw e, omega arith)
+    ]
+
+higher_right : (o : Option Vote) (v : Vote) → (x : Vote) × (higher_vote o (Some v) ≡ Some x) × (v.ballot ≤ x.ballot)
+higher_right None v = (v, refl, omega arith)
+higher_right (Some u) v =
+    elim (cases_Bool (ltb u.ballot v.ballot)) [
+      | inl e ↦ (v, rw e, omega arith)
+      | inr e ↦ (u, rw e, omega (arith, ltb-false u.ballot v.ballot e))
+    ]
+
+higher_cases : (o p : Option Vote) (x : Vote) → higher_vote o p ≡ Some x → (o ≡ Some x) ⊎ (p ≡ Some x)
+higher_cases None p x h = inr h
+higher_cases (Some u) None x h = inl h
+higher_cases (Some u) (Some v) x h =
+    elim (cases_Bool (ltb u.ballot v.ballot)) [
+      | inl e ↦ inr (rw e at h)
+      | inr e ↦ inl (rw e at h)
+    ]
+
+fold_above : (votes : List (Option Vote)) (u : Vote) (c : ℕ) → c ≤ u.ballot
+    → Reaches (fold higher_vote (Some u) votes) c
+fold_above [] u c le = le
+fold_above (o ∷ votes) u c le =
+    let r = higher_left u o in
+    rw r.1 (fold_above votes r.0 c (omega (arith, r.2, le)))
+
+fold_reaches : (votes : List (Option Vote)) (start : Option Vote) (u : Vote) → IsIn (Some u) votes
+    → Reaches (fold higher_vote start votes) u.ballot
+fold_reaches [] start u h = absurd h
+fold_reaches (o ∷ votes) start u (inl e) =
+    let r = higher_right start u in
+    rw (← e, r.1) (fold_above votes r.0 u.ballot r.2)
+fold_reaches (o ∷ votes) start u (inr h) = fold_reaches votes (higher_vote start o) u h
+
+fold_in : (votes : List (Option Vote)) (start : Option Vote) (u : Vote) → fold higher_vote start votes ≡ Some u
+    → (start ≡ Some u) ⊎ IsIn (Some u) votes
+fold_in [] start u h = inl h
+fold_in (o ∷ votes) start u h =
+    elim (fold_in votes (higher_vote start o) u h) [
+      | inl e ↦ elim (higher_cases start o u e) [ inl a ↦ inl a | inr a ↦ inr (inl (sym a)) ]
+      | inr k ↦ inr (inr k)
+    ]
+
+in_votes : (i b : ℕ) (xs : List Message) (x : Message) (u : Vote) → IsIn x xs → vote_reported i b x ≡ Some u
+    → IsIn (Some u) (map (vote_reported i b) xs)
+in_votes i b [] x u h e = absurd h
+in_votes i b (y ∷ xs) x u (inl s) e = inl (rw s at (sym e))
+in_votes i b (y ∷ xs) x u (inr h) e = inr (in_votes i b xs x u h e)
+
+votes_in : (i b : ℕ) (xs : List Message) (u : Vote) → IsIn (Some u) (map (vote_reported i b) xs)
+    → (x : Message) × IsIn x xs × (vote_reported i b x ≡ Some u)
+votes_in i b [] u h = absurd h
+votes_in i b (y ∷ xs) u (inl e) = (y, inl refl, sym e)
+votes_in i b (y ∷ xs) u (inr h) = let r = votes_in i b xs u h in (r.0, inr r.1, r.2)
+
+if_vote : (t : Bool) (o : Option Vote) (u : Vote) → cond t o None ≡ Some u → (t ≡ true) × (o ≡ Some u)
+if_vote true o u h = (refl, h)
+if_vote false o u h = absurd (cc)
+
+vote_message : (i b : ℕ) (u : Vote) (x : Message) → vote_reported i b x ≡ Some u
+    → (q : ℕ) × (to : ℕ) × (Promise q to i b (Some u) ≡ x)
+vote_message i b u (Promise from to inst ballot vote) h =
+    let r = if_vote (eqb inst i && eqb ballot b) vote u h in
+    let s = and_parts (eqb inst i) (eqb ballot b) r.0 in
+    let e = eqb-true inst i s.0 in
+    let f = eqb-true ballot b s.1 in
+    let g = r.1 in
+    (from, to, cc)
+vote_message i b u _ h = absurd (cc)
+
+pub reported_promise : (w : History) (p i b : ℕ) (u : Vote) → reported w p i b ≡ Some u
+    → (q : ℕ) × (to : ℕ) × IsIn (Sent (Promise q to i b (Some u))) w
+reported_promise w p i b u h =
+    elim (fold_in (map (vote_reported i b) (heard w p)) None u h) [
+      | inl e ↦ absurd (cc)
+      | inr k ↦
+          let r = votes_in i b (heard w p) u k in
+          let s = vote_message i b u r.0 r.2 in
+          (s.0, s.1, rw s.2 (heard_in w p r.0 r.1))
+    ]
+
+own_vote : (q to i b : ℕ) (v : Option Vote) → vote_reported i b (Promise q to i b v) ≡ v
+own_vote q to i b v = rw (same_two i b)
+
+pub promiser : (w : History) (p i b q : ℕ) → promisers w p i b q ≡ true → HasPromised w q i b (reported w p i b)
+promiser w p i b q h =
+    let r = any_in (is_promise i b q) (heard w p) h in
+    let s = promise_message i b q r.0 r.2 in
+    record {
+      to = s.0;
+      vote = s.1;
+      promise = rw s.2 (heard_in w p r.0 r.1);
+      within =
+          λ u e.
+          fold_reaches (map (vote_reported i b) (heard w p)) None u
+          (in_votes i b (heard w p) r.0 u r.1 (ap (vote_reported i b) (sym s.2) ∙ (own_vote q s.0 i b s.1 ∙ e)));
+    }

@@ -1,0 +1,204 @@
+-- A ticket was submitted, is suggested by one server alone and decided at one instance: where it was suggested
+-- twice, no-op is decided at the lower instance.
+use Rattle.std.proofs.Common.{◌≡◌, ℕ, zero, suc, subst, ◌<◌, ◌≤◌, true, false, eqb, List, [], ◌∷◌, ◌++◌, length, ◌⊎◌, inl, inr, refl, sym, ap, ◌∙◌, arith, Option, Some, None, slice_get, append-nil, length-append, eqb-true, eq-eqb}
+use Rattle.std.specs.List.{list_any}
+use Rattle.std.proofs.lemmas.Bool.{cases_order, cases_lt, and_parts}
+use Rattle.std.proofs.lemmas.List.{length_push}
+use Rattle.mencius_base.specs.declared.command.Command.{Command}
+use Rattle.mencius_base.specs.declared.command.CommandId.{CommandId}
+use Rattle.mencius_base.specs.declared.message.Message.TheVariants.{Suggest}
+use Rattle.mencius_base.specs.declared.message.Value.TheVariants.{Noop, Ticket}
+use Rattle.mencius_base.specs.Members.{Membership}
+use Rattle.mencius_model.specs.History.{Line, Submitted, Sent, History, submitted, command_in, option_to_list}
+use Rattle.mencius_base.specs.Command.{is_same_id}
+use Rattle.mencius_model.specs.Decided.{IsDecided}
+use Rattle.mencius_model.proofs.Lists.{IsIn, none_in, get_in}
+use Rattle.mencius_model.proofs.Grown.{May, IsGrown, MaySuggest, IsFresh}
+use Rattle.mencius_model.proofs.State.{start_in}
+use Rattle.mencius_model.proofs.Owners.{suggest_front}
+use Rattle.mencius_model.proofs.Paxos.{origin}
+use Rattle.mencius_model.proofs.Decisions.{decided_more, all_decided, agreement}
+
+-- no line takes a submission back
+submitted_more : (l : Line) (w : History) → length (submitted w) ≤ length (submitted (l ∷ w))
+submitted_more l w = omega (arith, length-append (submitted w) (option_to_list (command_in l)))
+
+-- the ticket of the command that was just submitted is the last
+fresh_last : (w : History) (t : ℕ) → IsFresh w t → t < length (submitted w)
+fresh_last [] t h = absurd h
+fresh_last (Submitted c s ∷ w) t h = omega (arith, h, length_push (submitted w) (c, s))
+fresh_last (_ ∷ w) t h = absurd h
+
+module _ (m : Membership) where
+  -- a suggested ticket was submitted
+  ticket_submitted : (w : History) → IsGrown m w → (p i t : ℕ) → IsIn (Sent (Suggest p i t)) w
+      → t < length (submitted w)
+  ticket_submitted [] g p i t h = absurd h
+  ticket_submitted (l ∷ w) g p i t (inl e) =
+      let may : MaySuggest m w p i t = rw (← e) at g.1 in
+      let s = submitted_more l w in
+      elim may.ticket [
+        | inl f ↦ omega (arith, fresh_last w t f, s)
+        | inr k ↦ omega (arith, ticket_submitted w g.0 p k.0 t k.1.before, s)
+      ]
+  ticket_submitted (l ∷ w) g p i t (inr h) = omega (arith, ticket_submitted w g.0 p i t h, submitted_more l w)
+
+  -- it was not suggested before
+  fresh_new : (w : History) → IsGrown m w → (p i t : ℕ) → IsFresh w t → IsIn (Sent (Suggest p i t)) w → ⊥
+  fresh_new [] g p i t f h = f
+  fresh_new (Submitted c s ∷ w) g p i t f (inl e) = absurd (cc)
+  fresh_new (Submitted c s ∷ w) g p i t f (inr h) = absurd (omega (arith, f, ticket_submitted w g.0 p i t h))
+  fresh_new (_ ∷ w) g p i t f h = f
+
+  -- only one server suggests a ticket
+  same_home : (w : History) → IsGrown m w → (p q i j t : ℕ) → IsIn (Sent (Suggest p i t)) w
+      → IsIn (Sent (Suggest q j t)) w → p ≡ q
+  same_home [] g p q i j t h k = absurd h
+  same_home (l ∷ w) g p q i j t (inl e) (inl f) = cc
+  same_home (l ∷ w) g p q i j t (inl e) (inr k) =
+      let may : MaySuggest m w p i t = rw (← e) at g.1 in
+      elim may.ticket [
+        | inl f ↦ absurd (fresh_new w g.0 q j t f k)
+        | inr n ↦ same_home w g.0 p q n.0 j t n.1.before k
+      ]
+  same_home (l ∷ w) g p q i j t (inr h) (inl e) =
+      let may : MaySuggest m w q j t = rw (← e) at g.1 in
+      elim may.ticket [
+        | inl f ↦ absurd (fresh_new w g.0 p i t f h)
+        | inr n ↦ same_home w g.0 p q i n.0 t h n.1.before
+      ]
+  same_home (l ∷ w) g p q i j t (inr h) (inr k) = same_home w g.0 p q i j t h k
+
+  -- a ticket that was suggested twice lost the first time
+  pub suggested_twice : (w : History) → 1 ≤ m.count → IsGrown m w → (p q i j t : ℕ) → i < j
+      → IsIn (Sent (Suggest p i t)) w → IsIn (Sent (Suggest q j t)) w → IsDecided m w i Noop
+  suggested_twice [] few g p q i j t lt h k = absurd h
+  suggested_twice (l ∷ w) few g p q i j t lt (inl e) (inl f) = let s : i ≡ j = cc in absurd (omega arith)
+  suggested_twice (l ∷ w) few g p q i j t lt (inl e) (inr k) =
+      let may : MaySuggest m w p i t = rw (← e) at g.1 in
+      elim may.ticket [
+        | inl f ↦ absurd (fresh_new w g.0 q j t f k)
+        | inr n ↦
+            let s = same_home w g.0 p q n.0 j t n.1.before k in
+            let f = suggest_front m w q j t few k in
+            absurd (omega (arith, may.past, rw (← s) at f, lt))
+      ]
+  suggested_twice (l ∷ w) few g p q i j t lt (inr h) (inl e) =
+      let may : MaySuggest m w q j t = rw (← e) at g.1 in
+      decided_more m l w i Noop
+      (elim may.ticket [
+        | inl f ↦ absurd (fresh_new w g.0 p i t f h)
+        | inr n ↦
+            let s = same_home w g.0 p q i n.0 t h n.1.before in
+            let last = n.1.last i (subst (λ x. IsIn (Sent (Suggest x i t)) w) s h) in
+            elim (cases_lt i n.0) [
+              | inl below ↦ suggested_twice w few g.0 p q i n.0 t below h n.1.before
+              | inr ge ↦
+                  let here : n.0 ≡ i = omega (arith, ge, last) in
+                  rw here at ((all_decided m w g.0).lines q n.0 Noop n.1.lost)
+            ]
+      ])
+  suggested_twice (l ∷ w) few g p q i j t lt (inr h) (inr k) =
+      decided_more m l w i Noop (suggested_twice w few g.0 p q i j t lt h k)
+
+  -- a decided ticket was suggested there
+  decided_suggested : (w : History) → IsGrown m w → (i t : ℕ) → IsDecided m w i (Ticket t)
+      → (p : ℕ) × IsIn (Sent (Suggest p i t)) w
+  decided_suggested w g i t (inl c) =
+      elim (origin m w g i c.0 (Ticket t) c.1) [
+        | inl n ↦ absurd (cc)
+        | inr s ↦
+            let r = start_in w i (Ticket t) s in
+            let e : r.1 ≡ t = (let f = r.3 in cc) in
+            (r.0, rw e at r.2)
+      ]
+  decided_suggested w g i t (inr s) = let e = s.1 in absurd (cc)
+
+  -- and so it was submitted
+  pub decided_submitted : (w : History) → IsGrown m w → (i t : ℕ) → IsDecided m w i (Ticket t)
+      → t < length (submitted w)
+  decided_submitted w g i t h = let r = decided_suggested w g i t h in ticket_submitted w g r.0 i t r.1
+
+  -- it is decided at no lower instance, for there no-op is
+  decided_not_before : (w : History) → 1 ≤ m.count → IsGrown m w → (i j t : ℕ) → i < j → IsDecided m w i (Ticket t)
+      → IsDecided m w j (Ticket t) → ⊥
+  decided_not_before w few g i j t lt h k =
+      let r = decided_suggested w g i t h in
+      let s = decided_suggested w g j t k in
+      let n = suggested_twice w few g r.0 s.0 i j t lt r.1 s.1 in
+      let e = agreement m w few g i (Ticket t) Noop h n in
+      absurd (cc)
+
+  -- a ticket is decided at one instance
+  pub decided_once : (w : History) → 1 ≤ m.count → IsGrown m w → (i j t : ℕ) → IsDecided m w i (Ticket t)
+      → IsDecided m w j (Ticket t) → i ≡ j
+  decided_once w few g i j t h k =
+      elim (cases_order i j) [
+        | inl e ↦ e
+        | inr o ↦ elim o [
+          | inl lt ↦ absurd (decided_not_before w few g i j t lt h k)
+          | inr gt ↦ absurd (decided_not_before w few g j i t gt k h)
+        ]
+      ]
+
+-- ---- identities
+
+same_id_back : (a b : CommandId) → is_same_id a b ≡ true → is_same_id b a ≡ true
+same_id_back a b h =
+    let r = and_parts (eqb a.client b.client) (eqb a.number b.number) h in
+    let s = eqb-true a.client b.client r.0 in
+    let t = eqb-true a.number b.number r.1 in
+    rw (eq-eqb b.client a.client (sym s), eq-eqb b.number a.number (sym t))
+
+-- an item of a longer list stood there before, or is the new one
+pub get_push : {A : Type 0} (xs : List A) (x y : A) (k : ℕ) → slice_get (xs ++ x ∷ []) k ≡ Some y
+    → (slice_get xs k ≡ Some y) ⊎ ((k ≡ length xs) × (x ≡ y))
+get_push [] x y zero h = inr (refl, cc)
+get_push [] x y (suc k) h = absurd (cc)
+get_push (z ∷ xs) x y zero h = inl h
+get_push (z ∷ xs) x y (suc k) h = elim (get_push xs x y k h) [ inl a ↦ inl a | inr b ↦ inr (ap suc b.0, b.1) ]
+
+abbrev pub Submission : Type 0
+Submission = Command × ℕ
+
+module _ (w : History) (t u : ℕ) (x y : Submission) (e : is_same_id x.0.id y.0.id ≡ true) where
+  -- the same, where a line may have brought the submission o
+  identity_at : (o : Option Submission)
+      → ((z : Submission) → o ≡ Some z → list_any (λ (a : Submission). is_same_id a.0.id z.0.id) (submitted w) ≡ false)
+      → slice_get (submitted w ++ option_to_list o) t ≡ Some x → slice_get (submitted w ++ option_to_list o) u ≡ Some y
+      → (slice_get (submitted w) t ≡ Some x → slice_get (submitted w) u ≡ Some y → t ≡ u) → t ≡ u
+  identity_at None fresh h k rest = rest (rw append-nil at h) (rw append-nil at k)
+  identity_at (Some z) fresh h k rest =
+      let new = fresh z refl in
+      elim (get_push (submitted w) z x t h) [
+        | inl a ↦ elim (get_push (submitted w) z y u k) [
+          | inl b ↦ rest a b
+          | inr b ↦ absurd
+              (none_in (λ (s : Submission). is_same_id s.0.id z.0.id) x (submitted w) new
+              (get_in (submitted w) t x a) (rw b.1 e))
+        ]
+        | inr a ↦ elim (get_push (submitted w) z y u k) [
+          | inl b ↦ absurd
+              (none_in (λ (s : Submission). is_same_id s.0.id z.0.id) y (submitted w) new
+              (get_in (submitted w) u y b) (rw a.1 (same_id_back x.0.id y.0.id e)))
+          | inr b ↦ a.0 ∙ sym b.0
+        ]
+      ]
+
+-- a submission had a new identity
+command_new : (m : Membership) (w : History) (l : Line) → May m w l → (z : Submission) → command_in l ≡ Some z
+    → list_any (λ (a : Submission). is_same_id a.0.id z.0.id) (submitted w) ≡ false
+command_new m w (Submitted c s) may z e =
+    let k : c ≡ z.0 = ap (λ (o : Option Submission). first_or c o) e in rw (← k) may where
+      first_or : Command → Option Submission → Command
+      first_or c None = c
+      first_or c (Some z) = z.0
+command_new m w _ may z e = absurd (cc)
+
+-- each identity is submitted once
+pub identity_once : (m : Membership) (w : History) → IsGrown m w → (t u : ℕ) (x y : Submission)
+    → slice_get (submitted w) t ≡ Some x → slice_get (submitted w) u ≡ Some y
+    → is_same_id x.0.id y.0.id ≡ true → t ≡ u
+identity_once m [] g t u x y h k e = absurd (cc)
+identity_once m (l ∷ w) g t u x y h k e =
+    identity_at w t u x y e (command_in l) (command_new m w l g.1) h k (λ a b. identity_once m w g.0 t u x y a b e)

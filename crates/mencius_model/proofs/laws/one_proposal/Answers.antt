@@ -1,0 +1,5 @@
+use Rattle.mencius_model.proofs.Once.{one_proposal_holds}
+use Rattle.mencius_model.proofs.laws.one_proposal.Goals as goal
+
+pub returns : goal.returns
+returns c = one_proposal_holds

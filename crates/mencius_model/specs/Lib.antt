@@ -1,0 +1,11 @@
+pub mod History
+pub mod Instance
+pub mod Server
+pub mod Next
+pub mod Decided
+pub mod Executed
+pub mod Store
+pub mod Held
+pub mod Replying
+pub mod Laws
+pub mod Outcomes

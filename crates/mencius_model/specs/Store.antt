@@ -1,0 +1,37 @@
+-- A map from keys to texts, and what commands make of it.
+use Rattle.std.specs.Prelude.{ℕ, List, Option}
+use Rattle.std.specs.List.{fold}
+use Rattle.std.specs.Ordering.{nat_cmp}
+use Rattle.std.specs.Cmp.Lexicographic.{slice_cmp}
+use Rattle.std.specs.FinMap as finite
+use Rattle.mencius_base.specs.declared.command.Command.{Command}
+use Rattle.mencius_base.specs.declared.command.Op.{Op}
+use Rattle.mencius_base.specs.declared.command.Op.TheVariants.{Set, Get, Del}
+
+-- texts by the bytes of their keys
+abbrev pub Store : Type 0
+Store = finite.FinMap (slice_cmp nat_cmp) (List ℕ)
+
+-- Set binds the key, Del removes it, Get changes nothing
+abbrev pub apply : Store → Op → Store
+apply m (Set key text) = finite.insert m key text
+apply m (Get key) = m
+apply m (Del key) = finite.remove m key
+
+-- the key that an operation is about
+abbrev pub key_of : Op → List ℕ
+key_of (Set key text) = key
+key_of (Get key) = key
+key_of (Del key) = key
+
+-- what these commands make of the empty map
+abbrev pub store_after : List Command → Store
+store_after cs = fold (λ m c. apply m c.op) finite.empty cs
+
+-- what that map holds at c's key: the answer of c after these commands
+abbrev pub out : List Command → Command → Option (List ℕ)
+out cs c = finite.get (store_after cs) (key_of c.op)
+
+-- what the map of these commands holds at a key
+abbrev pub value_at : List ℕ → List Command → Option (List ℕ)
+value_at key commands = finite.get (store_after commands) key
