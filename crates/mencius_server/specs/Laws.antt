@@ -1,4 +1,4 @@
--- What holds of every reached history, and what the contracts of a server rest on.
+-- What a server answers that is at a reached history.
 use Rattle.std.specs.Prelude.{◌≡◌, ℕ, ◌<◌}
 use Rattle.mencius_model.specs.History.{History}
 use Rattle.mencius_model.specs.Instance.{learned}

@@ -154,7 +154,7 @@ in order of sending. A command's ID is CLIENT.NUMBER, two numbers that the clien
   submit S ID get KEY       .. to look KEY up
   submit S ID del KEY       .. to remove KEY
   deliver K D               message K reaches server D, for the first time or again
-  lose K D                  message K can reach server D no more
+  lose K D                  message K can no longer reach server D
   suspect P Q               server P takes Q for stopped, and revokes its open instances
   retry P                   server P suggests a command again that lost its instance
   execute S                 server S executes its next instance
