@@ -1,6 +1,7 @@
 -- Who there is, who owns which instance, and who leads which ballot.
 use Rattle.std.specs.Prelude.{ℕ, ◌+◌, ◌-◌, ◌*◌, ◌/◌, ◌%◌, List, [], ◌∷◌, Option, Some, None, if◌then◌else◌, ◌==◌}
 use Rattle.std.specs.List.{range_with_len}
+use Rattle.mencius_base.specs.Limits.{event_limit, greatest_round, instance_count, message_limit}
 
 -- the servers of a cluster
 pub record Membership : Type 0 where
@@ -39,13 +40,13 @@ first_item (t ∷ ts) = Some t
 
 -- every instance there is, and the greatest number of messages and of events
 unfoldable pub instances : List ℕ
-instances = below 4096
+instances = below instance_count
 
 unfoldable pub most_messages : ℕ
-most_messages = 262144
+most_messages = message_limit
 
 unfoldable pub most_events : ℕ
-most_events = 262144
+most_events = event_limit
 
 unfoldable pub most_rounds : ℕ
-most_rounds = 65535
+most_rounds = greatest_round

@@ -1,8 +1,9 @@
 -- Where a message may go.
-use Rattle.std.specs.Prelude.{ℕ, Bool, true, Option, Some, None, ◌==◌, ◌&&◌, nat_lt}
+use Rattle.std.specs.Prelude.{ℕ, Bool, true, Option, Some, None, ◌==◌, ◌&&◌, nat_le, nat_lt}
 use Rattle.mencius_base.specs.declared.message.Message.{Message}
 use Rattle.mencius_base.specs.declared.message.Message.TheVariants.{Suggest, Skip, Accepted, Prepare, Promise, Propose, Learn}
 use Rattle.mencius_base.specs.Members.{Membership}
+use Rattle.mencius_base.specs.Limits.{greatest_front, instance_count}
 
 -- Accepted and Promise go to one server, all others to every server
 abbrev pub goes_to : ℕ → Message → Bool
@@ -16,13 +17,13 @@ is_for d (Some x) = goes_to d x
 
 -- its servers are members, its instance is one of the 4,096, and what has a first phase has a ballot above 0
 abbrev pub is_within : Membership → Message → Bool
-is_within m (Suggest from inst ticket) = nat_lt from m.count && nat_lt inst 4096
-is_within m (Skip from first stop) = (nat_lt from m.count && nat_lt first 4096) && nat_lt stop 4103
-is_within m (Accepted from to inst ballot) = (nat_lt from m.count && nat_lt to m.count) && nat_lt inst 4096
-is_within m (Prepare from inst ballot) = (nat_lt from m.count && nat_lt inst 4096) && nat_lt 0 ballot
-is_within m (Promise from to inst ballot vote) = ((nat_lt from m.count && nat_lt to m.count) && nat_lt inst 4096) && nat_lt 0 ballot
-is_within m (Propose from inst ballot value) = (nat_lt from m.count && nat_lt inst 4096) && nat_lt 0 ballot
-is_within m (Learn from inst value) = nat_lt from m.count && nat_lt inst 4096
+is_within m (Suggest from inst ticket) = nat_lt from m.count && nat_lt inst instance_count
+is_within m (Skip from first stop) = (nat_lt from m.count && nat_lt first instance_count) && nat_le stop greatest_front
+is_within m (Accepted from to inst ballot) = (nat_lt from m.count && nat_lt to m.count) && nat_lt inst instance_count
+is_within m (Prepare from inst ballot) = (nat_lt from m.count && nat_lt inst instance_count) && nat_lt 0 ballot
+is_within m (Promise from to inst ballot vote) = ((nat_lt from m.count && nat_lt to m.count) && nat_lt inst instance_count) && nat_lt 0 ballot
+is_within m (Propose from inst ballot value) = (nat_lt from m.count && nat_lt inst instance_count) && nat_lt 0 ballot
+is_within m (Learn from inst value) = nat_lt from m.count && nat_lt inst instance_count
 
 -- the message goes to server d, and all its numbers are within their limits
 abbrev pub is_addressed : Membership → ℕ → Message → Bool

@@ -1,6 +1,8 @@
+ghost use Rattle.mencius_base.specs.Limits.{greatest_round};
 ghost use Rattle.std.specs.Prelude.{◌≡◌, ◌<◌, ◌≤◌, ◌↔◌, IsSome, IfSome};
 ghost use Rattle.mencius_base.specs.Members.{ballot_of, leader, round};
 
+use crate::limits::GREATEST_ROUND;
 use crate::members::Members;
 use std::marker::Model;
 
@@ -32,10 +34,10 @@ impl Ballot {
     /// The ballot of a round that a server leads; `None` unless the round is 1 to 65,535 and the
     /// server is one of the members.
     pub fn new(members: Members, round: u32, server: u8) -> Option<Ballot>
-        ensures valid { IsSome result ↔ ((1 ≤ round) × (round ≤ 65535) × (server < members.count)) }
+        ensures valid { IsSome result ↔ ((1 ≤ round) × (round ≤ greatest_round) × (server < members.count)) }
         ensures value { IfSome result (λ b. b ≡ ballot_of members round server) }
     {
-        if round < 1 || round > 65535 || server >= members.count() {
+        if round < 1 || round > GREATEST_ROUND || server >= members.count() {
             return None;
         }
         Some(Ballot {

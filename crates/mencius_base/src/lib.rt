@@ -8,6 +8,7 @@
 mod ballot;
 mod command;
 mod event;
+mod limits;
 mod members;
 mod message;
 mod outbox;
@@ -18,6 +19,7 @@ mod tests;
 pub use ballot::Ballot;
 pub use command::{BadCommand, Command, CommandId, Key, Op, Text, is_name};
 pub use event::{Entry, Event};
+pub use limits::{GREATEST_FRONT, GREATEST_ROUND, INSTANCES, MOST_EVENTS, MOST_MESSAGES};
 pub use members::Members;
 pub use message::{Message, Value, Vote};
 pub use outbox::Outbox;

@@ -1,3 +1,4 @@
+ghost use Rattle.mencius_base.specs.Limits.{greatest_front};
 ghost use Rattle.std.specs.Prelude.{◌≡◌, ℕ, ◌+◌, ◌<◌, ◌≤◌, ◌↔◌, IsSome, IfSome};
 ghost use Rattle.mencius_base.specs.Members.{first_owned, majority, owner};
 
@@ -64,7 +65,7 @@ impl Members {
     #[tactic(auto, using(crate::proofs::Owned::first_owned_owner, crate::proofs::Owned::first_owned_least))]
     pub fn first_owned(self, server: u8, from: u32) -> u32
         requires member { server < self.count }
-        requires small { from ≤ 4102 }
+        requires small { from ≤ greatest_front }
         ensures owned { owner self result ≡ server }
         ensures above { from ≤ result }
         ensures least { (i : ℕ) → from ≤ i → owner self i ≡ server → result ≤ i }

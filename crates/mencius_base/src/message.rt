@@ -1,6 +1,7 @@
 ghost use Rattle.std.specs.Prelude.{◌≡◌};
 
 use crate::ballot::Ballot;
+use crate::limits::{GREATEST_FRONT, INSTANCES};
 use crate::members::Members;
 
 /// What an instance may decide: nothing, or a command.
@@ -102,24 +103,28 @@ impl Message {
         let count = members.count();
         match *self {
             Message::Suggest { from, inst, .. } | Message::Learn { from, inst, .. } => {
-                from < count && inst < 4096
+                from < count && inst < INSTANCES
             }
-            Message::Skip { from, first, stop } => from < count && first < 4096 && stop < 4103,
-            Message::Accepted { from, to, inst, .. } => from < count && to < count && inst < 4096,
+            Message::Skip { from, first, stop } => from < count
+                && first < INSTANCES
+                && stop <= GREATEST_FRONT,
+            Message::Accepted { from, to, inst, .. } => from < count
+                && to < count
+                && inst < INSTANCES,
             Message::Prepare { from, inst, ballot }
             | Message::Propose {
                 from,
                 inst,
                 ballot,
                 ..
-            } => from < count && inst < 4096 && 0 < ballot.number(),
+            } => from < count && inst < INSTANCES && 0 < ballot.number(),
             Message::Promise {
                 from,
                 to,
                 inst,
                 ballot,
                 ..
-            } => from < count && to < count && inst < 4096 && 0 < ballot.number(),
+            } => from < count && to < count && inst < INSTANCES && 0 < ballot.number(),
         }
     }
 }

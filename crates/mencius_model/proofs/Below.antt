@@ -9,6 +9,7 @@ use Rattle.std.proofs.lemmas.List.FromFn.{map-range_with_len_more, fill_by_all, 
 use Rattle.std.proofs.lemmas.List.Elements.{filter-append}
 use Rattle.std.proofs.lemmas.Bool.{cases_eq, or_cases, or_left, or_right}
 use Rattle.mencius_base.specs.Members.{below, instances, first_item}
+use Rattle.mencius_base.specs.Limits.{instance_count}
 
 pub length-map-below : {X : Type 0} (f : ℕ → X) (n : ℕ) → length (map f (below n)) ≡ n
 unfolding below
@@ -55,19 +56,19 @@ counts_alike f n (x ∷ xs) = counts_alike f (n + cond (f x) 1 0) xs
 pub count_by-map : (f : ℕ → Bool) (xs : List ℕ) → count_by (λ b. b) (map f xs) ≡ count_by f xs
 count_by-map f xs = counts_alike f 0 xs
 
-pub instances-below : instances ≡ below 4096
+pub instances-below : instances ≡ below instance_count
 unfolding instances
 instances-below = refl
 
-pub length-map-instances : {X : Type 0} (f : ℕ → X) → length (map f instances) ≡ 4096
-length-map-instances f = rw instances-below (length-map-below f 4096)
+pub length-map-instances : {X : Type 0} (f : ℕ → X) → length (map f instances) ≡ instance_count
+length-map-instances f = rw instances-below (length-map-below f instance_count)
 
-pub get_or-map-instances : {X : Type 0} (f : ℕ → X) (i : ℕ) (d : X) → i < 4096 → get_or (map f instances) i d ≡ f i
-get_or-map-instances f i d h = rw instances-below (get_or-map-below f 4096 i d h)
+pub get_or-map-instances : {X : Type 0} (f : ℕ → X) (i : ℕ) (d : X) → i < instance_count → get_or (map f instances) i d ≡ f i
+get_or-map-instances f i d h = rw instances-below (get_or-map-below f instance_count i d h)
 
 pub map-instances_set : {X : Type 0} (f g : ℕ → X) (i : ℕ) (v d : X) → g i ≡ v
-    → ((k : ℕ) → k < 4096 → (k ≡ i → ⊥) → f k ≡ g k) → set (map f instances) i v ≡ map g instances
-map-instances_set f g i v d here there = rw instances-below (map-below_set f g 4096 i v d here there)
+    → ((k : ℕ) → k < instance_count → (k ≡ i → ⊥) → f k ≡ g k) → set (map f instances) i v ≡ map g instances
+map-instances_set f g i v d here there = rw instances-below (map-below_set f g instance_count i v d here there)
 
 pub below-more : (n : ℕ) → below (n + 1) ≡ below n ++ n ∷ []
 unfolding below
@@ -125,18 +126,18 @@ find-range_same f g a zero e = refl
 find-range_same f g a (suc n) e = rw (e a (omega arith), find-range_same f g (a + 1) n (λ j h. e j (omega arith)))
 
 -- the first instance that passes
-pub find-instances : (test : ℕ → Bool) (i : ℕ) → i < 4096 → ((j : ℕ) → j < i → test j ≡ false) → test i ≡ true
+pub find-instances : (test : ℕ → Bool) (i : ℕ) → i < instance_count → ((j : ℕ) → j < i → test j ≡ false) → test i ≡ true
     → find test instances ≡ Some i
 unfolding below instances
-find-instances test i small before here = find-range test 0 4096 i (omega arith) small (λ j l h. before j h) here
+find-instances test i small before here = find-range test 0 instance_count i (omega arith) small (λ j l h. before j h) here
 
-pub find-instances_none : (test : ℕ → Bool) → ((j : ℕ) → j < 4096 → test j ≡ false) → find test instances ≡ None
+pub find-instances_none : (test : ℕ → Bool) → ((j : ℕ) → j < instance_count → test j ≡ false) → find test instances ≡ None
 unfolding below instances
-find-instances_none test none = find-range_none test 0 4096 (λ j l h. none j h)
+find-instances_none test none = find-range_none test 0 instance_count (λ j l h. none j h)
 
-pub find-instances_same : (f g : ℕ → Bool) → ((j : ℕ) → j < 4096 → f j ≡ g j) → find f instances ≡ find g instances
+pub find-instances_same : (f g : ℕ → Bool) → ((j : ℕ) → j < instance_count → f j ≡ g j) → find f instances ≡ find g instances
 unfolding below instances
-find-instances_same f g e = find-range_same f g 0 4096 e
+find-instances_same f g e = find-range_same f g 0 instance_count e
 
 -- what is found passes, and is an instance
 pub record IsFound (test : ℕ → Bool) (n k : ℕ) : Type 0 where
@@ -156,13 +157,13 @@ find-range_found : (test : ℕ → Bool) (a n k : ℕ) → find test (range_with
 find-range_found test a zero k e = absurd (cc)
 find-range_found test a (suc n) k e = found_at test a n k (test a) refl e (find-range_found test (a + 1) n k)
 
-pub find-instances_found : (test : ℕ → Bool) (k : ℕ) → find test instances ≡ Some k → IsFound test 4096 k
+pub find-instances_found : (test : ℕ → Bool) (k : ℕ) → find test instances ≡ Some k → IsFound test instance_count k
 unfolding below instances
-find-instances_found test k e = find-range_found test 0 4096 k e
+find-instances_found test k e = find-range_found test 0 instance_count k e
 
-pub map-instances_same : {X : Type 0} (f g : ℕ → X) (d : X) → ((k : ℕ) → k < 4096 → f k ≡ g k)
+pub map-instances_same : {X : Type 0} (f g : ℕ → X) (d : X) → ((k : ℕ) → k < instance_count → f k ≡ g k)
     → map f instances ≡ map g instances
-map-instances_same f g d e = rw instances-below (map-below_same f g 4096 d e)
+map-instances_same f g d e = rw instances-below (map-below_same f g instance_count d e)
 
 -- the first that a function gives over the instances
 first_item-range : (f : ℕ → Option ℕ) (a n i t : ℕ) → a ≤ i → i < a + n → ((j : ℕ) → a ≤ j → j < i → f j ≡ None)
@@ -190,21 +191,21 @@ filter_map-range_same f g a zero e = refl
 filter_map-range_same f g a (suc n) e =
     rw (e a (omega arith), filter_map-range_same f g (a + 1) n (λ j h. e j (omega arith)))
 
-pub first_item-instances : (f : ℕ → Option ℕ) (i t : ℕ) → i < 4096 → ((j : ℕ) → j < i → f j ≡ None) → f i ≡ Some t
+pub first_item-instances : (f : ℕ → Option ℕ) (i t : ℕ) → i < instance_count → ((j : ℕ) → j < i → f j ≡ None) → f i ≡ Some t
     → first_item (filter_map f instances) ≡ Some t
 unfolding below instances
 first_item-instances f i t small before here =
-    first_item-range f 0 4096 i t (omega arith) small (λ j l h. before j h) here
+    first_item-range f 0 instance_count i t (omega arith) small (λ j l h. before j h) here
 
-pub first_item-instances_none : (f : ℕ → Option ℕ) → ((j : ℕ) → j < 4096 → f j ≡ None)
+pub first_item-instances_none : (f : ℕ → Option ℕ) → ((j : ℕ) → j < instance_count → f j ≡ None)
     → first_item (filter_map f instances) ≡ None
 unfolding below instances
-first_item-instances_none f none = first_item-range_none f 0 4096 (λ j l h. none j h)
+first_item-instances_none f none = first_item-range_none f 0 instance_count (λ j l h. none j h)
 
-pub filter_map-instances_same : (f g : ℕ → Option ℕ) → ((j : ℕ) → j < 4096 → f j ≡ g j)
+pub filter_map-instances_same : (f g : ℕ → Option ℕ) → ((j : ℕ) → j < instance_count → f j ≡ g j)
     → filter_map f instances ≡ filter_map g instances
 unfolding below instances
-filter_map-instances_same f g e = filter_map-range_same f g 0 4096 e
+filter_map-instances_same f g e = filter_map-range_same f g 0 instance_count e
 
 -- whether a test passes at some instance
 any-range : (test : ℕ → Bool) (a n i : ℕ) → a ≤ i → i < a + n → test i ≡ true
@@ -234,17 +235,17 @@ any-range_found test a (suc n) h =
     (r.0, let low : r.0 < a + 1 + n = r.1 in omega arith, r.2))
     (or_cases (test a) (list_any test (range_with_len (a + 1) n)) h)
 
-pub any-instances : (test : ℕ → Bool) (i : ℕ) → i < 4096 → test i ≡ true → list_any test instances ≡ true
+pub any-instances : (test : ℕ → Bool) (i : ℕ) → i < instance_count → test i ≡ true → list_any test instances ≡ true
 unfolding below instances
-any-instances test i small here = any-range test 0 4096 i (omega arith) small here
+any-instances test i small here = any-range test 0 instance_count i (omega arith) small here
 
-pub any-instances_none : (test : ℕ → Bool) → ((j : ℕ) → j < 4096 → test j ≡ false) → list_any test instances ≡ false
+pub any-instances_none : (test : ℕ → Bool) → ((j : ℕ) → j < instance_count → test j ≡ false) → list_any test instances ≡ false
 unfolding below instances
-any-instances_none test none = any-range_none test 0 4096 (λ j l h. none j h)
+any-instances_none test none = any-range_none test 0 instance_count (λ j l h. none j h)
 
-pub any-instances_found : (test : ℕ → Bool) → list_any test instances ≡ true → (j : ℕ) × (j < 4096) × (test j ≡ true)
+pub any-instances_found : (test : ℕ → Bool) → list_any test instances ≡ true → (j : ℕ) × (j < instance_count) × (test j ≡ true)
 unfolding below instances
-any-instances_found test h = any-range_found test 0 4096 h
+any-instances_found test h = any-range_found test 0 instance_count h
 
 -- filters
 pub any-filter : (g f : ℕ → Bool) (xs : List ℕ) → list_any f (filter g xs) ≡ list_any (λ (x : ℕ). g x && f x) xs
@@ -283,11 +284,11 @@ map-filter-range_same f f' g g' a (suc n) e h =
     go true r = rw (e a (omega arith), r)
     go false r = r
 
-pub map-filter-instances_same : {X : Type 0} (f f' : ℕ → X) (g g' : ℕ → Bool) → ((j : ℕ) → j < 4096 → f j ≡ f' j)
-    → ((j : ℕ) → j < 4096 → g j ≡ g' j)
+pub map-filter-instances_same : {X : Type 0} (f f' : ℕ → X) (g g' : ℕ → Bool) → ((j : ℕ) → j < instance_count → f j ≡ f' j)
+    → ((j : ℕ) → j < instance_count → g j ≡ g' j)
     → map f (filter g instances) ≡ map f' (filter g' instances)
 unfolding below instances
-map-filter-instances_same f f' g g' e h = map-filter-range_same f f' g g' 0 4096 e h
+map-filter-instances_same f f' g g' e h = map-filter-range_same f f' g g' 0 instance_count e h
 
 pub filter-below_zero : (test : ℕ → Bool) → filter test (below 0) ≡ []
 unfolding below
@@ -322,10 +323,10 @@ filter-range_same : (g g' : ℕ → Bool) (a n : ℕ) → ((j : ℕ) → j < a +
 filter-range_same g g' a zero h = refl
 filter-range_same g g' a (suc n) h = rw (h a (omega arith), filter-range_same g g' (a + 1) n (λ j l. h j (omega arith)))
 
-pub filter-instances_same : (g g' : ℕ → Bool) → ((j : ℕ) → j < 4096 → g j ≡ g' j)
+pub filter-instances_same : (g g' : ℕ → Bool) → ((j : ℕ) → j < instance_count → g j ≡ g' j)
     → filter g instances ≡ filter g' instances
 unfolding below instances
-filter-instances_same g g' h = filter-range_same g g' 0 4096 h
+filter-instances_same g g' h = filter-range_same g g' 0 instance_count h
 
 pub any-map : (f : ℕ → Bool) (xs : List ℕ) → list_any f xs ≡ list_any (λ (b : Bool). b) (map f xs)
 any-map f [] = refl

@@ -2,7 +2,7 @@
 use Rattle.std.proofs.Common.{◌≡◌, ℕ, zero, suc, ◌+◌, ◌-◌, ◌*◌, ◌%◌, ◌<◌, ◌≤◌, max, Bool, true, false, cond, eqb, ltb, leb, List, [], ◌∷◌, ◌++◌, Option, Some, None, map, filter, inl, inr, refl, arith, Ok, leb-false, slice_get}
 use Rattle.std.specs.Prelude.{IsTrue, is_none}
 use Rattle.std.specs.List.{range_with_len}
-use Rattle.std.proofs.lemmas.Bool.{and_from, cases_Bool, eqb-true, lt-ltb, ltb-true, or_parts}
+use Rattle.std.proofs.lemmas.Bool.{le-leb, and_from, cases_Bool, eqb-true, lt-ltb, ltb-true, or_parts}
 use Rattle.mencius_base.specs.declared.event.Event.{Event}
 use Rattle.mencius_base.specs.declared.event.Event.TheVariants.{Submit, Deliver, Lose, Suspect, Retry, Execute}
 use Rattle.mencius_base.specs.declared.message.Message.{Message}
@@ -20,15 +20,16 @@ use Rattle.mencius_model.proofs.Lists.{IsIn, get_in}
 use Rattle.mencius_model.proofs.State.{sent_in}
 use Rattle.mencius_model.proofs.Steps.{NoneHolds, next_is}
 use Rattle.mencius_model.proofs.Journals.{reached_along}
+use Rattle.mencius_base.specs.Limits.{greatest_front, instance_count}
 
 abbrev pub IsSmall : Membership → Message → Type 0
-IsSmall m (Suggest from inst ticket) = (from < m.count) × (inst < 4096)
-IsSmall m (Skip from first stop) = (from < m.count) × (first < 4096) × (stop < 4103)
-IsSmall m (Accepted from to inst ballot) = (from < m.count) × (inst < 4096)
-IsSmall m (Prepare from inst ballot) = (from < m.count) × (inst < 4096) × (0 < ballot)
-IsSmall m (Promise from to inst ballot vote) = (from < m.count) × (inst < 4096) × (0 < ballot)
-IsSmall m (Propose from inst ballot value) = (from < m.count) × (inst < 4096) × (0 < ballot)
-IsSmall m (Learn from inst value) = (from < m.count) × (inst < 4096)
+IsSmall m (Suggest from inst ticket) = (from < m.count) × (inst < instance_count)
+IsSmall m (Skip from first stop) = (from < m.count) × (first < instance_count) × (stop ≤ greatest_front)
+IsSmall m (Accepted from to inst ballot) = (from < m.count) × (inst < instance_count)
+IsSmall m (Prepare from inst ballot) = (from < m.count) × (inst < instance_count) × (0 < ballot)
+IsSmall m (Promise from to inst ballot vote) = (from < m.count) × (inst < instance_count) × (0 < ballot)
+IsSmall m (Propose from inst ballot value) = (from < m.count) × (inst < instance_count) × (0 < ballot)
+IsSmall m (Learn from inst value) = (from < m.count) × (inst < instance_count)
 
 abbrev IsSmallLine : Membership → Line → Type 0
 IsSmallLine m (Sent x) = IsSmall m x
@@ -73,14 +74,14 @@ small_again m w p member (Some t) = small_suggestion m w p t member (free m w p)
 next_above : (a n p : ℕ) → 0 < n → 0 < (a + 1) * n + p
 next_above a n p h = omega arith
 
-small_prepared : (m : Membership) (w : History) (p : ℕ) (g : ℕ → Bool) → p < m.count → (a n : ℕ) → a + n ≤ 4096
+small_prepared : (m : Membership) (w : History) (p : ℕ) (g : ℕ → Bool) → p < m.count → (a n : ℕ) → a + n ≤ instance_count
     → AreSmall m (map (preparation m w p) (filter g (range_with_len a n)))
 small_prepared m w p g member a zero h = tt
 small_prepared m w p g member a (suc n) h =
     let some : 0 < m.count = omega arith in
     let high = next_above (max (round m (trying w p a)) (round m (promised w p a))) m.count p some in
     let rest = small_prepared m w p g member (a + 1) n (omega arith) in
-    let here : a < 4096 = omega arith in
+    let here : a < instance_count = omega arith in
     elim (cases_Bool (g a)) [
       | inl e ↦ rw e ((member, here, high), rest)
       | inr e ↦ rw e rest
@@ -89,15 +90,15 @@ small_prepared m w p g member a (suc n) h =
 small_suspects : (m : Membership) (w : History) (p q : ℕ) → p < m.count
     → AreSmall m (map (preparation m w p) (suspects m w p q))
 unfolding below instances
-small_suspects m w p q member = small_prepared m w p (is_suspect m w p q) member 0 4096 (omega arith)
+small_suspects m w p q member = small_prepared m w p (is_suspect m w p q) member 0 instance_count (omega arith)
 
-stop_small : (m : Membership) (d i : ℕ) → d < m.count → m.count ≤ 7 → i < 4096 → first_owned m d (i + 1) < 4103
+stop_small : (m : Membership) (d i : ℕ) → d < m.count → m.count ≤ 7 → i < instance_count → first_owned m d (i + 1) ≤ greatest_front
 stop_small m d i member few small =
     let near : (d + m.count - (i + 1) % m.count) % m.count < m.count = omega arith in
     omega arith
 
 module _ (m : Membership) (few : m.count ≤ 7) (w : History) (k d : ℕ) (member : d < m.count) where
-  small_suggest : (q i : ℕ) → i < 4096 → (a b : Bool) → ltb (front m w d) i ≡ a
+  small_suggest : (q i : ℕ) → i < instance_count → (a b : Bool) → ltb (front m w d) i ≡ a
       → AreSmall m (cond a (Sent (Skip d (front m w d) (first_owned m d (i + 1))) ∷ []) []
       ++ cond b (Sent (Accepted d q i 0) ∷ []) [])
   small_suggest q i small true true e =
@@ -108,11 +109,11 @@ module _ (m : Membership) (few : m.count ≤ 7) (w : History) (k d : ℕ) (membe
   small_suggest q i small false true e = ((member, small), tt)
   small_suggest q i small false false e = tt
 
-  small_promise : (q i b : ℕ) → i < 4096 → 0 < b → (o : Option Value) → AreSmall m (promise w d q i b o)
+  small_promise : (q i b : ℕ) → i < instance_count → 0 < b → (o : Option Value) → AreSmall m (promise w d q i b o)
   small_promise q i b small pos None = small_one m _ (ltb (promised w d i) b) (member, small, pos)
   small_promise q i b small pos (Some v) = ((member, small), tt)
 
-  small_decision : (i : ℕ) → i < 4096 → (c : Bool) (o : Option Value) → AreSmall m (cond c (decision d i o) [])
+  small_decision : (i : ℕ) → i < instance_count → (c : Bool) (o : Option Value) → AreSmall m (cond c (decision d i o) [])
   small_decision i small true None = tt
   small_decision i small true (Some v) = (tt, ((member, small), tt))
   small_decision i small false o = tt
@@ -163,18 +164,18 @@ sent_small m few w r = reached_along m (AllSmall m) (λ x h. absurd h) (λ u v e
 
 within_small : (m : Membership) (d : ℕ) (x : Message) → d < m.count → IsSmall m x → goes_to d x ≡ true
     → is_within m x ≡ true
-within_small m d (Suggest from inst ticket) member h e = rw (lt-ltb from m.count h.0, lt-ltb inst 4096 h.1)
+within_small m d (Suggest from inst ticket) member h e = rw (lt-ltb from m.count h.0, lt-ltb inst instance_count h.1)
 within_small m d (Skip from first stop) member h e =
-    rw (lt-ltb from m.count h.0, lt-ltb first 4096 h.1, lt-ltb stop 4103 h.2)
+    rw (lt-ltb from m.count h.0, lt-ltb first instance_count h.1, le-leb stop greatest_front h.2)
 within_small m d (Accepted from to inst ballot) member h e =
-    rw (lt-ltb from m.count h.0, lt-ltb inst 4096 h.1, eqb-true to d e, lt-ltb d m.count member)
+    rw (lt-ltb from m.count h.0, lt-ltb inst instance_count h.1, eqb-true to d e, lt-ltb d m.count member)
 within_small m d (Prepare from inst ballot) member h e =
-    rw (lt-ltb from m.count h.0, lt-ltb inst 4096 h.1, lt-ltb 0 ballot h.2)
+    rw (lt-ltb from m.count h.0, lt-ltb inst instance_count h.1, lt-ltb 0 ballot h.2)
 within_small m d (Promise from to inst ballot vote) member h e =
-    rw (lt-ltb from m.count h.0, lt-ltb inst 4096 h.1, lt-ltb 0 ballot h.2, eqb-true to d e, lt-ltb d m.count member)
+    rw (lt-ltb from m.count h.0, lt-ltb inst instance_count h.1, lt-ltb 0 ballot h.2, eqb-true to d e, lt-ltb d m.count member)
 within_small m d (Propose from inst ballot value) member h e =
-    rw (lt-ltb from m.count h.0, lt-ltb inst 4096 h.1, lt-ltb 0 ballot h.2)
-within_small m d (Learn from inst value) member h e = rw (lt-ltb from m.count h.0, lt-ltb inst 4096 h.1)
+    rw (lt-ltb from m.count h.0, lt-ltb inst instance_count h.1, lt-ltb 0 ballot h.2)
+within_small m d (Learn from inst value) member h e = rw (lt-ltb from m.count h.0, lt-ltb inst instance_count h.1)
 
 -- a message of the history that goes to a member is addressed to it, within all bounds
 pub sent_addressed : (m : Membership) → m.count ≤ 7 → (w : History) → IsReached m w → (k d : ℕ) (x : Message)

@@ -14,6 +14,7 @@ use Rattle.mencius_model.specs.Server.{front, done}
 use Rattle.mencius_base.specs.Command.{is_same_id}
 use Rattle.mencius_model.specs.Decided.{IsDecided}
 use Rattle.mencius_model.proofs.Lists.{IsIn}
+use Rattle.mencius_base.specs.Limits.{instance_count}
 
 -- the ticket of the command that was just submitted
 abbrev pub IsFresh : History → ℕ → Type 0
@@ -29,7 +30,7 @@ pub record HasLost (w : History) (p t i : ℕ) : Type 0 where
 pub record MaySuggest (m : Membership) (w : History) (p i t : ℕ) : Type 0 where
   pub own : owner m i ≡ p
   pub past : front m w p ≤ i
-  pub small : i < 4096
+  pub small : i < instance_count
   pub ticket : IsFresh w t ⊎ ((k : ℕ) × HasLost w p t k)
 
 -- whom an acceptance at (i, b) answers: who suggested or proposed there

@@ -19,9 +19,10 @@ use Rattle.mencius_model.proofs.State.{learned_in, sent_in}
 use Rattle.mencius_model.proofs.Steps.{next_is}
 use Rattle.mencius_model.proofs.Journals.{reached_along, reached_next}
 use Rattle.mencius_model.proofs.Bounds.{IsSmall, sent_small}
+use Rattle.mencius_base.specs.Limits.{instance_count}
 
 abbrev IsLow : Line → Type 0
-IsLow (Learned p i v) = i < 4096
+IsLow (Learned p i v) = i < instance_count
 IsLow _ = Unit {0}
 
 abbrev AreLow : List Line → Type 0
@@ -29,9 +30,9 @@ AreLow [] = Unit {0}
 AreLow (l ∷ ls) = IsLow l × AreLow ls
 
 abbrev AllLow : History → Type 0
-AllLow w = (p i : ℕ) (v : Value) → IsIn (Learned p i v) w → i < 4096
+AllLow w = (p i : ℕ) (v : Value) → IsIn (Learned p i v) w → i < instance_count
 
-low_line : (l : Line) (p i : ℕ) (v : Value) → Learned p i v ≡ l → IsLow l → i < 4096
+low_line : (l : Line) (p i : ℕ) (v : Value) → Learned p i v ≡ l → IsLow l → i < instance_count
 low_line l p i v e h = rw (← e) at h
 
 low_more : (w : History) (l : Line) → AllLow w → IsLow l → AllLow (l ∷ w)
@@ -52,12 +53,12 @@ low_two x y true false = (tt, tt)
 low_two x y false true = (tt, tt)
 low_two x y false false = tt
 
-low_noops : (d : ℕ) (g : ℕ → Bool) (a n : ℕ) → a + n ≤ 4096
+low_noops : (d : ℕ) (g : ℕ → Bool) (a n : ℕ) → a + n ≤ instance_count
     → AreLow (map (λ (j : ℕ). Learned d j Noop) (filter g (range_with_len a n)))
 low_noops d g a zero h = tt
 low_noops d g a (suc n) h =
     let rest = low_noops d g (a + 1) n (omega arith) in
-    let here : a < 4096 = omega arith in
+    let here : a < instance_count = omega arith in
     elim (cases_Bool (g a)) [
       | inl e ↦ rw e (here, rest)
       | inr e ↦ rw e rest
@@ -65,7 +66,7 @@ low_noops d g a (suc n) h =
 
 low_given_up : (d : ℕ) (g : ℕ → Bool) → AreLow (map (λ (j : ℕ). Learned d j Noop) (filter g instances))
 unfolding below instances
-low_given_up d g = low_noops d g 0 4096 (omega arith)
+low_given_up d g = low_noops d g 0 instance_count (omega arith)
 
 low_suggestion : (p t : ℕ) (o : Option ℕ) → AreLow (suggestion p o t)
 low_suggestion p t None = tt
@@ -83,7 +84,7 @@ low_promise : (w : History) (d q i b : ℕ) (o : Option Value) → AreLow (promi
 low_promise w d q i b (Some v) = (tt, tt)
 low_promise w d q i b None = low_one _ (ltb (promised w d i) b) tt
 
-low_decision : (d i : ℕ) → i < 4096 → (c : Bool) (o : Option Value) → AreLow (cond c (decision d i o) [])
+low_decision : (d i : ℕ) → i < instance_count → (c : Bool) (o : Option Value) → AreLow (cond c (decision d i o) [])
 low_decision d i h true None = tt
 low_decision d i h true (Some v) = (h, (tt, tt))
 low_decision d i h false o = tt
@@ -134,7 +135,7 @@ low_next m few w v e all h =
 
 -- what is learned is learned at one of the 4,096 instances
 pub learned_small : (m : Membership) → m.count ≤ 7 → (w : History) → IsReached m w → (p i : ℕ) (v : Value)
-    → learned w p i ≡ Some v → i < 4096
+    → learned w p i ≡ Some v → i < instance_count
 learned_small m few w r p i v h =
     let start : IsLowReached m [] =
     record { reached = record { journal = []; replays = refl }; low = λ p i v h. absurd h } in

@@ -7,6 +7,7 @@ use Rattle.mencius_model.specs.Server.{front, front_by}
 use Rattle.mencius_model.proofs.Lists.{IsIn}
 use Rattle.mencius_model.proofs.Grown.{IsGrown, MaySuggest}
 use Rattle.mencius_model.proofs.State.{greatest_ge, same}
+use Rattle.mencius_base.specs.Limits.{instance_count}
 
 module _ (m : Membership) where
   pub suggest_front : (w : History) (p i t : ℕ) → 1 ≤ m.count → IsIn (Sent (Suggest p i t)) w → i < front m w p
@@ -25,7 +26,7 @@ module _ (m : Membership) where
   suggest_owner (l ∷ w) g p i t (inl e) = let may : MaySuggest m w p i t = rw (← e) at g.1 in may.own
   suggest_owner (l ∷ w) g p i t (inr h) = suggest_owner w g.0 p i t h
 
-  pub suggest_small : (w : History) → IsGrown m w → (p i t : ℕ) → IsIn (Sent (Suggest p i t)) w → i < 4096
+  pub suggest_small : (w : History) → IsGrown m w → (p i t : ℕ) → IsIn (Sent (Suggest p i t)) w → i < instance_count
   suggest_small [] g p i t h = absurd h
   suggest_small (l ∷ w) g p i t (inl e) = let may : MaySuggest m w p i t = rw (← e) at g.1 in may.small
   suggest_small (l ∷ w) g p i t (inr h) = suggest_small w g.0 p i t h

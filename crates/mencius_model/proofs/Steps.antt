@@ -24,6 +24,7 @@ use Rattle.mencius_model.proofs.Lists.{IsIn, in_any, get_in, none_in, majority_m
 use Rattle.mencius_model.proofs.Grown.{HasLost, MaySuggest, MayPromise, MayPropose, MayLearn, May, IsGrown}
 use Rattle.mencius_model.proofs.State.{earlier_right, oldest_none, proposed_more, in_sent, sent_in, same, same_two, learned_in, suggested_in}
 use Rattle.mencius_model.proofs.Hearing.{promiser, reported_promise, accepters_accepted}
+use Rattle.mencius_base.specs.Limits.{instance_count}
 
 -- lines that may come one after the other
 abbrev pub AllMay : Membership → History → List Line → Type 0
@@ -41,7 +42,7 @@ grown_followed m w (l ∷ ls) g a = grown_followed m (l ∷ w) ls (g, a.0) a.1
 pub record IsAhead (m : Membership) (w : History) (p k : ℕ) : Type 0 where
   pub own : owner m k ≡ p
   pub past : front m w p ≤ k
-  pub small : k < 4096
+  pub small : k < instance_count
 
 free_ahead : (m : Membership) (w : History) (p k : ℕ) → free m w p ≡ Some k → IsAhead m w p k
 free_ahead m w p k h =

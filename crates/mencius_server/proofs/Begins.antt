@@ -20,6 +20,7 @@ use Rattle.mencius_server.specs.State.{FitsAt, IsServer, ServerState, slot}
 use Rattle.mencius_server.specs.Machine.{after_suspect, ballot_after, is_revoked, is_round_full, is_suspected, prepare_for, round_after, slot_revoked, suspect_cause, suspect_sent}
 use Rattle.mencius_server.proofs.Keeps.{FitsAt-slot, KeepsAt, KeepsAt-fits, KeepsAt-new}
 use Rattle.mencius_server.proofs.SlotLaws.{FitsAt-cond}
+use Rattle.mencius_base.specs.Limits.{greatest_round, instance_count}
 
 -- the messages for the places before i that pass stand after those before
 pub record IsSentUpTo (f : ℕ → Message) (test : ℕ → Bool) (before after : List Message) (i : ℕ) : Type 0 where
@@ -93,12 +94,12 @@ IsServer-suspect s q other kept = record {
     fits : (i : ℕ) → KeepsAt s s.front i (slot (after_suspect s q) i)
     fits i =
         ⊎_elim
-        (λ (small : i < 4096). subst (KeepsAt s s.front i) (sym (get_or-map-instances _ i (new_slot s.members) small)) (KeepsAt-fits s s.front i _ (given i)))
-        (λ (past : 4096 ≤ i).
+        (λ (small : i < instance_count). subst (KeepsAt s s.front i) (sym (get_or-map-instances _ i (new_slot s.members) small)) (KeepsAt-fits s s.front i _ (given i)))
+        (λ (past : instance_count ≤ i).
         let none : length (slots_revoked s q) ≤ i = rw (length-map-instances (λ (j : ℕ). slot_revoked s.members s.id q s.front j (slot s j))) past in
         subst (KeepsAt s s.front i) (sym (get_or_past (slots_revoked s q) i (new_slot s.members) none))
         (KeepsAt-new s s.front i))
-        (cases_lt i 4096)
+        (cases_lt i instance_count)
 
 -- ---- why a suspicion is refused
 
@@ -117,7 +118,7 @@ suspect_cause_is s o q b d other none full =
     rw (other, none_given (is_suspected s q) instances, none, full, many)
 
 pub rounds_small : (s : ServerState) (q : ℕ) → list_any (is_round_full s) (filter (is_suspected s q) instances) ≡ false
-    → (j : ℕ) → j < 4096 → is_suspected s q j ≡ true → round_after s.members (slot s j) ≤ 65535
+    → (j : ℕ) → j < instance_count → is_suspected s q j ≡ true → round_after s.members (slot s j) ≤ greatest_round
 rounds_small s q none j small covered =
     ⊎_elim
     (λ (full : is_round_full s j ≡ true).
@@ -125,7 +126,7 @@ rounds_small s q none j small covered =
     any-instances (λ (i : ℕ). is_suspected s q i && is_round_full s i) j small (rw covered full) in
     let no = sym (any-filter (is_suspected s q) (is_round_full s) instances) ∙ none in
     absurd (cc))
-    (λ (room : is_round_full s j ≡ false). ltb-false 65535 (round_after s.members (slot s j)) room)
+    (λ (room : is_round_full s j ≡ false). ltb-false greatest_round (round_after s.members (slot s j)) room)
     (cases_Bool (is_round_full s j))
 
 pub refused_memory : (r : Result (Unit {0}) Refusal) → IfErr r (λ e. e ≡ NoMemory) → IsRefusedFor None r

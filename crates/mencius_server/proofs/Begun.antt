@@ -23,6 +23,7 @@ use Rattle.mencius_server.proofs.Counts.{count_same}
 use Rattle.mencius_server.proofs.Gaps.{unskipped_past}
 use Rattle.mencius_server.proofs.Knows.{same_known, seen, seen_none, seen_some, seen_stands}
 use Rattle.mencius_server.proofs.Opens.{open_same, open_unheard}
+use Rattle.mencius_base.specs.Limits.{greatest_round, instance_count}
 
 -- what lies in a stretch is its server's, and below its end
 in_own : (t : Stretch) (j : ℕ) → is_in t j ≡ true → owner t.members j ≡ t.server
@@ -54,8 +55,8 @@ sent_same f g a b (suc n) e h =
     last false k = rw k refl
 
 module _ (m : Membership) (slots : List (Option SlotState)) (rs : List (List Span)) (low : ℕ) (now : KnownState) (shown : known_of m slots rs ≡ now) (sound : IsSound m slots rs low)
-    (t : Stretch) (members : t.members ≡ m) (small : t.stop ≤ 4096) where
-  in_small : (j : ℕ) → is_in t j ≡ true → j < 4096
+    (t : Stretch) (members : t.members ≡ m) (small : t.stop ≤ instance_count) where
+  in_small : (j : ℕ) → is_in t j ≡ true → j < instance_count
   in_small j e = let l = in_low t j e in omega (arith, l, small)
 
   -- ---- slots come to stand
@@ -64,7 +65,7 @@ module _ (m : Membership) (slots : List (Option SlotState)) (rs : List (List Spa
     covered_is j e = ap (λ xs. covers xs j) (range ∙ ap (λ k. get_or rs k []) (sym (in_own t j e) ∙ ap (λ n. owner n j) members))
 
     -- an instance where no slot stands is open where one is lacking
-    open_bare : (j : ℕ) → j < 4096 → stand_at slots j ≡ None → (is_in t j && not (covers r j)) ≡ is_open_in now t j
+    open_bare : (j : ℕ) → j < instance_count → stand_at slots j ≡ None → (is_in t j && not (covers r j)) ≡ is_open_in now t j
     open_bare j l e = elim (cases_Bool (is_in t j)) [
       | inl i ↦
           ap (λ b. b && not (covers r j)) i ∙ ap not (covered_is j i)
@@ -72,7 +73,7 @@ module _ (m : Membership) (slots : List (Option SlotState)) (rs : List (List Spa
       | inr i ↦ and_left _ _ i ∙ sym (and_left _ _ i)
     ]
 
-    lacking_bare : (j : ℕ) → j < 4096 → (o : Option SlotState) → stand_at slots j ≡ o → is_lacking t r slots j ≡ is_bare_in now t j
+    lacking_bare : (j : ℕ) → j < instance_count → (o : Option SlotState) → stand_at slots j ≡ o → is_lacking t r slots j ≡ is_bare_in now t j
     lacking_bare j l None e =
         let has : has_slot now j ≡ false = seen_stands m slots rs now shown j l ∙ ap is_some e in
         ap (λ o. is_in t j && (not (covers r j) && is_none o)) e ∙ regroup (is_in t j) (not (covers r j)) ∙ open_bare j l e
@@ -119,7 +120,7 @@ module _ (m : Membership) (slots : List (Option SlotState)) (rs : List (List Spa
           turned true k = absurd (cc)
           turned false k = refl
 
-      stood_stands : (j : ℕ) → j < 4096 → (o : Option SlotState) → stand_at slots j ≡ o → is_some (stand_at new j) ≡ (has_slot now j || is_open_in now t j)
+      stood_stands : (j : ℕ) → j < instance_count → (o : Option SlotState) → stand_at slots j ≡ o → is_some (stand_at new j) ≡ (has_slot now j || is_open_in now t j)
       stood_stands j l (Some u) e = ap is_some (stood_some j u e) ∙ sym (ap (λ b. b || is_open_in now t j) (seen_stands m slots rs now shown j l ∙ ap is_some e))
       stood_stands j l None e =
           ap is_some (stood_none j e) ∙ made (is_in t j && not (covers r j)) ∙ open_bare j l e
@@ -144,7 +145,7 @@ module _ (m : Membership) (slots : List (Option SlotState)) (rs : List (List Spa
         least = λ l. rw (stood_known low (stand_at slots low) refl) (sound.least l);
       }
         where
-          told : (j : ℕ) (u : SlotState) → j < 4096 → is_passed m rs j ≡ true → (o : Option SlotState) → stand_at slots j ≡ o → stand_at new j ≡ Some u → is_none u.learned ≡ false
+          told : (j : ℕ) (u : SlotState) → j < instance_count → is_passed m rs j ≡ true → (o : Option SlotState) → stand_at slots j ≡ o → stand_at new j ≡ Some u → is_none u.learned ≡ false
           told j u l passed (Some v) e stands =
               let is : Some v ≡ Some u = sym (stood_some j v e) ∙ stands in
               let same : v ≡ u = cc in
@@ -155,8 +156,8 @@ module _ (m : Membership) (slots : List (Option SlotState)) (rs : List (List Spa
           ]
 
   -- ---- first phases at slots that stand
-  module _ (stand : (j : ℕ) → j < 4096 → is_open_in now t j ≡ true → has_slot now j ≡ true) where
-    begun_is : (j : ℕ) → j < 4096 → (o : Option SlotState) → stand_at slots j ≡ o → is_begun t slots j ≡ is_open_in now t j
+  module _ (stand : (j : ℕ) → j < instance_count → is_open_in now t j ≡ true → has_slot now j ≡ true) where
+    begun_is : (j : ℕ) → j < instance_count → (o : Option SlotState) → stand_at slots j ≡ o → is_begun t slots j ≡ is_open_in now t j
     begun_is j l (Some u) e =
         ap (λ o. is_in t j && is_unlearned o) e ∙ sym (ap (λ (s : SlotState). is_in t j && is_none s.learned) (seen_some m slots rs now shown j u l e))
     begun_is j l None e = ap (λ o. is_in t j && is_unlearned o) e ∙ and_right _ _ refl ∙ sym (elim (cases_Bool (is_open_in now t j)) [
@@ -167,13 +168,13 @@ module _ (m : Membership) (slots : List (Option SlotState)) (rs : List (List Spa
     pub begun_count : count_by (is_begun t slots) (below t.stop) ≡ count_by (is_open_in now t) (below t.stop)
     begun_count = count_same (is_begun t slots) (is_open_in now t) t.stop (λ j l. begun_is j (omega (arith, small)) (stand_at slots j) refl)
 
-    pub begun_rounds : ((j : ℕ) → j < 4096 → is_open_in now t j ≡ true → round_after now.members (known_slot now j) ≤ 65535)
-        → (j : ℕ) (u : SlotState) → is_begun t slots j ≡ true → stand_at slots j ≡ Some u → round_after t.members u ≤ 65535
+    pub begun_rounds : ((j : ℕ) → j < instance_count → is_open_in now t j ≡ true → round_after now.members (known_slot now j) ≤ greatest_round)
+        → (j : ℕ) (u : SlotState) → is_begun t slots j ≡ true → stand_at slots j ≡ Some u → round_after t.members u ≤ greatest_round
     begun_rounds rounds j u b e =
         let l = in_small j (and_parts _ _ b).0 in
         let opens = sym (begun_is j l (stand_at slots j) refl) ∙ b in
         let same : m ≡ now.members = ap (λ (k : KnownState). k.members) shown in
-        subst (λ n. round_after n u ≤ 65535) (sym (members ∙ same)) (subst (λ (s : SlotState). round_after now.members s ≤ 65535) (seen_some m slots rs now shown j u l e) (rounds j l opens))
+        subst (λ n. round_after n u ≤ greatest_round) (sym (members ∙ same)) (subst (λ (s : SlotState). round_after now.members s ≤ greatest_round) (seen_some m slots rs now shown j u l e) (rounds j l opens))
 
     pub begun_sent : (p : ℕ) → map (prepare_of t p slots) (filter (is_begun t slots) (below t.stop)) ≡ prepares_in now p t
     begun_sent p =
@@ -183,12 +184,12 @@ module _ (m : Membership) (slots : List (Option SlotState)) (rs : List (List Spa
         (λ j l b. ap (λ (s : SlotState). Prepare p j (ballot_after t.members p s)) (there j (omega (arith, small)) (stand_at slots j) refl (and_parts _ _ b).1)
         ∙ ap (λ n. Prepare p j (ballot_after n p (known_slot now j))) (members ∙ same))
       where
-        there : (j : ℕ) → j < 4096 → (o : Option SlotState) → stand_at slots j ≡ o → is_unlearned (stand_at slots j) ≡ true → unwrap_or (stand_at slots j) (new_slot t.members) ≡ known_slot now j
+        there : (j : ℕ) → j < instance_count → (o : Option SlotState) → stand_at slots j ≡ o → is_unlearned (stand_at slots j) ≡ true → unwrap_or (stand_at slots j) (new_slot t.members) ≡ known_slot now j
         there j l None e h = let no : is_unlearned (stand_at slots j) ≡ false = ap is_unlearned e in absurd (clash (is_unlearned (stand_at slots j)) h no)
         there j l (Some u) e h = ap (λ o. unwrap_or o (new_slot t.members)) e ∙ sym (seen_some m slots rs now shown j u l e)
 
     module _ (p : ℕ) (new : List (Option SlotState)) (begins : (j : ℕ) → stand_at new j ≡ begun_at t p j (stand_at slots j)) where
-      begun_known : (j : ℕ) → j < 4096 → (o : Option SlotState) → stand_at slots j ≡ o
+      begun_known : (j : ℕ) → j < instance_count → (o : Option SlotState) → stand_at slots j ≡ o
           → known_at m new rs j ≡ cond (is_open_in now t j) (after_begin (known_slot now j) (ballot_after now.members p (known_slot now j))) (known_slot now j)
       begun_known j l None e =
           let closed : is_open_in now t j ≡ false = sym (begun_is j l None e) ∙ ap (λ o. is_in t j && is_unlearned o) e ∙ and_right _ _ refl in
@@ -228,7 +229,7 @@ module _ (m : Membership) (slots : List (Option SlotState)) (rs : List (List Spa
           (λ j l. begun_known j l (stand_at slots j) refl) (λ j l. begun_stands j (stand_at slots j) refl)
           ∙ ap (λ (k : KnownState). record k { slots = map (λ j. cond (is_open_in now t j) (after_begin (known_slot now j) (ballot_after now.members p (known_slot now j))) (known_slot now j)) instances }) shown
 
-      begun_learned : (j : ℕ) → j < 4096 → is_none (known_at m new rs j).learned ≡ is_none (known_at m slots rs j).learned
+      begun_learned : (j : ℕ) → j < instance_count → is_none (known_at m new rs j).learned ≡ is_none (known_at m slots rs j).learned
       begun_learned j l =
           ap (λ (s : SlotState). is_none s.learned) (begun_known j l (stand_at slots j) refl) ∙ kept (is_open_in now t j) ∙ ap (λ (s : SlotState). is_none s.learned) (seen m slots rs now shown j l)
         where
@@ -246,26 +247,26 @@ module _ (m : Membership) (slots : List (Option SlotState)) (rs : List (List Spa
         least = λ l. begun_learned low l ∙ sound.least l;
       }
         where
-          passed_known_at : (j : ℕ) → j < 4096 → is_passed m rs j ≡ true → (o : Option SlotState) → stand_at slots j ≡ o → is_none (known_at m slots rs j).learned ≡ false
+          passed_known_at : (j : ℕ) → j < instance_count → is_passed m rs j ≡ true → (o : Option SlotState) → stand_at slots j ≡ o → is_none (known_at m slots rs j).learned ≡ false
           passed_known_at j l passed None e = rw (e, passed) refl
           passed_known_at j l passed (Some u) e = rw e (sound.told j u l passed e)
 
 -- ---- the stretch of a suspicion
 
 module _ (now : KnownState) (q front : ℕ) (t : Stretch) (o : IsOpenStretch now q front t) where
-  low_stop : t.stop ≤ 4096
+  low_stop : t.stop ≤ instance_count
   low_stop = omega (arith, o.stop)
 
-  all_places : t.stop + (4096 - t.stop) ≡ 4096
+  all_places : t.stop + (instance_count - t.stop) ≡ instance_count
   all_places = omega (arith, low_stop)
 
   past_closed : (j : ℕ) → t.stop ≤ j → is_open_in now t j ≡ false
   past_closed j h = and_left _ _ (unskipped_past t.members t.server t.first t.stop j h)
 
-  count_all : (f g : ℕ → Bool) → ((j : ℕ) → t.stop ≤ j → f j ≡ false) → ((j : ℕ) → j < 4096 → f j ≡ g j) → count_by f (below t.stop) ≡ count_by g instances
+  count_all : (f g : ℕ → Bool) → ((j : ℕ) → t.stop ≤ j → f j ≡ false) → ((j : ℕ) → j < instance_count → f j ≡ g j) → count_by f (below t.stop) ≡ count_by g instances
   count_all f g past same =
-      sym (ap (λ n. count_by f (below n)) (sym all_places) ∙ count_by-below_none f t.stop (4096 - t.stop) (λ j low high. past j low))
-      ∙ count_same f g 4096 same ∙ ap (count_by g) (sym instances-below)
+      sym (ap (λ n. count_by f (below n)) (sym all_places) ∙ count_by-below_none f t.stop (instance_count - t.stop) (λ j low high. past j low))
+      ∙ count_same f g instance_count same ∙ ap (count_by g) (sym instances-below)
 
   pub open_count : count_by (is_open_in now t) (below t.stop) ≡ count_by (is_open now q front) instances
   open_count = count_all (is_open_in now t) (is_open now q front) past_closed (open_same now q front t o)
@@ -276,12 +277,12 @@ module _ (now : KnownState) (q front : ℕ) (t : Stretch) (o : IsOpenStretch now
   pub open_sent : (p : ℕ) → prepares_in now p t ≡ prepares now p q front
   open_sent p =
       ap (map (λ j. Prepare p j (ballot_after now.members p (known_slot now j))))
-      (sym (ap (λ n. filter (is_open_in now t) (below n)) (sym all_places) ∙ filter-below_none (is_open_in now t) t.stop (4096 - t.stop) (λ j low high. past_closed j low)))
-      ∙ sent_same (λ j. Prepare p j (ballot_after now.members p (known_slot now j))) (λ j. Prepare p j (ballot_after now.members p (known_slot now j))) (is_open_in now t) (is_open now q front) 4096
+      (sym (ap (λ n. filter (is_open_in now t) (below n)) (sym all_places) ∙ filter-below_none (is_open_in now t) t.stop (instance_count - t.stop) (λ j low high. past_closed j low)))
+      ∙ sent_same (λ j. Prepare p j (ballot_after now.members p (known_slot now j))) (λ j. Prepare p j (ballot_after now.members p (known_slot now j))) (is_open_in now t) (is_open now q front) instance_count
       (open_same now q front t o) (λ j l b. refl)
       ∙ ap (λ xs. map (λ j. Prepare p j (ballot_after now.members p (known_slot now j))) (filter (is_open now q front) xs)) (sym instances-below)
 
-  pub stood_has : (j : ℕ) → j < 4096 → is_open_in now t j ≡ true → has_slot (known_stood now t) j ≡ true
+  pub stood_has : (j : ℕ) → j < instance_count → is_open_in now t j ≡ true → has_slot (known_stood now t) j ≡ true
   stood_has j l e = get_or-map-instances (λ i. has_slot now i || is_open_in now t i) j false l ∙ ap (λ b. has_slot now j || b) e ∙ or-true (has_slot now j)
     where
       or-true : (b : Bool) → (b || true) ≡ true

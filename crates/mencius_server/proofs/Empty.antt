@@ -15,9 +15,10 @@ use Rattle.mencius_server.specs.Notes.{nothing_noted}
 use Rattle.mencius_server.specs.State.{new_server}
 use Rattle.mencius_server.specs.Reached.{server_at}
 use Rattle.mencius_server.proofs.Keeps.{IsServer-new, new_unsaid, new_waits}
+use Rattle.mencius_base.specs.Limits.{instance_count}
 
-new_slots : (m : Membership) → replicate 4096 (new_slot m) ≡ map (λ (j : ℕ). new_slot m) instances
-new_slots m = map-below_constant (λ (j : ℕ). new_slot m) 4096 (new_slot m) (λ i h. refl)
+new_slots : (m : Membership) → replicate instance_count (new_slot m) ≡ map (λ (j : ℕ). new_slot m) instances
+new_slots m = map-below_constant (λ (j : ℕ). new_slot m) instance_count (new_slot m) (λ i h. refl)
     ∙ ap (map (λ (j : ℕ). new_slot m)) (sym instances-below)
 
 -- what callers see of a server that knows nothing
@@ -29,7 +30,7 @@ new_shown m p k made =
 
 pub IsKept-new : (m : Membership) (p : ℕ) → p < m.count → m.count ≤ 7 → IsKept (new_server m p) m nothing_noted
 IsKept-new m p member few = record {
-  full = length-replicate 4096 (new_slot m);
+  full = length-replicate instance_count (new_slot m);
   members = refl;
   server = IsServer-new m p member few;
   early = omega arith;
@@ -41,8 +42,8 @@ IsKept-new m p member few = record {
 
 pub server_at-empty : (m : Membership) (p : ℕ) → new_server m p ≡ server_at m [] p
 server_at-empty m p =
-    let slots : replicate 4096 (new_slot m) ≡ map (slot_at m [] p) instances =
-    map-below_constant (slot_at m [] p) 4096 (new_slot m) (λ i h. slot_at-empty m p i)
+    let slots : replicate instance_count (new_slot m) ≡ map (slot_at m [] p) instances =
+    map-below_constant (slot_at m [] p) instance_count (new_slot m) (λ i h. slot_at-empty m p i)
     ∙ ap (map (slot_at m [] p)) (sym instances-below) in
     let ahead : front m [] p ≡ p = omega arith in
     rw (ahead, slots)

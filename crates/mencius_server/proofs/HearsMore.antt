@@ -23,13 +23,14 @@ use Rattle.mencius_server.specs.State.{slot, with_slot, with_slot_and_front}
 use Rattle.mencius_server.specs.Machine.{next_front, decision_sent, one_if_some, proposal_sent}
 use Rattle.mencius_server.specs.Reached.{server_at}
 use Rattle.mencius_server.proofs.ServerHistory.{Meets, server_written, slot-server_at}
+use Rattle.mencius_base.specs.Limits.{instance_count}
 
 -- ---- Learn
 
 uncounted_learn : (q i : ℕ) (v : Value) (j c : ℕ) → IsUncounted j c (Learn q i v)
 uncounted_learn q i v j c = record { promise = λ r. refl; acceptance = λ r. refl; report = refl }
 
-learn_cases : (m : Membership) (w : History) (k p q i : ℕ) (v : Value) → i < 4096 → slice_get (sent w) k ≡ Some (Learn q i v)
+learn_cases : (m : Membership) (w : History) (k p q i : ℕ) (v : Value) → i < instance_count → slice_get (sent w) k ≡ Some (Learn q i v)
     → (o : Option Value) → learned w p i ≡ o → Meets m w k p (Learn q i v) (cond (is_none o) (Learned p i v ∷ []) [])
 learn_cases m w k p q i v small e None un = record {
   sends = refl;
@@ -54,7 +55,7 @@ learn_cases m w k p q i v small e (Some u) un = record {
       (λ j ne. slot_at-heard m w k p j _ e (uncounted_learn q i v j (trying w p j)));
 }
 
-pub meets_learn : (m : Membership) (w : History) (k p q i : ℕ) (v : Value) → i < 4096 → slice_get (sent w) k ≡ Some (Learn q i v)
+pub meets_learn : (m : Membership) (w : History) (k p q i : ℕ) (v : Value) → i < instance_count → slice_get (sent w) k ≡ Some (Learn q i v)
     → Meets m w k p (Learn q i v) (on_learn w p i v)
 meets_learn m w k p q i v small e = learn_cases m w k p q i v small e (learned w p i) refl
 
@@ -68,7 +69,7 @@ prepares : (w : History) (p i b : ℕ) (o : Option Value) (c : Bool) → learned
     → (is_none (learned w p i) && ltb (promised w p i) b) ≡ (is_none o && c)
 prepares w p i b o c un high = rw (un, high)
 
-unlearned_cases : (m : Membership) (w : History) (k p q i b : ℕ) → i < 4096 → slice_get (sent w) k ≡ Some (Prepare q i b)
+unlearned_cases : (m : Membership) (w : History) (k p q i b : ℕ) → i < instance_count → slice_get (sent w) k ≡ Some (Prepare q i b)
     → learned w p i ≡ None → (c : Bool) → ltb (promised w p i) b ≡ c
     → Meets m w k p (Prepare q i b) (cond c (Sent (Promise p q i b (vote w p i)) ∷ []) [])
 unlearned_cases m w k p q i b small e un true high = record {
@@ -94,7 +95,7 @@ unlearned_cases m w k p q i b small e un false low = record {
       (λ j ne. slot_at-heard m w k p j _ e (uncounted_prepare q i b j (trying w p j))));
 }
 
-prepare_cases : (m : Membership) (w : History) (k p q i b : ℕ) → i < 4096 → slice_get (sent w) k ≡ Some (Prepare q i b)
+prepare_cases : (m : Membership) (w : History) (k p q i b : ℕ) → i < instance_count → slice_get (sent w) k ≡ Some (Prepare q i b)
     → (o : Option Value) → learned w p i ≡ o → Meets m w k p (Prepare q i b) (promise w p q i b o)
 prepare_cases m w k p q i b small e None un = unlearned_cases m w k p q i b small e un (ltb (promised w p i) b) refl
 prepare_cases m w k p q i b small e (Some v) known = record {
@@ -110,7 +111,7 @@ prepare_cases m w k p q i b small e (Some v) known = record {
       ∙ slot_at-heard m w k p j _ e (uncounted_prepare q i b j (trying w p j))));
 }
 
-pub meets_prepare : (m : Membership) (w : History) (k p q i b : ℕ) → i < 4096 → slice_get (sent w) k ≡ Some (Prepare q i b)
+pub meets_prepare : (m : Membership) (w : History) (k p q i b : ℕ) → i < instance_count → slice_get (sent w) k ≡ Some (Prepare q i b)
     → Meets m w k p (Prepare q i b) (on_prepare w p q i b)
 meets_prepare m w k p q i b small e = prepare_cases m w k p q i b small e (learned w p i) refl
 
@@ -142,7 +143,7 @@ suggest_accepts m w u p q i f t skips said true free =
 suggest_accepts m w u p q i f t skips said false taken =
     server_written m w u p i f _ skips.front (skips.slots i) (λ j ne. skips.slots j)
 
-suggest_skips : (m : Membership) (w : History) (k p q i t : ℕ) → i < 4096 → slice_get (sent w) k ≡ Some (Suggest q i t)
+suggest_skips : (m : Membership) (w : History) (k p q i t : ℕ) → i < instance_count → slice_get (sent w) k ≡ Some (Suggest q i t)
     → (c : Bool) → ltb (front m w p) i ≡ c
     → IsSkipping m w (followed_by (Heard k p ∷ w) (cond c (Sent (Skip p (front m w p) (first_owned m p (i + 1))) ∷ []) [])) p (cond c (first_owned m p (i + 1)) (front m w p))
 suggest_skips m w k p q i t small e true ahead = record {
@@ -155,7 +156,7 @@ suggest_skips m w k p q i t small e false behind = record {
   front = omega arith;
 }
 
-suggest_cases : (m : Membership) (w : History) (k p q i t : ℕ) → i < 4096 → slice_get (sent w) k ≡ Some (Suggest q i t) → proposed w i 0 ≡ Some (Ticket t)
+suggest_cases : (m : Membership) (w : History) (k p q i t : ℕ) → i < instance_count → slice_get (sent w) k ≡ Some (Suggest q i t) → proposed w i 0 ≡ Some (Ticket t)
     → (c d : Bool) → ltb (front m w p) i ≡ c → eqb (promised w p i) 0 ≡ d
     → Meets m w k p (Suggest q i t)
     (cond c (Sent (Skip p (front m w p) (first_owned m p (i + 1))) ∷ []) [] ++ cond d (Sent (Accepted p q i 0) ∷ []) [])
@@ -192,7 +193,7 @@ suggest_cases m w k p q i t small e said c d ahead free = record {
     suggest_world false d ahead free =
         suggest_accepts m w _ p q i _ t (suggest_skips m w k p q i t small e false ahead) (rw said) d free
 
-pub meets_suggest : (m : Membership) (w : History) (k p q i t : ℕ) → i < 4096 → slice_get (sent w) k ≡ Some (Suggest q i t) → proposed w i 0 ≡ Some (Ticket t)
+pub meets_suggest : (m : Membership) (w : History) (k p q i t : ℕ) → i < instance_count → slice_get (sent w) k ≡ Some (Suggest q i t) → proposed w i 0 ≡ Some (Ticket t)
     → Meets m w k p (Suggest q i t) (on_suggest m w p q i)
 meets_suggest m w k p q i t small e said =
     suggest_cases m w k p q i t small e said (ltb (front m w p) i) (eqb (promised w p i) 0) refl refl
@@ -222,7 +223,7 @@ unlearned_learns : (o : Option Value) (c : Bool) (x : Option Value) (v : Value) 
 unlearned_learns None c x v e = refl
 unlearned_learns (Some u) c x v e = absurd (cc)
 
-learn_decided : (m : Membership) (w : History) (k p from i : ℕ) → i < 4096 → slice_get (sent w) k ≡ Some (Accepted from p i (trying w p i))
+learn_decided : (m : Membership) (w : History) (k p from i : ℕ) → i < instance_count → slice_get (sent w) k ≡ Some (Accepted from p i (trying w p i))
     → (o : Option Value) → to_learn (with_accept (slot_at m w p i) from) ≡ o
     → with_slot (server_at m w p) i (learning (with_accept (slot_at m w p i) from) o)
     ≡ server_at m (followed_by (Heard k p ∷ w) (decision p i o)) p
@@ -257,7 +258,7 @@ counts_decision : (p i : ℕ) (o : Option Value) → one_if_some o ≡ learnings
 counts_decision p i None = refl
 counts_decision p i (Some v) = refl
 
-accepted_tried : (m : Membership) (w : History) (k p from i : ℕ) → i < 4096 → slice_get (sent w) k ≡ Some (Accepted from p i (trying w p i))
+accepted_tried : (m : Membership) (w : History) (k p from i : ℕ) → i < instance_count → slice_get (sent w) k ≡ Some (Accepted from p i (trying w p i))
     → Meets m w k p (Accepted from p i (trying w p i)) (decision p i (to_learn (with_accept (slot_at m w p i) from)))
 accepted_tried m w k p from i small e =
     let answer : accept_answer (slot (server_at m w p) i) from (trying w p i) ≡ to_learn (with_accept (slot_at m w p i) from) =
@@ -284,7 +285,7 @@ accepted_lines m w k p from i mine e =
     ∙ ap (λ (c : Bool). cond ((c && is_none (learned w p i)) && are_majority m (accepters (Heard k p ∷ w) p i (trying w p i))) (decision p i (proposed w i (trying w p i))) [])
     (sym (eq-eqb (trying w p i) (trying w p i) refl))
 
-accepted_cases : (m : Membership) (w : History) (k p from i b : ℕ) → i < 4096 → (b ≡ 0 → owner m i ≡ p) → slice_get (sent w) k ≡ Some (Accepted from p i b)
+accepted_cases : (m : Membership) (w : History) (k p from i b : ℕ) → i < instance_count → (b ≡ 0 → owner m i ≡ p) → slice_get (sent w) k ≡ Some (Accepted from p i b)
     → (c : Bool) → eqb b (trying w p i) ≡ c → Meets m w k p (Accepted from p i b) (on_accepted m w (Heard k p ∷ w) p i b)
 accepted_cases m w k p from i b small mine e true same =
     let tried : trying w p i ≡ b = sym (eqb-true b (trying w p i) same) in
@@ -313,7 +314,7 @@ accepted_cases m w k p from i b small mine e false other = record {
         ap (λ (t : SlotState). accept_answer t from b) (slot-server_at m w p i small)
         ∙ ap (λ (c : Bool). cond c (to_learn (with_accept (slot_at m w p i) from)) None) other
 
-pub meets_accepted : (m : Membership) (w : History) (k p from i b : ℕ) → i < 4096 → (b ≡ 0 → owner m i ≡ p) → slice_get (sent w) k ≡ Some (Accepted from p i b)
+pub meets_accepted : (m : Membership) (w : History) (k p from i b : ℕ) → i < instance_count → (b ≡ 0 → owner m i ≡ p) → slice_get (sent w) k ≡ Some (Accepted from p i b)
     → Meets m w k p (Accepted from p i b) (on_accepted m w (Heard k p ∷ w) p i b)
 meets_accepted m w k p from i b small mine e = accepted_cases m w k p from i b small mine e (eqb b (trying w p i)) refl
 
@@ -340,7 +341,7 @@ unsaid_proposes true d None x v e = refl
 unsaid_proposes true d (Some u) x v e = absurd (cc)
 unsaid_proposes false d o x v e = absurd (cc)
 
-propose_decided : (m : Membership) (w : History) (k p from i : ℕ) (v : Option Vote) → i < 4096 → 0 < trying w p i → IsVoted w p i
+propose_decided : (m : Membership) (w : History) (k p from i : ℕ) (v : Option Vote) → i < instance_count → 0 < trying w p i → IsVoted w p i
     → slice_get (sent w) k ≡ Some (Promise from p i (trying w p i) v)
     → (o : Option Value) → to_propose (with_promise (slot_at m w p i) from v) ≡ o
     → with_slot (server_at m w p) i (proposing (with_promise (slot_at m w p i) from v) o)
@@ -407,7 +408,7 @@ promise_lines m w k p from i v high e =
         ∙ ap (λ (c : Bool). (c && is_none (learned w p i)) && (is_none (proposed w i (trying w p i)) && are_majority m (promisers (Heard k p ∷ w) p i (trying w p i))))
         (sym (eq-eqb (trying w p i) (trying w p i) refl))
 
-promise_tried : (m : Membership) (w : History) (k p from i : ℕ) (v : Option Vote) → i < 4096 → 0 < trying w p i → IsVoted w p i
+promise_tried : (m : Membership) (w : History) (k p from i : ℕ) (v : Option Vote) → i < instance_count → 0 < trying w p i → IsVoted w p i
     → slice_get (sent w) k ≡ Some (Promise from p i (trying w p i) v)
     → Meets m w k p (Promise from p i (trying w p i) v) (proposal p i (trying w p i) (to_propose (with_promise (slot_at m w p i) from v)))
 promise_tried m w k p from i v small high voted e =
@@ -425,7 +426,7 @@ promise_tried m w k p from i v small high voted e =
           ∙ propose_decided m w k p from i v small high voted e (to_propose (with_promise (slot_at m w p i) from v)) refl;
     }
 
-promise_cases : (m : Membership) (w : History) (k p from i b : ℕ) (v : Option Vote) → i < 4096 → 0 < b → IsVoted w p i → slice_get (sent w) k ≡ Some (Promise from p i b v)
+promise_cases : (m : Membership) (w : History) (k p from i b : ℕ) (v : Option Vote) → i < instance_count → 0 < b → IsVoted w p i → slice_get (sent w) k ≡ Some (Promise from p i b v)
     → (c : Bool) → eqb b (trying w p i) ≡ c → Meets m w k p (Promise from p i b v) (on_promise m w (Heard k p ∷ w) p i b)
 promise_cases m w k p from i b v small high voted e true same =
     let tried : trying w p i ≡ b = sym (eqb-true b (trying w p i) same) in
@@ -455,6 +456,6 @@ promise_cases m w k p from i b v small high voted e false other = record {
         ap (λ (t : SlotState). promise_answer t from b v) (slot-server_at m w p i small)
         ∙ ap (λ (c : Bool). cond c (to_propose (with_promise (slot_at m w p i) from v)) None) other
 
-pub meets_promise : (m : Membership) (w : History) (k p from i b : ℕ) (v : Option Vote) → i < 4096 → 0 < b → IsVoted w p i → slice_get (sent w) k ≡ Some (Promise from p i b v)
+pub meets_promise : (m : Membership) (w : History) (k p from i b : ℕ) (v : Option Vote) → i < instance_count → 0 < b → IsVoted w p i → slice_get (sent w) k ≡ Some (Promise from p i b v)
     → Meets m w k p (Promise from p i b v) (on_promise m w (Heard k p ∷ w) p i b)
 meets_promise m w k p from i b v small high voted e = promise_cases m w k p from i b v small high voted e (eqb b (trying w p i)) refl

@@ -22,6 +22,7 @@ use Rattle.mencius_server.specs.State.{ServerState}
 use Rattle.mencius_server.specs.Machine.{is_given, is_skipped, slot_given}
 use Rattle.mencius_server.specs.Reached.{server_at}
 use Rattle.mencius_server.proofs.ServerHistory.{Meets, slot-server_at}
+use Rattle.mencius_base.specs.Limits.{instance_count}
 
 abbrev noop_at : ℕ → ℕ → Line
 noop_at p j = Learned p j Noop
@@ -107,9 +108,9 @@ in_range a (suc n) j low high =
     (λ (ne : a ≡ j → ⊥). let above : a + 1 ≤ j = omega arith in rw (ne_eqb a j ne, in_range (a + 1) n j above (omega arith)))
     (cases_eq a j)
 
-pub is_instance : (j : ℕ) → j < 4096 → list_any (λ (a : ℕ). eqb a j) instances ≡ true
+pub is_instance : (j : ℕ) → j < instance_count → list_any (λ (a : ℕ). eqb a j) instances ≡ true
 unfolding below instances
-is_instance j small = in_range 0 4096 j (omega arith) small
+is_instance j small = in_range 0 instance_count j (omega arith) small
 
 counts_from : (p n : ℕ) (test : ℕ → Bool) (xs : List ℕ)
     → fold (λ (k : ℕ) (x : ℕ). k + cond (test x) 1 0) n xs ≡ fold (λ (k : ℕ) (l : Line). k + cond (is_learning l) 1 0) n (map (noop_at p) (filter test xs))
@@ -135,9 +136,9 @@ counts_same f g k a (suc n) e =
     ap (λ (b : Bool). fold (λ (c : ℕ) (x : ℕ). c + cond (f x) 1 0) (k + cond b 1 0) (range_with_len (a + 1) n)) (e a (omega arith))
     ∙ counts_same f g (k + cond (g a) 1 0) (a + 1) n (λ j h. e j (omega arith))
 
-count_by-instances_same : (f g : ℕ → Bool) → ((j : ℕ) → j < 4096 → f j ≡ g j) → count_by f instances ≡ count_by g instances
+count_by-instances_same : (f g : ℕ → Bool) → ((j : ℕ) → j < instance_count → f j ≡ g j) → count_by f instances ≡ count_by g instances
 unfolding below instances
-count_by-instances_same f g e = counts_same f g 0 0 4096 e
+count_by-instances_same f g e = counts_same f g 0 0 instance_count e
 
 -- the test of the row, and the slot's
 given_either : (t : SlotState) (b : Bool) (o : Option Value) → t.learned ≡ o → cond b (after_learn t Noop) t ≡ cond (b && is_none t.learned) (after_learn t Noop) t

@@ -23,6 +23,7 @@ use Rattle.mencius_server.proofs.Keeps.{IsServer-with_slot, KeepsAt-fits, KeepsA
 use Rattle.mencius_server.proofs.Lost.{SaysSame, moved_later, past_same, tickets_later, waits_later, waits_none}
 use Rattle.mencius_server.proofs.SkipShows.{IsServer-skip}
 use Rattle.mencius_server.proofs.SlotLaws.{SameAttempt-cond, SameAttempt-learn, SameAttempt-self}
+use Rattle.mencius_base.specs.Limits.{greatest_front, greatest_round, instance_count}
 
 with_slots : (m : Membership) (p f : ℕ) (xs ys : List SlotState) → xs ≡ ys
     → ◌≡◌ {A = ServerState} (record { members = m; id = p; front = f; slots = xs }) (record { members = m; id = p; front = f; slots = ys })
@@ -39,7 +40,7 @@ pub kept_as : (s v : ServerState) (m n : Membership) (b : Noted) → s ≡ v →
 kept_as s v m n b same members kept = subst (λ (x : ServerState). IsKept x n b) (sym same) (subst (λ (x : Membership). IsKept v x b) (sym members) kept)
 
 -- where the own suggestions are the same, and no more is lost below a place
-same_keeps : (s v : ServerState) (m : Membership) (b c : Noted) → SaysSame s v → IsServer v → length v.slots ≡ 4096 → m ≡ v.members → s.front ≤ v.front
+same_keeps : (s v : ServerState) (m : Membership) (b c : Noted) → SaysSame s v → IsServer v → length v.slots ≡ instance_count → m ≡ v.members → s.front ≤ v.front
     → c.lost_from ≤ b.lost_from → c.next_ticket ≡ b.next_ticket → c.moved ≡ b.moved
     → ((j : ℕ) → j < c.lost_from → is_noop (slot v j).learned ≡ true → (is_noop (slot s j).learned ≡ true) ⊎ (suggested_at s j ≡ None))
     → IsKept s m b → IsKept v m c
@@ -79,7 +80,7 @@ put_since s i f l t (inr kept) j low =
 -- a slot and the front
 pub put_keeps : (now : ServerState) (m : Membership) (i g : ℕ) (t : SlotState) (b : Noted) (l : ℕ)
     → l ≤ b.lost_from → (l ≤ i) ⊎ (owner now.members i ≡ now.id → is_noop t.learned ≡ false)
-    → FitsAt now g i t → now.front ≤ g → g ≤ 4102
+    → FitsAt now g i t → now.front ≤ g → g ≤ greatest_front
     → IsKept now m b → IsKept (with_slot_and_front now i t g) m (record b { lost_from = l })
 put_keeps now m i g t b l early lost fits ahead near kept =
     same_keeps now (with_slot_and_front now i t g) m b _ (put_says now i g t fits)
@@ -94,10 +95,10 @@ put_shows m p f g k new now i t shown written =
     (with_slots m p g _ _ (ap (λ (x : KnownState). x.slots) written))
 
 -- a Skip
-skip_slot : (s : ServerState) (q first stop j : ℕ) → j < 4096 → slot (after_skip s q first stop) j ≡ slot_given s.members q first stop j (slot s j)
+skip_slot : (s : ServerState) (q first stop j : ℕ) → j < instance_count → slot (after_skip s q first stop) j ≡ slot_given s.members q first stop j (slot s j)
 skip_slot s q first stop j small = get_or-map-instances (λ (i : ℕ). slot_given s.members q first stop i (slot s i)) j (new_slot s.members) small
 
-skip_since : (s : ServerState) (q first stop l : ℕ) → (l ≤ first) ⊎ (q ≡ s.id → ⊥) → (j : ℕ) → j < l → j < 4096 → is_noop (slot (after_skip s q first stop) j).learned ≡ true
+skip_since : (s : ServerState) (q first stop l : ℕ) → (l ≤ first) ⊎ (q ≡ s.id → ⊥) → (j : ℕ) → j < l → j < instance_count → is_noop (slot (after_skip s q first stop) j).learned ≡ true
     → (is_noop (slot s j).learned ≡ true) ⊎ (suggested_at s j ≡ None)
 skip_since s q first stop l lost j low small noop =
     elim (cases_Bool (is_skipped s.members q first stop j)) [
@@ -134,19 +135,19 @@ skip_shown m p f k new now q first stop shown same made =
     ∙ ap (λ (n : Membership). map (λ (j : ℕ). slot_given n q first stop j (get_or k.slots j (new_slot n))) instances) same))
 
 -- a suspicion
-suspect_slot : (s : ServerState) (q j : ℕ) → j < 4096 → slot (after_suspect s q) j ≡ slot_revoked s.members s.id q s.front j (slot s j)
+suspect_slot : (s : ServerState) (q j : ℕ) → j < instance_count → slot (after_suspect s q) j ≡ slot_revoked s.members s.id q s.front j (slot s j)
 suspect_slot s q j small = get_or-map-instances (λ (i : ℕ). slot_revoked s.members s.id q s.front i (slot s i)) j (new_slot s.members) small
 
 -- an own slot is not touched
-suspect_own : (s : ServerState) (q j : ℕ) → (s.id ≡ q → ⊥) → j < 4096 → owner s.members j ≡ s.id → slot (after_suspect s q) j ≡ slot s j
+suspect_own : (s : ServerState) (q j : ℕ) → (s.id ≡ q → ⊥) → j < instance_count → owner s.members j ≡ s.id → slot (after_suspect s q) j ≡ slot s j
 suspect_own s q j other small mine =
     suspect_slot s q j small ∙ rw (unrevoked_other s.members q s.front j (slot s j) (ne_eqb (owner s.members j) q (λ theirs. other (sym mine ∙ theirs)))) refl
 
-suspect_says : (s : ServerState) (q j : ℕ) → (s.id ≡ q → ⊥) → j < 4096 → (c : Bool) → eqb (owner s.members j) s.id ≡ c → suggested_at (after_suspect s q) j ≡ suggested_at s j
+suspect_says : (s : ServerState) (q j : ℕ) → (s.id ≡ q → ⊥) → j < instance_count → (c : Bool) → eqb (owner s.members j) s.id ≡ c → suggested_at (after_suspect s q) j ≡ suggested_at s j
 suspect_says s q j other small true mine = rw mine (ap (λ (u : SlotState). ticket_of u.proposal) (suspect_own s q j other small (eqb-true _ _ mine)))
 suspect_says s q j other small false theirs = rw theirs refl
 
-suspect_since : (s : ServerState) (q j : ℕ) → (s.id ≡ q → ⊥) → j < 4096 → is_noop (slot (after_suspect s q) j).learned ≡ true → (c : Bool) → eqb (owner s.members j) s.id ≡ c
+suspect_since : (s : ServerState) (q j : ℕ) → (s.id ≡ q → ⊥) → j < instance_count → is_noop (slot (after_suspect s q) j).learned ≡ true → (c : Bool) → eqb (owner s.members j) s.id ≡ c
     → (is_noop (slot s j).learned ≡ true) ⊎ (suggested_at s j ≡ None)
 suspect_since s q j other small noop true mine = inl (subst (λ (u : SlotState). is_noop u.learned ≡ true) (suspect_own s q j other small (eqb-true _ _ mine)) noop)
 suspect_since s q j other small noop false theirs = inr (rw theirs refl)
@@ -169,8 +170,8 @@ module _ (m : Membership) (p f : ℕ) (k : KnownState) (now : ServerState) (q : 
       ap (λ (n : Membership). count_by (λ (j : ℕ). is_revoked n q f j (get_or k.slots j (new_slot n))) instances) same
       ∙ ap (λ (s : ServerState). count_by (is_suspected s q) instances) shown
 
-  pub open_rounds : ((j : ℕ) → j < 4096 → is_suspected now q j ≡ true → round_after now.members (slot now j) ≤ 65535)
-      → (j : ℕ) → j < 4096 → is_open k q f j ≡ true → round_after k.members (known_slot k j) ≤ 65535
+  pub open_rounds : ((j : ℕ) → j < instance_count → is_suspected now q j ≡ true → round_after now.members (slot now j) ≤ greatest_round)
+      → (j : ℕ) → j < instance_count → is_open k q f j ≡ true → round_after k.members (known_slot k j) ≤ greatest_round
   open_rounds rounds j small e =
       let there = rounds j small (sym (open_shown j) ∙ e) in
       let is : round_after k.members (known_slot k j) ≡ round_after now.members (slot now j) =
@@ -179,7 +180,7 @@ module _ (m : Membership) (p f : ℕ) (k : KnownState) (now : ServerState) (q : 
 
   pub full_shown : list_any (is_round_full_at k) (filter (is_open k q f) instances) ≡ list_any (is_round_full now) (filter (is_suspected now q) instances)
   full_shown =
-      ap (λ (n : Membership). list_any (λ (j : ℕ). ltb 65535 (round_after n (get_or k.slots j (new_slot n)))) (filter (λ (j : ℕ). is_revoked n q f j (get_or k.slots j (new_slot n))) instances)) same
+      ap (λ (n : Membership). list_any (λ (j : ℕ). ltb greatest_round (round_after n (get_or k.slots j (new_slot n)))) (filter (λ (j : ℕ). is_revoked n q f j (get_or k.slots j (new_slot n))) instances)) same
       ∙ ap (λ (s : ServerState). list_any (is_round_full s) (filter (is_suspected s q) instances)) shown
 
   pub suspect_shown : (new : KnownState) → new ≡ known_after_suspect k p q f → record { members = m; id = p; front = f; slots = new.slots } ≡ after_suspect now q
@@ -191,7 +192,7 @@ module _ (m : Membership) (p f : ℕ) (k : KnownState) (now : ServerState) (q : 
 
 -- an instance at which the server may suggest
 pub record IsFree (s : ServerState) (i : ℕ) : Type 0 where
-  pub small : i < 4096
+  pub small : i < instance_count
   pub own : owner s.members i ≡ s.id
   pub ahead : s.front ≤ i
   pub blank : is_none (slot s i).learned ≡ true
@@ -229,22 +230,22 @@ place_shows m p f k new now i t u shown same written made =
 -- the marks that a suggestion makes, as others see the server before it
 pub place_marks : (m : Membership) (p f : ℕ) (k new : KnownState) (now : ServerState) (i t : ℕ) (u : SlotState) (old blank marks : List Bool)
     → record { members = m; id = p; front = f; slots = k.slots } ≡ now → k.members ≡ m → new ≡ with_known k i u → f ≤ i
-    → IsServer (record { members = m; id = p; front = f; slots = k.slots }) → length k.slots ≡ 4096
+    → IsServer (record { members = m; id = p; front = f; slots = k.slots }) → length k.slots ≡ instance_count
     → ((j : ℕ) → get_or blank j false ≡ get_or old j false)
-    → ((j : ℕ) → j < f → j < 4096 → get_or marks j false ≡ (get_or blank j false || is_ticket t (suggested_in m p j (known_slot new j))))
-    → ((j : ℕ) → min f 4096 ≤ j → get_or marks j false ≡ get_or blank j false)
+    → ((j : ℕ) → j < f → j < instance_count → get_or marks j false ≡ (get_or blank j false || is_ticket t (suggested_in m p j (known_slot new j))))
+    → ((j : ℕ) → min f instance_count ≤ j → get_or marks j false ≡ get_or blank j false)
     → (j : ℕ) → get_or marks j false ≡ (get_or old j false || is_ticket t (suggested_in now.members now.id j (slot now j)))
 place_marks m p f k new now i t u old blank marks shown same written ahead server full kept marked rest j =
     subst (λ (s : ServerState). get_or marks j false ≡ (get_or old j false || is_ticket t (suggested_in s.members s.id j (slot s j)))) shown
     (⊎_elim
-    (λ (low : j < min f 4096).
+    (λ (low : j < min f instance_count).
     marked j (omega arith) (omega arith)
     ∙ ap (λ (b : Bool). b || is_ticket t (suggested_in m p j (known_slot new j))) (kept j)
     ∙ ap (λ (x : SlotState). get_or old j false || is_ticket t (suggested_in m p j x)) (slot_is (λ at. absurd (omega arith))))
-    (λ (high : min f 4096 ≤ j).
+    (λ (high : min f instance_count ≤ j).
     rest j high ∙ kept j
     ∙ sym (ap (λ (b : Bool). get_or old j false || b) (untold (eqb (owner m j) p) refl high) ∙ or-false (get_or old j false)))
-    (cases_lt j (min f 4096)))
+    (cases_lt j (min f instance_count)))
   where
     slot_is : (j ≡ i → ⊥) → known_slot new j ≡ get_or k.slots j (new_slot m)
     slot_is off =
@@ -256,7 +257,7 @@ place_marks m p f k new now i t u old blank marks shown same written ahead serve
     or-false true = refl
     or-false false = refl
 
-    untold : (b : Bool) → eqb (owner m j) p ≡ b → min f 4096 ≤ j → is_ticket t (suggested_in m p j (get_or k.slots j (new_slot m))) ≡ false
+    untold : (b : Bool) → eqb (owner m j) p ≡ b → min f instance_count ≤ j → is_ticket t (suggested_in m p j (get_or k.slots j (new_slot m))) ≡ false
     untold false other high = rw other refl
     untold true mine high =
         rw mine

@@ -18,6 +18,7 @@ use Rattle.mencius_server.specs.State.{FitsAt, ServerState, slot, with_slot_and_
 use Rattle.mencius_server.proofs.Invariant.{IsFree, kept_as, place_keeps, place_marks, place_shows, put_keeps, put_shows, skip_keeps, skip_shown, suspect_keeps, suspect_shown}
 use Rattle.mencius_server.proofs.Keeps.{FitsAt-slot}
 use Rattle.mencius_server.proofs.SlotLaws.{FitsAt-promise, FitsAt-same, SameAttempt-accept, SameAttempt-acceptance, SameAttempt-learn, SameAttempt-prepare}
+use Rattle.mencius_base.specs.Limits.{instance_count}
 
 -- what callers see of a server that knows this
 abbrev pub seen : Membership → ℕ → ℕ → KnownState → ServerState
@@ -42,7 +43,7 @@ module _ (m : Membership) (p f : ℕ) (k new : KnownState) (b c : Noted) (kept :
   slot_is i = ap (λ (n : Membership). get_or k.slots i (new_slot n)) kept.members
 
   -- a change of one slot
-  pub change_kept : (i l : ℕ) (d : Change) → i < 4096 → IsSaid m d → new ≡ with_known k i (changed (known_slot k i) d)
+  pub change_kept : (i l : ℕ) (d : Change) → i < instance_count → IsSaid m d → new ≡ with_known k i (changed (known_slot k i) d)
       → l ≤ b.lost_from → (l ≤ i) ⊎ (owner m i ≡ p → is_noop (known_slot new i).learned ≡ false)
       → c ≡ record b { lost_from = l }
       → IsKept (seen m p f new) new.members c
@@ -98,9 +99,9 @@ module _ (m : Membership) (p f : ℕ) (k new : KnownState) (b c : Noted) (kept :
       → r.lost_from ≡ b.lost_from → r.next_ticket ≡ b.next_ticket
       → ((j : ℕ) → get_or r.moved j false ≡ get_or b.moved j false)
       → c.lost_from ≡ r.lost_from → (r.next_ticket ≤ c.next_ticket) × (t < c.next_ticket) → length c.moved ≤ f
-      → ((j : ℕ) → j < f → j < 4096 → get_or c.moved j false ≡ (get_or r.moved j false || is_ticket t
+      → ((j : ℕ) → j < f → j < instance_count → get_or c.moved j false ≡ (get_or r.moved j false || is_ticket t
       (suggested_in m p j (known_slot new j))))
-      → ((j : ℕ) → min f 4096 ≤ j → get_or c.moved j false ≡ get_or r.moved j false)
+      → ((j : ℕ) → min f instance_count ≤ j → get_or c.moved j false ≡ get_or r.moved j false)
       → IsKept (seen m p (i + n) new) new.members c
   place_kept r i t n count some few free made lost next same lost_still above short marked rest =
       let u : SlotState = record (known_slot k i) { proposal = Some (Ticket t) } in

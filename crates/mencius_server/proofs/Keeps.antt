@@ -14,6 +14,7 @@ use Rattle.coord_paxos.specs.Fresh.{new_slot}
 use Rattle.mencius_server.specs.Machine.{suggested_at, waits_at, waits_with}
 use Rattle.mencius_model.specs.Server.{ticket_of}
 use Rattle.mencius_server.specs.State.{ServerState, FitsAt, IsServer, new_server, slot, with_slot_and_front}
+use Rattle.mencius_base.specs.Limits.{greatest_front, instance_count}
 
 -- past the last slot there are new ones
 pub past-replicate : (n i : ℕ) (t : SlotState) → get_or (replicate n t) i t ≡ t
@@ -28,14 +29,14 @@ pub IsServer-new : (m : Membership) (p : ℕ) → p < m.count → m.count ≤ 7 
 IsServer-new m p member few = record {
   member = member;
   near = omega arith;
-  same = λ i. rw (past-replicate 4096 i (new_slot m));
-  own = λ i mine. rw (past-replicate 4096 i (new_slot m));
-  unsaid = λ i mine ahead. rw (past-replicate 4096 i (new_slot m));
+  same = λ i. rw (past-replicate instance_count i (new_slot m));
+  own = λ i mine. rw (past-replicate instance_count i (new_slot m));
+  unsaid = λ i mine ahead. rw (past-replicate instance_count i (new_slot m));
 }
 
 -- a new server suggested nothing, and no ticket waits there
-none_said : (m : Membership) (p j : ℕ) (c : Bool) → cond c (ticket_of (get_or (replicate 4096 (new_slot m)) j (new_slot m)).proposal) None ≡ None
-none_said m p j true = ap (λ (t : SlotState). ticket_of t.proposal) (past-replicate 4096 j (new_slot m))
+none_said : (m : Membership) (p j : ℕ) (c : Bool) → cond c (ticket_of (get_or (replicate instance_count (new_slot m)) j (new_slot m)).proposal) None ≡ None
+none_said m p j true = ap (λ (t : SlotState). ticket_of t.proposal) (past-replicate instance_count j (new_slot m))
 none_said m p j false = refl
 
 pub new_unsaid : (m : Membership) (p j t : ℕ) → suggested_at (new_server m p) j ≡ Some t → ⊥
@@ -71,7 +72,7 @@ KeepsAt-new s f i = record { same = refl; own = λ mine. refl; unsaid = λ mine 
 pub KeepsAt-suggested : (s : ServerState) (g i : ℕ) (o : Option Value) → i < g → IsServer s → KeepsAt s g i (record (slot s i) { proposal = o })
 KeepsAt-suggested s g i o before kept = record { same = kept.same i; own = kept.own i; unsaid = λ mine past. absurd (omega arith) }
 
-pub IsServer-with_slot : (s : ServerState) (i : ℕ) (t : SlotState) (f : ℕ) → IsServer s → KeepsAt s f i t → s.front ≤ f → f ≤ 4102
+pub IsServer-with_slot : (s : ServerState) (i : ℕ) (t : SlotState) (f : ℕ) → IsServer s → KeepsAt s f i t → s.front ≤ f → f ≤ greatest_front
     → IsServer (with_slot_and_front s i t f)
 IsServer-with_slot s i t f kept fits ahead near = record {
   member = kept.member;

@@ -18,20 +18,21 @@ use Rattle.mencius_server.specs.Changes.{changed}
 use Rattle.mencius_server.specs.declared.change.Change.{Change}
 use Rattle.mencius_server.specs.declared.change.Change.TheVariants.{Promise, Accept, CountPromise, CountAccept, Learn}
 use Rattle.mencius_server.specs.declared.ranges.Span.{Span}
+use Rattle.mencius_base.specs.Limits.{instance_count}
 
 -- ---- what is seen of an instance
 
 module _ (m : Membership) (slots : List (Option SlotState)) (rs : List (List Span)) (now : KnownState) (shown : known_of m slots rs ≡ now) where
-  pub seen : (j : ℕ) → j < 4096 → known_slot now j ≡ known_at m slots rs j
+  pub seen : (j : ℕ) → j < instance_count → known_slot now j ≡ known_at m slots rs j
   seen j small = subst (λ (k : KnownState). known_slot k j ≡ known_at m slots rs j) shown (get_or-map-instances (known_at m slots rs) j (new_slot m) small)
 
-  pub seen_some : (j : ℕ) (t : SlotState) → j < 4096 → stand_at slots j ≡ Some t → known_slot now j ≡ t
+  pub seen_some : (j : ℕ) (t : SlotState) → j < instance_count → stand_at slots j ≡ Some t → known_slot now j ≡ t
   seen_some j t small e = seen j small ∙ ap (λ o. unwrap_or o (unheard m (is_passed m rs j))) e
 
-  pub seen_none : (j : ℕ) → j < 4096 → stand_at slots j ≡ None → known_slot now j ≡ unheard m (is_passed m rs j)
+  pub seen_none : (j : ℕ) → j < instance_count → stand_at slots j ≡ None → known_slot now j ≡ unheard m (is_passed m rs j)
   seen_none j small e = seen j small ∙ ap (λ o. unwrap_or o (unheard m (is_passed m rs j))) e
 
-  pub seen_stands : (j : ℕ) → j < 4096 → has_slot now j ≡ is_some (stand_at slots j)
+  pub seen_stands : (j : ℕ) → j < instance_count → has_slot now j ≡ is_some (stand_at slots j)
   seen_stands j small = subst (λ (k : KnownState). has_slot k j ≡ is_some (stand_at slots j)) shown (get_or-map-instances (λ i. is_some (stand_at slots i)) j false small)
 
 -- of an instance at which no slot stands, nothing was promised, accepted, tried or proposed
@@ -40,7 +41,7 @@ unheard_quiet m true = (refl, refl, refl)
 unheard_quiet m false = (refl, refl, refl)
 
 -- two states that agree at each instance are the same
-pub same_known : (m : Membership) (f g : ℕ → SlotState) (a b : ℕ → Bool) → ((j : ℕ) → j < 4096 → f j ≡ g j) → ((j : ℕ) → j < 4096 → a j ≡ b j)
+pub same_known : (m : Membership) (f g : ℕ → SlotState) (a b : ℕ → Bool) → ((j : ℕ) → j < instance_count → f j ≡ g j) → ((j : ℕ) → j < instance_count → a j ≡ b j)
     → ◌≡◌ {A = KnownState} (record { members = m; slots = map f instances; stands = map a instances }) (record { members = m; slots = map g instances; stands = map b instances })
 same_known m f g a b e h = rw (map-instances_same f g (new_slot m) e, map-instances_same a b false h)
 
@@ -115,14 +116,14 @@ module _ (m : Membership) (slots new : List (Option SlotState)) (rs : List (List
     least = λ l. rw (stood_at_same low) (h.least l);
   }
 
-pub stood_has : (m : Membership) (slots new : List (Option SlotState)) (rs : List (List Span)) (i : ℕ) → i < 4096 → (t : SlotState)
+pub stood_has : (m : Membership) (slots new : List (Option SlotState)) (rs : List (List Span)) (i : ℕ) → i < instance_count → (t : SlotState)
     → ((j : ℕ) → stand_at new j ≡ cond (eqb j i) (Some t) (stand_at slots j)) → has_slot (known_of m new rs) i ≡ true
 stood_has m slots new rs i small t stands =
     get_or-map-instances (λ j. is_some (stand_at new j)) i false small ∙ ap is_some (stands i ∙ ap (λ b. cond b (Some t) (stand_at slots i)) (eq-eqb i i refl))
 
 -- what was known of an instance is what its slot says, once it stands
 pub stood_slot : (m : Membership) (slots : List (Option SlotState)) (rs : List (List Span)) (now stood : KnownState) (i : ℕ) (t : SlotState) → known_of m slots rs ≡ stood → stood ≡ known_standing now i
-    → i < 4096 → stand_at slots i ≡ Some t → known_slot now i ≡ t
+    → i < instance_count → stand_at slots i ≡ Some t → known_slot now i ≡ t
 stood_slot m slots rs now stood i t shown ok small there = sym (ap (λ (k : KnownState). known_slot k i) ok) ∙ seen_some m slots rs stood shown i t small there
 
 -- a slot that stands already
@@ -171,15 +172,15 @@ module _ (m : Membership) (slots new : List (Option SlotState)) (rs : List (List
       with_slots : List SlotState → KnownState
       with_slots xs = record { members = m; slots = xs; stands = map (λ j. is_some (stand_at slots j)) instances }
 
-      stands_same : (j : ℕ) → j < 4096 → is_some (stand_at new j) ≡ is_some (stand_at slots j)
+      stands_same : (j : ℕ) → j < instance_count → is_some (stand_at new j) ≡ is_some (stand_at slots j)
       stands_same j small =
           ⊎_elim
           (λ (at : j ≡ i). ap is_some (written_here j at) ∙ sym (ap is_some (ap (stand_at slots) at ∙ there)))
           (λ (off : j ≡ i → ⊥). ap is_some (written_off j off))
           (cases_eq j i)
 
-  pub written_told : (low : ℕ) → i < 4096 → (is_none old.learned ≡ false → is_none t.learned ≡ false) → IsSound m slots rs low
-      → (j : ℕ) (u : SlotState) → j < 4096 → is_passed m rs j ≡ true → stand_at new j ≡ Some u → is_none u.learned ≡ false
+  pub written_told : (low : ℕ) → i < instance_count → (is_none old.learned ≡ false → is_none t.learned ≡ false) → IsSound m slots rs low
+      → (j : ℕ) (u : SlotState) → j < instance_count → is_passed m rs j ≡ true → stand_at new j ≡ Some u → is_none u.learned ≡ false
   written_told low inside stays h j u small passed stands =
       ⊎_elim
       (λ (at : j ≡ i).
@@ -197,7 +198,7 @@ module _ (m : Membership) (slots new : List (Option SlotState)) (rs : List (List
       (cases_eq j i)
 
   -- where the instance is not the least unlearned one, that stays
-  pub written_sound : (low : ℕ) → i < 4096 → (is_none old.learned ≡ false → is_none t.learned ≡ false) → (low ≡ i → ⊥) → IsSound m slots rs low → IsSound m new rs low
+  pub written_sound : (low : ℕ) → i < instance_count → (is_none old.learned ≡ false → is_none t.learned ≡ false) → (low ≡ i → ⊥) → IsSound m slots rs low → IsSound m new rs low
   written_sound low inside stays off h = record {
     sorted = h.sorted;
     told = written_told low inside stays h;
@@ -207,9 +208,9 @@ module _ (m : Membership) (slots new : List (Option SlotState)) (rs : List (List
   }
 
   -- where it is, the least one is found anew
-  pub written_sound_from : (low next : ℕ) → i < 4096 → (is_none old.learned ≡ false → is_none t.learned ≡ false) → next ≤ 4096
+  pub written_sound_from : (low next : ℕ) → i < instance_count → (is_none old.learned ≡ false → is_none t.learned ≡ false) → next ≤ instance_count
       → ((j : ℕ) → low ≤ j → j < next → is_none (known_at m new rs j).learned ≡ false)
-      → (next < 4096 → is_none (known_at m new rs next).learned ≡ true) → IsSound m slots rs low → IsSound m new rs next
+      → (next < instance_count → is_none (known_at m new rs next).learned ≡ true) → IsSound m slots rs low → IsSound m new rs next
   written_sound_from low next inside stays small further least h = record {
     sorted = h.sorted;
     told = written_told low inside stays h;
@@ -219,7 +220,7 @@ module _ (m : Membership) (slots new : List (Option SlotState)) (rs : List (List
   }
 
   -- where what was learned is as before, so is the least unlearned instance
-  pub written_quiet : (low : ℕ) → i < 4096 → t.learned ≡ old.learned → IsSound m slots rs low → IsSound m new rs low
+  pub written_quiet : (low : ℕ) → i < instance_count → t.learned ≡ old.learned → IsSound m slots rs low → IsSound m new rs low
   written_quiet low inside same h = record {
     sorted = h.sorted;
     told = written_told low inside stays h;
@@ -270,10 +271,10 @@ pub some_there : {A : Type 0} (o : Option A) → is_some o ≡ true → IsSome o
 some_there o e = e
 
 -- how many slots stand
-pub stand_count : (m : Membership) (slots : List (Option SlotState)) (rs : List (List Span)) (now : KnownState) → known_of m slots rs ≡ now → length slots ≡ 4096
+pub stand_count : (m : Membership) (slots : List (Option SlotState)) (rs : List (List Span)) (now : KnownState) → known_of m slots rs ≡ now → length slots ≡ instance_count
     → count_by is_some slots ≡ count_by (λ b. b) now.stands
 stand_count m slots rs now shown all =
-    ap (count_by is_some) (map-below_by (stand_at slots) slots 4096 None all (λ k l. refl)) ∙ counts (below 4096)
+    ap (count_by is_some) (map-below_by (stand_at slots) slots instance_count None all (λ k l. refl)) ∙ counts (below instance_count)
     ∙ ap (λ xs. count_by (λ b. b) (map (λ j. is_some (stand_at slots j)) xs)) (sym instances-below) ∙ ap (λ (k : KnownState). count_by (λ b. b) k.stands) shown
   where
     counts : (xs : List ℕ) → count_by is_some (map (stand_at slots) xs) ≡ count_by (λ b. b) (map (λ j. is_some (stand_at slots j)) xs)

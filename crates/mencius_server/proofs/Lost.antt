@@ -14,6 +14,7 @@ use Rattle.coord_paxos.specs.Fresh.{new_slot}
 use Rattle.mencius_server.specs.Machine.{after_submit, is_suggested_past, is_ticket, suggested_at, waits_at, waits_with}
 use Rattle.mencius_model.specs.Server.{is_noop, ticket_of, unless}
 use Rattle.mencius_server.specs.State.{IsServer, ServerState, slot}
+use Rattle.mencius_base.specs.Limits.{instance_count}
 
 -- two tests that follow from each other
 pub both_ways : (a b : Bool) → (a ≡ true → b ≡ true) → (b ≡ true → a ≡ true) → a ≡ b
@@ -23,7 +24,7 @@ both_ways false false f g = refl
 
 -- the same own suggestions
 pub record SaysSame (s v : ServerState) : Type 0 where
-  pub same : (j : ℕ) → j < 4096 → suggested_at v j ≡ suggested_at s j
+  pub same : (j : ℕ) → j < instance_count → suggested_at v j ≡ suggested_at s j
 
 pub past_same : (s v : ServerState) → SaysSame s v → (t i : ℕ) → list_any (is_suggested_past v t i) instances ≡ list_any (is_suggested_past s t i) instances
 past_same s v said t i =
@@ -54,7 +55,7 @@ waits_cases s v said j none since (Some t) e =
       | inr kept ↦ rw kept refl
     ]
 
-pub waits_none : (s v : ServerState) → SaysSame s v → (j : ℕ) → j < 4096 → waits_at s j ≡ None
+pub waits_none : (s v : ServerState) → SaysSame s v → (j : ℕ) → j < instance_count → waits_at s j ≡ None
     → (is_noop (slot v j).learned ≡ true → (is_noop (slot s j).learned ≡ true) ⊎ (suggested_at s j ≡ None)) → waits_at v j ≡ None
 waits_none s v said j small none since = ap (waits_with v j) (said.same j small) ∙ waits_cases s v said j none since (suggested_at s j) refl
 
@@ -90,7 +91,7 @@ and-true : (b : Bool) → (b && true) ≡ b
 and-true true = refl
 and-true false = refl
 
-module _ (s : ServerState) (k t : ℕ) (kept : IsServer s) (mine : owner s.members k ≡ s.id) (ahead : s.front ≤ k) (within : k < length s.slots) (small : k < 4096) where
+module _ (s : ServerState) (k t : ℕ) (kept : IsServer s) (mine : owner s.members k ≡ s.id) (ahead : s.front ≤ k) (within : k < length s.slots) (small : k < instance_count) where
   abbrev later : ServerState
   later = after_submit s k t
 
@@ -112,7 +113,7 @@ module _ (s : ServerState) (k t : ℕ) (kept : IsServer s) (mine : owner s.membe
   past_more : (u j : ℕ) → list_any (is_suggested_past later u j) instances ≡ (list_any (is_suggested_past s u j) instances || (eqb t u && ltb j k))
   past_more u j = both_ways _ _ more fewer
     where
-      found : (i : ℕ) → (ltb j i && is_ticket u (suggested_at later i)) ≡ true → i < 4096 → (list_any (is_suggested_past s u j) instances || (eqb t u && ltb j k)) ≡ true
+      found : (i : ℕ) → (ltb j i && is_ticket u (suggested_at later i)) ≡ true → i < instance_count → (list_any (is_suggested_past s u j) instances || (eqb t u && ltb j k)) ≡ true
       found i e small =
           let parts = and_parts (ltb j i) (is_ticket u (suggested_at later i)) e in
           ⊎_elim
@@ -168,9 +169,9 @@ module _ (s : ServerState) (k t : ℕ) (kept : IsServer s) (mine : owner s.membe
 
   -- the marks after it
   pub moved_later : (old new : List Bool) → length old ≤ s.front
-      → ((j u : ℕ) → j < 4096 → suggested_at s j ≡ Some u → list_any (is_suggested_past s u j) instances ≡ get_or old j false)
+      → ((j u : ℕ) → j < instance_count → suggested_at s j ≡ Some u → list_any (is_suggested_past s u j) instances ≡ get_or old j false)
       → ((j : ℕ) → get_or new j false ≡ (get_or old j false || is_ticket t (suggested_at s j)))
-      → (j u : ℕ) → j < 4096 → suggested_at later j ≡ Some u → list_any (is_suggested_past later u j) instances ≡ get_or new j false
+      → (j u : ℕ) → j < instance_count → suggested_at later j ≡ Some u → list_any (is_suggested_past later u j) instances ≡ get_or new j false
   moved_later old new short marks marked j u inside e = past_more u j ∙ ⊎_elim at_place elsewhere (cases_eq j k)
     where
       at_place : j ≡ k → (list_any (is_suggested_past s u j) instances || (eqb t u && ltb j k)) ≡ get_or new j false
@@ -196,7 +197,7 @@ module _ (s : ServerState) (k t : ℕ) (kept : IsServer s) (mine : owner s.membe
           ∙ ap (λ (b : Bool). get_or old j false || b) (and-true (eqb t u) ∙ eqb_swap t u)
           ∙ sym (marked j ∙ ap (λ (o : Option ℕ). get_or old j false || is_ticket t o) said)
 
-  pub tickets_later : (n v : ℕ) → n ≤ v → t < v → ((j u : ℕ) → j < 4096 → suggested_at s j ≡ Some u → u < n) → (j u : ℕ) → j < 4096 → suggested_at later j ≡ Some u → u < v
+  pub tickets_later : (n v : ℕ) → n ≤ v → t < v → ((j u : ℕ) → j < instance_count → suggested_at s j ≡ Some u → u < n) → (j u : ℕ) → j < instance_count → suggested_at later j ≡ Some u → u < v
   tickets_later n v more new below j u inside e =
       ⊎_elim
       (λ (at : j ≡ k). let same : Some t ≡ Some u = sym said_here ∙ ap (suggested_at later) (sym at) ∙ e in let same' : t ≡ u = cc in omega arith)

@@ -24,6 +24,7 @@ use Rattle.mencius_server.proofs.Counts.{count_same}
 use Rattle.std.proofs.lemmas.List.Elements.{All-nil}
 use Rattle.std.proofs.lemmas.List.Folds.{list_any-append, list_any_more, list_any_none}
 use Rattle.mencius_server.proofs.Skips.{IsCountUpTo, count_more, count_none}
+use Rattle.mencius_base.specs.Limits.{greatest_front, greatest_round, instance_count}
 
 -- before a server's least instance from the least unlearned one on, none is open
 pub open_before : (m : Membership) (slots : List (Option SlotState)) (rs : List (List Span)) (low : ℕ) (now : KnownState) → known_of m slots rs ≡ now → IsSound m slots rs low
@@ -34,7 +35,7 @@ open_before m slots rs low now shown sound q front first least near j high =
     subst (λ n. is_revoked n q front j (known_slot now j) ≡ false) members
     (⊎_elim
     (λ (before : j < low).
-    let small : j < 4096 = omega (arith, sound.small) in
+    let small : j < instance_count = omega (arith, sound.small) in
     and_right _ _ (ap (λ (s : SlotState). is_none s.learned) (seen m slots rs now shown j small) ∙ sound.known j before))
     (λ (from : low ≤ j). unrevoked_other m q front j (known_slot now j) (unowned m q low first least j from high))
     (cases_lt j low))
@@ -55,15 +56,15 @@ covers_low m q top (r ∷ rs) j own e =
     (or_cases (is_within r.first r.stop j) (covers rs j) e)
 
 -- so neither does what lies past them
-pub past_low : (m : Membership) (q : ℕ) (rs : List Span) (inst past : ℕ) → q < m.count → m.count ≤ 7 → IsOwned m q (first_owned m q 4096) rs → inst < 4096
-    → ((j : ℕ) → inst ≤ j → j < past → covers rs j ≡ true) → past ≤ 4102
+pub past_low : (m : Membership) (q : ℕ) (rs : List Span) (inst past : ℕ) → q < m.count → m.count ≤ 7 → IsOwned m q (first_owned m q instance_count) rs → inst < instance_count
+    → ((j : ℕ) → inst ≤ j → j < past → covers rs j ≡ true) → past ≤ greatest_front
 past_low m q rs inst past member few own small covered =
     ⊎_elim
-    (λ (far : first_owned m q 4096 < past).
-    let low : inst ≤ first_owned m q 4096 = omega (arith, first_owned_above m q 4096) in
-    let no = covers_low m q (first_owned m q 4096) rs (first_owned m q 4096) own (covered (first_owned m q 4096) low far) in absurd (omega (arith, no)))
-    (λ (near : past ≤ first_owned m q 4096). omega (arith, near, few, first_owned_near m q 4096 member))
-    (cases_lt (first_owned m q 4096) past)
+    (λ (far : first_owned m q instance_count < past).
+    let low : inst ≤ first_owned m q instance_count = omega (arith, first_owned_above m q instance_count) in
+    let no = covers_low m q (first_owned m q instance_count) rs (first_owned m q instance_count) own (covered (first_owned m q instance_count) low far) in absurd (omega (arith, no)))
+    (λ (near : past ≤ first_owned m q instance_count). omega (arith, near, few, first_owned_near m q instance_count member))
+    (cases_lt (first_owned m q instance_count) past)
   where
     first_owned_above : (m : Membership) (q from : ℕ) → from ≤ first_owned m q from
     first_owned_above m q from = omega arith
@@ -73,7 +74,7 @@ past_low m q rs inst past member few own small covered =
 
 -- what was skipped is learned
 pub passed_known : (m : Membership) (slots : List (Option SlotState)) (rs : List (List Span)) (low : ℕ) (now : KnownState) → known_of m slots rs ≡ now → IsSound m slots rs low
-    → (j : ℕ) → j < 4096 → is_passed m rs j ≡ true → is_none (known_slot now j).learned ≡ false
+    → (j : ℕ) → j < instance_count → is_passed m rs j ≡ true → is_none (known_slot now j).learned ≡ false
 passed_known m slots rs low now shown sound j small passed = go (stand_at slots j) refl
   where
     go : (o : Option SlotState) → stand_at slots j ≡ o → is_none (known_slot now j).learned ≡ false
@@ -99,10 +100,10 @@ any_one : (p : ℕ → Bool) (i : ℕ) → list_any p (i ∷ []) ≡ p i
 any_one p i = list_any_more p (i ∷ []) 0 i (omega arith) ∙ ap (λ b. b || p i) (any_nil p)
 
 -- a new slot has rounds to come
-new_round : (m : Membership) → nat_lt 65535 (round_after m (new_slot m)) ≡ false
+new_round : (m : Membership) → nat_lt greatest_round (round_after m (new_slot m)) ≡ false
 new_round m = go (0 / m.count) (zero-div m.count)
   where
-    go : (k : ℕ) → k ≡ 0 → nat_lt 65535 (max k k + 1) ≡ false
+    go : (k : ℕ) → k ≡ 0 → nat_lt greatest_round (max k k + 1) ≡ false
     go k e = rw e refl
 
 pub surveyed_bare : (m : Membership) (v : Survey) (t : SlotState) (b : Bool) → t ≡ new_slot m → b ≡ false
@@ -158,7 +159,7 @@ module _ (now : KnownState) (t : Stretch) (stretch : IsStretch t) (members : t.m
           ap (λ n. filter (is_open_in now t) (below n)) (sym all) ∙ filter-below_none (is_open_in now t) 0 t.first (λ j low high. closed_before j (omega arith)) ∙ filter-below_zero (is_open_in now t)
 
   module _ (v w : Survey) (i next : ℕ) (high : i < t.stop) (ahead : i < next) (mine : owner now.members next ≡ t.server)
-      (known : (j : ℕ) → i < j → j < next → j < 4096 → owner now.members j ≡ t.server → is_none (known_slot now j).learned ≡ false) (small : t.stop ≤ 4096)
+      (known : (j : ℕ) → i < j → j < next → j < instance_count → owner now.members j ≡ t.server → is_none (known_slot now j).learned ≡ false) (small : t.stop ≤ instance_count)
       (is : w ≡ surveyed now.members v (known_slot now i) (has_slot now i)) (h : IsSurveyedUpTo now t v i) where
     between : (j : ℕ) → i + 1 ≤ j → j < next → is_open_in now t j ≡ false
     between j low less =
@@ -236,7 +237,7 @@ module _ (now : KnownState) (t : Stretch) (stretch : IsStretch t) (members : t.m
     surveyed_more = elim (cases_Bool (is_none (known_slot now i).learned)) [ inl e ↦ at_open e | inr e ↦ at_closed e ]
 
 -- the instances of a stretch that are not learned are those that a suspicion covers
-pub open_same : (now : KnownState) (q front : ℕ) (t : Stretch) → IsOpenStretch now q front t → (j : ℕ) → j < 4096 → is_open_in now t j ≡ is_open now q front j
+pub open_same : (now : KnownState) (q front : ℕ) (t : Stretch) → IsOpenStretch now q front t → (j : ℕ) → j < instance_count → is_open_in now t j ≡ is_open now q front j
 open_same now q front t h j small =
     ⊎_elim
     (λ (own : owner now.members j ≡ q).
@@ -260,13 +261,13 @@ open_same now q front t h j small =
 -- the survey of a whole stretch
 pub surveyed_all : (now : KnownState) (q front : ℕ) (t : Stretch) (v : Survey) (i : ℕ) → IsOpenStretch now q front t → t.stop ≤ i → IsSurveyedUpTo now t v i → IsSurvey now q front v
 surveyed_all now q front t v i o past h =
-    let bound : t.stop ≤ 4096 = omega (arith, o.stop) in
+    let bound : t.stop ≤ instance_count = omega (arith, o.stop) in
     let same = open_same now q front t o in
     record {
-      open_count = (count_to (is_open_in now t) i 4096 _ (λ j low high. closed_past now t o.stretch o.members j (omega arith)) (λ j low high. closed_past now t o.stretch o.members j (omega arith)) h.open_count).counted
-          ∙ count_same (is_open_in now t) (is_open now q front) 4096 same ∙ ap (count_by (is_open now q front)) (sym instances-below);
-      bare_count = (count_to (is_bare_in now t) i 4096 _ (λ j low high. bare_closed now t o.stretch o.members j (closed_past now t o.stretch o.members j (omega arith))) (λ j low high. bare_closed now t o.stretch o.members j (closed_past now t o.stretch o.members j (omega arith))) h.bare_count).counted
-          ∙ count_same (is_bare_in now t) (is_bare now q front) 4096 (λ j l. ap (λ b. b && not (has_slot now j)) (same j l)) ∙ ap (count_by (is_bare now q front)) (sym instances-below);
+      open_count = (count_to (is_open_in now t) i instance_count _ (λ j low high. closed_past now t o.stretch o.members j (omega arith)) (λ j low high. closed_past now t o.stretch o.members j (omega arith)) h.open_count).counted
+          ∙ count_same (is_open_in now t) (is_open now q front) instance_count same ∙ ap (count_by (is_open now q front)) (sym instances-below);
+      bare_count = (count_to (is_bare_in now t) i instance_count _ (λ j low high. bare_closed now t o.stretch o.members j (closed_past now t o.stretch o.members j (omega arith))) (λ j low high. bare_closed now t o.stretch o.members j (closed_past now t o.stretch o.members j (omega arith))) h.bare_count).counted
+          ∙ count_same (is_bare_in now t) (is_bare now q front) instance_count (λ j l. ap (λ b. b && not (has_slot now j)) (same j l)) ∙ ap (count_by (is_bare now q front)) (sym instances-below);
       full = h.full ∙ ap (list_any (is_round_full_at now)) (filters i past ∙ filter_same);
     }
   where
@@ -278,7 +279,7 @@ surveyed_all now q front t v i o past h =
 
     filter_same : filter (is_open_in now t) (below t.stop) ≡ filter (is_open now q front) instances
     filter_same =
-        sym (filters 4096 (omega (arith, o.stop))) ∙ ap (filter (is_open_in now t)) (sym instances-below)
+        sym (filters instance_count (omega (arith, o.stop))) ∙ ap (filter (is_open_in now t)) (sym instances-below)
         ∙ filter-instances_same (is_open_in now t) (is_open now q front) (open_same now q front t o)
 
 -- nothing is remembered

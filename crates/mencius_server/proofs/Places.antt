@@ -12,20 +12,21 @@ use Rattle.coord_paxos.specs.SlotState.{SlotState}
 use Rattle.mencius_server.specs.Places.{IsPlaced, slot_in, standing, standing_at}
 use Rattle.mencius_server.specs.Slots.{stand_at}
 use Rattle.mencius_server.proofs.Counts.{bit}
+use Rattle.mencius_base.specs.Limits.{instance_count}
 
 -- ---- what stands, by the table
 
 -- also past its end
-pub stand_is : (places : List (Option ℕ)) (slots : List SlotState) → length places ≤ 4096 → (j : ℕ)
+pub stand_is : (places : List (Option ℕ)) (slots : List SlotState) → length places ≤ instance_count → (j : ℕ)
     → stand_at (standing places slots) j ≡ standing_at places slots j
 stand_is places slots few j =
     ⊎_elim
-    (λ (small : j < 4096). get_or-map-instances (standing_at places slots) j None small)
-    (λ (past : 4096 ≤ j).
+    (λ (small : j < instance_count). get_or-map-instances (standing_at places slots) j None small)
+    (λ (past : instance_count ≤ j).
     get_or_past (standing places slots) j None
     (let e = length-map-instances (standing_at places slots) in omega (arith, e))
     ∙ sym (ap (slot_in slots) (get_or_past places j None (omega arith))))
-    (cases_lt j 4096)
+    (cases_lt j instance_count)
 
 slice_get_some : {A : Type 0} (xs : List A) (k : ℕ) → k < length xs → is_some (slice_get xs k) ≡ true
 slice_get_some [] k l = absurd (omega arith)
@@ -50,7 +51,7 @@ stands_there places slots n e h j k t at is =
     stand_is places slots h.few j ∙ ap (slot_in slots) at ∙ slice_get-get_or slots k t within
     ∙ ap (λ u. Some u) (sym is)
 
-pub stands_nowhere : (places : List (Option ℕ)) (slots : List SlotState) → length places ≤ 4096 → (j : ℕ)
+pub stands_nowhere : (places : List (Option ℕ)) (slots : List SlotState) → length places ≤ instance_count → (j : ℕ)
     → get_or places j None ≡ None → stand_at (standing places slots) j ≡ None
 stands_nowhere places slots few j at = stand_is places slots few j ∙ ap (slot_in slots) at
 
@@ -102,7 +103,7 @@ standing_count places slots n e h = h.count
 
 -- ---- a longer table
 
-pub placed_wider : (places wider : List (Option ℕ)) (n : ℕ) → length wider ≤ 4096
+pub placed_wider : (places wider : List (Option ℕ)) (n : ℕ) → length wider ≤ instance_count
     → ((j : ℕ) → get_or wider j None ≡ get_or places j None) → IsPlaced places n → IsPlaced wider n
 placed_wider places wider n few same h = record {
   few = few;
@@ -111,8 +112,8 @@ placed_wider places wider n few same h = record {
   count = h.count ∙ count_alike places wider (λ j. ap is_some (sym (same j)));
 }
 
-pub stand_wider : (places wider : List (Option ℕ)) (slots all : List SlotState) → length places ≤ 4096
-    → length wider ≤ 4096
+pub stand_wider : (places wider : List (Option ℕ)) (slots all : List SlotState) → length places ≤ instance_count
+    → length wider ≤ instance_count
     → ((j : ℕ) → get_or wider j None ≡ get_or places j None) → all ≡ slots → (j : ℕ)
     → stand_at (standing wider all) j ≡ stand_at (standing places slots) j
 stand_wider places wider slots all few fewer same e j =
@@ -235,7 +236,7 @@ module _ (places : List (Option ℕ)) (slots : List SlotState) (n : ℕ) (e : n 
 module _ (places wide : List (Option ℕ)) (slots : List SlotState) (now : List (Option SlotState)) (n m i : ℕ)
     (e : n ≡ length slots) (h : IsPlaced places n)
     (view : standing places slots ≡ now) (none : stand_at now i ≡ None)
-    (few : length wide ≤ 4096) (same : (j : ℕ) → get_or wide j None ≡ get_or places j None)
+    (few : length wide ≤ instance_count) (same : (j : ℕ) → get_or wide j None ≡ get_or places j None)
     (within : i < length wide) (len : m ≡ n) where
   no_place : get_or wide i None ≡ None
   no_place = same i ∙ go (get_or places i None)
@@ -261,7 +262,7 @@ module _ (places wide : List (Option ℕ)) (slots : List SlotState) (now : List 
 -- ---- what the table says of one instance, as the code reads it
 
 pub none_read : (places : List (Option ℕ)) (slots : List SlotState) (i : ℕ) (o : Option ℕ) (b : Bool)
-    → length places ≤ 4096 → i < length places → o ≡ get_or places i o
+    → length places ≤ instance_count → i < length places → o ≡ get_or places i o
     → is_some o ≡ not b → b ≡ true → stand_at (standing places slots) i ≡ None
 none_read places slots i o b few within read tells true_is =
     stands_nowhere places slots few i (get_or_default places i None o within ∙ sym read ∙ go o (tells ∙ ap not true_is))

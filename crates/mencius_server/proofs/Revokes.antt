@@ -12,6 +12,7 @@ use Rattle.mencius_server.specs.State.{ServerState}
 use Rattle.mencius_server.specs.Surveys.{IsSurvey, survey_cause}
 use Rattle.mencius_server.proofs.Begins.{rounds_small, suspect_cause_is}
 use Rattle.mencius_server.proofs.Invariant.{full_shown, open_count, open_rounds}
+use Rattle.mencius_base.specs.Limits.{greatest_round, instance_count}
 
 module _ (m : Membership) (p f : ℕ) (k : KnownState) (now : ServerState) (q : ℕ)
     (shown : record { members = m; id = p; front = f; slots = k.slots } ≡ now) (same : k.members ≡ m) (v : Survey)
@@ -31,6 +32,6 @@ module _ (m : Membership) (p f : ℕ) (k : KnownState) (now : ServerState) (q : 
       ∙ ap (λ (n : ℕ). cond (eqb v.open_count 0) (Some NothingToRevoke) (cond v.is_full (Some RoundsFull) (outbox_full o n)))
       (sym count_is)
 
-  pub rounds_left : v.is_full ≡ false → (j : ℕ) → j < 4096 → is_open k q f j ≡ true
-      → round_after k.members (known_slot k j) ≤ 65535
+  pub rounds_left : v.is_full ≡ false → (j : ℕ) → j < instance_count → is_open k q f j ≡ true
+      → round_after k.members (known_slot k j) ≤ greatest_round
   rounds_left room = open_rounds m p f k now q shown same (rounds_small now q (sym full_is ∙ room))

@@ -20,8 +20,9 @@ use Rattle.mencius_model.proofs.Quiet.{quiet_accepted, IsUncounted}
 use Rattle.mencius_server.specs.State.{ServerState, slot, with_slot, with_slot_and_front}
 use Rattle.mencius_server.specs.Machine.{sent_on, after_hearing, learned_on}
 use Rattle.mencius_server.specs.Reached.{server_at}
+use Rattle.mencius_base.specs.Limits.{instance_count}
 
-pub slot-server_at : (m : Membership) (w : History) (p i : ℕ) → i < 4096 → slot (server_at m w p) i ≡ slot_at m w p i
+pub slot-server_at : (m : Membership) (w : History) (p i : ℕ) → i < instance_count → slot (server_at m w p) i ≡ slot_at m w p i
 slot-server_at m w p i h = get_or-map-instances (slot_at m w p) i (new_slot m) h
 
 same_front : (m : Membership) (p f g : ℕ) (xs ys : List SlotState) → f ≡ g → xs ≡ ys
@@ -64,7 +65,7 @@ accepting_elsewhere m w k p q i b j x e un ne =
 uncounted_propose : (q i b : ℕ) (v : Value) (j c : ℕ) → IsUncounted j c (Propose q i b v)
 uncounted_propose q i b v j c = record { promise = λ r. refl; acceptance = λ r. refl; report = refl }
 
-propose_cases : (m : Membership) (w : History) (k p q i b : ℕ) (v : Value) → i < 4096 → slice_get (sent w) k ≡ Some (Propose q i b v) → proposed w i b ≡ Some v
+propose_cases : (m : Membership) (w : History) (k p q i b : ℕ) (v : Value) → i < instance_count → slice_get (sent w) k ≡ Some (Propose q i b v) → proposed w i b ≡ Some v
     → (c : Bool) → leb (promised w p i) b ≡ c → Meets m w k p (Propose q i b v) (cond c (Sent (Accepted p q i b) ∷ []) [])
 propose_cases m w k p q i b v small e said true high = record {
   sends = rw (slot-server_at m w p i small, high);
@@ -87,6 +88,6 @@ propose_cases m w k p q i b v small e said false low = record {
       (λ j ne. slot_at-heard m w k p j _ e (uncounted_propose q i b v j (trying w p j)));
 }
 
-pub meets_propose : (m : Membership) (w : History) (k p q i b : ℕ) (v : Value) → i < 4096 → slice_get (sent w) k ≡ Some (Propose q i b v) → proposed w i b ≡ Some v
+pub meets_propose : (m : Membership) (w : History) (k p q i b : ℕ) (v : Value) → i < instance_count → slice_get (sent w) k ≡ Some (Propose q i b v) → proposed w i b ≡ Some v
     → Meets m w k p (Propose q i b v) (on_propose w p q i b)
 meets_propose m w k p q i b v small e said = propose_cases m w k p q i b v small e said (leb (promised w p i) b) refl

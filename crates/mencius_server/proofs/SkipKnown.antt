@@ -22,6 +22,7 @@ use Rattle.mencius_server.proofs.Counts.{count_same}
 use Rattle.mencius_server.proofs.Gaps.{unskipped_other}
 use Rattle.mencius_server.proofs.Knows.{same_known, seen}
 use Rattle.mencius_server.proofs.Spans.{within_before, within_past, within_yes}
+use Rattle.mencius_base.specs.Limits.{instance_count}
 
 noop_again : (b : Bool) (t : SlotState) → cond b (after_learn (after_learn t Noop) Noop) (after_learn t Noop) ≡ after_learn t Noop
 noop_again false t = refl
@@ -52,12 +53,12 @@ learned_noop u = go (is_none u.learned) refl
     go false e = rw (e, e) refl
 
 module _ (m : Membership) (t : Stretch) (members : t.members ≡ m) (slots new : List (Option SlotState)) (rs : List (List Span)) (member : t.server < length rs)
-    (ys : List Span) (covered : (j : ℕ) → j < 4096 → owner t.members j ≡ t.server → covers ys j ≡ (covers (get_or rs t.server []) j || is_within t.first t.stop j))
-    (gives : (j : ℕ) → j < 4096 → stand_at new j ≡ option_map (given t j) (stand_at slots j)) where
+    (ys : List Span) (covered : (j : ℕ) → j < instance_count → owner t.members j ≡ t.server → covers ys j ≡ (covers (get_or rs t.server []) j || is_within t.first t.stop j))
+    (gives : (j : ℕ) → j < instance_count → stand_at new j ≡ option_map (given t j) (stand_at slots j)) where
   passed_theirs : (j : ℕ) → (owner m j ≡ t.server → ⊥) → is_passed m (set rs t.server ys) j ≡ is_passed m rs j
   passed_theirs j other = ap (λ xs. covers xs j) (get_or-set_other rs t.server (owner m j) ys [] other)
 
-  passed_own : (j : ℕ) → j < 4096 → owner m j ≡ t.server → is_passed m (set rs t.server ys) j ≡ (is_passed m rs j || is_within t.first t.stop j)
+  passed_own : (j : ℕ) → j < instance_count → owner m j ≡ t.server → is_passed m (set rs t.server ys) j ≡ (is_passed m rs j || is_within t.first t.stop j)
   passed_own j small own =
       ap (λ xs. covers xs j) (get_or-set_at rs t.server (owner m j) ys [] own member)
       ∙ covered j small (ap (λ n. owner n j) members ∙ own) ∙ ap (λ x. covers (get_or rs x []) j || is_within t.first t.stop j) (sym own)
@@ -68,7 +69,7 @@ module _ (m : Membership) (t : Stretch) (members : t.members ≡ m) (slots new :
   in_theirs : (j : ℕ) → (owner m j ≡ t.server → ⊥) → is_in t j ≡ false
   in_theirs j other = unskipped_other t.members t.server t.first t.stop j (ne_eqb (owner t.members j) t.server (λ e. other (sym (ap (λ n. owner n j) members) ∙ e)))
 
-  skip_at : (j : ℕ) → j < 4096 → (o : Option SlotState) → stand_at slots j ≡ o → known_at m new (set rs t.server ys) j ≡ given t j (known_at m slots rs j)
+  skip_at : (j : ℕ) → j < instance_count → (o : Option SlotState) → stand_at slots j ≡ o → known_at m new (set rs t.server ys) j ≡ given t j (known_at m slots rs j)
   skip_at j small (Some u) e =
       ap (λ o. unwrap_or o (unheard m (is_passed m (set rs t.server ys) j))) (gives j small ∙ ap (option_map (given t j)) e)
       ∙ sym (ap (λ o. given t j (unwrap_or o (unheard m (is_passed m rs j)))) e)
@@ -81,7 +82,7 @@ module _ (m : Membership) (t : Stretch) (members : t.members ≡ m) (slots new :
       (cases_eq (owner m j) t.server)
       ∙ sym (ap (λ o. given t j (unwrap_or o (unheard m (is_passed m rs j)))) e)
 
-  stands_same : (j : ℕ) → j < 4096 → is_some (stand_at new j) ≡ is_some (stand_at slots j)
+  stands_same : (j : ℕ) → j < instance_count → is_some (stand_at new j) ≡ is_some (stand_at slots j)
   stands_same j small = ap is_some (gives j small) ∙ kept (stand_at slots j)
     where
       kept : (o : Option SlotState) → is_some (option_map (given t j) o) ≡ is_some o
@@ -94,11 +95,11 @@ module _ (m : Membership) (t : Stretch) (members : t.members ≡ m) (slots new :
       (λ j small. skip_at j small (stand_at slots j) refl ∙ ap (given t j) (sym (seen m slots rs now shown j small))) stands_same
       ∙ ap (λ (k : KnownState). record k { slots = map (λ j. given t j (known_slot now j)) instances }) shown
 
-  pub skip_sorted : IsRising 0 ys → IsOwned m t.server (first_owned m t.server 4096) ys → IsSorted m rs → IsSorted m (set rs t.server ys)
+  pub skip_sorted : IsRising 0 ys → IsOwned m t.server (first_owned m t.server instance_count) ys → IsSorted m rs → IsSorted m (set rs t.server ys)
   skip_sorted rising owned h = record {
     count = length-set rs t.server ys ∙ h.count;
     rising = λ p inside. at_place (λ p xs. IsRising 0 xs) p (λ e. rising) (h.rising p inside);
-    owned = λ p inside. at_place (λ p xs. IsOwned m p (first_owned m p 4096) xs) p (λ e. subst (λ x. IsOwned m x (first_owned m x 4096) ys) (sym e) owned) (h.owned p inside);
+    owned = λ p inside. at_place (λ p xs. IsOwned m p (first_owned m p instance_count) xs) p (λ e. subst (λ x. IsOwned m x (first_owned m x instance_count) ys) (sym e) owned) (h.owned p inside);
   }
     where
       at_place : (P : ℕ → List Span → Type 0) (p : ℕ) → (p ≡ t.server → P p ys) → P p (get_or rs p []) → P p (get_or (set rs t.server ys) p [])
@@ -108,9 +109,9 @@ module _ (m : Membership) (t : Stretch) (members : t.members ≡ m) (slots new :
           (λ (ne : p ≡ t.server → ⊥). subst (P p) (sym (get_or-set_other rs t.server p ys [] ne)) old)
           (cases_eq p t.server)
 
-  pub skip_sound : (low more : ℕ) → IsSorted m (set rs t.server ys) → more ≤ 4096
+  pub skip_sound : (low more : ℕ) → IsSorted m (set rs t.server ys) → more ≤ instance_count
       → ((j : ℕ) → low ≤ j → j < more → is_none (known_at m new (set rs t.server ys) j).learned ≡ false)
-      → (more < 4096 → is_none (known_at m new (set rs t.server ys) more).learned ≡ true)
+      → (more < instance_count → is_none (known_at m new (set rs t.server ys) more).learned ≡ true)
       → IsSound m slots rs low → IsSound m new (set rs t.server ys) more
   skip_sound low more sorted small further least h = record {
     sorted = sorted;
@@ -118,14 +119,14 @@ module _ (m : Membership) (t : Stretch) (members : t.members ≡ m) (slots new :
     small = small;
     known = λ j l. ⊎_elim
         (λ (before : j < low).
-        let inside : j < 4096 = omega (arith, h.small) in
+        let inside : j < instance_count = omega (arith, h.small) in
         rw (skip_at j inside (stand_at slots j) refl) (stays_learned t j (known_at m slots rs j) (h.known j before)))
         (λ (from : low ≤ j). further j from l)
         (cases_lt j low);
     least = least;
   }
     where
-      told_at : (j : ℕ) (u : SlotState) → j < 4096 → is_passed m (set rs t.server ys) j ≡ true → (o : Option SlotState) → stand_at slots j ≡ o → option_map (given t j) (stand_at slots j) ≡ Some u
+      told_at : (j : ℕ) (u : SlotState) → j < instance_count → is_passed m (set rs t.server ys) j ≡ true → (o : Option SlotState) → stand_at slots j ≡ o → option_map (given t j) (stand_at slots j) ≡ Some u
           → is_none u.learned ≡ false
       told_at j u l passed None e stands = let no : Some u ≡ None = sym stands ∙ ap (option_map (given t j)) e in absurd (cc)
       told_at j u l passed (Some v) e stands =
@@ -144,7 +145,7 @@ module _ (m : Membership) (t : Stretch) (members : t.members ≡ m) (slots new :
 
 -- what a Skip gives up, by slots and ranges
 given_same : (m : Membership) (t : Stretch) (slots : List (Option SlotState)) (rs : List (List Span)) (low : ℕ) → t.members ≡ m → IsSound m slots rs low
-    → (j : ℕ) → j < 4096 → is_given_in t (get_or rs t.server []) slots j ≡ (is_in t j && is_none (known_at m slots rs j).learned)
+    → (j : ℕ) → j < instance_count → is_given_in t (get_or rs t.server []) slots j ≡ (is_in t j && is_none (known_at m slots rs j).learned)
 given_same m t slots rs low members h j small =
     ⊎_elim
     (λ (own : owner t.members j ≡ t.server).
@@ -171,10 +172,10 @@ pub record IsAligned (q first stop : ℕ) (t : Stretch) : Type 0 where
   pub server : t.server ≡ q
   pub above_first : first ≤ t.first
   pub least_first : (i : ℕ) → first ≤ i → owner t.members i ≡ q → t.first ≤ i
-  pub above_stop : min stop 4096 ≤ t.stop
-  pub least_stop : (i : ℕ) → min stop 4096 ≤ i → owner t.members i ≡ q → t.stop ≤ i
+  pub above_stop : min stop instance_count ≤ t.stop
+  pub least_stop : (i : ℕ) → min stop instance_count ≤ i → owner t.members i ≡ q → t.stop ≤ i
 
-pub aligned_in : (q first stop : ℕ) (t : Stretch) → IsAligned q first stop t → (j : ℕ) → j < 4096 → is_in t j ≡ is_skipped t.members q first stop j
+pub aligned_in : (q first stop : ℕ) (t : Stretch) → IsAligned q first stop t → (j : ℕ) → j < instance_count → is_in t j ≡ is_skipped t.members q first stop j
 aligned_in q first stop t al j small =
     ⊎_elim
     (λ (own : owner t.members j ≡ q).
@@ -203,7 +204,7 @@ aligned_in q first stop t al j small =
 
 -- what the whole Skip makes, and at how many instances it is news
 module _ (q first stop : ℕ) (t : Stretch) (al : IsAligned q first stop t) (now : KnownState) (same : t.members ≡ now.members) where
-  in_is : (j : ℕ) → j < 4096 → is_in t j ≡ is_skipped now.members q first stop j
+  in_is : (j : ℕ) → j < instance_count → is_in t j ≡ is_skipped now.members q first stop j
   in_is j small = aligned_in q first stop t al j small ∙ ap (λ n. is_skipped n q first stop j) same
 
   pub skip_is : ◌≡◌ {A = KnownState} (record now { slots = map (λ j. given t j (known_slot now j)) instances }) (known_after_skip now q first stop)
@@ -217,7 +218,7 @@ module _ (q first stop : ℕ) (t : Stretch) (al : IsAligned q first stop t) (now
   news_is m slots rs low shown sound =
       let members : t.members ≡ m = same ∙ sym (ap (λ (k : KnownState). k.members) shown) in
       ap (count_by (is_given_in t (get_or rs t.server []) slots)) instances-below
-      ∙ count_same (is_given_in t (get_or rs t.server []) slots) (λ j. is_given now.members q first stop j (known_slot now j)) 4096
+      ∙ count_same (is_given_in t (get_or rs t.server []) slots) (λ j. is_given now.members q first stop j (known_slot now j)) instance_count
       (λ j small. given_same m t slots rs low members sound j small ∙ ap (λ b. b && is_none (known_at m slots rs j).learned) (in_is j small)
       ∙ ap (λ (s : SlotState). is_skipped now.members q first stop j && is_none s.learned) (sym (seen m slots rs now shown j small)))
       ∙ ap (count_by (λ j. is_given now.members q first stop j (known_slot now j))) (sym instances-below)

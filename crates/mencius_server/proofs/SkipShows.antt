@@ -11,6 +11,7 @@ use Rattle.mencius_server.specs.State.{FitsAt, IsServer, ServerState, slot}
 use Rattle.mencius_server.specs.Machine.{after_skip, is_skipped, slot_given}
 use Rattle.mencius_server.proofs.Keeps.{FitsAt-slot, KeepsAt, KeepsAt-fits, KeepsAt-new}
 use Rattle.mencius_server.proofs.SlotLaws.{FitsAt-same, SameAttempt-cond, SameAttempt-learn, SameAttempt-self}
+use Rattle.mencius_base.specs.Limits.{instance_count}
 
 abbrev slots_given : ServerState → ℕ → ℕ → ℕ → List SlotState
 slots_given s q first stop = map (λ (j : ℕ). slot_given s.members q first stop j (slot s j)) instances
@@ -33,9 +34,9 @@ IsServer-skip s q first stop kept = record {
     fits : (i : ℕ) → KeepsAt s s.front i (slot (after_skip s q first stop) i)
     fits i =
         ⊎_elim
-        (λ (small : i < 4096). subst (KeepsAt s s.front i) (sym (get_or-map-instances _ i (new_slot s.members) small)) (KeepsAt-fits s s.front i _ (given i)))
-        (λ (past : 4096 ≤ i).
+        (λ (small : i < instance_count). subst (KeepsAt s s.front i) (sym (get_or-map-instances _ i (new_slot s.members) small)) (KeepsAt-fits s s.front i _ (given i)))
+        (λ (past : instance_count ≤ i).
         let none : length (slots_given s q first stop) ≤ i = rw (length-map-instances (λ (j : ℕ). slot_given s.members q first stop j (slot s j))) past in
         subst (KeepsAt s s.front i) (sym (get_or_past (slots_given s q first stop) i (new_slot s.members) none))
         (KeepsAt-new s s.front i))
-        (cases_lt i 4096)
+        (cases_lt i instance_count)

@@ -27,6 +27,7 @@ use Rattle.mencius_server.specs.Reached.{IsAt, IsStep, refusal_of, server_at}
 use Rattle.mencius_server.proofs.ServerHistory.{server_unchanged, server_written, slot-server_at}
 use Rattle.mencius_server.proofs.Waits.{first_waiting_same}
 use Rattle.mencius_model.proofs.Sound.{IsSound, sound}
+use Rattle.mencius_base.specs.Limits.{instance_count}
 
 -- the server finds the free instance that the history has
 free-server_at : (m : Membership) (w : History) (p : ℕ) → free_at (server_at m w p) ≡ free m w p
@@ -66,11 +67,11 @@ suggest_world m w l p t first facts None none =
     greatest_still : (m : Membership) (w : History) (l : Line) (p : ℕ) → IsHead m p l → front m (l ∷ w) p ≡ front m w p
     greatest_still m w l p first = ap (max p) (greatest_quiet (front_by m p) l w first.still)
 suggest_world m w l p t first facts (Some k) found =
-    let place : IsFound (is_free m w p) 4096 k = find-instances_found (is_free m w p) k found in
+    let place : IsFound (is_free m w p) instance_count k = find-instances_found (is_free m w p) k found in
     let test = and_parts _ _ place.passes in
     let mine : owner m k ≡ p = eqb-true _ _ (and_parts _ _ test.0).0 in
     let ahead : front m w p ≤ k = leb-true _ _ (and_parts _ _ test.0).1 in
-    let small : k < 4096 = place.small in
+    let small : k < instance_count = place.small in
     let quiet : (j : ℕ) → slot_at m (l ∷ w) p j ≡ slot_at m w p j = λ j. slot_at-quiet m w l p j (first.quiet j) (first.deaf w) in
     let same : accepted (l ∷ w) p k ≡ accepted w p k = rw (first.quiet k).accepted (greater-none (accepted w p k)) in
     let voted : IsVoted (l ∷ w) p k = record {

@@ -37,6 +37,7 @@ use Rattle.mencius_server.specs.Reached.{IsAt, IsStep, refusal_of, server_at}
 use Rattle.mencius_server.proofs.Begins.{tried_below}
 use Rattle.mencius_server.proofs.HearsSkip.{among, is_instance}
 use Rattle.mencius_server.proofs.ServerHistory.{slot-server_at}
+use Rattle.mencius_base.specs.Limits.{greatest_round, instance_count}
 
 -- a line that says nothing but which ballot is tried
 record IsTried (p j : ℕ) (l : Line) : Type 0 where
@@ -153,7 +154,7 @@ module _ (m : Membership) (w : History) (p q : ℕ) (r : IsReached m w) (member 
   mine : (j : ℕ) → owner m (ballot_for m w p j) ≡ p
   mine j = mod-mul-add (next_round m w p j) m.count p member
 
-  tried_here : (j : ℕ) → j < 4096 → (c : Bool) → is_suspect m w p q j ≡ c → trying later p j ≡ cond c (ballot_for m w p j) (trying w p j)
+  tried_here : (j : ℕ) → j < instance_count → (c : Bool) → is_suspect m w p q j ≡ c → trying later p j ≡ cond c (ballot_for m w p j) (trying w p j)
   tried_here j small c e =
       let which : list_any (λ (a : ℕ). eqb a j) covered ≡ c =
       among (is_suspect m w p q) instances j ∙ ap (λ (d : Bool). is_suspect m w p q j && d) (is_instance j small) ∙ and-true (is_suspect m w p q j) ∙ e in
@@ -174,7 +175,7 @@ module _ (m : Membership) (w : History) (p q : ℕ) (r : IsReached m w) (member 
       prepared_same m w p j b covered (Suspected p q ∷ w)
       ∙ trying_same m w (Suspected p q) p j b (record { promised = refl; proposed = λ c. refl; accepted = refl; learned = refl }) refl
 
-  slot_after : (j : ℕ) → j < 4096 → (c : Bool) → is_suspect m w p q j ≡ c → slot_at m later p j ≡ cond c (after_begin (slot_at m w p j) (ballot_for m w p j)) (slot_at m w p j)
+  slot_after : (j : ℕ) → j < instance_count → (c : Bool) → is_suspect m w p q j ≡ c → slot_at m later p j ≡ cond c (after_begin (slot_at m w p j) (ballot_for m w p j)) (slot_at m w p j)
   slot_after j small true e =
       slot_same j (trying later p j) ∙ ap (slot_trying m w p j) (tried_here j small true e) ∙ slot_untried m w p j (ballot_for m w p j) (untried m w p j (ballot_for m w p j) (reached_grown m w r) (mine j) (above j))
   slot_after j small false e = slot_same j (trying later p j) ∙ ap (slot_trying m w p j) (tried_here j small false e)
@@ -223,12 +224,12 @@ suspect_causes m w p q s o e r member =
     (ap (λ (xs : List ℕ). is_none (first_item xs)) (filter-instances_same (is_suspected (server_at m w p) q) (is_suspect m w p q) covers))
     (any-map (is_round_full (server_at m w p)) (filter (is_suspected (server_at m w p) q) instances)
     ∙ ap (list_any (λ (b : Bool). b))
-    (map-filter-instances_same (is_round_full (server_at m w p)) (λ (i : ℕ). ltb 65535 (next_round m w p i)) (is_suspected (server_at m w p) q) (is_suspect m w p q)
-    (λ j small. ap (λ (t : SlotState). ltb 65535 (round_after m t)) (slot-server_at m w p j small)) covers)
-    ∙ sym (any-map (λ (i : ℕ). ltb 65535 (next_round m w p i)) (suspects m w p q)))
+    (map-filter-instances_same (is_round_full (server_at m w p)) (λ (i : ℕ). ltb greatest_round (next_round m w p i)) (is_suspected (server_at m w p) q) (is_suspect m w p q)
+    (λ j small. ap (λ (t : SlotState). ltb greatest_round (round_after m t)) (slot-server_at m w p j small)) covers)
+    ∙ sym (any-map (λ (i : ℕ). ltb greatest_round (next_round m w p i)) (suspects m w p q)))
     (ap (λ (ms : List Message). ltb o.limit (length o.messages + length ms)) (suspect_messages m w p q r member))
   where
-    covers : (j : ℕ) → j < 4096 → is_suspected (server_at m w p) q j ≡ is_suspect m w p q j
+    covers : (j : ℕ) → j < instance_count → is_suspected (server_at m w p) q j ≡ is_suspect m w p q j
     covers j small = ap (λ (t : SlotState). is_revoked m q (front m w p) j t) (slot-server_at m w p j small)
 
 pub suspect_refusal : (r : Result (Unit {0}) Refusal) (q : ℕ) (old : ServerState) (before : Outgoing) → old.id < old.members.count → IsRefusedFor (suspect_cause old before q) r

@@ -23,6 +23,7 @@ use Rattle.coord_paxos.specs.Reached.{if_own}
 use Rattle.mencius_server.specs.Machine.{first_waiting, is_suggested_past, is_ticket, suggested_at, waits_at, waits_with}
 use Rattle.mencius_server.specs.Reached.{server_at}
 use Rattle.mencius_server.proofs.ServerHistory.{slot-server_at}
+use Rattle.mencius_base.specs.Limits.{instance_count}
 
 past_line : (p t i : ℕ) (l : Line) → is_suggestion_past p t i l ≡ true → (k : ℕ) × (ltb i k ≡ true) × (l ≡ Sent (Suggest p k t))
 past_line p t i (Sent (Suggest from inst ticket)) h =
@@ -72,7 +73,7 @@ module _ (m : Membership) (w : History) (p : ℕ) (r : IsReached m w) where
       ∙ owner_said i mine (proposed w i 0) refl
   ticket_at i false e = other_unsaid i (λ mine. let k : eqb (owner m i) p ≡ true = eq-eqb (owner m i) p mine in absurd (cc)) (suggested w p i) refl
 
-  suggested_same : (i : ℕ) → i < 4096 → suggested_at (server_at m w p) i ≡ suggested w p i
+  suggested_same : (i : ℕ) → i < instance_count → suggested_at (server_at m w p) i ≡ suggested w p i
   suggested_same i small =
       ap (λ (t : SlotState). cond (eqb (owner m i) p) (ticket_of t.proposal) None) (slot-server_at m w p i small) ∙ ticket_at i (eqb (owner m i) p) refl
 
@@ -93,7 +94,7 @@ module _ (m : Membership) (w : History) (p : ℕ) (r : IsReached m w) where
       any-instances (is_suggested_past (server_at m w p) t i) b.0 small
       (rw (b.1, suggested_same b.0 small, suggested_is b.0 t c) (same t)))
 
-  waits_same : (i : ℕ) → i < 4096 → (o : Option ℕ) → waits_with (server_at m w p) i o ≡ waits w p i o
+  waits_same : (i : ℕ) → i < instance_count → (o : Option ℕ) → waits_with (server_at m w p) i o ≡ waits w p i o
   waits_same i small None = refl
   waits_same i small (Some t) =
       ap (λ (s : SlotState). unless (not (is_noop s.learned) || list_any (is_suggested_past (server_at m w p) t i) instances) (Some t)) (slot-server_at m w p i small)

@@ -13,6 +13,7 @@ use Rattle.mencius_server.specs.Ranges.{IsOwned, IsRising, covers}
 use Rattle.mencius_server.specs.Slots.{is_in, is_learned, stand_at}
 use Rattle.mencius_server.specs.declared.ranges.Span.{Span}
 use Rattle.mencius_server.specs.declared.stretch.Stretch.{Stretch}
+use Rattle.mencius_base.specs.Limits.{greatest_round, instance_count}
 
 -- for each instance, from 0, what is known of it, and whether a slot stands there
 pub record KnownState : Type 0 where
@@ -63,15 +64,15 @@ known_of m slots rs = record {
 pub record IsSorted (m : Membership) (rs : List (List Span)) : Type 0 where
   pub count : length rs ≡ m.count
   pub rising : (q : ℕ) → q < m.count → IsRising 0 (slice_index_or rs q [])
-  pub owned : (q : ℕ) → q < m.count → IsOwned m q (first_owned m q 4096) (slice_index_or rs q [])
+  pub owned : (q : ℕ) → q < m.count → IsOwned m q (first_owned m q instance_count) (slice_index_or rs q [])
 
 -- a slot that stands at a skipped instance knows it, and a place is the least instance that is not learned
 pub record IsSound (m : Membership) (slots : List (Option SlotState)) (rs : List (List Span)) (low : ℕ) : Type 0 where
   pub sorted : IsSorted m rs
-  pub told : (j : ℕ) (t : SlotState) → j < 4096 → is_passed m rs j ≡ true → stand_at slots j ≡ Some t → is_none t.learned ≡ false
-  pub small : low ≤ 4096
+  pub told : (j : ℕ) (t : SlotState) → j < instance_count → is_passed m rs j ≡ true → stand_at slots j ≡ Some t → is_none t.learned ≡ false
+  pub small : low ≤ instance_count
   pub known : (j : ℕ) → j < low → is_none (known_at m slots rs j).learned ≡ false
-  pub least : low < 4096 → is_none (known_at m slots rs low).learned ≡ true
+  pub least : low < instance_count → is_none (known_at m slots rs low).learned ≡ true
 
 -- ---- a suggestion
 
@@ -124,7 +125,7 @@ prepares_in k p t = map (λ j. Prepare p j (ballot_after k.members p (known_slot
 
 -- there is no further round at an instance
 abbrev pub is_round_full_at : KnownState → ℕ → Bool
-is_round_full_at k j = nat_lt 65535 (round_after k.members (known_slot k j))
+is_round_full_at k j = nat_lt greatest_round (round_after k.members (known_slot k j))
 
 abbrev pub prepares : KnownState → ℕ → ℕ → ℕ → List Message
 prepares k p q front = map (λ j. Prepare p j (ballot_after k.members p (known_slot k j))) (filter (is_open k q front) instances)

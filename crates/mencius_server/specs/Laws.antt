@@ -5,6 +5,7 @@ use Rattle.mencius_model.specs.Instance.{learned}
 use Rattle.mencius_server.specs.Reached.{IsAt}
 use Rattle.mencius_model.specs.Server.{front}
 use Rattle.mencius_server.specs.State.{ServerState, slot}
+use Rattle.mencius_base.specs.Limits.{instance_count}
 
 -- a server that is at a history has the front of that history
 abbrev pub FrontAnswers : Type 0
@@ -12,4 +13,4 @@ FrontAnswers = (w : History) (s : ServerState) → IsAt w s → s.front ≡ fron
 
 -- and has learned there what it has learned by that history
 abbrev pub LearnedAnswers : Type 0
-LearnedAnswers = (w : History) (s : ServerState) → IsAt w s → (i : ℕ) → i < 4096 → (slot s i).learned ≡ learned w s.id i
+LearnedAnswers = (w : History) (s : ServerState) → IsAt w s → (i : ℕ) → i < instance_count → (slot s i).learned ≡ learned w s.id i

@@ -19,6 +19,7 @@ use Rattle.mencius_base.specs.Outbox.{Outgoing, outbox_full}
 use Rattle.mencius_model.specs.Server.{is_noop, unless, ticket_of}
 use Rattle.mencius_model.specs.Next.{first_cause}
 use Rattle.mencius_server.specs.State.{ServerState, slot, with_slot, with_slot_and_front}
+use Rattle.mencius_base.specs.Limits.{greatest_round}
 
 -- a suggestion past the own front gives up the own instances before it
 abbrev pub next_front : ServerState → ℕ → ℕ
@@ -220,7 +221,7 @@ abbrev pub after_suspect : ServerState → ℕ → ServerState
 after_suspect s q = record s { slots = map (λ i. slot_revoked s.members s.id q s.front i (slot s i)) instances }
 
 abbrev pub is_round_full : ServerState → ℕ → Bool
-is_round_full s i = nat_lt 65535 (round_after s.members (slot s i))
+is_round_full s i = nat_lt greatest_round (round_after s.members (slot s i))
 
 -- why a suspicion is refused, in order
 abbrev pub suspect_cause : ServerState → Outgoing → ℕ → Option Refusal

@@ -3,6 +3,7 @@ use Rattle.std.specs.Prelude.{◌≡◌, ℕ, ◌<◌, ◌≤◌, List, Option, 
 use Rattle.std.specs.List.{count_by}
 use Rattle.mencius_base.specs.Members.{instances}
 use Rattle.coord_paxos.specs.SlotState.{SlotState}
+use Rattle.mencius_base.specs.Limits.{instance_count}
 
 -- the slot at a place
 abbrev pub slot_in : List SlotState → Option ℕ → Option SlotState
@@ -19,7 +20,7 @@ standing places slots = map (standing_at places slots) instances
 
 -- each place is a slot's, each slot has one, and no two instances have the same
 pub record IsPlaced (places : List (Option ℕ)) (slots : ℕ) : Type 0 where
-  pub few : length places ≤ 4096
+  pub few : length places ≤ instance_count
   pub within : (j k : ℕ) → slice_index_or places j None ≡ Some k → k < slots
   pub apart : (i j k : ℕ) → slice_index_or places i None ≡ Some k → slice_index_or places j None ≡ Some k → i ≡ j
   pub count : slots ≡ count_by is_some places

@@ -13,6 +13,7 @@ use Rattle.mencius_server.specs.declared.stretch.Stretch.{Stretch}
 use Rattle.mencius_server.specs.declared.ranges.Span.{Span}
 use Rattle.mencius_server.specs.declared.survey.Found.{Found}
 use Rattle.mencius_server.specs.declared.survey.Survey.{Survey}
+use Rattle.mencius_base.specs.Limits.{greatest_round, instance_count}
 
 -- at how many instances of q up to a front nothing was learned, how many of them lack a slot, and whether one of them
 -- has no further round
@@ -27,7 +28,7 @@ surveyed m v t stands = if is_none t.learned
     then record {
       open_count = v.open_count + 1;
       bare_count = v.bare_count + (if stands then 0 else 1);
-      is_full = v.is_full || nat_lt 65535 (round_after m t);
+      is_full = v.is_full || nat_lt greatest_round (round_after m t);
     }
     else v
 
@@ -42,7 +43,7 @@ pub record IsOpenStretch (k : KnownState) (q front : ℕ) (t : Stretch) : Type 0
   pub stretch : IsStretch t
   pub members : t.members ≡ k.members
   pub server : t.server ≡ q
-  pub stop : t.stop ≡ min (front + 1) 4096
+  pub stop : t.stop ≡ min (front + 1) instance_count
   pub before : (j : ℕ) → j < t.first → is_open k q front j ≡ false
 
 -- what is known, with what was found before: it was found of what is known now

@@ -1,4 +1,5 @@
 //! What a server does on each message, Rule 2 among it.
+ghost use Rattle.mencius_base.specs.Limits.{instance_count};
 ghost use Rattle.coord_paxos.specs.Fresh.{new_slot};
 ghost use Rattle.coord_paxos.specs.Slot.{accept_answer};
 ghost use Rattle.mencius_model.specs.History.{History, sent};
@@ -103,7 +104,7 @@ impl Server {
 
     fn hear_skip(&mut self, from: u8, first: u32, stop: u32) -> Result<u32, Refusal>
         requires member { from < self.old.members.count }
-        requires small { first < 4096 }
+        requires small { first < instance_count }
         ensures after { OnOk result (self.new ≡ after_skip self.old from first stop) }
         ensures learned { IfOk result (λ n. n ≡ given_count self.old from first stop) }
         ensures err { OnErr result (self.new ≡ self.old) }
@@ -123,7 +124,7 @@ impl Server {
         ticket: u32,
         out: &mut Outbox,
     ) -> Result<u32, Refusal>
-        requires small { inst < 4096 }
+        requires small { inst < instance_count }
         ensures sent { OnOk result (out.new.messages ≡ out.old.messages ++ suggest_sent self.old from inst) }
         ensures after { OnOk result (self.new ≡ after_suggest self.old inst ticket) }
         ensures learned { IfOk result (λ n. n ≡ 0) }
@@ -159,7 +160,7 @@ impl Server {
         ballot: Ballot,
         out: &mut Outbox,
     ) -> Result<u32, Refusal>
-        requires small { inst < 4096 }
+        requires small { inst < instance_count }
         ensures sent { OnOk result (out.new.messages ≡ out.old.messages ++ prepare_sent self.old from inst ballot) }
         ensures after { OnOk result (self.new ≡ after_prepare_at self.old inst ballot) }
         ensures learned { IfOk result (λ n. n ≡ 0) }
@@ -203,7 +204,7 @@ impl Server {
         out: &mut Outbox,
     ) -> Result<u32, Refusal>
         requires member { from < self.old.members.count }
-        requires small { inst < 4096 }
+        requires small { inst < instance_count }
         requires tried { 0 < ballot }
         ensures sent { OnOk result (out.new.messages ≡ out.old.messages ++ promise_sent self.old from inst ballot vote) }
         ensures after { OnOk result (self.new ≡ after_promise_at self.old from inst ballot vote) }
@@ -241,7 +242,7 @@ impl Server {
         value: Value,
         out: &mut Outbox,
     ) -> Result<u32, Refusal>
-        requires small { inst < 4096 }
+        requires small { inst < instance_count }
         ensures sent { OnOk result (out.new.messages ≡ out.old.messages ++ propose_sent self.old from inst ballot) }
         ensures after { OnOk result (self.new ≡ after_propose self.old inst ballot value) }
         ensures learned { IfOk result (λ n. n ≡ 0) }
@@ -266,7 +267,7 @@ impl Server {
     }
 
     fn hear_learn(&mut self, inst: u32, value: Value) -> Result<u32, Refusal>
-        requires small { inst < 4096 }
+        requires small { inst < instance_count }
         ensures after { OnOk result (self.new ≡ after_learn_at self.old inst value) }
         ensures learned { IfOk result (λ n. n ≡ (if is_none (slot self.old inst).learned then 1 else 0)) }
         ensures err { OnErr result (self.new ≡ self.old) }
@@ -287,7 +288,7 @@ impl Server {
         out: &mut Outbox,
     ) -> Result<u32, Refusal>
         requires member { from < self.old.members.count }
-        requires small { inst < 4096 }
+        requires small { inst < instance_count }
         ensures sent { OnOk result (out.new.messages ≡ out.old.messages ++ accepted_sent self.old from inst ballot) }
         ensures after { OnOk result (self.new ≡ after_accepted self.old from inst ballot) }
         ensures learned { IfOk result (λ n. n ≡ one_if_some (accept_answer (slot self.old inst) from ballot)) }
@@ -323,7 +324,7 @@ impl Server {
     // Gives up the own instances from the front up to one past an instance by one Skip, for which there is room
     // (Rule 2).
     fn skip_past(&mut self, inst: u32, out: &mut Outbox)
-        requires small { inst < 4096 }
+        requires small { inst < instance_count }
         requires ahead { self.old.front < inst }
         requires room { 0 < out.old.room }
         ensures sent { out.new.messages ≡ out.old.messages ++ skip_sent self.old inst }

@@ -1,4 +1,5 @@
 //! What a server knows of the 4,096 instances.
+ghost use Rattle.mencius_base.specs.Limits.{greatest_front, greatest_round, instance_count};
 ghost use Rattle.coord_paxos.specs.Slot.{accept_answer, prepare_answer, promise_answer};
 ghost use Rattle.coord_paxos.specs.SlotState.{SlotState};
 ghost use Rattle.mencius_base.specs.Members.{below, first_owned, instances, owner};
@@ -20,7 +21,7 @@ use crate::slots::Slots;
 use crate::stretch::{Stretch, next_owned};
 use crate::survey::{Survey, Surveys};
 use coord_paxos::{Answer, Slot};
-use mencius_base::{Ballot, Members, Outbox, Refusal, Value, Vote};
+use mencius_base::{Ballot, INSTANCES, Members, Outbox, Refusal, Value, Vote};
 use std::alloc::Global;
 use std::marker::Model;
 
@@ -69,7 +70,7 @@ impl Known {
 
     /// The value that was learned at an instance, if any.
     pub(crate) fn learned(&self, inst: u32) -> Option<Value>
-        requires { inst < 4096 }
+        requires { inst < instance_count }
         ensures { result ≡ (known_slot self.now inst).learned }
     {
         learned_at(&self.slots, &self.skipped, self.members, inst)
@@ -77,7 +78,7 @@ impl Known {
 
     /// What the server proposed at an instance, if anything.
     pub(crate) fn proposal(&self, inst: u32) -> Option<Value>
-        requires { inst < 4096 }
+        requires { inst < instance_count }
         ensures { result ≡ (known_slot self.now inst).proposal }
     {
         match self.slots.get(inst) {
@@ -88,7 +89,7 @@ impl Known {
 
     /// The greatest ballot that was promised or accepted at an instance.
     pub(crate) fn promised(&self, inst: u32) -> Ballot
-        requires { inst < 4096 }
+        requires { inst < instance_count }
         ensures { result ≡ (known_slot self.now inst).promised }
     {
         match self.slots.get(inst) {
@@ -99,7 +100,7 @@ impl Known {
 
     /// The greatest ballot that the server tries at an instance.
     pub(crate) fn trying(&self, inst: u32) -> Ballot
-        requires { inst < 4096 }
+        requires { inst < instance_count }
         ensures { result ≡ (known_slot self.now inst).trying }
     {
         match self.slots.get(inst) {
@@ -110,7 +111,7 @@ impl Known {
 
     /// What a Prepare is answered at an instance.
     pub(crate) fn prepare_answer(&self, inst: u32, ballot: Ballot) -> Answer
-        requires { inst < 4096 }
+        requires { inst < instance_count }
         ensures { result ≡ prepare_answer (known_slot self.now inst) ballot }
     {
         match self.slots.get(inst) {
@@ -127,7 +128,7 @@ impl Known {
         ballot: Ballot,
         vote: Option<Vote>,
     ) -> Option<Value>
-        requires small { inst < 4096 }
+        requires small { inst < instance_count }
         requires member { from < (known_slot self.now inst).members.count }
         ensures { result ≡ promise_answer (known_slot self.now inst) from ballot vote }
     {
@@ -139,7 +140,7 @@ impl Known {
 
     /// What is learned at an instance once an acceptance is counted, if anything.
     pub(crate) fn accept_answer(&self, inst: u32, from: u8, ballot: Ballot) -> Option<Value>
-        requires small { inst < 4096 }
+        requires small { inst < instance_count }
         requires member { from < (known_slot self.now inst).members.count }
         ensures { result ≡ accept_answer (known_slot self.now inst) from ballot }
     {
@@ -151,7 +152,7 @@ impl Known {
 
     /// Whether a server's acceptance at the ballot that is tried was counted at an instance.
     pub(crate) fn has_accepter(&self, inst: u32, from: u8) -> bool
-        requires { inst < 4096 }
+        requires { inst < instance_count }
         ensures { result ≡ true → slice_index_or (known_slot self.now inst).accepters from false ≡ true }
     {
         match self.slots.get(inst) {
@@ -165,7 +166,7 @@ impl Known {
 
     /// Changes an instance's slot where it stands. It comes to stand where none did, which alone takes memory.
     pub(crate) fn change(&mut self, inst: u32, change: Change) -> Result<(), Refusal>
-        requires small { inst < 4096 }
+        requires small { inst < instance_count }
         requires said { IsSaid (known_slot self.old inst).members change }
         ensures ok { OnOk result (self.new ≡ with_known self.old inst (changed (known_slot self.old inst) change)) }
         ensures err { OnErr result (self.new ≡ self.old) }
@@ -182,7 +183,7 @@ impl Known {
 
     /// Notes the server's own suggestion at an instance where it made none.
     pub(crate) fn suggest(&mut self, inst: u32, ticket: u32) -> Result<(), Refusal>
-        requires small { inst < 4096 }
+        requires small { inst < instance_count }
         requires unsaid { (known_slot self.old inst).proposal ≡ None }
         requires own { (known_slot self.old inst).trying ≡ 0 }
         ensures ok { OnOk result (self.new ≡ known_after_suggest self.old inst ticket) }
@@ -197,7 +198,7 @@ impl Known {
 
     // Makes a slot stand at an instance, if none does.
     fn stand(&mut self, inst: u32) -> Result<(), Refusal>
-        requires { inst < 4096 }
+        requires { inst < instance_count }
         ensures ok { OnOk result (self.new ≡ known_standing self.old inst) }
         ensures there { OnOk result (has_slot self.new inst ≡ true) }
         ensures err { OnErr result (self.new ≡ self.old) }
@@ -218,7 +219,7 @@ impl Known {
     /// that may stand in the range.
     pub(crate) fn skip(&mut self, from: u8, first: u32, stop: u32) -> Result<u32, Refusal>
         requires member { from < self.old.members.count }
-        requires small { first < 4096 }
+        requires small { first < instance_count }
         ensures after { OnOk result (self.new ≡ known_after_skip self.old from first stop) }
         ensures learned { IfOk result (λ n. n ≡ known_given self.old from first stop) }
         ensures err { OnErr result (self.new ≡ self.old) }
@@ -226,7 +227,7 @@ impl Known {
     {
         let members = self.members;
         let first = members.first_owned(from, first);
-        let stop = members.first_owned(from, stop.min(4096));
+        let stop = members.first_owned(from, stop.min(INSTANCES));
         let stretch = Stretch {
             members,
             server: from,
@@ -248,7 +249,7 @@ impl Known {
     /// What a suspicion of a server would begin, up to a front.
     pub(crate) fn survey(&self, suspected: u8, front: u32) -> Survey
         requires suspected { suspected < self.now.members.count }
-        requires near { front ≤ 4102 }
+        requires near { front ≤ greatest_front }
         ensures { IsSurvey self.now suspected front result }
     {
         // The proof reads off the count that there are few members.
@@ -272,7 +273,7 @@ impl Known {
     // Looks at each instance of a server up to a front.
     fn survey_all(&self, suspected: u8, front: u32) -> Survey
         requires suspected { suspected < self.now.members.count }
-        requires near { front ≤ 4102 }
+        requires near { front ≤ greatest_front }
         ensures { IsSurvey self.now suspected front result }
     {
         let stretch = self.open_stretch(suspected, front);
@@ -300,9 +301,9 @@ impl Known {
     ) -> Result<(), Refusal>
         requires id { id < self.old.members.count }
         requires suspected { suspected < self.old.members.count }
-        requires near { front ≤ 4102 }
+        requires near { front ≤ greatest_front }
         requires bare { count_by (is_bare self.old suspected front) instances ≤ bare }
-        requires rounds { (j : ℕ) → j < 4096 → is_open self.old suspected front j ≡ true → round_after self.old.members (known_slot self.old j) ≤ 65535 }
+        requires rounds { (j : ℕ) → j < instance_count → is_open self.old suspected front j ≡ true → round_after self.old.members (known_slot self.old j) ≤ greatest_round }
         requires room { count_by (is_open self.old suspected front) instances ≤ out.old.room }
         ensures sent { OnOk result (out.new.messages ≡ out.old.messages ++ prepares self.old id suspected front) }
         ensures after { OnOk result (self.new ≡ known_after_suspect self.old id suspected front) }
@@ -321,7 +322,7 @@ impl Known {
     fn stand_open(&mut self, stretch: &Stretch, bare: u32) -> Result<(), Refusal>
         requires stretch { IsStretch stretch.now }
         requires members { stretch.now.members ≡ self.old.members }
-        requires small { stretch.now.stop ≤ 4096 }
+        requires small { stretch.now.stop ≤ instance_count }
         requires bare { count_by (is_bare_in self.old stretch.now) (below stretch.now.stop) ≤ bare }
         ensures ok { OnOk result (self.new ≡ known_stood self.old stretch.now) }
         ensures err { OnErr result (self.new ≡ self.old) }
@@ -338,10 +339,10 @@ impl Known {
     fn begin_open(&mut self, stretch: &Stretch, id: u8, out: &mut Outbox)
         requires stretch { IsStretch stretch.now }
         requires members { stretch.now.members ≡ self.old.members }
-        requires small { stretch.now.stop ≤ 4096 }
+        requires small { stretch.now.stop ≤ instance_count }
         requires id { id < self.old.members.count }
-        requires stand { (j : ℕ) → j < 4096 → is_open_in self.old stretch.now j ≡ true → has_slot self.old j ≡ true }
-        requires rounds { (j : ℕ) → j < 4096 → is_open_in self.old stretch.now j ≡ true → round_after self.old.members (known_slot self.old j) ≤ 65535 }
+        requires stand { (j : ℕ) → j < instance_count → is_open_in self.old stretch.now j ≡ true → has_slot self.old j ≡ true }
+        requires rounds { (j : ℕ) → j < instance_count → is_open_in self.old stretch.now j ≡ true → round_after self.old.members (known_slot self.old j) ≤ greatest_round }
         requires room { count_by (is_open_in self.old stretch.now) (below stretch.now.stop) ≤ out.old.room }
         ensures after { self.new ≡ known_begun self.old id stretch.now }
         ensures sent { out.new.messages ≡ out.old.messages ++ prepares_in self.old id stretch.now }
@@ -356,13 +357,13 @@ impl Known {
         requires stretch { IsStretch stretch.now }
         requires members { stretch.now.members ≡ self.now.members }
         requires own { owner self.now.members inst ≡ stretch.now.server }
-        requires small { inst < 4096 }
-        requires few { survey.open_count ≤ 4096 }
-        requires fewer { survey.bare_count ≤ 4096 }
+        requires small { inst < instance_count }
+        requires few { survey.open_count ≤ instance_count }
+        requires fewer { survey.bare_count ≤ instance_count }
         ensures survey { result.0 ≡ surveyed self.now.members survey (known_slot self.now inst) (has_slot self.now inst) }
         ensures owned { owner self.now.members result.1 ≡ stretch.now.server }
         ensures above { inst < result.1 }
-        ensures known { (j : ℕ) → inst < j → j < result.1 → j < 4096 → owner self.now.members j ≡ stretch.now.server → is_none (known_slot self.now j).learned ≡ false }
+        ensures known { (j : ℕ) → inst < j → j < result.1 → j < instance_count → owner self.now.members j ≡ stretch.now.server → is_none (known_slot self.now j).learned ≡ false }
     {
         let members = stretch.members;
         let server = stretch.server;
@@ -384,7 +385,7 @@ impl Known {
     // A server's instances from the least on that may not be learned, up to a front.
     fn open_stretch(&self, suspected: u8, front: u32) -> Stretch
         requires suspected { suspected < self.now.members.count }
-        requires near { front ≤ 4102 }
+        requires near { front ≤ greatest_front }
         ensures { IsOpenStretch self.now suspected front result }
     {
         let members = self.members;
@@ -393,7 +394,7 @@ impl Known {
             members,
             server: suspected,
             first,
-            stop: (front + 1).min(4096),
+            stop: (front + 1).min(INSTANCES),
         }
     }
 
@@ -449,7 +450,7 @@ fn unheard(skipped: &Vec<Ranges>, members: Members, inst: u32) -> Slot
 // The value that was learned at an instance.
 fn learned_at(slots: &Slots, skipped: &Vec<Ranges>, members: Members, inst: u32) -> Option<Value>
     requires sorted { IsSorted members skipped.now.items }
-    requires small { inst < 4096 }
+    requires small { inst < instance_count }
     ensures { result ≡ (known_at members slots.now skipped.now.items inst).learned }
 {
     match slots.get(inst) {
@@ -467,13 +468,13 @@ fn learned_at(slots: &Slots, skipped: &Vec<Ranges>, members: Members, inst: u32)
 // The least instance from a given one on that is not learned, or the end.
 fn learned_from(slots: &Slots, skipped: &Vec<Ranges>, members: Members, from: u32) -> u32
     requires sorted { IsSorted members skipped.now.items }
-    requires small { from ≤ 4096 }
-    ensures small { result ≤ 4096 }
+    requires small { from ≤ instance_count }
+    ensures small { result ≤ instance_count }
     ensures known { (j : ℕ) → from ≤ j → j < result → is_none (known_at members slots.now skipped.now.items j).learned ≡ false }
-    ensures least { result < 4096 → is_none (known_at members slots.now skipped.now.items result).learned ≡ true }
+    ensures least { result < instance_count → is_none (known_at members slots.now skipped.now.items result).learned ≡ true }
 {
     let mut inst = from;
-    while inst < 4096 && learned_at(slots, skipped, members, inst).is_some() {
+    while inst < INSTANCES && learned_at(slots, skipped, members, inst).is_some() {
         inst += 1;
     }
     inst
@@ -482,15 +483,15 @@ fn learned_from(slots: &Slots, skipped: &Vec<Ranges>, members: Members, from: u3
 // Learns no-op at a stretch of a server's instances, and counts those that were not learned.
 fn skip_stretch(slots: &mut Slots, ranges: &mut Ranges, stretch: &Stretch) -> Result<u32, Refusal>
     requires stretch { IsStretch stretch.now }
-    requires owned { IsOwned stretch.now.members stretch.now.server (first_owned stretch.now.members stretch.now.server 4096) ranges.old }
+    requires owned { IsOwned stretch.now.members stretch.now.server (first_owned stretch.now.members stretch.now.server instance_count) ranges.old }
     requires rising { IsRising 0 ranges.old }
     requires end { owner stretch.now.members stretch.now.stop ≡ stretch.now.server }
-    requires low { stretch.now.stop ≤ first_owned stretch.now.members stretch.now.server 4096 }
-    requires told { (j : ℕ) (t : SlotState) → j < 4096 → owner stretch.now.members j ≡ stretch.now.server → covers ranges.old j ≡ true → stand_at slots.old j ≡ Some t → is_none t.learned ≡ false }
+    requires low { stretch.now.stop ≤ first_owned stretch.now.members stretch.now.server instance_count }
+    requires told { (j : ℕ) (t : SlotState) → j < instance_count → owner stretch.now.members j ≡ stretch.now.server → covers ranges.old j ≡ true → stand_at slots.old j ≡ Some t → is_none t.learned ≡ false }
     ensures rising { IsRising 0 ranges.new }
-    ensures owned { IsOwned stretch.now.members stretch.now.server (first_owned stretch.now.members stretch.now.server 4096) ranges.new }
-    ensures covers { OnOk result ((j : ℕ) → j < 4096 → owner stretch.now.members j ≡ stretch.now.server → covers ranges.new j ≡ (covers ranges.old j || is_within stretch.now.first stretch.now.stop j)) }
-    ensures slots { OnOk result ((j : ℕ) → j < 4096 → stand_at slots.new j ≡ option_map (given stretch.now j) (stand_at slots.old j)) }
+    ensures owned { IsOwned stretch.now.members stretch.now.server (first_owned stretch.now.members stretch.now.server instance_count) ranges.new }
+    ensures covers { OnOk result ((j : ℕ) → j < instance_count → owner stretch.now.members j ≡ stretch.now.server → covers ranges.new j ≡ (covers ranges.old j || is_within stretch.now.first stretch.now.stop j)) }
+    ensures slots { OnOk result ((j : ℕ) → j < instance_count → stand_at slots.new j ≡ option_map (given stretch.now j) (stand_at slots.old j)) }
     ensures learned { IfOk result (λ n. n ≡ count_by (is_given_in stretch.now ranges.old slots.old) instances) }
     ensures same { OnErr result (ranges.new ≡ ranges.old) }
     ensures kept { OnErr result (slots.new ≡ slots.old) }

@@ -11,6 +11,7 @@
 //! promised then.
 #![tactic(auto)]
 
+ghost use Rattle.mencius_base.specs.Limits.{greatest_front, instance_count};
 ghost use Rattle.mencius_base.specs.Members.{owner};
 ghost use Rattle.mencius_base.specs.declared.refusal.Refusal.TheVariants.{NoMemory};
 ghost use Rattle.mencius_server.specs.Reached.{server_at};
@@ -21,7 +22,7 @@ ghost use Rattle.std.specs.Prelude.{◌≡◌, ◌<◌, ◌≤◌, [], OnOk, OnE
 use crate::change::Change;
 use crate::known::Known;
 use crate::notes::Notes;
-use mencius_base::{Members, Refusal, Value};
+use mencius_base::{INSTANCES, Members, Refusal, Value};
 use std::alloc::Global;
 use std::marker::Model;
 
@@ -99,7 +100,7 @@ impl Server {
     pub fn learned(&self, inst: u32) -> Option<Value>
         ensures { result ≡ (slot self.now inst).learned }
     {
-        if inst < 4096 {
+        if inst < INSTANCES {
             self.known.learned(inst)
         } else {
             None
@@ -116,7 +117,7 @@ impl Server {
 
     // The least own instance from a place on.
     fn next_own(&self, from: u32) -> u32
-        requires { from ≤ 4102 }
+        requires { from ≤ greatest_front }
         ensures own { owner self.now.members result ≡ self.now.id }
         ensures above { from ≤ result }
         ensures least { (i : ℕ) → from ≤ i → owner self.now.members i ≡ self.now.id → result ≤ i }
@@ -126,7 +127,7 @@ impl Server {
 
     // Changes an instance's slot where it stands, and leaves the front.
     fn change(&mut self, inst: u32, change: Change) -> Result<(), Refusal>
-        requires small { inst < 4096 }
+        requires small { inst < instance_count }
         requires said { IsSaid self.old.members change }
         ensures ok { OnOk result (self.new ≡ with_slot self.old inst (changed (slot self.old inst) change)) }
         ensures err { OnErr result (self.new ≡ self.old) }
@@ -143,7 +144,7 @@ impl Server {
     // Moves the front.
     fn advance(&mut self, front: u32)
         requires ahead { self.old.front ≤ front }
-        requires near { front ≤ 4102 }
+        requires near { front ≤ greatest_front }
         ensures { self.new ≡ record self.old { front = front } }
     {
         self.front = front;

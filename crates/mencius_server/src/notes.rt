@@ -1,4 +1,5 @@
 //! What a server notes of its own tickets, so that it need not search for them.
+ghost use Rattle.mencius_base.specs.Limits.{instance_count};
 ghost use Rattle.mencius_base.specs.Members.{Membership};
 ghost use Rattle.mencius_base.specs.declared.refusal.Refusal.TheVariants.{NoMemory};
 ghost use Rattle.mencius_server.specs.Known.{known_slot};
@@ -8,7 +9,7 @@ ghost use Rattle.mencius_model.specs.Server.{ticket_of};
 ghost use Rattle.std.specs.Prelude.{◌≡◌, ℕ, ◌<◌, ◌≤◌, ◌⊎◌, ◌||◌, Some, false, length, min, slice_index_or, vec_len, IfErr, OnErr, OnOk};
 
 use crate::known::Known;
-use mencius_base::{Members, Refusal, Value};
+use mencius_base::{INSTANCES, Members, Refusal, Value};
 use std::alloc::Global;
 use std::marker::Model;
 
@@ -37,7 +38,7 @@ impl Notes {
         ensures { result ≡ nothing_noted }
     {
         Notes {
-            lost_from: 4096,
+            lost_from: INSTANCES,
             next_ticket: 0,
             moved: Vec::new(alloc),
         }
@@ -76,7 +77,7 @@ impl Notes {
         requires short { length self.old.moved ≤ front }
         ensures lost { self.new.lost_from ≡ self.old.lost_from }
         ensures next { self.new.next_ticket ≡ self.old.next_ticket }
-        ensures reach { OnOk result (ticket < self.old.next_ticket → min front 4096 ≤ length self.new.moved) }
+        ensures reach { OnOk result (ticket < self.old.next_ticket → min front instance_count ≤ length self.new.moved) }
         ensures short { length self.new.moved ≤ front }
         ensures same { (j : ℕ) → slice_index_or self.new.moved j false ≡ slice_index_or self.old.moved j false }
         ensures err { OnErr result (self.new ≡ self.old) }
@@ -85,7 +86,7 @@ impl Notes {
         if u64::from(ticket) >= self.next_ticket {
             return Ok(());
         }
-        unmarked_to(&mut self.moved, front.min(4096) as usize)
+        unmarked_to(&mut self.moved, front.min(INSTANCES) as usize)
     }
 
     /// Notes that a ticket is suggested at an instance from the front on: marks the own instances before the front at
@@ -100,21 +101,21 @@ impl Notes {
     )
         requires member { id < members.count }
         requires same { known.now.members ≡ members }
-        requires room { ticket < self.old.next_ticket → min front 4096 ≤ length self.old.moved }
+        requires room { ticket < self.old.next_ticket → min front instance_count ≤ length self.old.moved }
         requires short { length self.old.moved ≤ front }
-        requires tickets { (j t : ℕ) → j < front → j < 4096 → suggested_in members id j (known_slot known.now j) ≡ Some t → t < self.old.next_ticket }
+        requires tickets { (j t : ℕ) → j < front → j < instance_count → suggested_in members id j (known_slot known.now j) ≡ Some t → t < self.old.next_ticket }
         ensures lost { self.new.lost_from ≡ self.old.lost_from }
         ensures above { (self.old.next_ticket ≤ self.new.next_ticket) × (ticket < self.new.next_ticket) }
         ensures short { length self.new.moved ≤ front }
-        ensures marked { (j : ℕ) → j < front → j < 4096 → slice_index_or self.new.moved j false
+        ensures marked { (j : ℕ) → j < front → j < instance_count → slice_index_or self.new.moved j false
             ≡ (slice_index_or self.old.moved j false || is_ticket ticket (suggested_in members id j (known_slot known.now j))) }
-        ensures rest { (j : ℕ) → min front 4096 ≤ j → slice_index_or self.new.moved j false ≡ slice_index_or self.old.moved j false }
+        ensures rest { (j : ℕ) → min front instance_count ≤ j → slice_index_or self.new.moved j false ≡ slice_index_or self.old.moved j false }
     {
         if u64::from(ticket) >= self.next_ticket {
             self.next_ticket = u64::from(ticket) + 1;
             return;
         }
-        let end = front.min(4096) as usize;
+        let end = front.min(INSTANCES) as usize;
         mark(&mut self.moved, known, members, id, end, ticket);
     }
 }
@@ -143,7 +144,7 @@ fn unmarked_to(moved: &mut Vec<bool>, wanted: usize) -> Result<(), Refusal>
 fn mark(moved: &mut Vec<bool>, known: &Known, members: Members, id: u8, end: usize, ticket: u32)
     requires member { id < members.count }
     requires same { known.now.members ≡ members }
-    requires few { end ≤ 4096 }
+    requires few { end ≤ instance_count }
     requires moved { end ≤ vec_len moved.old }
     ensures len { vec_len moved.new ≡ vec_len moved.old }
     ensures marked { (j : ℕ) → j < end → slice_index_or moved.new.items j false
@@ -161,7 +162,7 @@ fn mark(moved: &mut Vec<bool>, known: &Known, members: Members, id: u8, end: usi
 
 // The ticket was suggested at the instance.
 fn is_of(known: &Known, inst: u32, ticket: u32) -> bool
-    requires { inst < 4096 }
+    requires { inst < instance_count }
     ensures { result ≡ is_ticket ticket (ticket_of (known_slot known.now inst).proposal) }
 {
     match known.proposal(inst) {

@@ -1,4 +1,5 @@
 //! Rule 3: first phases at the instances of a server that is suspected.
+ghost use Rattle.mencius_base.specs.Limits.{greatest_round};
 ghost use Rattle.coord_paxos.specs.Fresh.{new_slot};
 ghost use Rattle.coord_paxos.specs.Slot.{after_begin};
 ghost use Rattle.mencius_model.specs.History.{History, sent};
@@ -82,7 +83,7 @@ pub(crate) fn round_after(members: Members, slot: &Slot) -> u32
 // Starts a first phase at a slot where nothing was learned.
 pub(crate) fn begin_slot(slot: &mut Slot, members: Members, id: u8, inst: u32, out: &mut Outbox)
     requires member { id < members.count }
-    requires rounds { is_none slot.old.learned ≡ true → round_after members slot.old ≤ 65535 }
+    requires rounds { is_none slot.old.learned ≡ true → round_after members slot.old ≤ greatest_round }
     requires room { is_none slot.old.learned ≡ true → 0 < out.old.room }
     ensures after { slot.new ≡ (if is_none slot.old.learned then after_begin slot.old (ballot_after members id slot.old) else slot.old) }
     ensures sent { out.new.messages ≡ out.old.messages ++ (if is_none slot.old.learned then Prepare id inst (ballot_after members id slot.old) ∷ [] else []) }

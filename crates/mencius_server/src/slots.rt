@@ -1,4 +1,5 @@
 //! The slots that stand, by instance.
+ghost use Rattle.mencius_base.specs.Limits.{greatest_round, instance_count};
 ghost use Rattle.coord_paxos.specs.Fresh.{new_slot};
 ghost use Rattle.coord_paxos.specs.Slot.{after_begin, after_learn};
 ghost use Rattle.coord_paxos.specs.SlotState.{SlotState};
@@ -21,7 +22,7 @@ use crate::ranges::Ranges;
 use crate::revocation::begin_slot;
 use crate::stretch::{Stretch, next_owned};
 use coord_paxos::Slot;
-use mencius_base::{Members, Outbox, Refusal, Value};
+use mencius_base::{INSTANCES, Members, Outbox, Refusal, Value};
 use std::alloc::Global;
 use std::marker::Model;
 
@@ -63,14 +64,14 @@ impl Slots {
     /// How many slots stand.
     pub(crate) fn len(&self) -> usize
         ensures count { result ≡ count_by is_some self.now }
-        ensures all { length self.now ≡ 4096 }
+        ensures all { length self.now ≡ instance_count }
     {
         self.slots.len()
     }
 
     /// The slot that stands at an instance, if one does.
     pub(crate) fn get(&self, inst: u32) -> Option<&Slot>
-        requires { inst < 4096 }
+        requires { inst < instance_count }
         ensures there { IfSome result (λ t. stand_at self.now inst ≡ Some t.now) }
         ensures none { IfNone result (stand_at self.now inst ≡ None) }
     {
@@ -82,7 +83,7 @@ impl Slots {
 
     /// Whether a slot stands at an instance.
     pub(crate) fn has(&self, inst: u32) -> bool
-        requires { inst < 4096 }
+        requires { inst < instance_count }
         ensures { result ≡ is_some (stand_at self.now inst) }
     {
         place_at(&self.places, inst).is_some()
@@ -90,7 +91,7 @@ impl Slots {
 
     /// The slot that stands at an instance, to be changed there.
     pub(crate) fn at(&mut self, inst: u32) -> &mut Slot
-        requires small { inst < 4096 }
+        requires small { inst < instance_count }
         requires there { IsSome (stand_at self.old inst) }
         ensures* lends { sem 𝓛 (LendsSlot self.entry inst result) }
         ensures value { stand_at self.old inst ≡ Some result.now }
@@ -101,7 +102,7 @@ impl Slots {
 
     /// Makes a slot stand at an instance where none does.
     pub(crate) fn stand(&mut self, inst: u32, slot: Slot) -> Result<(), Refusal>
-        requires small { inst < 4096 }
+        requires small { inst < instance_count }
         requires none { stand_at self.old inst ≡ None }
         ensures ok { OnOk result ((j : ℕ) → stand_at self.new j
             ≡ (if j == inst then Some slot else stand_at self.old j)) }
@@ -127,7 +128,7 @@ impl Slots {
         lacking: u32,
     ) -> Result<(), Refusal>
         requires stretch { IsStretch stretch }
-        requires small { stretch.stop ≤ 4096 }
+        requires small { stretch.stop ≤ instance_count }
         requires lacking { count_by (is_lacking stretch skipped.now self.old) (below stretch.stop) ≤ lacking }
         ensures ok { OnOk result ((j : ℕ) → stand_at self.new j
             ≡ stood_at stretch skipped.now j (stand_at self.old j)) }
@@ -148,10 +149,10 @@ impl Slots {
     /// Starts a first phase at each slot of a stretch that has learned nothing. There is room for the Prepares.
     pub(crate) fn begin_all(&mut self, stretch: Stretch, id: u8, out: &mut Outbox)
         requires stretch { IsStretch stretch }
-        requires small { stretch.stop ≤ 4096 }
+        requires small { stretch.stop ≤ instance_count }
         requires id { id < stretch.members.count }
         requires rounds { (j : ℕ) (t : SlotState) → is_begun stretch self.old j ≡ true → stand_at self.old j ≡ Some t
-            → round_after stretch.members t ≤ 65535 }
+            → round_after stretch.members t ≤ greatest_round }
         requires room { count_by (is_begun stretch self.old) (below stretch.stop) ≤ out.old.room }
         ensures slots { (j : ℕ) → stand_at self.new j ≡ begun_at stretch id j (stand_at self.old j) }
         ensures sent { out.new.messages
@@ -170,10 +171,10 @@ impl Slots {
 
     // Starts a first phase at an instance where a slot stands that has learned nothing.
     fn begin(&mut self, members: Members, id: u8, inst: u32, out: &mut Outbox)
-        requires small { inst < 4096 }
+        requires small { inst < instance_count }
         requires member { id < members.count }
         requires rounds { (t : SlotState) → stand_at self.old inst ≡ Some t → is_none t.learned ≡ true
-            → round_after members t ≤ 65535 }
+            → round_after members t ≤ greatest_round }
         requires room { is_unlearned (stand_at self.old inst) ≡ true → 0 < out.old.room }
         ensures slots { (j : ℕ) → stand_at self.new j
             ≡ (if j == inst then option_map (begun members id) (stand_at self.old j) else stand_at self.old j) }
@@ -204,7 +205,7 @@ impl Slots {
 
     // Whether a slot stands at the instance that has learned a value, and no range has the instance.
     fn is_told(&self, inst: u32, skipped: &Ranges) -> bool
-        requires { inst < 4096 }
+        requires { inst < instance_count }
         ensures { result ≡ (not (covers skipped.now inst) && is_learned (stand_at self.now inst)) }
     {
         match self.get(inst) {
@@ -216,7 +217,7 @@ impl Slots {
     /// Learns no-op at each slot of a stretch.
     pub(crate) fn learn_noops(&mut self, stretch: Stretch)
         requires stretch { IsStretch stretch }
-        ensures { (j : ℕ) → j < 4096 → stand_at self.new j ≡ option_map (given stretch j) (stand_at self.old j) }
+        ensures { (j : ℕ) → j < instance_count → stand_at self.new j ≡ option_map (given stretch j) (stand_at self.old j) }
     {
         let members = stretch.members;
         let stop = self.end_of(stretch.stop);
@@ -229,7 +230,7 @@ impl Slots {
 
     // Learns no-op at a slot, if one stands at the instance.
     fn learn_noop(&mut self, inst: u32)
-        requires { inst < 4096 }
+        requires { inst < instance_count }
         ensures { (j : ℕ) → stand_at self.new j
             ≡ (if j == inst then option_map (λ t. after_learn t Noop) (stand_at self.old j) else stand_at self.old j) }
     {
@@ -240,11 +241,11 @@ impl Slots {
 
     // The place from which on no slot stands below another place.
     fn end_of(&self, stop: u32) -> u32
-        ensures small { result ≤ 4096 }
+        ensures small { result ≤ instance_count }
         ensures within { result ≤ stop }
         ensures none { (j : ℕ) → result ≤ j → j < stop → stand_at self.now j ≡ None }
     {
-        let len = self.places.len().min(4096) as u32;
+        let len = self.places.len().min(INSTANCES as usize) as u32;
         len.min(stop)
     }
 }
@@ -262,10 +263,10 @@ fn place_at(places: &[Option<usize>], inst: u32) -> Option<usize>
 
 // Lengthens the table to some instances, at most all. Nothing stands at the new ones.
 fn widen(places: &mut Vec<Option<usize>>, wanted: usize) -> Result<(), Refusal>
-    requires small { wanted ≤ 4096 }
-    requires few { vec_len places.old ≤ 4096 }
+    requires small { wanted ≤ instance_count }
+    requires few { vec_len places.old ≤ instance_count }
     ensures reach { OnOk result (wanted ≤ vec_len places.new) }
-    ensures few { vec_len places.new ≤ 4096 }
+    ensures few { vec_len places.new ≤ instance_count }
     ensures same { (j : ℕ) → slice_index_or places.new.items j None ≡ slice_index_or places.old.items j None }
     ensures err { OnErr result (places.new.items ≡ places.old.items) }
     ensures memory { IfErr result (λ r. r ≡ NoMemory) }

@@ -1,4 +1,5 @@
 //! The instances of one server between two places.
+ghost use Rattle.mencius_base.specs.Limits.{greatest_front};
 ghost use Rattle.mencius_base.specs.Members.{owner};
 ghost use Rattle.mencius_server.specs.Stretches.{IsStretch};
 ghost use Rattle.std.specs.Prelude.{◌≡◌, ℕ, ◌+◌, ◌<◌, ◌≤◌};
@@ -19,7 +20,7 @@ impl Stretch {
     pub(crate) fn next(self, inst: u32) -> u32
         requires stretch { IsStretch self }
         requires own { owner self.members inst ≡ self.server }
-        requires small { inst ≤ 4102 }
+        requires small { inst ≤ greatest_front }
         ensures owned { owner self.members result ≡ self.server }
         ensures above { inst + 1 ≤ result }
         ensures least { (i : ℕ) → inst + 1 ≤ i → owner self.members i ≡ self.server → result ≤ i }
@@ -30,7 +31,7 @@ impl Stretch {
 
 /// The next instance of the server that owns an instance.
 pub(crate) fn next_owned(members: Members, inst: u32) -> u32
-    requires { inst ≤ 4102 }
+    requires { inst ≤ greatest_front }
     ensures owned { owner members result ≡ owner members inst }
     ensures above { inst + 1 ≤ result }
     ensures near { result ≤ inst + 7 }

@@ -1,4 +1,5 @@
 //! Rules 1 and 4: where a ticket is suggested, and which tickets wait to be suggested again.
+ghost use Rattle.mencius_base.specs.Limits.{instance_count};
 ghost use Rattle.mencius_model.specs.History.{History, sent, submitted};
 ghost use Rattle.mencius_base.specs.Members.{instances, owner, first_item};
 ghost use Rattle.mencius_base.specs.Refusal.{IsRefusedFor};
@@ -16,7 +17,7 @@ ghost use Rattle.std.specs.Prelude.{◌≡◌, ℕ, IfOk, ◌⊎◌, ◌||◌, I
 
 use crate::Server;
 use crate::known::Known;
-use mencius_base::{Members, Message, Outbox, Refusal, Value};
+use mencius_base::{INSTANCES, Members, Message, Outbox, Refusal, Value};
 
 impl Server {
     /// Suggests a new ticket (Rule 1 of Mao, Junqueira and Marzullo, OSDI 2008, section 4).
@@ -62,7 +63,7 @@ impl Server {
 
     // Writes a suggestion at a free instance.
     fn place(&mut self, inst: u32, ticket: u32) -> Result<(), Refusal>
-        requires small { inst < 4096 }
+        requires small { inst < instance_count }
         requires own { owner self.old.members inst ≡ self.old.id }
         requires ahead { self.old.front ≤ inst }
         requires blank { is_none (slot self.old inst).learned ≡ true }
@@ -82,10 +83,10 @@ impl Server {
     // The least own instance from the front on that was not learned.
     fn free(&self) -> Option<u32>
         ensures place { result ≡ free_at self.now }
-        ensures fits { IfSome result (λ k. (k < 4096) × (owner self.now.members k ≡ self.now.id) × (self.now.front ≤ k) × (is_none (slot self.now k).learned ≡ true)) }
+        ensures fits { IfSome result (λ k. (k < instance_count) × (owner self.now.members k ≡ self.now.id) × (self.now.front ≤ k) × (is_none (slot self.now k).learned ≡ true)) }
     {
         let mut inst = self.next_own(self.front);
-        while inst < 4096 {
+        while inst < INSTANCES {
             if self.learned(inst).is_none() {
                 return Some(inst);
             }
@@ -113,10 +114,10 @@ impl Server {
 
     // The least instance at which a ticket waits, and the ticket.
     fn first_lost(&self) -> Option<(u32, u32)>
-        ensures first { IfSome result (λ p. (p.0 < 4096) × (waits_at self.now p.0 ≡ Some p.1) × ((j : ℕ) → j < p.0 → waits_at self.now j ≡ None)) }
-        ensures none { IfNone result ((j : ℕ) → j < 4096 → waits_at self.now j ≡ None) }
+        ensures first { IfSome result (λ p. (p.0 < instance_count) × (waits_at self.now p.0 ≡ Some p.1) × ((j : ℕ) → j < p.0 → waits_at self.now j ≡ None)) }
+        ensures none { IfNone result ((j : ℕ) → j < instance_count → waits_at self.now j ≡ None) }
     {
-        let end = self.front.min(4096);
+        let end = self.front.min(INSTANCES);
         let mut inst = self.next_own(self.notes.lost_from());
         while inst < end {
             if let Some(ticket) = self.waits(inst) {
@@ -129,7 +130,7 @@ impl Server {
 
     // The ticket that waits since it lost an instance.
     fn waits(&self, inst: u32) -> Option<u32>
-        requires { inst < 4096 }
+        requires { inst < instance_count }
         ensures { result ≡ waits_at self.now inst }
     {
         let Some(ticket) = self.suggested(inst) else {
@@ -144,7 +145,7 @@ impl Server {
 
     // The ticket of an own instance was suggested again further on.
     fn is_moved(&self, inst: u32, ticket: u32) -> bool
-        requires small { inst < 4096 }
+        requires small { inst < instance_count }
         requires said { suggested_at self.now inst ≡ Some ticket }
         ensures { result ≡ list_any (is_suggested_past self.now ticket inst) instances }
     {
@@ -169,7 +170,7 @@ impl Server {
     fn proposal(&self, inst: u32) -> Option<Value>
         ensures { result ≡ (slot self.now inst).proposal }
     {
-        if inst < 4096 {
+        if inst < INSTANCES {
             self.known.proposal(inst)
         } else {
             None
@@ -207,7 +208,7 @@ impl Server {
                 self.suggest(ticket, out)
             }
             None => {
-                self.notes.lost_only_from(4096);
+                self.notes.lost_only_from(INSTANCES);
                 Err(Refusal::NothingWaiting)
             }
         }

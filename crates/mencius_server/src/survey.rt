@@ -1,4 +1,5 @@
 //! What a suspicion would begin.
+ghost use Rattle.mencius_base.specs.Limits.{instance_count};
 ghost use Rattle.mencius_base.specs.Refusal.{IsRefusedFor};
 ghost use Rattle.mencius_server.specs.Surveys.{survey_cause, surveyed};
 ghost use Rattle.mencius_server.specs.declared.survey.Survey.{Survey};
@@ -7,7 +8,7 @@ ghost use Rattle.std.specs.Prelude.{◌≡◌, ℕ, ◌+◌, ◌<◌, ◌≤◌,
 
 use crate::revocation::round_after;
 use coord_paxos::Slot;
-use mencius_base::{Members, Outbox, Refusal};
+use mencius_base::{GREATEST_ROUND, Members, Outbox, Refusal};
 use std::marker::Model;
 
 /// What a suspicion of a server would begin, found without a change.
@@ -35,7 +36,7 @@ impl Survey {
 
     /// With an instance at which a slot stands.
     pub(crate) fn with_slot(self, members: Members, slot: &Slot) -> Survey
-        requires { self.open_count ≤ 4096 }
+        requires { self.open_count ≤ instance_count }
         ensures { result ≡ surveyed members self slot.now true }
     {
         if slot.learned().is_some() {
@@ -44,7 +45,7 @@ impl Survey {
         Survey {
             open_count: self.open_count + 1,
             bare_count: self.bare_count,
-            is_full: self.is_full || round_after(members, slot) > 65535,
+            is_full: self.is_full || round_after(members, slot) > GREATEST_ROUND,
         }
     }
 
@@ -67,8 +68,8 @@ impl Survey {
 
     /// With an instance that lacks a slot.
     pub(crate) fn with_bare(self) -> Survey
-        requires open { self.open_count ≤ 4096 }
-        requires bare { self.bare_count ≤ 4096 }
+        requires open { self.open_count ≤ instance_count }
+        requires bare { self.bare_count ≤ instance_count }
         ensures { result ≡ record self { open_count = self.open_count + 1; bare_count = self.bare_count + 1 } }
     {
         Survey {

@@ -2,12 +2,13 @@ use Rattle.std.proofs.Common.{◌-◌, ◌≡◌, ℕ, false, ◌<◌, ◌≤◌
 use Rattle.std.specs.Prelude.{is_none}
 use Rattle.mencius_server.specs.Known.{known_at}
 use Rattle.mencius_server.proofs.known.learned_from.Given as goal
+use Rattle.mencius_base.specs.Limits.{instance_count}
 
 abbrev pub invariant-loop-inst : goal.invariant-loop-inst
 invariant-loop-inst l = record {
-  small : l.inst ≤ 4096;
+  small : l.inst ≤ instance_count;
   known : (j : ℕ) → l.from ≤ j → j < l.inst → is_none (known_at l.members l.slots l.skipped.items j).learned ≡ false;
 }
 
 abbrev pub decreases-loop-inst : goal.decreases-loop-inst
-decreases-loop-inst l = 4096 - l.inst
+decreases-loop-inst l = instance_count - l.inst

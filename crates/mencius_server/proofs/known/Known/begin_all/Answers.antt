@@ -5,6 +5,7 @@ use Rattle.mencius_server.specs.Machine.{round_after}
 use Rattle.mencius_server.specs.Known.{KnownState, has_slot, is_open_in, known_begun, known_slot, prepares_in}
 use Rattle.mencius_server.proofs.Begun.{bare_count, open_count, open_sent, stood_has, suspect_is}
 use Rattle.mencius_server.proofs.Opens.{open_same}
+use Rattle.mencius_base.specs.Limits.{greatest_round, instance_count}
 use Rattle.mencius_server.proofs.known.Known.begin_all.Goals as goal
 
 pub stand_open-requires-clause-bare : goal.stand_open-requires-clause-bare
@@ -12,12 +13,12 @@ stand_open-requires-clause-bare c = omega (arith, c.requires.bare, bare_count c.
 
 pub begin_open-requires-clause-stand : goal.begin_open-requires-clause-stand
 begin_open-requires-clause-stand c =
-    let P : KnownState → Type 0 = λ k. (j : ℕ) → j < 4096 → is_open_in k c.open_stretch-stretch.result j ≡ true → has_slot k j ≡ true in
+    let P : KnownState → Type 0 = λ k. (j : ℕ) → j < instance_count → is_open_in k c.open_stretch-stretch.result j ≡ true → has_slot k j ≡ true in
     subst P (sym c.in_ok-stand_open.ensures.ok) (stood_has c.args.self.now c.args.suspected c.args.front c.open_stretch-stretch.result c.open_stretch-stretch.ensures)
 
 pub begin_open-requires-clause-rounds : goal.begin_open-requires-clause-rounds
 begin_open-requires-clause-rounds c =
-    let P : KnownState → Type 0 = λ k. (j : ℕ) → j < 4096 → is_open_in k c.open_stretch-stretch.result j ≡ true → round_after k.members (known_slot k j) ≤ 65535 in
+    let P : KnownState → Type 0 = λ k. (j : ℕ) → j < instance_count → is_open_in k c.open_stretch-stretch.result j ≡ true → round_after k.members (known_slot k j) ≤ greatest_round in
     subst P (sym c.in_ok-stand_open.ensures.ok)
     (λ j l e. c.requires.rounds j l (sym (open_same c.args.self.now c.args.suspected c.args.front c.open_stretch-stretch.result c.open_stretch-stretch.ensures j l) ∙ e))
 

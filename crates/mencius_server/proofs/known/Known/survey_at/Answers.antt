@@ -8,6 +8,7 @@ use Rattle.mencius_server.specs.Known.{IsSorted, KnownState, has_slot, is_passed
 use Rattle.mencius_server.specs.declared.ranges.Span.{Span}
 use Rattle.mencius_server.proofs.Knows.{seen_none, seen_some, seen_stands}
 use Rattle.mencius_server.proofs.Opens.{passed_known, past_low, surveyed_bare, surveyed_known, surveyed_slot}
+use Rattle.mencius_base.specs.Limits.{instance_count}
 use Rattle.mencius_server.proofs.known.Known.survey_at.Goals as goal
 
 -- what a range of the owner covers was skipped
@@ -30,7 +31,7 @@ first_owned-requires-clause-small c =
     let within : c.args.stretch.now.server < length c.self.inside.skipped.items = omega (arith, member, c.self.invariant.sound.sorted.count) in
     past_low c.self.inside.members c.args.stretch.now.server c.index.result.now c.args.inst c.past-past.result member
     (omega (arith, c.count-few.ensures.few, c.count-few.ensures.count, ap (λ (m : Membership). m.count) c.requires.members, ap (λ (m : Membership). m.count) members))
-    (subst (IsOwned c.self.inside.members c.args.stretch.now.server (first_owned c.self.inside.members c.args.stretch.now.server 4096))
+    (subst (IsOwned c.self.inside.members c.args.stretch.now.server (first_owned c.self.inside.members c.args.stretch.now.server instance_count))
     (sym (c.index.ensures ∙ get_or_default c.self.inside.skipped.items c.args.stretch.now.server _ [] within)) (c.self.invariant.sound.sorted.owned c.args.stretch.now.server member))
     c.requires.small c.past-past.ensures.covered
 

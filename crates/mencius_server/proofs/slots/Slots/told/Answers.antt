@@ -5,6 +5,7 @@ use Rattle.mencius_model.proofs.Below.{instances-below}
 use Rattle.mencius_server.proofs.Gaps.{count_gap, count_to, one_at_most}
 use Rattle.mencius_server.proofs.Skips.{count_more, count_none}
 use Rattle.mencius_server.proofs.Walks.{in_here, out_before, out_between, told_in, told_out, told_past}
+use Rattle.mencius_base.specs.Limits.{instance_count}
 use Rattle.mencius_server.proofs.slots.Slots.told.Goals as goal
 
 pub loop-inst-init : goal.loop-inst-init
@@ -43,7 +44,7 @@ loop-inst-preserved c =
 
 pub returns : goal.returns
 returns c =
-    (count_to _ c.loop-inst.inst 4096 c.loop-inst.told
+    (count_to _ c.loop-inst.inst instance_count c.loop-inst.told
     (λ j low high. told_past c.args.stretch c.args.skipped.now c.args.self.now c.end_of-stop.result
     c.end_of-stop.ensures.none j (omega (arith, low, c.loop-inst-test.false)))
     (λ j low high. told_past c.args.stretch c.args.skipped.now c.args.self.now c.end_of-stop.result
