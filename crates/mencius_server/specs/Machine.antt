@@ -1,6 +1,6 @@
 -- What a server sends on a call, how many instances it learns, and what becomes of it, said of its state alone.
--- No public clause cites this file: the private functions meet it, and proofs/ shows that at a reached history it
--- is what the row of the event says.
+-- Of the public clauses only `err` cites this file, for `IsUndone`: the private functions meet it, and proofs/ shows
+-- that at a reached history it is what the row of the event says.
 use Rattle.std.specs.Prelude.{◌≡◌, ℕ, ◌+◌, Bool, false, List, [], ◌∷◌, ◌++◌, Option, Some, None, ◌==◌, nat_lt, nat_le, if◌then◌else◌, ◌&&◌, is_none, length, map, max, not, ◌||◌}
 use Rattle.std.specs.List.{count_by, filter, filter_map, find, list_any}
 use Rattle.mencius_base.specs.declared.message.Message.{Message}
