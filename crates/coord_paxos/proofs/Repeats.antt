@@ -10,7 +10,8 @@ use Rattle.mencius_model.proofs.Reports.{higher_vote_twice}
 
 -- ---- promises
 
-with_promise_twice : (s : SlotState) (q : ℕ) (v : Option Vote) → with_promise (with_promise s q v) q v ≡ with_promise s q v
+with_promise_twice : (s : SlotState) (q : ℕ) (v : Option Vote)
+    → with_promise (with_promise s q v) q v ≡ with_promise s q v
 with_promise_twice s q v = rw (set-set s.promisers q true true, higher_vote_twice s.reported v)
 
 -- a promise that adds nothing, where nothing is due
@@ -18,22 +19,28 @@ promise_ignored : (s : SlotState) (q b : ℕ) (v : Option Vote) → with_promise
     → (after_promise s q b v ≡ s) × (promise_answer s q b v ≡ None)
 promise_ignored s q b v same done = either (eqb b s.trying)
   where
-    either : (c : Bool) → (cond c (proposing (with_promise s q v) (to_propose (with_promise s q v))) s ≡ s) × (cond c (to_propose (with_promise s q v)) None ≡ None)
-    either true = (ap (λ (t : SlotState). proposing t (to_propose t)) same ∙ ap (proposing s) done, ap to_propose same ∙ done)
+    either : (c : Bool)
+        → (cond c (proposing (with_promise s q v) (to_propose (with_promise s q v))) s ≡ s)
+        × (cond c (to_propose (with_promise s q v)) None ≡ None)
+    either true =
+        (ap (λ (t : SlotState). proposing t (to_propose t)) same ∙ ap (proposing s) done, ap to_propose same ∙ done)
     either false = (refl, refl)
 
 -- nothing is due once a proposal is noted
-proposed_once : (l : Option Value) (c : Bool) (v x : Value) → cond ((is_none l && is_none (Some v)) && c) (Some x) None ≡ None
+proposed_once : (l : Option Value) (c : Bool) (v x : Value)
+    → cond ((is_none l && is_none (Some v)) && c) (Some x) None ≡ None
 proposed_once None c v x = refl
 proposed_once (Some u) c v x = refl
 
-promise_noted : (t : SlotState) (q : ℕ) (v : Option Vote) → with_promise t q v ≡ t → (o : Option Value) → to_propose t ≡ o
+promise_noted : (t : SlotState) (q : ℕ) (v : Option Vote) → with_promise t q v ≡ t → (o : Option Value)
+    → to_propose t ≡ o
     → (with_promise (proposing t o) q v ≡ proposing t o) × (to_propose (proposing t o) ≡ None)
 promise_noted t q v same None e = (same, e)
 promise_noted t q v same (Some x) e = (ap (λ (u : SlotState). proposing u (Some x)) same, proposed_once t.learned _ x _)
 
 pub promise_twice : (s : SlotState) (q b : ℕ) (v : Option Vote)
-    → (after_promise (after_promise s q b v) q b v ≡ after_promise s q b v) × (promise_answer (after_promise s q b v) q b v ≡ None)
+    → (after_promise (after_promise s q b v) q b v ≡ after_promise s q b v)
+    × (promise_answer (after_promise s q b v) q b v ≡ None)
 promise_twice s q b v = either (eqb b s.trying) refl
   where
     either : (c : Bool) → eqb b s.trying ≡ c
@@ -41,7 +48,8 @@ promise_twice s q b v = either (eqb b s.trying) refl
         ≡ cond c (proposing (with_promise s q v) (to_propose (with_promise s q v))) s)
         × (promise_answer (cond c (proposing (with_promise s q v) (to_propose (with_promise s q v))) s) q b v ≡ None)
     either true e =
-        let noted = promise_noted (with_promise s q v) q v (with_promise_twice s q v) (to_propose (with_promise s q v)) refl in
+        let noted = promise_noted (with_promise s q v) q v (with_promise_twice s q v)
+        (to_propose (with_promise s q v)) refl in
         promise_ignored (proposing (with_promise s q v) (to_propose (with_promise s q v))) q b v noted.0 noted.1
     either false e = (
       ap (λ (c : Bool). cond c (proposing (with_promise s q v) (to_propose (with_promise s q v))) s) e,
@@ -58,7 +66,9 @@ acceptance_ignored : (s : SlotState) (q b : ℕ) → with_accept s q ≡ s → t
     → (after_acceptance s q b ≡ s) × (accept_answer s q b ≡ None)
 acceptance_ignored s q b same done = either (eqb b s.trying)
   where
-    either : (c : Bool) → (cond c (learning (with_accept s q) (to_learn (with_accept s q))) s ≡ s) × (cond c (to_learn (with_accept s q)) None ≡ None)
+    either : (c : Bool)
+        → (cond c (learning (with_accept s q) (to_learn (with_accept s q))) s ≡ s)
+        × (cond c (to_learn (with_accept s q)) None ≡ None)
     either true = (ap (λ (t : SlotState). learning t (to_learn t)) same ∙ ap (learning s) done, ap to_learn same ∙ done)
     either false = (refl, refl)
 
@@ -68,7 +78,8 @@ acceptance_noted t q same None e = (same, e)
 acceptance_noted t q same (Some x) e = (ap (λ (u : SlotState). learning u (Some x)) same, refl)
 
 pub acceptance_twice : (s : SlotState) (q b : ℕ)
-    → (after_acceptance (after_acceptance s q b) q b ≡ after_acceptance s q b) × (accept_answer (after_acceptance s q b) q b ≡ None)
+    → (after_acceptance (after_acceptance s q b) q b ≡ after_acceptance s q b)
+    × (accept_answer (after_acceptance s q b) q b ≡ None)
 acceptance_twice s q b = either (eqb b s.trying) refl
   where
     either : (c : Bool) → eqb b s.trying ≡ c

@@ -40,16 +40,20 @@ module _ (m : Membership) (w : History) (p q i b : ℕ) where
   promised_at = record (slot_at m w p i) { promised = b }
 
   prepared_unlearned : (c : Bool) → ltb (promised w p i) b ≡ c
-      → slot_at m (followed_by w (prepare_lines p q i b (cond c (Promised (vote w p i)) Silent))) p i ≡ cond c promised_at (slot_at m w p i)
-  prepared_unlearned true above = let over : promised w p i < b = ltb-true _ _ above in slot_at-promised m w p q i b (vote w p i) (omega arith)
+      → slot_at m (followed_by w (prepare_lines p q i b (cond c (Promised (vote w p i)) Silent))) p i
+      ≡ cond c promised_at (slot_at m w p i)
+  prepared_unlearned true above =
+      let over : promised w p i < b = ltb-true _ _ above in slot_at-promised m w p q i b (vote w p i) (omega arith)
   prepared_unlearned false below = refl
 
-  prepared_knowing : (o : Option Value) → slot_at m (followed_by w (prepare_lines p q i b (answer_of (slot_at m w p i) b o))) p i
+  prepared_knowing : (o : Option Value)
+      → slot_at m (followed_by w (prepare_lines p q i b (answer_of (slot_at m w p i) b o))) p i
       ≡ cond (is_none o && ltb (promised w p i) b) promised_at (slot_at m w p i)
   prepared_knowing None = prepared_unlearned (ltb (promised w p i) b) refl
   prepared_knowing (Some v) = slot_at-quiet m w (Sent (Learn p i v)) p i (quiet_learn p p i i v) refl
 
-  pub prepared : slot_at m (followed_by w (prepare_lines p q i b (prepare_answer (slot_at m w p i) b))) p i ≡ after_prepare (slot_at m w p i) b
+  pub prepared : slot_at m (followed_by w (prepare_lines p q i b (prepare_answer (slot_at m w p i) b))) p i
+      ≡ after_prepare (slot_at m w p i) b
   prepared = prepared_knowing (learned w p i)
 
 -- ---- accept
@@ -57,11 +61,15 @@ module _ (m : Membership) (w : History) (p q i b : ℕ) where
 module _ (m : Membership) (w : History) (p q i b : ℕ) (v : Value) (said : proposed w i b ≡ Some v) where
   accepted_or_not : (c : Bool) → leb (promised w p i) b ≡ c
       → slot_at m (followed_by w (accept_lines p q i b c)) p i
-      ≡ cond c (record (slot_at m w p i) { promised = b; vote = Some (record { ballot = b; value = v }) }) (slot_at m w p i)
+      ≡ cond c (record (slot_at m w p i) {
+        promised = b;
+        vote = Some (record { ballot = b; value = v });
+      }) (slot_at m w p i)
   accepted_or_not true high = slot_at-accepted m w p q i b v (leb-true _ _ high) said
   accepted_or_not false low = refl
 
-  pub accepts : slot_at m (followed_by w (accept_lines p q i b (leb (promised w p i) b))) p i ≡ after_accept (slot_at m w p i) b v
+  pub accepts : slot_at m (followed_by w (accept_lines p q i b (leb (promised w p i) b))) p i
+      ≡ after_accept (slot_at m w p i) b v
   accepts = accepted_or_not (leb (promised w p i) b) refl
 
 -- ---- learn
@@ -71,7 +79,8 @@ learning_once : (s : SlotState) (v : Value) (o : Option Value) → s.learned ≡
 learning_once s v None e = refl
 learning_once s v (Some u) e = ap (λ (o : Option Value). record s { learned = o }) (sym e)
 
-pub learns : (m : Membership) (w : History) (p i : ℕ) (v : Value) → slot_at m (Learned p i v ∷ w) p i ≡ after_learn (slot_at m w p i) v
+pub learns : (m : Membership) (w : History) (p i : ℕ) (v : Value)
+    → slot_at m (Learned p i v ∷ w) p i ≡ after_learn (slot_at m w p i) v
 learns m w p i v = slot_at-learning m w p i v ∙ learning_once (slot_at m w p i) v (learned w p i) refl
 
 -- ---- begin
@@ -86,7 +95,8 @@ slot_trying m w p i b = record (slot_at m w p i) {
   accepters = map (accepters w p i b) (below m.count);
 }
 
-slot_at-tried : (m : Membership) (w : History) (p i b : ℕ) → trying w p i < b → slot_at m (Sent (Prepare p i b) ∷ w) p i ≡ slot_trying m w p i b
+slot_at-tried : (m : Membership) (w : History) (p i b : ℕ) → trying w p i < b
+    → slot_at m (Sent (Prepare p i b) ∷ w) p i ≡ slot_trying m w p i b
 slot_at-tried m w p i b above =
     let l : Line = Sent (Prepare p i b) in
     let by : tried_by p i l ≡ b = rw (eq-eqb p p refl, eq-eqb i i refl) in
@@ -120,13 +130,16 @@ neither : (a b : Bool) → (a || b) ≡ false → (a ≡ false) × (b ≡ false)
 neither false b e = (refl, e)
 neither true b e = absurd (cc)
 
-unreported : (i b : ℕ) (hs : List Message) → ((q : ℕ) → list_any (is_promise i b q) hs ≡ false) → highest_vote (map (vote_reported i b) hs) ≡ None
+unreported : (i b : ℕ) (hs : List Message) → ((q : ℕ) → list_any (is_promise i b q) hs ≡ false)
+    → highest_vote (map (vote_reported i b) hs) ≡ None
 unreported i b [] none = refl
 unreported i b (x ∷ hs) none =
-    ap (λ (o : Option Vote). fold higher_vote o (map (vote_reported i b) hs)) (report_of i b x (λ q. (neither (is_promise i b q x) (list_any (is_promise i b q) hs) (none q)).0))
+    ap (λ (o : Option Vote). fold higher_vote o (map (vote_reported i b) hs))
+    (report_of i b x (λ q. (neither (is_promise i b q x) (list_any (is_promise i b q) hs) (none q)).0))
     ∙ unreported i b hs (λ q. (neither (is_promise i b q x) (list_any (is_promise i b q) hs) (none q)).1)
 
-pub slot_untried : (m : Membership) (w : History) (p i b : ℕ) → IsUntried w p i b → slot_trying m w p i b ≡ after_begin (slot_at m w p i) b
+pub slot_untried : (m : Membership) (w : History) (p i b : ℕ) → IsUntried w p i b
+    → slot_trying m w p i b ≡ after_begin (slot_at m w p i) b
 slot_untried m w p i b untried =
     same_slot _ _ refl refl refl refl refl
     (unreported i b (heard w p) untried.unpromised)
@@ -148,12 +161,17 @@ owned m p i b o mine =
     (λ (untried : b ≤ 0). let zero : b ≡ 0 = omega arith in rw (eq-eqb (owner m i) p (mine zero)))
     (cases_lt 0 b)
 
-pub to_propose-slot_at : (m : Membership) (u : History) (p i b : ℕ) → 0 < b → b ≡ trying u p i → to_propose (slot_at m u p i) ≡ proposal_due m u p i b
+pub to_propose-slot_at : (m : Membership) (u : History) (p i b : ℕ) → 0 < b → b ≡ trying u p i
+    → to_propose (slot_at m u p i) ≡ proposal_due m u p i b
 to_propose-slot_at m u p i b tried same =
     ap (λ (c : ℕ). cond
-    ((is_none (learned u p i) && is_none (if_own m p i c (proposed u i c))) && is_majority m (map (promisers u p i c) (below m.count)))
+    ((is_none (learned u p i) && is_none (if_own m p i c (proposed u i c)))
+    && is_majority m (map (promisers u p i c) (below m.count)))
     (Some (value_or_noop (reported u p i c))) None) (sym same)
-    ∙ rw (owned m p i b (proposed u i b) (λ zero. absurd (omega arith)), count_by-map (promisers u p i b) (below m.count))
+    ∙ rw (
+      owned m p i b (proposed u i b) (λ zero. absurd (omega arith)),
+      count_by-map (promisers u p i b) (below m.count),
+    )
 
 pub to_learn-slot_at : (m : Membership) (u : History) (p i b : ℕ) → (b ≡ 0 → owner m i ≡ p) → b ≡ trying u p i
     → to_learn (slot_at m u p i) ≡ decision_due m u p i b
@@ -166,41 +184,50 @@ to_learn-slot_at m u p i b mine same =
 voted_later : (w : History) (l : Line) (p i : ℕ) → IsQuiet p i l → IsVoted w p i → IsVoted (l ∷ w) p i
 voted_later w l p i quiet voted = record {
   proposal = λ b e.
-      let before = voted.proposal b (sym (ap (greater (accepted w p i)) quiet.accepted ∙ greater-none (accepted w p i)) ∙ e) in
+      let before = voted.proposal b
+      (sym (ap (greater (accepted w p i)) quiet.accepted ∙ greater-none (accepted w p i)) ∙ e) in
       (before.0, oldest_quiet (proposed_by i b) l w (quiet.proposed b) ∙ before.1);
 }
 
-uncounted_promise : (from to i b j c : ℕ) (v : Option Vote) → (eqb i j && eqb b c) ≡ false → IsUncounted j c (Promise from to i b v)
-uncounted_promise from to i b j c v other = record { promise = λ q. rw other; acceptance = λ q. refl; report = rw other }
+uncounted_promise : (from to i b j c : ℕ) (v : Option Vote) → (eqb i j && eqb b c) ≡ false
+    → IsUncounted j c (Promise from to i b v)
+uncounted_promise from to i b j c v other =
+    record { promise = λ q. rw other; acceptance = λ q. refl; report = rw other }
 
 uncounted_acceptance : (from to i b j c : ℕ) → (eqb i j && eqb b c) ≡ false → IsUncounted j c (Accepted from to i b)
 uncounted_acceptance from to i b j c other = record { promise = λ q. refl; acceptance = λ q. rw other; report = refl }
 
 -- what is due says that nothing was proposed, and what is decided that nothing was learned
-due_unsaid : (l o : Option Value) (c : Bool) (x v : Value) → cond ((is_none l && is_none o) && c) (Some x) None ≡ Some v → o ≡ None
+due_unsaid : (l o : Option Value) (c : Bool) (x v : Value)
+    → cond ((is_none l && is_none o) && c) (Some x) None ≡ Some v → o ≡ None
 due_unsaid None None c x v e = refl
 due_unsaid None (Some u) c x v e = absurd (cc)
 due_unsaid (Some u) o c x v e = absurd (cc)
 
-decided_unlearned : (l : Option Value) (c : Bool) (o : Option Value) (v : Value) → cond (is_none l && c) o None ≡ Some v → l ≡ None
+decided_unlearned : (l : Option Value) (c : Bool) (o : Option Value) (v : Value)
+    → cond (is_none l && c) o None ≡ Some v → l ≡ None
 decided_unlearned None c o v e = refl
 decided_unlearned (Some u) c o v e = absurd (cc)
 
-module _ (m : Membership) (w : History) (k p i from b : ℕ) (v : Option Vote) (e : slice_get (sent w) k ≡ Some (Promise from p i b v)) where
+module _ (m : Membership) (w : History) (k p i from b : ℕ) (v : Option Vote)
+    (e : slice_get (sent w) k ≡ Some (Promise from p i b v)) where
   tried_still : trying (Heard k p ∷ w) p i ≡ trying w p i
   tried_still = greatest_quiet (tried_by p i) (Heard k p) w refl
 
   promise_heard : b ≡ trying w p i → slot_at m (Heard k p ∷ w) p i ≡ with_promise (slot_at m w p i) from v
   promise_heard same = slot_at-heard_promise m w k p i from v (e ∙ ap (λ (c : ℕ). Some (Promise from p i c v)) same)
 
-  pub promise_answered : 0 < b → b ≡ trying w p i → promise_answer (slot_at m w p i) from b v ≡ proposal_due m (Heard k p ∷ w) p i b
+  pub promise_answered : 0 < b → b ≡ trying w p i
+      → promise_answer (slot_at m w p i) from b v ≡ proposal_due m (Heard k p ∷ w) p i b
   promise_answered tried same =
       ap (λ (c : Bool). cond c (to_propose (with_promise (slot_at m w p i) from v)) None) (eq-eqb b (trying w p i) same)
       ∙ ap to_propose (sym (promise_heard same))
       ∙ to_propose-slot_at m (Heard k p ∷ w) p i b tried (same ∙ sym tried_still)
 
-  promise_proposed : 0 < b → IsVoted w p i → b ≡ trying w p i → (o : Option Value) → to_propose (with_promise (slot_at m w p i) from v) ≡ o
-      → slot_at m (followed_by (Heard k p ∷ w) (proposal_lines p i b o)) p i ≡ proposing (with_promise (slot_at m w p i) from v) o
+  promise_proposed : 0 < b → IsVoted w p i → b ≡ trying w p i → (o : Option Value)
+      → to_propose (with_promise (slot_at m w p i) from v) ≡ o
+      → slot_at m (followed_by (Heard k p ∷ w) (proposal_lines p i b o)) p i
+      ≡ proposing (with_promise (slot_at m w p i) from v) o
   promise_proposed tried voted same None due = promise_heard same
   promise_proposed tried voted same (Some x) due =
       let mine : b ≡ 0 → owner m i ≡ p = λ zero. absurd (omega arith) in
@@ -219,9 +246,12 @@ module _ (m : Membership) (w : History) (k p i from b : ℕ) (v : Option Vote) (
   promise_counted tried voted = either (eqb b (trying w p i)) refl
     where
       either : (c : Bool) → eqb b (trying w p i) ≡ c
-          → slot_at m (followed_by (Heard k p ∷ w) (proposal_lines p i b (cond c (to_propose (with_promise (slot_at m w p i) from v)) None))) p i
-          ≡ cond c (proposing (with_promise (slot_at m w p i) from v) (to_propose (with_promise (slot_at m w p i) from v))) (slot_at m w p i)
-      either true at = promise_proposed tried voted (eqb-true _ _ at) (to_propose (with_promise (slot_at m w p i) from v)) refl
+          → slot_at m (followed_by (Heard k p ∷ w)
+          (proposal_lines p i b (cond c (to_propose (with_promise (slot_at m w p i) from v)) None))) p i
+          ≡ cond c (proposing (with_promise (slot_at m w p i) from v)
+          (to_propose (with_promise (slot_at m w p i) from v))) (slot_at m w p i)
+      either true at =
+          promise_proposed tried voted (eqb-true _ _ at) (to_propose (with_promise (slot_at m w p i) from v)) refl
       either false at =
           slot_at-heard m w k p i _ e
           (uncounted_promise from p i b i (trying w p i) v (ap (λ (c : Bool). eqb i i && c) at ∙ rw (eq-eqb i i refl)))
@@ -240,7 +270,8 @@ module _ (m : Membership) (w : History) (k p i from b : ℕ) (e : slice_get (sen
       ∙ to_learn-slot_at m (Heard k p ∷ w) p i b mine (same ∙ sym (greatest_quiet (tried_by p i) (Heard k p) w refl))
 
   acceptance_decided : b ≡ trying w p i → (o : Option Value) → to_learn (with_accept (slot_at m w p i) from) ≡ o
-      → slot_at m (followed_by (Heard k p ∷ w) (decision_lines p i o)) p i ≡ learning (with_accept (slot_at m w p i) from) o
+      → slot_at m (followed_by (Heard k p ∷ w) (decision_lines p i o)) p i
+      ≡ learning (with_accept (slot_at m w p i) from) o
   acceptance_decided same None due = acceptance_heard same
   acceptance_decided same (Some x) due =
       let unlearned : learned w p i ≡ None = decided_unlearned _ _ _ x due in
@@ -254,8 +285,10 @@ module _ (m : Membership) (w : History) (k p i from b : ℕ) (e : slice_get (sen
   acceptance_counted = either (eqb b (trying w p i)) refl
     where
       either : (c : Bool) → eqb b (trying w p i) ≡ c
-          → slot_at m (followed_by (Heard k p ∷ w) (decision_lines p i (cond c (to_learn (with_accept (slot_at m w p i) from)) None))) p i
-          ≡ cond c (learning (with_accept (slot_at m w p i) from) (to_learn (with_accept (slot_at m w p i) from))) (slot_at m w p i)
+          → slot_at m (followed_by (Heard k p ∷ w)
+          (decision_lines p i (cond c (to_learn (with_accept (slot_at m w p i) from)) None))) p i
+          ≡ cond c (learning (with_accept (slot_at m w p i) from)
+          (to_learn (with_accept (slot_at m w p i) from))) (slot_at m w p i)
       either true at = acceptance_decided (eqb-true _ _ at) (to_learn (with_accept (slot_at m w p i) from)) refl
       either false at =
           slot_at-heard m w k p i _ e
@@ -264,19 +297,27 @@ module _ (m : Membership) (w : History) (k p i from b : ℕ) (e : slice_get (sen
 -- ---- every other line
 
 untouched_quiet : (p i : ℕ) (l : Line) → touches p i l ≡ false → IsQuiet p i l
-untouched_quiet p i (Sent (Suggest from inst ticket)) e = record { promised = refl; proposed = λ b. rw e; accepted = refl; learned = refl; tried = refl }
-untouched_quiet p i (Sent (Accepted from to inst ballot)) e = record { promised = rw e; proposed = λ b. refl; accepted = rw e; learned = refl; tried = refl }
-untouched_quiet p i (Sent (Prepare from inst ballot)) e = record { promised = refl; proposed = λ b. refl; accepted = refl; learned = refl; tried = rw e }
-untouched_quiet p i (Sent (Promise from to inst ballot reports)) e = record { promised = rw e; proposed = λ b. refl; accepted = refl; learned = refl; tried = refl }
-untouched_quiet p i (Sent (Propose from inst ballot value)) e = record { promised = refl; proposed = λ b. rw e; accepted = refl; learned = refl; tried = refl }
-untouched_quiet p i (Learned server inst value) e = record { promised = refl; proposed = λ b. refl; accepted = refl; learned = rw e; tried = refl }
-untouched_quiet p i l e = record { promised = refl; proposed = λ b. refl; accepted = refl; learned = refl; tried = refl }
+untouched_quiet p i (Sent (Suggest from inst ticket)) e =
+    record { promised = refl; proposed = λ b. rw e; accepted = refl; learned = refl; tried = refl }
+untouched_quiet p i (Sent (Accepted from to inst ballot)) e =
+    record { promised = rw e; proposed = λ b. refl; accepted = rw e; learned = refl; tried = refl }
+untouched_quiet p i (Sent (Prepare from inst ballot)) e =
+    record { promised = refl; proposed = λ b. refl; accepted = refl; learned = refl; tried = rw e }
+untouched_quiet p i (Sent (Promise from to inst ballot reports)) e =
+    record { promised = rw e; proposed = λ b. refl; accepted = refl; learned = refl; tried = refl }
+untouched_quiet p i (Sent (Propose from inst ballot value)) e =
+    record { promised = refl; proposed = λ b. rw e; accepted = refl; learned = refl; tried = refl }
+untouched_quiet p i (Learned server inst value) e =
+    record { promised = refl; proposed = λ b. refl; accepted = refl; learned = rw e; tried = refl }
+untouched_quiet p i l e =
+    record { promised = refl; proposed = λ b. refl; accepted = refl; learned = refl; tried = refl }
 
 untouched_heard : (w : History) (p i : ℕ) (l : Line) → touches p i l ≡ false → heard (l ∷ w) p ≡ heard w p
 untouched_heard w p i (Heard message server) e = rw e
 untouched_heard w p i l e = refl
 
-pub untouched : (m : Membership) (w : History) (p i : ℕ) (l : Line) → touches p i l ≡ false → slot_at m (l ∷ w) p i ≡ slot_at m w p i
+pub untouched : (m : Membership) (w : History) (p i : ℕ) (l : Line) → touches p i l ≡ false
+    → slot_at m (l ∷ w) p i ≡ slot_at m w p i
 untouched m w p i l e = slot_at-quiet m w l p i (untouched_quiet p i l e) (untouched_heard w p i l e)
 
 counts_nothing : (i b : ℕ) (x : Message) → counts i b x ≡ false → IsUncounted i b x
@@ -285,10 +326,12 @@ counts_nothing i b (Accepted from to inst ballot) e = uncounted_acceptance from 
 counts_nothing i b (Suggest from inst ticket) e = record { promise = λ q. refl; acceptance = λ q. refl; report = refl }
 counts_nothing i b (Skip from first stop) e = record { promise = λ q. refl; acceptance = λ q. refl; report = refl }
 counts_nothing i b (Prepare from inst ballot) e = record { promise = λ q. refl; acceptance = λ q. refl; report = refl }
-counts_nothing i b (Propose from inst ballot value) e = record { promise = λ q. refl; acceptance = λ q. refl; report = refl }
+counts_nothing i b (Propose from inst ballot value) e =
+    record { promise = λ q. refl; acceptance = λ q. refl; report = refl }
 counts_nothing i b (Learn from inst value) e = record { promise = λ q. refl; acceptance = λ q. refl; report = refl }
 
-pub uncounted : (m : Membership) (w : History) (k p i : ℕ) (x : Message) → slice_get (sent w) k ≡ Some x → counts i (trying w p i) x ≡ false
+pub uncounted : (m : Membership) (w : History) (k p i : ℕ) (x : Message) → slice_get (sent w) k ≡ Some x
+    → counts i (trying w p i) x ≡ false
     → slot_at m (Heard k p ∷ w) p i ≡ slot_at m w p i
 uncounted m w k p i x e none = slot_at-heard m w k p i x e (counts_nothing i (trying w p i) x none)
 
@@ -316,7 +359,8 @@ suggestion_elsewhere m w p q i ticket voted other =
 
 -- ---- repeats
 
-pub message_twice : (m : Membership) (w : History) (k p i : ℕ) (x : Message) → slice_get (sent w) k ≡ Some x → Contains (heard w p) x
+pub message_twice : (m : Membership) (w : History) (k p i : ℕ) (x : Message) → slice_get (sent w) k ≡ Some x
+    → Contains (heard w p) x
     → slot_at m (Heard k p ∷ w) p i ≡ slot_at m w p i
 message_twice m w k p i x e before =
     slot_at-unsaid m w (Heard k p) p i (quiet_heard k p i) ∙ ap (slot_hearing m w p i) (heard_more w k p x e)

@@ -21,14 +21,16 @@ PromiseBinds =
 -- what is promised only grows
 abbrev pub PromiseGrows : Type 0
 PromiseGrows =
-    (s : SlotState) (b : ℕ) (v : Value) → (s.promised ≤ (after_prepare s b).promised) × (s.promised ≤ (after_accept s b v).promised)
+    (s : SlotState) (b : ℕ) (v : Value)
+    → (s.promised ≤ (after_prepare s b).promised) × (s.promised ≤ (after_accept s b v).promised)
 
 -- ---- a new ballot
 
 -- both tallies are empty after it
 abbrev pub BeginEmpties : Type 0
 BeginEmpties =
-    (s : SlotState) (b : ℕ) → (¬ Contains (after_begin s b).promisers true) × (¬ Contains (after_begin s b).accepters true)
+    (s : SlotState) (b : ℕ)
+    → (¬ Contains (after_begin s b).promisers true) × (¬ Contains (after_begin s b).accepters true)
 
 -- ---- repeats
 
@@ -36,25 +38,29 @@ BeginEmpties =
 abbrev pub PromiseRepeats : Type 0
 PromiseRepeats =
     (s : SlotState) (q b : ℕ) (v : Option Vote)
-    → (after_promise (after_promise s q b v) q b v ≡ after_promise s q b v) × (promise_answer (after_promise s q b v) q b v ≡ None)
+    → (after_promise (after_promise s q b v) q b v ≡ after_promise s q b v)
+    × (promise_answer (after_promise s q b v) q b v ≡ None)
 
 -- nor does the same acceptance
 abbrev pub AcceptanceRepeats : Type 0
 AcceptanceRepeats =
     (s : SlotState) (q b : ℕ)
-    → (after_acceptance (after_acceptance s q b) q b ≡ after_acceptance s q b) × (accept_answer (after_acceptance s q b) q b ≡ None)
+    → (after_acceptance (after_acceptance s q b) q b ≡ after_acceptance s q b)
+    × (accept_answer (after_acceptance s q b) q b ≡ None)
 
 -- ---- the vote reported
 
 -- of equal ballots the first stands, and a smaller one changes nothing
 abbrev pub FirstStands : Type 0
 FirstStands =
-    (s : SlotState) (q : ℕ) (u v : Vote) → s.reported ≡ Some u → v.ballot ≤ u.ballot → (with_promise s q (Some v)).reported ≡ Some u
+    (s : SlotState) (q : ℕ) (u v : Vote) → s.reported ≡ Some u → v.ballot ≤ u.ballot
+    → (with_promise s q (Some v)).reported ≡ Some u
 
 -- a greater ballot takes its place
 abbrev pub GreaterReplaces : Type 0
 GreaterReplaces =
-    (s : SlotState) (q : ℕ) (u v : Vote) → s.reported ≡ Some u → u.ballot < v.ballot → (with_promise s q (Some v)).reported ≡ Some v
+    (s : SlotState) (q : ℕ) (u v : Vote) → s.reported ≡ Some u → u.ballot < v.ballot
+    → (with_promise s q (Some v)).reported ≡ Some v
 
 -- ---- proposals
 

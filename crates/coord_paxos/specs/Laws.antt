@@ -24,7 +24,8 @@ Starts = (m : Membership) (p i : ℕ) → slot_at m [] p i ≡ new_slot m
 -- the owner's first suggestion at its instance
 abbrev pub Suggests : Type 0
 Suggests =
-    (m : Membership) (w : History) (p i ticket : ℕ) → IsVoted w p i → owner m i ≡ p → trying w p i ≡ 0 → proposed w i 0 ≡ None
+    (m : Membership) (w : History) (p i ticket : ℕ) → IsVoted w p i → owner m i ≡ p → trying w p i ≡ 0
+    → proposed w i 0 ≡ None
     → slot_at m (Sent (Suggest p i ticket) ∷ w) p i ≡ record (slot_at m w p i) { proposal = Some (Ticket ticket) }
 
 -- ---- prepare
@@ -32,7 +33,8 @@ Suggests =
 -- what p answers to a Prepare of q, once the value is known, above the promise, and else
 abbrev pub AnswersKnown : Type 0
 AnswersKnown =
-    (m : Membership) (w : History) (p i b : ℕ) (v : Value) → learned w p i ≡ Some v → prepare_answer (slot_at m w p i) b ≡ Known v
+    (m : Membership) (w : History) (p i b : ℕ) (v : Value) → learned w p i ≡ Some v
+    → prepare_answer (slot_at m w p i) b ≡ Known v
 
 abbrev pub AnswersPromise : Type 0
 AnswersPromise =
@@ -53,7 +55,8 @@ prepare_lines p q i b Silent = []
 abbrev pub Prepares : Type 0
 Prepares =
     (m : Membership) (w : History) (p q i b : ℕ)
-    → slot_at m (followed_by w (prepare_lines p q i b (prepare_answer (slot_at m w p i) b))) p i ≡ after_prepare (slot_at m w p i) b
+    → slot_at m (followed_by w (prepare_lines p q i b (prepare_answer (slot_at m w p i) b))) p i
+    ≡ after_prepare (slot_at m w p i) b
 
 -- ---- accept
 
@@ -65,7 +68,8 @@ accept_lines p q i b false = []
 abbrev pub Accepts : Type 0
 Accepts =
     (m : Membership) (w : History) (p q i b : ℕ) (v : Value) → proposed w i b ≡ Some v
-    → slot_at m (followed_by w (accept_lines p q i b (nat_le (promised w p i) b))) p i ≡ after_accept (slot_at m w p i) b v
+    → slot_at m (followed_by w (accept_lines p q i b (nat_le (promised w p i) b))) p i
+    ≡ after_accept (slot_at m w p i) b v
 
 -- ---- begin
 
@@ -86,7 +90,8 @@ proposal_due m w p i b =
 -- a promise of the ballot tried is answered from all promises heard, this one among them
 abbrev pub AnswersPromises : Type 0
 AnswersPromises =
-    (m : Membership) (w : History) (k p i from b : ℕ) (v : Option Vote) → slice_get (sent w) k ≡ Some (Promise from p i b v)
+    (m : Membership) (w : History) (k p i from b : ℕ) (v : Option Vote)
+    → slice_get (sent w) k ≡ Some (Promise from p i b v)
     → 0 < b → b ≡ trying w p i → promise_answer (slot_at m w p i) from b v ≡ proposal_due m (Heard k p ∷ w) p i b
 
 -- a promise of any other ballot calls for nothing
@@ -102,7 +107,8 @@ proposal_lines p i b (Some v) = Sent (Propose p i b v) ∷ []
 -- p hears a promise, and proposes if that is due
 abbrev pub CountsPromises : Type 0
 CountsPromises =
-    (m : Membership) (w : History) (k p i from b : ℕ) (v : Option Vote) → slice_get (sent w) k ≡ Some (Promise from p i b v)
+    (m : Membership) (w : History) (k p i from b : ℕ) (v : Option Vote)
+    → slice_get (sent w) k ≡ Some (Promise from p i b v)
     → 0 < b → IsVoted w p i
     → slot_at m (followed_by (Heard k p ∷ w) (proposal_lines p i b (promise_answer (slot_at m w p i) from b v))) p i
     ≡ after_promise (slot_at m w p i) from b v
@@ -117,7 +123,8 @@ decision_due m w p i b = if is_none (learned w p i) && are_majority m (accepters
 abbrev pub AnswersAcceptances : Type 0
 AnswersAcceptances =
     (m : Membership) (w : History) (k p i from b : ℕ) → slice_get (sent w) k ≡ Some (Accepted from p i b)
-    → (b ≡ 0 → owner m i ≡ p) → b ≡ trying w p i → accept_answer (slot_at m w p i) from b ≡ decision_due m (Heard k p ∷ w) p i b
+    → (b ≡ 0 → owner m i ≡ p) → b ≡ trying w p i
+    → accept_answer (slot_at m w p i) from b ≡ decision_due m (Heard k p ∷ w) p i b
 
 -- an acceptance at any other ballot calls for nothing
 abbrev pub IgnoresAcceptances : Type 0
@@ -160,7 +167,8 @@ touches p i _ = false
 
 abbrev pub LeavesUntouched : Type 0
 LeavesUntouched =
-    (m : Membership) (w : History) (p i : ℕ) (l : Line) → touches p i l ≡ false → slot_at m (l ∷ w) p i ≡ slot_at m w p i
+    (m : Membership) (w : History) (p i : ℕ) (l : Line) → touches p i l ≡ false
+    → slot_at m (l ∷ w) p i ≡ slot_at m w p i
 
 -- whether a message counts in a tally at ballot b of i
 abbrev pub counts : ℕ → ℕ → Message → Bool
@@ -171,7 +179,8 @@ counts i b _ = false
 -- p hears a message that is no promise and no acceptance of the ballot that it tries
 abbrev pub LeavesUncounted : Type 0
 LeavesUncounted =
-    (m : Membership) (w : History) (k p i : ℕ) (x : Message) → slice_get (sent w) k ≡ Some x → counts i (trying w p i) x ≡ false
+    (m : Membership) (w : History) (k p i : ℕ) (x : Message) → slice_get (sent w) k ≡ Some x
+    → counts i (trying w p i) x ≡ false
     → slot_at m (Heard k p ∷ w) p i ≡ slot_at m w p i
 
 -- a proposal at a ballot that p does not try

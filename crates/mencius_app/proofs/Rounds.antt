@@ -10,36 +10,45 @@ range_last a zero j e = let same : a ≡ j = omega arith in ap (λ x. x ∷ []) 
 range_last a (suc n) j e = ap (λ l. a ∷ l) (range_last (a + 1) n j (omega arith))
 
 -- the texts of the numbers below one more
-pub texts_more : (f : ℕ → List ℕ) (n : ℕ) → flat_map f (range_with_len 0 (n + 1)) ≡ flat_map f (range_with_len 0 n) ++ f n
+pub texts_more : (f : ℕ → List ℕ) (n : ℕ)
+    → flat_map f (range_with_len 0 (n + 1)) ≡ flat_map f (range_with_len 0 n) ++ f n
 texts_more f n =
     let on : n + 1 ≡ suc n = omega arith in
     let last : range_with_len 0 (suc n) ≡ range_with_len 0 n ++ n ∷ [] = range_last 0 n n (omega arith) in
-    ap (λ k. flat_map f (range_with_len 0 k)) on ∙ ap (flat_map f) last ∙ flat_map-append f (range_with_len 0 n) (n ∷ []) ∙ ap (λ t. flat_map f (range_with_len 0 n) ++ t) (append-nil (f n))
+    ap (λ k. flat_map f (range_with_len 0 k)) on ∙ ap (flat_map f) last
+    ∙ flat_map-append f (range_with_len 0 n) (n ∷ [])
+    ∙ ap (λ t. flat_map f (range_with_len 0 n) ++ t) (append-nil (f n))
 
 -- a text that had the first of these texts, and then got the next
-pub texts_further : (f : ℕ → List ℕ) (n : ℕ) (before old new : List ℕ) → old ≡ before ++ flat_map f (range_with_len 0 n) → new ≡ old ++ f n
+pub texts_further : (f : ℕ → List ℕ) (n : ℕ) (before old new : List ℕ)
+    → old ≡ before ++ flat_map f (range_with_len 0 n) → new ≡ old ++ f n
     → new ≡ before ++ flat_map f (range_with_len 0 (n + 1))
 texts_further f n before old new had got =
     let all = flat_map f (range_with_len 0 n) in
     got ∙ ap (λ t. t ++ f n) had ∙ append_assoc before all (f n) ∙ ap (λ t. before ++ t) (sym (texts_more f n))
 
 -- the places of the items of a list, up to one more
-places_more : {X : Type 0} (xs : List X) (i : ℕ) (d : X) → i < length xs → take (i + 1) (enumerate_from 0 xs) ≡ take i (enumerate_from 0 xs) ++ (i, get_or xs i d) ∷ []
+places_more : {X : Type 0} (xs : List X) (i : ℕ) (d : X) → i < length xs
+    → take (i + 1) (enumerate_from 0 xs) ≡ take i (enumerate_from 0 xs) ++ (i, get_or xs i d) ∷ []
 places_more xs i d h =
     let there : i < length (enumerate_from 0 xs) = rw (length-enumerate_from 0 xs) h in
     let at : get_or (enumerate_from 0 xs) i (0, d) ≡ (0 + i, get_or xs i d) = get_or-enumerate_from 0 xs i (0, d) h in
     let plain : 0 + i ≡ i = omega arith in
-    take_more (enumerate_from 0 xs) i (0, d) there ∙ ap (λ x. take i (enumerate_from 0 xs) ++ x ∷ []) (at ∙ ap (λ k. (k, get_or xs i d)) plain)
+    take_more (enumerate_from 0 xs) i (0, d) there
+    ∙ ap (λ x. take i (enumerate_from 0 xs) ++ x ∷ []) (at ∙ ap (λ k. (k, get_or xs i d)) plain)
 
 -- a text that had those of the items before the place i, and then got the one of this item
-pub items_further : {X : Type 0} (f : ℕ × X → List ℕ) (xs : List X) (i : ℕ) (d : X) (before old new : List ℕ) → i < length xs
+pub items_further : {X : Type 0} (f : ℕ × X → List ℕ) (xs : List X) (i : ℕ) (d : X) (before old new : List ℕ)
+    → i < length xs
     → old ≡ before ++ flat_map f (take i (enumerate_from 0 xs)) → new ≡ old ++ f (i, get_or xs i d)
     → new ≡ before ++ flat_map f (take (i + 1) (enumerate_from 0 xs))
 items_further f xs i d before old new h had got =
     let all = flat_map f (take i (enumerate_from 0 xs)) in
     let last = f (i, get_or xs i d) in
     let more : flat_map f (take (i + 1) (enumerate_from 0 xs)) ≡ all ++ last =
-    ap (flat_map f) (places_more xs i d h) ∙ flat_map-append f (take i (enumerate_from 0 xs)) ((i, get_or xs i d) ∷ []) ∙ ap (λ t. all ++ t) (append-nil last) in
+    ap (flat_map f) (places_more xs i d h)
+    ∙ flat_map-append f (take i (enumerate_from 0 xs)) ((i, get_or xs i d) ∷ [])
+    ∙ ap (λ t. all ++ t) (append-nil last) in
     got ∙ ap (λ t. t ++ last) had ∙ append_assoc before all last ∙ ap (λ t. before ++ t) (sym more)
 
 -- all items of a list

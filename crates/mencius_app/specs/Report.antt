@@ -47,7 +47,9 @@ abbrev pub reply_line : History → ℕ → List ℕ
 reply_line w t = reply_of_command w (command_at w t)
 
 abbrev pub counts_line : Membership → History → List ℕ
-counts_line m w = codes "servers " ++ decimal m.count ++ codes " messages " ++ decimal (length (sent w)) ++ codes " events " ++ decimal (events w) ++ line_feed
+counts_line m w =
+    codes "servers " ++ decimal m.count ++ codes " messages " ++ decimal (length (sent w)) ++ codes " events "
+    ++ decimal (events w) ++ line_feed
 
 abbrev pub server_lines : Membership → History → ℕ → List ℕ
 server_lines m w n = flat_map (server_line m w) (range_with_len 0 n)

@@ -24,15 +24,25 @@ record IsPlace (n p q rest place : ℕ) : Type 0 where
 place_of : (n p q rest : ℕ) → p < n → rest < n → IsPlace n p q rest (n * q + rest + (p + n - rest) % n)
 place_of n p q rest member small =
     elim (cases_lt p rest) [
-      | inl less ↦ record { round = q + 1; is = rw (below_rest n p rest less small) (omega (arith, one_round n q)); which = inr (refl, less) }
-      | inr more ↦ record { round = q; is = rw (above_rest n p rest more member) (omega arith); which = inl (refl, more) }
+      | inl less ↦ record {
+        round = q + 1;
+        is = rw (below_rest n p rest less small) (omega (arith, one_round n q));
+        which = inr (refl, less);
+      }
+      | inr more ↦ record {
+        round = q;
+        is = rw (above_rest n p rest more member) (omega arith);
+        which = inl (refl, more);
+      }
     ]
 
-placed : (m : Membership) (p from : ℕ) → p < m.count → IsPlace m.count p (from / m.count) (from % m.count) (first_owned m p from)
+placed : (m : Membership) (p from : ℕ) → p < m.count
+    → IsPlace m.count p (from / m.count) (from % m.count) (first_owned m p from)
 placed m p from member =
     let some : 0 < m.count = omega arith in
     let there = place_of m.count p (from / m.count) (from % m.count) member (mod-lt from some) in
-    subst (λ (k : ℕ). IsPlace m.count p (from / m.count) (from % m.count) (k + (p + m.count - from % m.count) % m.count)) (div-add-mod from m.count) there
+    subst (λ (k : ℕ). IsPlace m.count p (from / m.count) (from % m.count)
+    (k + (p + m.count - from % m.count) % m.count)) (div-add-mod from m.count) there
 
 pub first_owned_owner : (m : Membership) (p from : ℕ) → p < m.count → owner m (first_owned m p from) ≡ p
 first_owned_owner m p from member =
@@ -40,7 +50,8 @@ first_owned_owner m p from member =
     rw there.is (mul-add-mod_self_left m.count there.round p ∙ mod-eq_of_lt member)
 
 -- an instance of p from a place on is in no earlier round
-not_before : (n p q rest round j : ℕ) → n * q + rest ≤ n * j + p → p < n → ((round ≡ q) × (rest ≤ p)) ⊎ ((round ≡ q + 1) × (p < rest)) → n * round + p ≤ n * j + p
+not_before : (n p q rest round j : ℕ) → n * q + rest ≤ n * j + p → p < n
+    → ((round ≡ q) × (rest ≤ p)) ⊎ ((round ≡ q + 1) × (p < rest)) → n * round + p ≤ n * j + p
 not_before n p q rest round j above member (inl here) =
     elim (cases_lt j q) [
       | inl less ↦ omega (arith, one_round n j, mul-le-mul_left n (let h : j + 1 ≤ q = omega arith in h))
@@ -52,7 +63,8 @@ not_before n p q rest round j above member (inr here) =
       | inr more ↦ omega (arith, mul-le-mul_left n more)
     ]
 
-pub first_owned_least : (m : Membership) (p from i : ℕ) → p < m.count → from ≤ i → owner m i ≡ p → first_owned m p from ≤ i
+pub first_owned_least : (m : Membership) (p from i : ℕ) → p < m.count → from ≤ i → owner m i ≡ p
+    → first_owned m p from ≤ i
 first_owned_least m p from i member above own =
     let n = m.count in
     let there = placed m p from member in

@@ -21,7 +21,8 @@ is_within m (Suggest from inst ticket) = nat_lt from m.count && nat_lt inst inst
 is_within m (Skip from first stop) = (nat_lt from m.count && nat_lt first instance_count) && nat_le stop greatest_front
 is_within m (Accepted from to inst ballot) = (nat_lt from m.count && nat_lt to m.count) && nat_lt inst instance_count
 is_within m (Prepare from inst ballot) = (nat_lt from m.count && nat_lt inst instance_count) && nat_lt 0 ballot
-is_within m (Promise from to inst ballot vote) = ((nat_lt from m.count && nat_lt to m.count) && nat_lt inst instance_count) && nat_lt 0 ballot
+is_within m (Promise from to inst ballot vote) =
+    ((nat_lt from m.count && nat_lt to m.count) && nat_lt inst instance_count) && nat_lt 0 ballot
 is_within m (Propose from inst ballot value) = (nat_lt from m.count && nat_lt inst instance_count) && nat_lt 0 ballot
 is_within m (Learn from inst value) = nat_lt from m.count && nat_lt inst instance_count
 

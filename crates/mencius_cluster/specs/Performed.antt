@@ -20,7 +20,8 @@ pub record IsExecution (s t : ℕ) (x y : ExecutorState) (old new : List Row) : 
   pub rows : new ≡ set_value_at old t submission
   pub command : submission.command ≡ row.1.command
   pub home : submission.home ≡ row.1.home
-  pub answer : bytes_in submission.answer ≡ first_reply (row.1.home == s) (bytes_in row.1.answer) (finite.get x.store (key_of row.1.command.op))
+  pub answer : bytes_in submission.answer
+      ≡ first_reply (row.1.home == s) (bytes_in row.1.answer) (finite.get x.store (key_of row.1.command.op))
 
 -- server s executed a value
 abbrev pub IsPerformed : ℕ → Value → ExecutorState → ExecutorState → List Row → List Row → Type 0

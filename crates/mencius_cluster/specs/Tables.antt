@@ -65,7 +65,8 @@ pub record AreTables (m : Membership) (w : History) (t : Tables) : Type 0 where
   pub limit : t.messages.limit ≡ most_messages
   pub commands : map submission_of t.rows ≡ submitted w
   pub ids : map (λ r. r.0) t.rows ≡ map (λ x. x.0.id) (submitted w)
-  pub replies : (k : ℕ) (r : Row) → slice_get t.rows k ≡ Some r → bytes_in r.1.answer ≡ reply_at w k r.1.command r.1.home
+  pub replies : (k : ℕ) (r : Row) → slice_get t.rows k ≡ Some r
+      → bytes_in r.1.answer ≡ reply_at w k r.1.command r.1.home
   pub lost : (k d : ℕ) → t.is_lost k d ≡ list_any (is_loss k d) w
   pub events : length t.entries ≡ events w
 

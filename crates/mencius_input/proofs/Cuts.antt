@@ -58,25 +58,41 @@ first_part : (c : ℕ) (text : List ℕ) → (p : List ℕ) × (ps : List (List 
 first_part c [] = ([], [], refl)
 first_part c (b ∷ bs) = by_test (b == c) (first_part c bs)
   where
-    by_test : (t : Bool) → (p : List ℕ) × (ps : List (List ℕ)) × (parts c bs ≡ p ∷ ps) → (p : List ℕ) × (ps : List (List ℕ)) × (cond t ([] ∷ parts c bs) (onto_first b (parts c bs)) ≡ p ∷ ps)
+    by_test : (t : Bool) → (p : List ℕ) × (ps : List (List ℕ)) × (parts c bs ≡ p ∷ ps)
+        → (p : List ℕ) × (ps : List (List ℕ)) × (cond t ([] ∷ parts c bs) (onto_first b (parts c bs)) ≡ p ∷ ps)
     by_test true f = ([], parts c bs, refl)
     by_test false f = (b ∷ f.0, f.1, ap (onto_first b) f.2)
 
 -- there are two parts at least, and a byte that fails the test
 abbrev HasMore : (ℕ → Bool) → List ℕ → List (List ℕ) → Type 0
-HasMore test text ps = (x : List ℕ) × (y : List ℕ) × (ys : List (List ℕ)) × (ps ≡ x ∷ y ∷ ys) × (list_all test text ≡ false)
+HasMore test text ps =
+    (x : List ℕ) × (y : List ℕ) × (ys : List (List ℕ)) × (ps ≡ x ∷ y ∷ ys) × (list_all test text ≡ false)
 
-one_or_more : (test : ℕ → Bool) (c : ℕ) → test c ≡ false → (text : List ℕ) → (parts c text ≡ text ∷ []) ⊎ HasMore test text (parts c text)
+one_or_more : (test : ℕ → Bool) (c : ℕ) → test c ≡ false → (text : List ℕ)
+    → (parts c text ≡ text ∷ []) ⊎ HasMore test text (parts c text)
 one_or_more test c lacks [] = inl refl
 one_or_more test c lacks (b ∷ bs) = by_test (b == c) refl (one_or_more test c lacks bs) (first_part c bs)
   where
-    by_test : (t : Bool) → (b == c) ≡ t → (parts c bs ≡ bs ∷ []) ⊎ HasMore test bs (parts c bs) → (p : List ℕ) × (ps : List (List ℕ)) × (parts c bs ≡ p ∷ ps) → (cond t ([] ∷ parts c bs) (onto_first b (parts c bs)) ≡ (b ∷ bs) ∷ []) ⊎ HasMore test (b ∷ bs) (cond t ([] ∷ parts c bs) (onto_first b (parts c bs)))
-    by_test true is rest f = inr ([], f.0, f.1, ap (λ ps. [] ∷ ps) f.2, and_left (test b) (list_all test bs) (ap test (eqb-true b c is) ∙ lacks))
+    by_test : (t : Bool) → (b == c) ≡ t → (parts c bs ≡ bs ∷ []) ⊎ HasMore test bs (parts c bs)
+        → (p : List ℕ) × (ps : List (List ℕ)) × (parts c bs ≡ p ∷ ps)
+        → (cond t ([] ∷ parts c bs) (onto_first b (parts c bs)) ≡ (b ∷ bs) ∷ [])
+        ⊎ HasMore test (b ∷ bs) (cond t ([] ∷ parts c bs) (onto_first b (parts c bs)))
+    by_test true is rest f =
+        inr (
+          [],
+          f.0,
+          f.1,
+          ap (λ ps. [] ∷ ps) f.2,
+          and_left (test b) (list_all test bs) (ap test (eqb-true b c is) ∙ lacks),
+        )
     by_test false is (inl one) f = inl (ap (onto_first b) one)
-    by_test false is (inr more) f = inr (b ∷ more.0, more.1, more.2, ap (onto_first b) more.3, and_right (test b) (list_all test bs) more.4)
+    by_test false is (inr more) f =
+        inr (b ∷ more.0, more.1, more.2, ap (onto_first b) more.3, and_right (test b) (list_all test bs) more.4)
 
 -- a reader that takes no byte at which the text is cut reads the whole rest
-only_rest : {X : Type 0} (test : ℕ → Bool) (read : List ℕ → Option X) → ((word : List ℕ) → list_all test word ≡ false → read word ≡ None) → (c : ℕ) → test c ≡ false → (text : List ℕ) → only read (parts c text) ≡ read text
+only_rest : {X : Type 0} (test : ℕ → Bool) (read : List ℕ → Option X)
+    → ((word : List ℕ) → list_all test word ≡ false → read word ≡ None) → (c : ℕ) → test c ≡ false → (text : List ℕ)
+    → only read (parts c text) ≡ read text
 only_rest test read none c lacks text = elim (one_or_more test c lacks text) [
   | inl one ↦ ap (only read) one
   | inr more ↦ ap (only read) more.3 ∙ sym (none text more.4)

@@ -8,28 +8,34 @@ use Rattle.mencius_input.specs.declared.fault.AppFault.TheVariants.{NotJson, Bad
 use Rattle.mencius_input.specs.Judged.{judged, joined, seen, FailsBy, Gives}
 
 -- two things that were judged
-pub joined_judged : {X Y : Type 0} (f : X → Bool) (g : Y → Bool) (o : Option X) (p : Option Y) → joined (judged f o) (judged g p) ≡ judged (λ z. f z.0 && g z.1) (option_zip o p)
+pub joined_judged : {X Y : Type 0} (f : X → Bool) (g : Y → Bool) (o : Option X) (p : Option Y)
+    → joined (judged f o) (judged g p) ≡ judged (λ z. f z.0 && g z.1) (option_zip o p)
 joined_judged f g None None = refl
 joined_judged f g None (Some y) = refl
 joined_judged {X} {Y} f g (Some x) None = by_test (f x)
   where
-    by_test : (a : Bool) → ◌≡◌ {A = Result (X × Y) AppFault} (joined (cond a (Ok x) (Err BadLimit)) (Err BadShape)) (Err BadShape)
+    by_test : (a : Bool)
+        → ◌≡◌ {A = Result (X × Y) AppFault} (joined (cond a (Ok x) (Err BadLimit)) (Err BadShape)) (Err BadShape)
     by_test true = refl
     by_test false = refl
 joined_judged {X} {Y} f g (Some x) (Some y) = by_tests (f x) (g y)
   where
-    by_tests : (a b : Bool) → ◌≡◌ {A = Result (X × Y) AppFault} (joined (cond a (Ok x) (Err BadLimit)) (cond b (Ok y) (Err BadLimit))) (cond (a && b) (Ok (x, y)) (Err BadLimit))
+    by_tests : (a b : Bool)
+        → ◌≡◌ {A = Result (X × Y) AppFault} (joined (cond a (Ok x) (Err BadLimit)) (cond b (Ok y) (Err BadLimit)))
+        (cond (a && b) (Ok (x, y)) (Err BadLimit))
     by_tests true true = refl
     by_tests true false = refl
     by_tests false true = refl
     by_tests false false = refl
 
 -- what is made of a thing that was judged
-pub seen_judged : {X Y : Type 0} (make : X → Y) (f : X → Bool) (g : Y → Bool) → ((x : X) → g (make x) ≡ f x) → (o : Option X) → seen make (judged f o) ≡ judged g (option_map make o)
+pub seen_judged : {X Y : Type 0} (make : X → Y) (f : X → Bool) (g : Y → Bool) → ((x : X) → g (make x) ≡ f x)
+    → (o : Option X) → seen make (judged f o) ≡ judged g (option_map make o)
 seen_judged make f g same None = refl
 seen_judged {X} {Y} make f g same (Some x) = rw (same x) (by_test (f x))
   where
-    by_test : (a : Bool) → ◌≡◌ {A = Result Y AppFault} (seen make (cond a (Ok x) (Err BadLimit))) (cond a (Ok (make x)) (Err BadLimit))
+    by_test : (a : Bool)
+        → ◌≡◌ {A = Result Y AppFault} (seen make (cond a (Ok x) (Err BadLimit))) (cond a (Ok (make x)) (Err BadLimit))
     by_test true = refl
     by_test false = refl
 
@@ -49,7 +55,9 @@ given (Ok x) answer e = sym e
 given (Err fault) answer e = fails fault answer (sym e)
 
 -- a step that hands a fault on
-fails_on : {X Y : Type 0} (step : Result X AppFault → Result Y AppFault) (fault : AppFault) (answer : Result X AppFault) → step (Err fault) ≡ Err fault → FailsBy fault answer → FailsBy fault (step answer)
+fails_on : {X Y : Type 0} (step : Result X AppFault
+    → Result Y AppFault) (fault : AppFault) (answer : Result X AppFault) → step (Err fault) ≡ Err fault
+    → FailsBy fault answer → FailsBy fault (step answer)
 fails_on step NoMemory answer on e = tt
 fails_on step NotJson answer on e = ap step e ∙ on
 fails_on step BadShape answer on e = ap step e ∙ on
@@ -58,11 +66,13 @@ fails_on step ReadFailed answer on e = ap step e ∙ on
 fails_on step WriteFailed answer on e = ap step e ∙ on
 fails_on step BoardFailed answer on e = ap step e ∙ on
 
-seen_given : {X Y : Type 0} (make : X → Y) (result answer : Result X AppFault) → Gives result answer → Gives (seen make result) (seen make answer)
+seen_given : {X Y : Type 0} (make : X → Y) (result answer : Result X AppFault) → Gives result answer
+    → Gives (seen make result) (seen make answer)
 seen_given make (Ok x) answer h = ap (seen make) h
 seen_given make (Err fault) answer h = fails_on (seen make) fault answer refl h
 
-joined_given : {X Y : Type 0} (k a : Result X AppFault) (t b : Result Y AppFault) → Gives k a → Gives t b → Gives (joined k t) (joined a b)
+joined_given : {X Y : Type 0} (k a : Result X AppFault) (t b : Result Y AppFault) → Gives k a → Gives t b
+    → Gives (joined k t) (joined a b)
 joined_given (Ok x) a (Ok y) b h i = rw (h, i) refl
 joined_given (Ok x) a (Err fault) b h i = rw h (fails_on (joined (Ok x)) fault b refl i)
 joined_given (Err BadLimit) a (Ok y) b h i = rw (h, i) refl
@@ -75,40 +85,58 @@ joined_given (Err WriteFailed) a t b h i = rw h refl
 joined_given (Err BoardFailed) a t b h i = rw h refl
 
 -- what is made of one thing, and of two
-pub made_given : {X Y : Type 0} (make : X → Y) (f : X → Bool) (g : Y → Bool) → ((x : X) → g (make x) ≡ f x) → (o : Option X) (result : Result X AppFault) → Gives result (judged f o) → Gives (seen make result) (judged g (option_map make o))
+pub made_given : {X Y : Type 0} (make : X → Y) (f : X → Bool) (g : Y → Bool) → ((x : X) → g (make x) ≡ f x)
+    → (o : Option X) (result : Result X AppFault) → Gives result (judged f o)
+    → Gives (seen make result) (judged g (option_map make o))
 made_given make f g same o result h = rw (← seen_judged make f g same o) (seen_given make result (judged f o) h)
 
-pub pair_given : {X Y : Type 0} (f : X → Bool) (g : Y → Bool) (o : Option X) (p : Option Y) (k : Result X AppFault) (t : Result Y AppFault) (result : Result (X × Y) AppFault) → result ≡ joined k t → Gives k (judged f o) → Gives t (judged g p) → Gives result (judged (λ z. f z.0 && g z.1) (option_zip o p))
+pub pair_given : {X Y : Type 0} (f : X → Bool) (g : Y
+    → Bool) (o : Option X) (p : Option Y) (k : Result X AppFault) (t : Result Y AppFault)
+    (result : Result (X × Y) AppFault) → result ≡ joined k t → Gives k (judged f o) → Gives t (judged g p)
+    → Gives result (judged (λ z. f z.0 && g z.1) (option_zip o p))
 pair_given f g o p k t result is h i = rw (is, ← joined_judged f g o p) (joined_given k (judged f o) t (judged g p) h i)
 
-pub both_given : {X Y Z : Type 0} (make : X × Y → Z) (f : X → Bool) (g : Y → Bool) (ok : Z → Bool) → ((z : X × Y) → ok (make z) ≡ (f z.0 && g z.1)) → (o : Option X) (p : Option Y) (k : Result X AppFault) (t : Result Y AppFault) (result : Result (X × Y) AppFault) → result ≡ joined k t → Gives k (judged f o) → Gives t (judged g p) → Gives (seen make result) (judged ok (option_map make (option_zip o p)))
-both_given make f g ok same o p k t result is h i = made_given make (λ z. f z.0 && g z.1) ok same (option_zip o p) result (pair_given f g o p k t result is h i)
+pub both_given : {X Y Z : Type 0} (make : X × Y → Z) (f : X → Bool) (g : Y → Bool) (ok : Z → Bool)
+    → ((z : X × Y) → ok (make z) ≡ (f z.0 && g z.1))
+    → (o : Option X) (p : Option Y) (k : Result X AppFault) (t : Result Y AppFault)
+    (result : Result (X × Y) AppFault) → result ≡ joined k t → Gives k (judged f o) → Gives t (judged g p)
+    → Gives (seen make result) (judged ok (option_map make (option_zip o p)))
+both_given make f g ok same o p k t result is h i =
+    made_given make (λ z. f z.0 && g z.1) ok same (option_zip o p) result (pair_given f g o p k t result is h i)
 
 -- ---- at the exit of a `?`
 
-pub passed_on : {X : Type 0} (result answer : Result X AppFault) (fault : AppFault) → IsErrAnd result (λ e. e ≡ fault) → FailsBy fault answer → Gives result answer
+pub passed_on : {X : Type 0} (result answer : Result X AppFault) (fault : AppFault)
+    → IsErrAnd result (λ e. e ≡ fault) → FailsBy fault answer → Gives result answer
 passed_on result answer fault h i = let p = err_from_is_err_and result h in rw (p.1, p.2) i
 
-pub passed_on_seen : {X Y : Type 0} (view : X → Y) (result : Result X AppFault) (answer : Result Y AppFault) (fault : AppFault) → IsErrAnd result (λ e. e ≡ fault) → FailsBy fault answer → Gives (seen view result) answer
+pub passed_on_seen : {X Y : Type 0} (view : X
+    → Y) (result : Result X AppFault) (answer : Result Y AppFault) (fault : AppFault)
+    → IsErrAnd result (λ e. e ≡ fault) → FailsBy fault answer → Gives (seen view result) answer
 passed_on_seen view result answer fault h i = let p = err_from_is_err_and result h in rw (p.1, p.2) i
 
-pub passed_on_as : {X : Type 0} (result answer : Result X AppFault) (fault : AppFault) → IsErrAnd result (λ e. e ≡ fault) → answer ≡ Err fault → result ≡ answer
+pub passed_on_as : {X : Type 0} (result answer : Result X AppFault) (fault : AppFault)
+    → IsErrAnd result (λ e. e ≡ fault) → answer ≡ Err fault → result ≡ answer
 passed_on_as result answer fault h i = let p = err_from_is_err_and result h in rw (p.1, p.2) (sym i)
 
 -- no shape
-pub shapeless : {X : Type 0} (within : X → Bool) (o : Option X) (fault : AppFault) → fault ≡ BadShape → o ≡ None → FailsBy fault (judged within o)
+pub shapeless : {X : Type 0} (within : X → Bool) (o : Option X) (fault : AppFault) → fault ≡ BadShape → o ≡ None
+    → FailsBy fault (judged within o)
 shapeless within o fault is none = rw (is, none) refl
 
 -- a limit that refuses more
-stricter_err : {X : Type 0} (f g : X → Bool) → ((x : X) → f x ≡ false → g x ≡ false) → (o : Option X) (fault : AppFault) → judged f o ≡ Err fault → judged g o ≡ Err fault
+stricter_err : {X : Type 0} (f g : X → Bool) → ((x : X) → f x ≡ false → g x ≡ false)
+    → (o : Option X) (fault : AppFault) → judged f o ≡ Err fault → judged g o ≡ Err fault
 stricter_err f g less None fault e = e
 stricter_err {X} f g less (Some x) fault e = by_test (f x) refl e
   where
-    by_test : (a : Bool) → f x ≡ a → ◌≡◌ {A = Result X AppFault} (cond a (Ok x) (Err BadLimit)) (Err fault) → ◌≡◌ {A = Result X AppFault} (cond (g x) (Ok x) (Err BadLimit)) (Err fault)
+    by_test : (a : Bool) → f x ≡ a → ◌≡◌ {A = Result X AppFault} (cond a (Ok x) (Err BadLimit)) (Err fault)
+        → ◌≡◌ {A = Result X AppFault} (cond (g x) (Ok x) (Err BadLimit)) (Err fault)
     by_test true is e = absurd (cc)
     by_test false is e = rw (less x is) e
 
-pub stricter : {X : Type 0} (f g : X → Bool) → ((x : X) → f x ≡ false → g x ≡ false) → (o : Option X) (fault : AppFault) → FailsBy fault (judged f o) → FailsBy fault (judged g o)
+pub stricter : {X : Type 0} (f g : X → Bool) → ((x : X) → f x ≡ false → g x ≡ false)
+    → (o : Option X) (fault : AppFault) → FailsBy fault (judged f o) → FailsBy fault (judged g o)
 stricter f g less o NoMemory h = tt
 stricter f g less o NotJson h = stricter_err f g less o NotJson h
 stricter f g less o BadShape h = stricter_err f g less o BadShape h
@@ -122,29 +150,36 @@ pub judged_ok : {X : Type 0} (f : X → Bool) (o : Option X) (x : X) → judged 
 judged_ok f None x e = absurd (cc)
 judged_ok {X} f (Some y) x e = by_test (f y) refl e
   where
-    by_test : (a : Bool) → f y ≡ a → ◌≡◌ {A = Result X AppFault} (cond a (Ok y) (Err BadLimit)) (Ok x) → (◌≡◌ {A = Option X} (Some y) (Some x)) × (f x ≡ true)
+    by_test : (a : Bool) → f y ≡ a → ◌≡◌ {A = Result X AppFault} (cond a (Ok y) (Err BadLimit)) (Ok x)
+        → (◌≡◌ {A = Option X} (Some y) (Some x)) × (f x ≡ true)
     by_test true is e = let same : y ≡ x = cc in (ap Some same, ap f (sym same) ∙ is)
     by_test false is e = absurd (cc)
 
 -- what is past a limit has a shape
-pub judged_limit : {X : Type 0} (f : X → Bool) (o : Option X) → judged f o ≡ Err BadLimit → (x : X) × (o ≡ Some x) × (f x ≡ false)
+pub judged_limit : {X : Type 0} (f : X → Bool) (o : Option X) → judged f o ≡ Err BadLimit
+    → (x : X) × (o ≡ Some x) × (f x ≡ false)
 judged_limit f None e = absurd (cc)
 judged_limit {X} f (Some x) e = by_test (f x) refl e
   where
-    by_test : (a : Bool) → f x ≡ a → ◌≡◌ {A = Result X AppFault} (cond a (Ok x) (Err BadLimit)) (Err BadLimit) → (y : X) × (◌≡◌ {A = Option X} (Some x) (Some y)) × (f y ≡ false)
+    by_test : (a : Bool) → f x ≡ a → ◌≡◌ {A = Result X AppFault} (cond a (Ok x) (Err BadLimit)) (Err BadLimit)
+        → (y : X) × (◌≡◌ {A = Option X} (Some x) (Some y)) × (f y ≡ false)
     by_test true is e = absurd (cc)
     by_test false is e = (x, refl, is)
 
 -- another fault than a limit is that of a bad shape, and a part without a shape takes it from the whole
-shape_fault : {X Y : Type 0} (f : X → Bool) (g : Y → Bool) (part : Option X) (whole : Option Y) (fault : AppFault) → (fault ≡ BadLimit → ⊥) → (part ≡ None → whole ≡ None) → judged f part ≡ Err fault → judged g whole ≡ Err fault
+shape_fault : {X Y : Type 0} (f : X → Bool) (g : Y → Bool) (part : Option X) (whole : Option Y) (fault : AppFault)
+    → (fault ≡ BadLimit → ⊥) → (part ≡ None → whole ≡ None) → judged f part ≡ Err fault → judged g whole ≡ Err fault
 shape_fault f g None whole fault other none e = let is : BadShape ≡ fault = cc in rw (none refl) (ap Err is)
 shape_fault {X} {Y} f g (Some x) whole fault other none e = by_test (f x) e
   where
-    by_test : (a : Bool) → ◌≡◌ {A = Result X AppFault} (cond a (Ok x) (Err BadLimit)) (Err fault) → judged g whole ≡ Err fault
+    by_test : (a : Bool) → ◌≡◌ {A = Result X AppFault} (cond a (Ok x) (Err BadLimit)) (Err fault)
+        → judged g whole ≡ Err fault
     by_test true e = absurd (cc)
     by_test false e = absurd (other (let is : BadLimit ≡ fault = cc in sym is))
 
-pub shape_faults : {X Y : Type 0} (f : X → Bool) (g : Y → Bool) (part : Option X) (whole : Option Y) (fault : AppFault) → (fault ≡ BadLimit → ⊥) → (part ≡ None → whole ≡ None) → FailsBy fault (judged f part) → FailsBy fault (judged g whole)
+pub shape_faults : {X Y : Type 0} (f : X → Bool) (g : Y
+    → Bool) (part : Option X) (whole : Option Y) (fault : AppFault) → (fault ≡ BadLimit → ⊥)
+    → (part ≡ None → whole ≡ None) → FailsBy fault (judged f part) → FailsBy fault (judged g whole)
 shape_faults f g part whole NoMemory other none h = tt
 shape_faults f g part whole NotJson other none h = shape_fault f g part whole NotJson other none h
 shape_faults f g part whole BadShape other none h = shape_fault f g part whole BadShape other none h

@@ -14,7 +14,9 @@ use Rattle.mencius_input.specs.Words.{is_number, number_of}
 zero_digit : (b : ℕ) → true ≡ (b == 48) → is_ascii_digit b ≡ true
 zero_digit b e = grind (arith, nat_tests)
 
-digits_from_first : (z : Bool) (b : ℕ) (bs : List ℕ) → z ≡ (b == 48) → cond z (length bs == 0) (is_ascii_digit b && list_all is_ascii_digit bs) ≡ true → list_all is_ascii_digit (b ∷ bs) ≡ true
+digits_from_first : (z : Bool) (b : ℕ) (bs : List ℕ) → z ≡ (b == 48)
+    → cond z (length bs == 0) (is_ascii_digit b && list_all is_ascii_digit bs) ≡ true
+    → list_all is_ascii_digit (b ∷ bs) ≡ true
 digits_from_first true b [] z e = and_from (is_ascii_digit b) true (zero_digit b z) refl
 digits_from_first true b (x ∷ bs) z e = absurd (grind (arith, nat_tests))
 digits_from_first false b bs z e = e
@@ -33,20 +35,27 @@ digit_below c e = grind (arith, nat_tests)
 
 all_digits : (bs : List ℕ) → list_all is_ascii_digit bs ≡ true → AllDigits 10 bs
 all_digits [] e = tt
-all_digits (b ∷ bs) e = let p = and_parts (is_ascii_digit b) (list_all is_ascii_digit bs) e in (digit_below b p.0, all_digits bs p.1)
+all_digits (b ∷ bs) e =
+    let p = and_parts (is_ascii_digit b) (list_all is_ascii_digit bs) e in (digit_below b p.0, all_digits bs p.1)
 
 weaker : {E : Type 0} (r : Result ℕ E) (P Q : Type 0) (v : ℕ) → OkIff r (P × Q) v → P → OkIff r Q v
 weaker (Ok x) P Q v h p = (h.0.1, h.1)
 weaker (Err x) P Q v h p = λ q. h (p, q)
 
 -- std's reader takes a number exactly when its type holds it
-pub parsed : {E : Type 0} (k : ℕ) (w : List ℕ) (r : Result ℕ E) → ParsesUnsigned k 10 w r → is_number w ≡ true → OkIff r (digits_value 10 w < 2 ^ k) (digits_value 10 w)
-parsed k w r h e = weaker r (0 < length w) (digits_value 10 w < 2 ^ k) (digits_value 10 w) (parse_digits (numerals_by_value (AllDigits 10) tells_digits) k w r h (all_digits w (number_digits w e))) (number_length w e)
+pub parsed : {E : Type 0} (k : ℕ) (w : List ℕ) (r : Result ℕ E) → ParsesUnsigned k 10 w r → is_number w ≡ true
+    → OkIff r (digits_value 10 w < 2 ^ k) (digits_value 10 w)
+parsed k w r h e =
+    weaker r (0 < length w) (digits_value 10 w < 2 ^ k) (digits_value 10 w)
+    (parse_digits (numerals_by_value (AllDigits 10) tells_digits) k w r h
+    (all_digits w (number_digits w e))) (number_length w e)
 
 -- and else the number is past the limit
-pub past_limit : {E : Type 0} (k : ℕ) (w : List ℕ) (e : E) → ParsesUnsigned k 10 w (Err e) → is_number w ≡ true → judged (λ n. nat_lt n (2 ^ k)) (number_of w) ≡ Err BadLimit
+pub past_limit : {E : Type 0} (k : ℕ) (w : List ℕ) (e : E) → ParsesUnsigned k 10 w (Err e) → is_number w ≡ true
+    → judged (λ n. nat_lt n (2 ^ k)) (number_of w) ≡ Err BadLimit
 unfolding number_of
-past_limit k w e h n = rw (n, le-ltb (digits_value 10 w) (2 ^ k) (not_less (digits_value 10 w) (2 ^ k) (parsed k w (Err e) h n))) refl
+past_limit k w e h n =
+    rw (n, le-ltb (digits_value 10 w) (2 ^ k) (not_less (digits_value 10 w) (2 ^ k) (parsed k w (Err e) h n))) refl
   where
     not_less : (a b : ℕ) → (a < b → ⊥) → b ≤ a
     not_less a b h = grind arith

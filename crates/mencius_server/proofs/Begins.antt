@@ -27,13 +27,15 @@ pub record IsSentUpTo (f : ℕ → Message) (test : ℕ → Bool) (before after 
   pub sent : after ≡ before ++ map f (filter test (below i))
 
 pub sent_none : (f : ℕ → Message) (test : ℕ → Bool) (before : List Message) → IsSentUpTo f test before before 0
-sent_none f test before = record { sent = sym (ap (λ (xs : List ℕ). before ++ map f xs) (filter-below_zero test) ∙ append-nil before) }
+sent_none f test before =
+    record { sent = sym (ap (λ (xs : List ℕ). before ++ map f xs) (filter-below_zero test) ∙ append-nil before) }
 
 one_sent : (f : ℕ → Message) (i : ℕ) (b : Bool) → map f (cond b (i ∷ []) []) ≡ cond b (f i ∷ []) []
 one_sent f i true = refl
 one_sent f i false = refl
 
-pub sent_more : (f : ℕ → Message) (test : ℕ → Bool) (before after new all : List Message) (i : ℕ) → new ≡ cond (test i) (f i ∷ []) [] → all ≡ after ++ new
+pub sent_more : (f : ℕ → Message) (test : ℕ → Bool) (before after new all : List Message) (i : ℕ)
+    → new ≡ cond (test i) (f i ∷ []) [] → all ≡ after ++ new
     → IsSentUpTo f test before after i → IsSentUpTo f test before all (i + 1)
 sent_more f test before after new all i here pushed old = record {
   sent =
@@ -41,7 +43,8 @@ sent_more f test before after new all i here pushed old = record {
       ∙ append_assoc before (map f (filter test (below i))) new
       ∙ ap (λ (xs : List Message). before ++ (map f (filter test (below i)) ++ xs)) (here ∙ sym (one_sent f i (test i)))
       ∙ ap (λ (xs : List Message). before ++ xs)
-      (sym (map-append f (filter test (below i)) (cond (test i) (i ∷ []) [])) ∙ ap (map f) (sym (filter-below_more test i)));
+      (sym (map-append f (filter test (below i)) (cond (test i) (i ∷ []) []))
+      ∙ ap (map f) (sym (filter-below_more test i)));
 }
 
 -- there is room for the places from i on
@@ -53,11 +56,14 @@ room_none test n room h = record { enough = omega (arith, h) }
 
 pub room_here : (test : ℕ → Bool) (n room i : ℕ) → i < n → test i ≡ true → HasRoomFrom test n room i → 0 < room
 room_here test n room i within here has =
-    let more : count_by test (below (i + 1)) ≡ count_by test (below i) + 1 = count_by-below_more test i ∙ ap (λ (b : Bool). count_by test (below i) + cond b 1 0) here in
-    let all : count_by test (below (i + 1)) ≤ count_by test (below n) = count_by-below_le test (i + 1) n (omega arith) in
+    let more : count_by test (below (i + 1)) ≡ count_by test (below i) + 1 =
+    count_by-below_more test i ∙ ap (λ (b : Bool). count_by test (below i) + cond b 1 0) here in
+    let all : count_by test (below (i + 1)) ≤ count_by test (below n) =
+    count_by-below_le test (i + 1) n (omega arith) in
     omega (arith, more, all, has.enough)
 
-pub room_more : (test : ℕ → Bool) (n room new i : ℕ) → new + cond (test i) 1 0 ≡ room → HasRoomFrom test n room i → HasRoomFrom test n new (i + 1)
+pub room_more : (test : ℕ → Bool) (n room new i : ℕ) → new + cond (test i) 1 0 ≡ room → HasRoomFrom test n room i
+    → HasRoomFrom test n new (i + 1)
 room_more test n room new i used has = record { enough = omega (arith, count_by-below_more test i, used, has.enough) }
 
 -- the new ballot is above the one that was tried
@@ -83,20 +89,30 @@ IsServer-suspect s q other kept = record {
   unsaid = λ i. (fits i).unsaid;
 }
   where
-    begun : (i : ℕ) → is_revoked s.members q s.front i (slot s i) ≡ true → FitsAt s s.front i (after_begin (slot s i) (ballot_after s.members s.id (slot s i)))
+    begun : (i : ℕ) → is_revoked s.members q s.front i (slot s i) ≡ true
+        → FitsAt s s.front i (after_begin (slot s i) (ballot_after s.members s.id (slot s i)))
     begun i e =
         let theirs : owner s.members i ≡ q = eqb-true _ _ (and_parts _ _ (and_parts _ _ e).0).0 in
-        record { stays = λ known. known; said = λ mine. absurd (other (sym mine ∙ theirs)); same = kept.same i; own = λ mine. absurd (other (sym mine ∙ theirs)); unsaid = λ mine ahead. refl }
+        record {
+          stays = λ known. known;
+          said = λ mine. absurd (other (sym mine ∙ theirs));
+          same = kept.same i;
+          own = λ mine. absurd (other (sym mine ∙ theirs));
+          unsaid = λ mine ahead. refl;
+        }
 
     given : (i : ℕ) → FitsAt s s.front i (slot_revoked s.members s.id q s.front i (slot s i))
-    given i = FitsAt-cond s s.front i (is_revoked s.members q s.front i (slot s i)) _ (slot s i) (begun i) (FitsAt-slot s i kept)
+    given i = FitsAt-cond s s.front i (is_revoked s.members q s.front i (slot s i)) _ (slot s i) (begun i)
+        (FitsAt-slot s i kept)
 
     fits : (i : ℕ) → KeepsAt s s.front i (slot (after_suspect s q) i)
     fits i =
         ⊎_elim
-        (λ (small : i < instance_count). subst (KeepsAt s s.front i) (sym (get_or-map-instances _ i (new_slot s.members) small)) (KeepsAt-fits s s.front i _ (given i)))
+        (λ (small : i < instance_count). subst (KeepsAt s s.front i)
+        (sym (get_or-map-instances _ i (new_slot s.members) small)) (KeepsAt-fits s s.front i _ (given i)))
         (λ (past : instance_count ≤ i).
-        let none : length (slots_revoked s q) ≤ i = rw (length-map-instances (λ (j : ℕ). slot_revoked s.members s.id q s.front j (slot s j))) past in
+        let none : length (slots_revoked s q) ≤ i =
+        rw (length-map-instances (λ (j : ℕ). slot_revoked s.members s.id q s.front j (slot s j))) past in
         subst (KeepsAt s s.front i) (sym (get_or_past (slots_revoked s q) i (new_slot s.members) none))
         (KeepsAt-new s s.front i))
         (cases_lt i instance_count)
@@ -109,9 +125,12 @@ none_given g xs = go (filter g xs) ∙ ap (λ (n : ℕ). eqb n 0) (length-filter
   go [] = refl
   go (y ∷ ys) = sym (ne_eqb (length (y ∷ ys)) 0 (λ e. absurd (omega arith)))
 
-pub suspect_cause_is : (s : ServerState) (o : Outgoing) (q : ℕ) (b d : Bool) → eqb s.id q ≡ false → eqb (count_by (is_suspected s q) instances) 0 ≡ b
+pub suspect_cause_is : (s : ServerState) (o : Outgoing) (q : ℕ) (b d : Bool) → eqb s.id q ≡ false
+    → eqb (count_by (is_suspected s q) instances) 0 ≡ b
     → list_any (is_round_full s) (filter (is_suspected s q) instances) ≡ d
-    → suspect_cause s o q ≡ cond b (Some NothingToRevoke) (cond d (Some RoundsFull) (outbox_full o (count_by (is_suspected s q) instances)))
+    → suspect_cause s o q
+    ≡ cond b (Some NothingToRevoke)
+    (cond d (Some RoundsFull) (outbox_full o (count_by (is_suspected s q) instances)))
 suspect_cause_is s o q b d other none full =
     let many : length (suspect_sent s q) ≡ count_by (is_suspected s q) instances =
     length-map (filter (is_suspected s q) instances) (prepare_for s) ∙ length-filter (is_suspected s q) instances in

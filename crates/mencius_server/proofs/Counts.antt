@@ -34,7 +34,8 @@ count_same f g (suc n) e =
     rw next (omega (arith, count_by-below_more f n, count_by-below_more g n, before, here))
 
 -- what passes and lies in a range
-pub count_within : (p : ℕ → Bool) (a b n : ℕ) → a ≤ b → count_by (λ j. p j && is_within a b j) (below n) + count_by p (below (min n a)) ≡ count_by p (below (min n b))
+pub count_within : (p : ℕ → Bool) (a b n : ℕ) → a ≤ b
+    → count_by (λ j. p j && is_within a b j) (below n) + count_by p (below (min n a)) ≡ count_by p (below (min n b))
 count_within p a b zero h =
     let low : min 0 a ≡ 0 = omega arith in
     let high : min 0 b ≡ 0 = omega arith in
@@ -51,25 +52,29 @@ count_within p a b (suc n) h =
     let b_now : min n b ≡ n = omega arith in
     let a_next : min (n + 1) a ≡ n + 1 = omega arith in
     let b_next : min (n + 1) b ≡ n + 1 = omega arith in
-    let old : count_by (λ j. p j && is_within a b j) (below n) + count_by p (below n) ≡ count_by p (below n) = rw (a_now, b_now) at before in
+    let old : count_by (λ j. p j && is_within a b j) (below n) + count_by p (below n) ≡ count_by p (below n) =
+    rw (a_now, b_now) at before in
     rw (a_next, b_next) (omega (arith, more, none, old)))
     (λ (from : a ≤ n).
     let a_now : min n a ≡ a = omega arith in
     let a_next : min (n + 1) a ≡ a = omega arith in
     ⊎_elim
     (λ (within : n < b).
-    let here : (p n && is_within a b n) ≡ p n = ap (λ (c : Bool). p n && c) (within_yes a b n from within) ∙ and-true (p n) in
+    let here : (p n && is_within a b n) ≡ p n =
+    ap (λ (c : Bool). p n && c) (within_yes a b n from within) ∙ and-true (p n) in
     let one : bit (p n && is_within a b n) ≡ bit (p n) = ap bit here in
     let b_now : min n b ≡ n = omega arith in
     let b_next : min (n + 1) b ≡ n + 1 = omega arith in
-    let old : count_by (λ j. p j && is_within a b j) (below n) + count_by p (below a) ≡ count_by p (below n) = rw (a_now, b_now) at before in
+    let old : count_by (λ j. p j && is_within a b j) (below n) + count_by p (below a) ≡ count_by p (below n) =
+    rw (a_now, b_now) at before in
     rw (a_next, b_next) (omega (arith, more, one, old, count_by-below_more p n)))
     (λ (past : b ≤ n).
     let out : (p n && is_within a b n) ≡ false = and_right _ _ (within_past a b n past) in
     let none : bit (p n && is_within a b n) ≡ 0 = ap bit out in
     let b_now : min n b ≡ b = omega arith in
     let b_next : min (n + 1) b ≡ b = omega arith in
-    let old : count_by (λ j. p j && is_within a b j) (below n) + count_by p (below a) ≡ count_by p (below b) = rw (a_now, b_now) at before in
+    let old : count_by (λ j. p j && is_within a b j) (below n) + count_by p (below a) ≡ count_by p (below b) =
+    rw (a_now, b_now) at before in
     rw (a_next, b_next) (omega (arith, more, none, old)))
     (cases_lt n b))
     (cases_lt n a))
@@ -95,7 +100,8 @@ apart n q x j here there less =
     let x_is : n * (x / n) + q ≡ x = ap (λ r. n * (x / n) + r) (sym here) ∙ div-add-mod x n in
     let j_is : n * (j / n) + q ≡ j = ap (λ r. n * (j / n) + r) (sym there) ∙ div-add-mod j n in
     ⊎_elim
-    (λ (lower : j / n < x / n). omega (arith, x_is, j_is, mul-le-mul_left n (let h : j / n + 1 ≤ x / n = omega arith in h), one_round n (j / n)))
+    (λ (lower : j / n < x / n). omega
+    (arith, x_is, j_is, mul-le-mul_left n (let h : j / n + 1 ≤ x / n = omega arith in h), one_round n (j / n)))
     (λ (upper : x / n ≤ j / n). absurd (omega (arith, x_is, j_is, mul-le-mul_left n upper)))
     (cases_lt (j / n) (x / n))
   where
@@ -135,7 +141,9 @@ owned_place m q member (suc j) =
     (λ (other : owner m j ≡ q → ⊥).
     let none : bit (eqb (owner m j) q) ≡ 0 = ap bit (ne_eqb (owner m j) q other) in
     let off : first_owned m q j ≡ j → ⊥ = λ e. other (ap (owner m) (sym e) ∙ own_now) in
-    let past : j + 1 ≤ first_owned m q j = ⊎_elim (λ (e : first_owned m q j ≡ j). absurd (off e)) (λ (ne : first_owned m q j ≡ j → ⊥). omega (arith, above_now)) (cases_eq (first_owned m q j) j) in
+    let past : j + 1 ≤ first_owned m q j =
+    ⊎_elim (λ (e : first_owned m q j ≡ j). absurd (off e))
+    (λ (ne : first_owned m q j ≡ j → ⊥). omega (arith, above_now)) (cases_eq (first_owned m q j) j) in
     let up = first_owned_least m q (j + 1) (first_owned m q j) member past own_now in
     let down = first_owned_least m q j (first_owned m q (j + 1)) member (omega (arith, above)) own in
     let count : m.count * owned_below m q (j + 1) ≡ m.count * owned_below m q j =
@@ -149,7 +157,8 @@ owned_place m q member (suc j) =
 -- ---- ranges
 
 -- a place at which a range of q may end, as far as there are instances below a place
-end_place : (m : Membership) (q n b : ℕ) → q < m.count → owner m b ≡ q → b ≤ first_owned m q n → m.count * owned_below m q (min n b) + q ≡ b
+end_place : (m : Membership) (q n b : ℕ) → q < m.count → owner m b ≡ q → b ≤ first_owned m q n
+    → m.count * owned_below m q (min n b) + q ≡ b
 end_place m q n b member own low =
     ⊎_elim
     (λ (less : n < b).
@@ -162,14 +171,22 @@ end_place m q n b member own low =
     (cases_lt n b)
 
 -- a range has an instance for each round from its first to its stop
-pub count_range : (m : Membership) (q n a b : ℕ) → q < m.count → owner m a ≡ q → owner m b ≡ q → a ≤ b → b ≤ first_owned m q n
+pub count_range : (m : Membership) (q n a b : ℕ) → q < m.count → owner m a ≡ q → owner m b ≡ q → a ≤ b
+    → b ≤ first_owned m q n
     → m.count * count_by (λ j. eqb (owner m j) q && is_within a b j) (below n) + a ≡ b
 count_range m q n a b member own_a own_b h low =
     let both = count_within (λ j. eqb (owner m j) q) a b n h in
-    let all : m.count * (count_by (λ j. eqb (owner m j) q && is_within a b j) (below n) + owned_below m q (min n a)) ≡ m.count * owned_below m q (min n b) = ap (λ k. m.count * k) both in
+    let all : m.count * (count_by (λ j. eqb (owner m j) q && is_within a b j) (below n) + owned_below m q (min n a))
+    ≡ m.count * owned_below m q (min n b) = ap (λ k. m.count * k) both in
     let a_is = end_place m q n a member own_a (omega (arith, low)) in
     let b_is = end_place m q n b member own_b low in
-    omega (arith, all, a_is, b_is, distribute m.count (count_by (λ j. eqb (owner m j) q && is_within a b j) (below n)) (owned_below m q (min n a)))
+    omega (
+      arith,
+      all,
+      a_is,
+      b_is,
+      distribute m.count (count_by (λ j. eqb (owner m j) q && is_within a b j) (below n)) (owned_below m q (min n a)),
+    )
   where
     distribute : (n a b : ℕ) → n * (a + b) ≡ n * a + n * b
     distribute n a b = grind arith
@@ -178,7 +195,8 @@ count_range m q n a b member own_a own_b h low =
 covers_before : (low : ℕ) (rs : List Span) (j : ℕ) → IsRising low rs → j < low → covers rs j ≡ false
 covers_before low [] j h less = refl
 covers_before low (r ∷ rs) j h less =
-    rw (within_before r.first r.stop j (omega (arith, h.0))) (covers_before (r.stop + 1) rs j h.2 (omega (arith, h.0, h.1)))
+    rw (within_before r.first r.stop j (omega (arith, h.0)))
+    (covers_before (r.stop + 1) rs j h.2 (omega (arith, h.0, h.1)))
 
 one_of_two : (p w c : Bool) → (w ≡ true → c ≡ false) → bit (p && (w || c)) ≡ bit (p && w) + bit (p && c)
 one_of_two true true c h = let e : c ≡ false = h refl in rw e (omega arith)
@@ -187,10 +205,12 @@ one_of_two true false false h = omega arith
 one_of_two false w c h = omega arith
 
 -- so have all ranges of a server
-pub count_covered : (m : Membership) (q n low : ℕ) (rs : List Span) → q < m.count → IsRising low rs → IsOwned m q (first_owned m q n) rs
+pub count_covered : (m : Membership) (q n low : ℕ) (rs : List Span) → q < m.count → IsRising low rs
+    → IsOwned m q (first_owned m q n) rs
     → m.count * count_by (λ j. eqb (owner m j) q && covers rs j) (below n) ≡ reach_of rs
 count_covered m q n low [] member h own =
-    let none : count_by (λ j. eqb (owner m j) q && false) (below n) ≡ 0 = count_same (λ j. eqb (owner m j) q && false) (λ j. false) n (λ j l. and_right _ _ refl) ∙ count_none n in
+    let none : count_by (λ j. eqb (owner m j) q && false) (below n) ≡ 0 =
+    count_same (λ j. eqb (owner m j) q && false) (λ j. false) n (λ j l. and_right _ _ refl) ∙ count_none n in
     ap (λ k. m.count * k) none ∙ mul-zero m.count
   where
     mul-zero : (n : ℕ) → n * 0 ≡ 0
@@ -198,14 +218,25 @@ count_covered m q n low [] member h own =
 
     count_none : (n : ℕ) → count_by (λ j. false) (below n) ≡ 0
     count_none zero = count_by-below_zero (λ j. false)
-    count_none (suc n) = let next : suc n ≡ n + 1 = omega arith in rw next (count_by-below_more (λ j. false) n ∙ add-zero _ ∙ count_none n)
+    count_none (suc n) =
+        let next : suc n ≡ n + 1 = omega arith in
+        rw next (count_by-below_more (λ j. false) n ∙ add-zero _ ∙ count_none n)
 count_covered m q n low (r ∷ rs) member h own =
-    let split = count_split (λ j. eqb (owner m j) q && (is_within r.first r.stop j || covers rs j)) (λ j. eqb (owner m j) q && is_within r.first r.stop j) (λ j. eqb (owner m j) q && covers rs j) n
+    let split = count_split (λ j. eqb (owner m j) q && (is_within r.first r.stop j || covers rs j))
+    (λ j. eqb (owner m j) q && is_within r.first r.stop j) (λ j. eqb (owner m j) q && covers rs j) n
     (λ j l. one_of_two (eqb (owner m j) q) (is_within r.first r.stop j) (covers rs j) (apart_from j)) in
     let head = count_range m q n r.first r.stop member own.0 own.1 (omega (arith, h.1)) own.2 in
     let tail = count_covered m q n (r.stop + 1) rs member h.2 own.3 in
     let all = ap (λ k. m.count * k) split in
-    omega (arith, all, head, tail, h.1, distribute m.count (count_by (λ j. eqb (owner m j) q && is_within r.first r.stop j) (below n)) (count_by (λ j. eqb (owner m j) q && covers rs j) (below n)))
+    omega (
+      arith,
+      all,
+      head,
+      tail,
+      h.1,
+      distribute m.count (count_by (λ j. eqb (owner m j) q && is_within r.first r.stop j) (below n))
+          (count_by (λ j. eqb (owner m j) q && covers rs j) (below n)),
+    )
   where
     distribute : (n a b : ℕ) → n * (a + b) ≡ n * a + n * b
     distribute n a b = grind arith

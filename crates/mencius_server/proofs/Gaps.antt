@@ -13,48 +13,76 @@ use Rattle.mencius_server.proofs.Begins.{HasRoomFrom, IsSentUpTo}
 use Rattle.mencius_server.proofs.Skips.{IsCountUpTo}
 
 -- below a server's least instance from a place on, it owns none
-pub unowned : (m : Membership) (q from next : ℕ) → ((i : ℕ) → from ≤ i → owner m i ≡ q → next ≤ i) → (j : ℕ) → from ≤ j → j < next → eqb (owner m j) q ≡ false
-unowned m q from next least j low high = ne_eqb (owner m j) q (λ mine. let h : next ≤ j = least j low mine in absurd (omega arith))
+pub unowned : (m : Membership) (q from next : ℕ) → ((i : ℕ) → from ≤ i → owner m i ≡ q → next ≤ i) → (j : ℕ)
+    → from ≤ j → j < next → eqb (owner m j) q ≡ false
+unowned m q from next least j low high =
+    ne_eqb (owner m j) q (λ mine. let h : next ≤ j = least j low mine in absurd (omega arith))
 
 -- nothing is counted, made or sent in between
-pub count_gap : (test : ℕ → Bool) (i n count : ℕ) → i ≤ n → ((j : ℕ) → i ≤ j → j < n → test j ≡ false) → IsCountUpTo test i count → IsCountUpTo test n count
+pub count_gap : (test : ℕ → Bool) (i n count : ℕ) → i ≤ n → ((j : ℕ) → i ≤ j → j < n → test j ≡ false)
+    → IsCountUpTo test i count → IsCountUpTo test n count
 count_gap test i n count h none before =
     let all : i + (n - i) ≡ n = omega arith in
-    record { counted = before.counted ∙ sym (ap (λ (k : ℕ). count_by test (below k)) (sym all) ∙ count_by-below_none test i (n - i) (λ j low high. none j low (omega arith))) }
+    record {
+      counted = before.counted
+          ∙ sym (ap (λ (k : ℕ). count_by test (below k)) (sym all)
+          ∙ count_by-below_none test i (n - i) (λ j low high. none j low (omega arith)));
+    }
 
 -- the same where the place may lie behind
-pub count_to : (test : ℕ → Bool) (i n count : ℕ) → ((j : ℕ) → i ≤ j → j < n → test j ≡ false) → ((j : ℕ) → n ≤ j → j < i → test j ≡ false) → IsCountUpTo test i count → IsCountUpTo test n count
+pub count_to : (test : ℕ → Bool) (i n count : ℕ) → ((j : ℕ) → i ≤ j → j < n → test j ≡ false)
+    → ((j : ℕ) → n ≤ j → j < i → test j ≡ false) → IsCountUpTo test i count → IsCountUpTo test n count
 count_to test i n count ahead behind before =
     ⊎_elim
     (λ (less : n < i).
     let all : n + (i - n) ≡ i = omega arith in
-    record { counted = before.counted ∙ (ap (λ (k : ℕ). count_by test (below k)) (sym all) ∙ count_by-below_none test n (i - n) (λ j low high. behind j low (omega arith))) })
+    record {
+      counted = before.counted
+          ∙ (ap (λ (k : ℕ). count_by test (below k)) (sym all)
+          ∙ count_by-below_none test n (i - n) (λ j low high. behind j low (omega arith)));
+    })
     (λ (more : i ≤ n). count_gap test i n count more ahead before)
     (cases_lt n i)
 
-pub sent_gap : (f : ℕ → Message) (test : ℕ → Bool) (before after : List Message) (i n : ℕ) → i ≤ n → ((j : ℕ) → i ≤ j → j < n → test j ≡ false)
+pub sent_gap : (f : ℕ → Message) (test : ℕ → Bool) (before after : List Message) (i n : ℕ) → i ≤ n
+    → ((j : ℕ) → i ≤ j → j < n → test j ≡ false)
     → IsSentUpTo f test before after i → IsSentUpTo f test before after n
 sent_gap f test before after i n h none old =
     let all : i + (n - i) ≡ n = omega arith in
-    record { sent = old.sent ∙ ap (λ (xs : List ℕ). before ++ map f xs) (sym (ap (λ (k : ℕ). filter test (below k)) (sym all) ∙ filter-below_none test i (n - i) (λ j low high. none j low (omega arith)))) }
+    record {
+      sent = old.sent
+          ∙ ap (λ (xs : List ℕ). before ++ map f xs)
+          (sym (ap (λ (k : ℕ). filter test (below k)) (sym all)
+          ∙ filter-below_none test i (n - i) (λ j low high. none j low (omega arith))));
+    }
 
-pub sent_to : (f : ℕ → Message) (test : ℕ → Bool) (before after : List Message) (i n : ℕ) → ((j : ℕ) → i ≤ j → j < n → test j ≡ false) → ((j : ℕ) → n ≤ j → j < i → test j ≡ false)
+pub sent_to : (f : ℕ → Message) (test : ℕ → Bool) (before after : List Message) (i n : ℕ)
+    → ((j : ℕ) → i ≤ j → j < n → test j ≡ false) → ((j : ℕ) → n ≤ j → j < i → test j ≡ false)
     → IsSentUpTo f test before after i → IsSentUpTo f test before after n
 sent_to f test before after i n ahead behind old =
     ⊎_elim
     (λ (less : n < i).
     let all : n + (i - n) ≡ i = omega arith in
-    record { sent = old.sent ∙ ap (λ (xs : List ℕ). before ++ map f xs) (ap (λ (k : ℕ). filter test (below k)) (sym all) ∙ filter-below_none test n (i - n) (λ j low high. behind j low (omega arith))) })
+    record {
+      sent = old.sent
+          ∙ ap (λ (xs : List ℕ). before ++ map f xs) (ap (λ (k : ℕ). filter test (below k)) (sym all)
+          ∙ filter-below_none test n (i - n) (λ j low high. behind j low (omega arith)));
+    })
     (λ (more : i ≤ n). sent_gap f test before after i n more ahead old)
     (cases_lt n i)
 
-pub room_gap : (test : ℕ → Bool) (n room i k : ℕ) → i ≤ k → ((j : ℕ) → i ≤ j → j < k → test j ≡ false) → HasRoomFrom test n room i → HasRoomFrom test n room k
+pub room_gap : (test : ℕ → Bool) (n room i k : ℕ) → i ≤ k → ((j : ℕ) → i ≤ j → j < k → test j ≡ false)
+    → HasRoomFrom test n room i → HasRoomFrom test n room k
 room_gap test n room i k h none has =
     let all : i + (k - i) ≡ k = omega arith in
-    record { enough = let e = ap (λ (x : ℕ). count_by test (below x)) (sym all) ∙ count_by-below_none test i (k - i) (λ j low high. none j low (omega arith)) in omega (arith, has.enough, e) }
+    record {
+      enough = let e = ap (λ (x : ℕ). count_by test (below x)) (sym all)
+          ∙ count_by-below_none test i (k - i) (λ j low high. none j low (omega arith)) in omega (arith, has.enough, e);
+    }
 
 -- a Skip gives up what lies in its range and is the skipper's
-pub unskipped_other : (m : Membership) (q first stop j : ℕ) → eqb (owner m j) q ≡ false → is_skipped m q first stop j ≡ false
+pub unskipped_other : (m : Membership) (q first stop j : ℕ) → eqb (owner m j) q ≡ false
+    → is_skipped m q first stop j ≡ false
 unskipped_other m q first stop j e = and_left _ _ (and_left _ _ e)
 
 pub unskipped_before : (m : Membership) (q first stop j : ℕ) → j < first → is_skipped m q first stop j ≡ false
@@ -64,18 +92,21 @@ pub unskipped_past : (m : Membership) (q first stop j : ℕ) → stop ≤ j → 
 unskipped_past m q first stop j past = and_right _ _ (le-ltb j stop past)
 
 -- a slot that is not given up stays
-pub slot_kept : (m : Membership) (q first stop j : ℕ) (t : SlotState) → is_skipped m q first stop j ≡ false → slot_given m q first stop j t ≡ t
+pub slot_kept : (m : Membership) (q first stop j : ℕ) (t : SlotState) → is_skipped m q first stop j ≡ false
+    → slot_given m q first stop j t ≡ t
 slot_kept m q first stop j t e = rw e
 
 -- a suspicion covers what lies up to the front and is the suspected server's
-pub unrevoked_other : (m : Membership) (q front j : ℕ) (t : SlotState) → eqb (owner m j) q ≡ false → is_revoked m q front j t ≡ false
+pub unrevoked_other : (m : Membership) (q front j : ℕ) (t : SlotState) → eqb (owner m j) q ≡ false
+    → is_revoked m q front j t ≡ false
 unrevoked_other m q front j t e = and_left _ _ (and_left _ _ e)
 
 pub unrevoked_past : (m : Membership) (q front j : ℕ) (t : SlotState) → front < j → is_revoked m q front j t ≡ false
 unrevoked_past m q front j t past = and_left _ _ (and_right _ _ (lt-leb j front past))
 
 -- what lies in the range and is the skipper's is given up
-pub skipped_here : (m : Membership) (q first stop j : ℕ) → owner m j ≡ q → first ≤ j → j < stop → is_skipped m q first stop j ≡ true
+pub skipped_here : (m : Membership) (q first stop j : ℕ) → owner m j ≡ q → first ≤ j → j < stop
+    → is_skipped m q first stop j ≡ true
 skipped_here m q first stop j mine low high = rw (eq-eqb (owner m j) q mine, le-leb first j low) (lt-ltb j stop high)
 
 pub one_at_most : (b : Bool) → cond b 1 0 ≤ 1
@@ -90,7 +121,8 @@ pub other_unfree : (s : ServerState) (j : ℕ) → eqb (owner s.members j) s.id 
 other_unfree s j e = and_left _ _ (and_left _ _ e)
 
 -- a step from one place to the next that matters
-pub none_more : (test : ℕ → Bool) (i next : ℕ) → test i ≡ false → ((j : ℕ) → i + 1 ≤ j → j < next → test j ≡ false) → ((j : ℕ) → j < i → test j ≡ false) → (j : ℕ) → j < next → test j ≡ false
+pub none_more : (test : ℕ → Bool) (i next : ℕ) → test i ≡ false → ((j : ℕ) → i + 1 ≤ j → j < next → test j ≡ false)
+    → ((j : ℕ) → j < i → test j ≡ false) → (j : ℕ) → j < next → test j ≡ false
 none_more test i next here between before j high =
     ⊎_elim
     (λ (low : j < i). before j low)

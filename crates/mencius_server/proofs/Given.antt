@@ -9,10 +9,12 @@ use Rattle.mencius_server.specs.Machine.{is_skipped, slot_given}
 use Rattle.mencius_server.proofs.Gaps.{slot_kept}
 
 -- what is not skipped stays
-pub given_kept : (m : Membership) (q first stop j : ℕ) (o : Option SlotState) → is_skipped m q first stop j ≡ false → option_map (slot_given m q first stop j) o ≡ o
+pub given_kept : (m : Membership) (q first stop j : ℕ) (o : Option SlotState) → is_skipped m q first stop j ≡ false
+    → option_map (slot_given m q first stop j) o ≡ o
 given_kept m q first stop j None e = refl
 given_kept m q first stop j (Some t) e = ap (λ u. Some u) (slot_kept m q first stop j t e)
 
-pub given_at : (m : Membership) (q first stop j : ℕ) (o : Option SlotState) → is_skipped m q first stop j ≡ true → option_map (slot_given m q first stop j) o ≡ option_map (λ t. after_learn t Noop) o
+pub given_at : (m : Membership) (q first stop j : ℕ) (o : Option SlotState) → is_skipped m q first stop j ≡ true
+    → option_map (slot_given m q first stop j) o ≡ option_map (λ t. after_learn t Noop) o
 given_at m q first stop j None e = refl
 given_at m q first stop j (Some t) e = ap (λ (b : Bool). Some (cond b (after_learn t Noop) t)) e

@@ -30,17 +30,20 @@ use Rattle.mencius_base.specs.Limits.{instance_count}
 uncounted_learn : (q i : ℕ) (v : Value) (j c : ℕ) → IsUncounted j c (Learn q i v)
 uncounted_learn q i v j c = record { promise = λ r. refl; acceptance = λ r. refl; report = refl }
 
-learn_cases : (m : Membership) (w : History) (k p q i : ℕ) (v : Value) → i < instance_count → slice_get (sent w) k ≡ Some (Learn q i v)
+learn_cases : (m : Membership) (w : History) (k p q i : ℕ) (v : Value) → i < instance_count
+    → slice_get (sent w) k ≡ Some (Learn q i v)
     → (o : Option Value) → learned w p i ≡ o → Meets m w k p (Learn q i v) (cond (is_none o) (Learned p i v ∷ []) [])
 learn_cases m w k p q i v small e None un = record {
   sends = refl;
   learns = rw (slot-server_at m w p i small, un);
   state =
       ap (λ (t : SlotState). with_slot (server_at m w p) i (after_learn t v)) (slot-server_at m w p i small)
-      ∙ ap (λ (o : Option Value). with_slot (server_at m w p) i (cond (is_none o) (record (slot_at m w p i) { learned = Some v }) (slot_at m w p i))) un
+      ∙ ap (λ (o : Option Value). with_slot (server_at m w p) i
+      (cond (is_none o) (record (slot_at m w p i) { learned = Some v }) (slot_at m w p i))) un
       ∙ server_written m w (Learned p i v ∷ Heard k p ∷ w) p i (front m w p) _ (omega arith)
       (slot_at-learned m (Heard k p ∷ w) p i v (rw un)
-      ∙ ap (λ (t : SlotState). record t { learned = Some v }) (slot_at-heard m w k p i _ e (uncounted_learn q i v i (trying w p i))))
+      ∙ ap (λ (t : SlotState). record t { learned = Some v })
+      (slot_at-heard m w k p i _ e (uncounted_learn q i v i (trying w p i))))
       (λ j ne. slot_at-quiet m (Heard k p ∷ w) (Learned p i v) p j (quiet_learned p i j v ne) refl
       ∙ slot_at-heard m w k p j _ e (uncounted_learn q i v j (trying w p j)));
 }
@@ -49,13 +52,15 @@ learn_cases m w k p q i v small e (Some u) un = record {
   learns = rw (slot-server_at m w p i small, un);
   state =
       ap (λ (t : SlotState). with_slot (server_at m w p) i (after_learn t v)) (slot-server_at m w p i small)
-      ∙ ap (λ (o : Option Value). with_slot (server_at m w p) i (cond (is_none o) (record (slot_at m w p i) { learned = Some v }) (slot_at m w p i))) un
+      ∙ ap (λ (o : Option Value). with_slot (server_at m w p) i
+      (cond (is_none o) (record (slot_at m w p i) { learned = Some v }) (slot_at m w p i))) un
       ∙ server_written m w (Heard k p ∷ w) p i (front m w p) _ (omega arith)
       (slot_at-heard m w k p i _ e (uncounted_learn q i v i (trying w p i)))
       (λ j ne. slot_at-heard m w k p j _ e (uncounted_learn q i v j (trying w p j)));
 }
 
-pub meets_learn : (m : Membership) (w : History) (k p q i : ℕ) (v : Value) → i < instance_count → slice_get (sent w) k ≡ Some (Learn q i v)
+pub meets_learn : (m : Membership) (w : History) (k p q i : ℕ) (v : Value) → i < instance_count
+    → slice_get (sent w) k ≡ Some (Learn q i v)
     → Meets m w k p (Learn q i v) (on_learn w p i v)
 meets_learn m w k p q i v small e = learn_cases m w k p q i v small e (learned w p i) refl
 
@@ -69,7 +74,8 @@ prepares : (w : History) (p i b : ℕ) (o : Option Value) (c : Bool) → learned
     → (is_none (learned w p i) && ltb (promised w p i) b) ≡ (is_none o && c)
 prepares w p i b o c un high = rw (un, high)
 
-unlearned_cases : (m : Membership) (w : History) (k p q i b : ℕ) → i < instance_count → slice_get (sent w) k ≡ Some (Prepare q i b)
+unlearned_cases : (m : Membership) (w : History) (k p q i b : ℕ) → i < instance_count
+    → slice_get (sent w) k ≡ Some (Prepare q i b)
     → learned w p i ≡ None → (c : Bool) → ltb (promised w p i) b ≡ c
     → Meets m w k p (Prepare q i b) (cond c (Sent (Promise p q i b (vote w p i)) ∷ []) [])
 unlearned_cases m w k p q i b small e un true high = record {
@@ -77,11 +83,15 @@ unlearned_cases m w k p q i b small e un true high = record {
   learns = refl;
   state =
       ap (λ (t : SlotState). with_slot (server_at m w p) i (after_prepare t b)) (slot-server_at m w p i small)
-      ∙ ap (λ (c : Bool). with_slot (server_at m w p) i (cond c (record (slot_at m w p i) { promised = b }) (slot_at m w p i))) (prepares w p i b None true un high)
+      ∙ ap (λ (c : Bool). with_slot (server_at m w p) i
+      (cond c (record (slot_at m w p i) { promised = b }) (slot_at m w p i))) (prepares w p i b None true un high)
       ∙ (server_written m w (Sent (Promise p q i b (vote w p i)) ∷ Heard k p ∷ w) p i (front m w p) _ (omega arith)
-      (slot_at-promised m (Heard k p ∷ w) p q i b (vote w p i) (let above : promised w p i < b = ltb-true _ _ high in omega arith)
-      ∙ ap (λ (t : SlotState). record t { promised = b }) (slot_at-heard m w k p i _ e (uncounted_prepare q i b i (trying w p i))))
-      (λ j ne. slot_at-quiet m (Heard k p ∷ w) (Sent (Promise p q i b (vote w p i))) p j (quiet_promise p q i b j (vote w p i) ne) refl
+      (slot_at-promised m (Heard k p ∷ w) p q i b (vote w p i) (let above : promised w p i < b = ltb-true _ _ high in
+      omega arith)
+      ∙ ap (λ (t : SlotState). record t { promised = b })
+      (slot_at-heard m w k p i _ e (uncounted_prepare q i b i (trying w p i))))
+      (λ j ne. slot_at-quiet m (Heard k p ∷ w) (Sent (Promise p q i b (vote w p i))) p j
+      (quiet_promise p q i b j (vote w p i) ne) refl
       ∙ slot_at-heard m w k p j _ e (uncounted_prepare q i b j (trying w p j))));
 }
 unlearned_cases m w k p q i b small e un false low = record {
@@ -89,13 +99,15 @@ unlearned_cases m w k p q i b small e un false low = record {
   learns = refl;
   state =
       ap (λ (t : SlotState). with_slot (server_at m w p) i (after_prepare t b)) (slot-server_at m w p i small)
-      ∙ ap (λ (c : Bool). with_slot (server_at m w p) i (cond c (record (slot_at m w p i) { promised = b }) (slot_at m w p i))) (prepares w p i b None false un low)
+      ∙ ap (λ (c : Bool). with_slot (server_at m w p) i
+      (cond c (record (slot_at m w p i) { promised = b }) (slot_at m w p i))) (prepares w p i b None false un low)
       ∙ (server_written m w (Heard k p ∷ w) p i (front m w p) _ (omega arith)
       (slot_at-heard m w k p i _ e (uncounted_prepare q i b i (trying w p i)))
       (λ j ne. slot_at-heard m w k p j _ e (uncounted_prepare q i b j (trying w p j))));
 }
 
-prepare_cases : (m : Membership) (w : History) (k p q i b : ℕ) → i < instance_count → slice_get (sent w) k ≡ Some (Prepare q i b)
+prepare_cases : (m : Membership) (w : History) (k p q i b : ℕ) → i < instance_count
+    → slice_get (sent w) k ≡ Some (Prepare q i b)
     → (o : Option Value) → learned w p i ≡ o → Meets m w k p (Prepare q i b) (promise w p q i b o)
 prepare_cases m w k p q i b small e None un = unlearned_cases m w k p q i b small e un (ltb (promised w p i) b) refl
 prepare_cases m w k p q i b small e (Some v) known = record {
@@ -103,7 +115,9 @@ prepare_cases m w k p q i b small e (Some v) known = record {
   learns = refl;
   state =
       ap (λ (t : SlotState). with_slot (server_at m w p) i (after_prepare t b)) (slot-server_at m w p i small)
-      ∙ ap (λ (c : Bool). with_slot (server_at m w p) i (cond c (record (slot_at m w p i) { promised = b }) (slot_at m w p i))) (prepares w p i b (Some v) _ known refl)
+      ∙ ap (λ (c : Bool). with_slot (server_at m w p) i
+      (cond c (record (slot_at m w p i) { promised = b }) (slot_at m w p i)))
+      (prepares w p i b (Some v) _ known refl)
       ∙ (server_written m w (Sent (Learn p i v) ∷ Heard k p ∷ w) p i (front m w p) _ (omega arith)
       (slot_at-quiet m (Heard k p ∷ w) (Sent (Learn p i v)) p i (quiet_learn p p i i v) refl
       ∙ slot_at-heard m w k p i _ e (uncounted_prepare q i b i (trying w p i)))
@@ -111,7 +125,8 @@ prepare_cases m w k p q i b small e (Some v) known = record {
       ∙ slot_at-heard m w k p j _ e (uncounted_prepare q i b j (trying w p j))));
 }
 
-pub meets_prepare : (m : Membership) (w : History) (k p q i b : ℕ) → i < instance_count → slice_get (sent w) k ≡ Some (Prepare q i b)
+pub meets_prepare : (m : Membership) (w : History) (k p q i b : ℕ) → i < instance_count
+    → slice_get (sent w) k ≡ Some (Prepare q i b)
     → Meets m w k p (Prepare q i b) (on_prepare w p q i b)
 meets_prepare m w k p q i b small e = prepare_cases m w k p q i b small e (learned w p i) refl
 
@@ -122,32 +137,45 @@ uncounted_suggest q i t j c = record { promise = λ r. refl; acceptance = λ r. 
 
 leb-zero : (n : ℕ) → leb n 0 ≡ eqb n 0
 leb-zero zero = refl
-leb-zero (suc n) = let over : 0 < suc n = omega arith in lt-leb (suc n) 0 over ∙ sym (ne_eqb (suc n) 0 (λ e. absurd (omega arith)))
+leb-zero (suc n) =
+    let over : 0 < suc n = omega arith in lt-leb (suc n) 0 over ∙ sym (ne_eqb (suc n) 0 (λ e. absurd (omega arith)))
 
 -- after a Skip or none: an acceptance or none
 pub record IsSkipping (m : Membership) (w u : History) (p f : ℕ) : Type 0 where
   pub slots : (j : ℕ) → slot_at m u p j ≡ slot_at m w p j
   pub front : front m u p ≡ f
 
-suggest_accepts : (m : Membership) (w u : History) (p q i f : ℕ) (t : ℕ) → IsSkipping m w u p f → proposed u i 0 ≡ Some (Ticket t)
+suggest_accepts : (m : Membership) (w u : History) (p q i f : ℕ) (t : ℕ) → IsSkipping m w u p f
+    → proposed u i 0 ≡ Some (Ticket t)
     → (c : Bool) → eqb (promised w p i) 0 ≡ c
-    → with_slot_and_front (server_at m w p) i (cond c (record (slot_at m w p i) { promised = 0; vote = Some (record { ballot = 0; value = Ticket t }) }) (slot_at m w p i)) f
+    → with_slot_and_front (server_at m w p) i
+    (cond c (record (slot_at m w p i) {
+      promised = 0;
+      vote = Some (record { ballot = 0; value = Ticket t });
+    }) (slot_at m w p i)) f
     ≡ server_at m (followed_by u (cond c (Sent (Accepted p q i 0) ∷ []) [])) p
 suggest_accepts m w u p q i f t skips said true free =
     let none : promised u p i ≡ promised w p i = ap (λ (s : SlotState). s.promised) (skips.slots i) in
     let zero : promised w p i ≡ 0 = eqb-true _ _ free in
     server_written m w (Sent (Accepted p q i 0) ∷ u) p i f _ (rw (← skips.front) (omega arith))
     (slot_at-accepted m u p q i 0 (Ticket t) (omega arith) said
-    ∙ ap (λ (s : SlotState). record s { promised = 0; vote = Some (record { ballot = 0; value = Ticket t }) }) (skips.slots i))
+    ∙ ap (λ (s : SlotState). record s {
+      promised = 0;
+      vote = Some (record { ballot = 0; value = Ticket t });
+    }) (skips.slots i))
     (λ j ne. slot_at-quiet m u (Sent (Accepted p q i 0)) p j (quiet_accepted p q i 0 j ne) refl ∙ skips.slots j)
 suggest_accepts m w u p q i f t skips said false taken =
     server_written m w u p i f _ skips.front (skips.slots i) (λ j ne. skips.slots j)
 
-suggest_skips : (m : Membership) (w : History) (k p q i t : ℕ) → i < instance_count → slice_get (sent w) k ≡ Some (Suggest q i t)
+suggest_skips : (m : Membership) (w : History) (k p q i t : ℕ) → i < instance_count
+    → slice_get (sent w) k ≡ Some (Suggest q i t)
     → (c : Bool) → ltb (front m w p) i ≡ c
-    → IsSkipping m w (followed_by (Heard k p ∷ w) (cond c (Sent (Skip p (front m w p) (first_owned m p (i + 1))) ∷ []) [])) p (cond c (first_owned m p (i + 1)) (front m w p))
+    → IsSkipping m w
+    (followed_by (Heard k p ∷ w) (cond c (Sent (Skip p (front m w p) (first_owned m p (i + 1))) ∷ []) [])) p
+    (cond c (first_owned m p (i + 1)) (front m w p))
 suggest_skips m w k p q i t small e true ahead = record {
-  slots = λ j. slot_at-quiet m (Heard k p ∷ w) (Sent (Skip p (front m w p) (first_owned m p (i + 1)))) p j (quiet_skip p p _ _ j) refl
+  slots = λ j. slot_at-quiet m (Heard k p ∷ w) (Sent (Skip p (front m w p) (first_owned m p (i + 1)))) p j
+      (quiet_skip p p _ _ j) refl
       ∙ slot_at-heard m w k p j _ e (uncounted_suggest q i t j (trying w p j));
   front = let past : front m w p < i = ltb-true _ _ ahead in rw (eq-eqb p p refl) (omega arith);
 }
@@ -156,7 +184,8 @@ suggest_skips m w k p q i t small e false behind = record {
   front = omega arith;
 }
 
-suggest_cases : (m : Membership) (w : History) (k p q i t : ℕ) → i < instance_count → slice_get (sent w) k ≡ Some (Suggest q i t) → proposed w i 0 ≡ Some (Ticket t)
+suggest_cases : (m : Membership) (w : History) (k p q i t : ℕ) → i < instance_count
+    → slice_get (sent w) k ≡ Some (Suggest q i t) → proposed w i 0 ≡ Some (Ticket t)
     → (c d : Bool) → ltb (front m w p) i ≡ c → eqb (promised w p i) 0 ≡ d
     → Meets m w k p (Suggest q i t)
     (cond c (Sent (Skip p (front m w p) (first_owned m p (i + 1))) ∷ []) [] ++ cond d (Sent (Accepted p q i 0) ∷ []) [])
@@ -164,36 +193,60 @@ suggest_cases m w k p q i t small e said c d ahead free = record {
   sends = rw (slot-server_at m w p i small, leb-zero (promised w p i), ahead, free) (suggest_messages c d);
   learns = suggest_learnings c d;
   state =
-      ap (λ (u : SlotState). with_slot_and_front (server_at m w p) i (after_accept u 0 (Ticket t)) (next_front (server_at m w p) i)) (slot-server_at m w p i small)
-      ∙ ap (λ (b : Bool). with_slot_and_front (server_at m w p) i (cond b (record (slot_at m w p i) { promised = 0; vote = Some (record { ballot = 0; value = Ticket t }) }) (slot_at m w p i)) (next_front (server_at m w p) i)) (leb-zero (promised w p i) ∙ free)
-      ∙ ap (λ (b : Bool). with_slot_and_front (server_at m w p) i (cond d (record (slot_at m w p i) { promised = 0; vote = Some (record { ballot = 0; value = Ticket t }) }) (slot_at m w p i)) (cond b (first_owned m p (i + 1)) (front m w p))) ahead
+      ap (λ (u : SlotState). with_slot_and_front (server_at m w p) i (after_accept u 0 (Ticket t))
+      (next_front (server_at m w p) i)) (slot-server_at m w p i small)
+      ∙ ap (λ (b : Bool). with_slot_and_front (server_at m w p) i
+      (cond b (record (slot_at m w p i) {
+        promised = 0;
+        vote = Some (record { ballot = 0; value = Ticket t });
+      }) (slot_at m w p i))
+      (next_front (server_at m w p) i)) (leb-zero (promised w p i) ∙ free)
+      ∙ ap (λ (b : Bool). with_slot_and_front (server_at m w p) i
+      (cond d (record (slot_at m w p i) {
+        promised = 0;
+        vote = Some (record { ballot = 0; value = Ticket t });
+      }) (slot_at m w p i))
+      (cond b (first_owned m p (i + 1)) (front m w p))) ahead
       ∙ suggest_world c d ahead free;
 }
   where
     suggest_messages : (c d : Bool)
         → (cond c (Skip p (front m w p) (first_owned m p (i + 1)) ∷ []) [] ++ cond d (Accepted p q i 0 ∷ []) [])
-        ≡ messages_of (cond c (Sent (Skip p (front m w p) (first_owned m p (i + 1))) ∷ []) [] ++ cond d (Sent (Accepted p q i 0) ∷ []) [])
+        ≡ messages_of
+        (cond c (Sent (Skip p (front m w p) (first_owned m p (i + 1))) ∷ []) []
+        ++ cond d (Sent (Accepted p q i 0) ∷ []) [])
     suggest_messages true true = refl
     suggest_messages true false = refl
     suggest_messages false true = refl
     suggest_messages false false = refl
 
     suggest_learnings : (c d : Bool)
-        → 0 ≡ learnings (cond c (Sent (Skip p (front m w p) (first_owned m p (i + 1))) ∷ []) [] ++ cond d (Sent (Accepted p q i 0) ∷ []) [])
+        → 0 ≡ learnings
+        (cond c (Sent (Skip p (front m w p) (first_owned m p (i + 1))) ∷ []) []
+        ++ cond d (Sent (Accepted p q i 0) ∷ []) [])
     suggest_learnings true true = refl
     suggest_learnings true false = refl
     suggest_learnings false true = refl
     suggest_learnings false false = refl
 
     suggest_world : (c d : Bool) → ltb (front m w p) i ≡ c → eqb (promised w p i) 0 ≡ d
-        → with_slot_and_front (server_at m w p) i (cond d (record (slot_at m w p i) { promised = 0; vote = Some (record { ballot = 0; value = Ticket t }) }) (slot_at m w p i)) (cond c (first_owned m p (i + 1)) (front m w p))
-        ≡ server_at m (followed_by (Heard k p ∷ w) (cond c (Sent (Skip p (front m w p) (first_owned m p (i + 1))) ∷ []) [] ++ cond d (Sent (Accepted p q i 0) ∷ []) [])) p
+        → with_slot_and_front (server_at m w p) i
+        (cond d (record (slot_at m w p i) {
+          promised = 0;
+          vote = Some (record { ballot = 0; value = Ticket t });
+        }) (slot_at m w p i))
+        (cond c (first_owned m p (i + 1)) (front m w p))
+        ≡ server_at m
+        (followed_by (Heard k p ∷ w)
+        (cond c (Sent (Skip p (front m w p) (first_owned m p (i + 1))) ∷ []) []
+        ++ cond d (Sent (Accepted p q i 0) ∷ []) [])) p
     suggest_world true d ahead free =
         suggest_accepts m w _ p q i _ t (suggest_skips m w k p q i t small e true ahead) (rw said) d free
     suggest_world false d ahead free =
         suggest_accepts m w _ p q i _ t (suggest_skips m w k p q i t small e false ahead) (rw said) d free
 
-pub meets_suggest : (m : Membership) (w : History) (k p q i t : ℕ) → i < instance_count → slice_get (sent w) k ≡ Some (Suggest q i t) → proposed w i 0 ≡ Some (Ticket t)
+pub meets_suggest : (m : Membership) (w : History) (k p q i t : ℕ) → i < instance_count
+    → slice_get (sent w) k ≡ Some (Suggest q i t) → proposed w i 0 ≡ Some (Ticket t)
     → Meets m w k p (Suggest q i t) (on_suggest m w p q i)
 meets_suggest m w k p q i t small e said =
     suggest_cases m w k p q i t small e said (ltb (front m w p) i) (eqb (promised w p i) 0) refl refl
@@ -219,18 +272,21 @@ cond-decision p i true o = refl
 cond-decision p i false o = refl
 
 -- only the unlearned learn
-unlearned_learns : (o : Option Value) (c : Bool) (x : Option Value) (v : Value) → cond (is_none o && c) x None ≡ Some v → o ≡ None
+unlearned_learns : (o : Option Value) (c : Bool) (x : Option Value) (v : Value)
+    → cond (is_none o && c) x None ≡ Some v → o ≡ None
 unlearned_learns None c x v e = refl
 unlearned_learns (Some u) c x v e = absurd (cc)
 
-learn_decided : (m : Membership) (w : History) (k p from i : ℕ) → i < instance_count → slice_get (sent w) k ≡ Some (Accepted from p i (trying w p i))
+learn_decided : (m : Membership) (w : History) (k p from i : ℕ) → i < instance_count
+    → slice_get (sent w) k ≡ Some (Accepted from p i (trying w p i))
     → (o : Option Value) → to_learn (with_accept (slot_at m w p i) from) ≡ o
     → with_slot (server_at m w p) i (learning (with_accept (slot_at m w p i) from) o)
     ≡ server_at m (followed_by (Heard k p ∷ w) (decision p i o)) p
 learn_decided m w k p from i small e None un =
     server_written m w (Heard k p ∷ w) p i (front m w p) _ (omega arith)
     (slot_at-heard_acceptance m w k p i from e)
-    (λ j ne. slot_at-heard m w k p j _ e (uncounted_accepted from p i (trying w p i) j (trying w p j) (elsewhere i j (trying w p i) (trying w p j) ne)))
+    (λ j ne. slot_at-heard m w k p j _ e
+    (uncounted_accepted from p i (trying w p i) j (trying w p j) (elsewhere i j (trying w p i) (trying w p j) ne)))
 learn_decided m w k p from i small e (Some v) decided =
     let un : learned w p i ≡ None = unlearned_learns (learned w p i) _ _ v decided in
     server_written m w (Sent (Learn p i v) ∷ Learned p i v ∷ Heard k p ∷ w) p i (front m w p) _ (omega arith)
@@ -239,15 +295,19 @@ learn_decided m w k p from i small e (Some v) decided =
     ∙ ap (λ (t : SlotState). record t { learned = Some v }) (slot_at-heard_acceptance m w k p i from e))
     (λ j ne. slot_at-quiet m (Learned p i v ∷ Heard k p ∷ w) (Sent (Learn p i v)) p j (quiet_learn p p i j v) refl
     ∙ slot_at-quiet m (Heard k p ∷ w) (Learned p i v) p j (quiet_learned p i j v ne) refl
-    ∙ slot_at-heard m w k p j _ e (uncounted_accepted from p i (trying w p i) j (trying w p j) (elsewhere i j (trying w p i) (trying w p j) ne)))
+    ∙ slot_at-heard m w k p j _ e
+    (uncounted_accepted from p i (trying w p i) j (trying w p j) (elsewhere i j (trying w p i) (trying w p j) ne)))
 
 -- the tally's majority is the history's
-accepters_majority : (m : Membership) (w : History) (k p from i : ℕ) → slice_get (sent w) k ≡ Some (Accepted from p i (trying w p i))
-    → is_majority m (with_accept (slot_at m w p i) from).accepters ≡ are_majority m (accepters (Heard k p ∷ w) p i (trying w p i))
+accepters_majority : (m : Membership) (w : History) (k p from i : ℕ)
+    → slice_get (sent w) k ≡ Some (Accepted from p i (trying w p i))
+    → is_majority m (with_accept (slot_at m w p i) from).accepters
+    ≡ are_majority m (accepters (Heard k p ∷ w) p i (trying w p i))
 accepters_majority m w k p from i e =
     let tried : trying (Heard k p ∷ w) p i ≡ trying w p i = omega arith in
     sym (ap (λ (t : SlotState). is_majority m t.accepters) (slot_at-heard_acceptance m w k p i from e))
-    ∙ ap (λ (n : ℕ). leb (majority m) n) (count_by-map (accepters (Heard k p ∷ w) p i (trying (Heard k p ∷ w) p i)) (below m.count))
+    ∙ ap (λ (n : ℕ). leb (majority m) n)
+    (count_by-map (accepters (Heard k p ∷ w) p i (trying (Heard k p ∷ w) p i)) (below m.count))
     ∙ ap (λ (b : ℕ). are_majority m (accepters (Heard k p ∷ w) p i b)) tried
 
 sends_decision : (p i : ℕ) (o : Option Value) → decision_sent p i o ≡ messages_of (decision p i o)
@@ -258,40 +318,58 @@ counts_decision : (p i : ℕ) (o : Option Value) → one_if_some o ≡ learnings
 counts_decision p i None = refl
 counts_decision p i (Some v) = refl
 
-accepted_tried : (m : Membership) (w : History) (k p from i : ℕ) → i < instance_count → slice_get (sent w) k ≡ Some (Accepted from p i (trying w p i))
+accepted_tried : (m : Membership) (w : History) (k p from i : ℕ) → i < instance_count
+    → slice_get (sent w) k ≡ Some (Accepted from p i (trying w p i))
     → Meets m w k p (Accepted from p i (trying w p i)) (decision p i (to_learn (with_accept (slot_at m w p i) from)))
 accepted_tried m w k p from i small e =
-    let answer : accept_answer (slot (server_at m w p) i) from (trying w p i) ≡ to_learn (with_accept (slot_at m w p i) from) =
+    let answer : accept_answer (slot (server_at m w p) i) from (trying w p i)
+    ≡ to_learn (with_accept (slot_at m w p i) from) =
     ap (λ (t : SlotState). accept_answer t from (trying w p i)) (slot-server_at m w p i small)
-    ∙ ap (λ (c : Bool). cond c (to_learn (with_accept (slot_at m w p i) from)) None) (eq-eqb (trying w p i) (trying w p i) refl) in
+    ∙ ap (λ (c : Bool). cond c (to_learn (with_accept (slot_at m w p i) from)) None)
+    (eq-eqb (trying w p i) (trying w p i) refl) in
     record {
       sends = ap (decision_sent p i) answer ∙ sends_decision p i (to_learn (with_accept (slot_at m w p i) from));
       learns = ap one_if_some answer ∙ counts_decision p i (to_learn (with_accept (slot_at m w p i) from));
       state =
-          ap (λ (t : SlotState). with_slot (server_at m w p) i (after_acceptance t from (trying w p i))) (slot-server_at m w p i small)
+          ap (λ (t : SlotState). with_slot (server_at m w p) i (after_acceptance t from (trying w p i)))
+          (slot-server_at m w p i small)
           ∙ ap (λ (c : Bool). with_slot (server_at m w p) i
-          (cond c (learning (with_accept (slot_at m w p i) from) (to_learn (with_accept (slot_at m w p i) from))) (slot_at m w p i)))
+          (cond c (learning (with_accept (slot_at m w p i) from)
+          (to_learn (with_accept (slot_at m w p i) from))) (slot_at m w p i)))
           (eq-eqb (trying w p i) (trying w p i) refl)
           ∙ learn_decided m w k p from i small e (to_learn (with_accept (slot_at m w p i) from)) refl;
     }
 
 -- the row of the table is the slot's answer
-accepted_lines : (m : Membership) (w : History) (k p from i : ℕ) → (trying w p i ≡ 0 → owner m i ≡ p) → slice_get (sent w) k ≡ Some (Accepted from p i (trying w p i))
+accepted_lines : (m : Membership) (w : History) (k p from i : ℕ) → (trying w p i ≡ 0 → owner m i ≡ p)
+    → slice_get (sent w) k ≡ Some (Accepted from p i (trying w p i))
     → decision p i (to_learn (with_accept (slot_at m w p i) from)) ≡ on_accepted m w (Heard k p ∷ w) p i (trying w p i)
 accepted_lines m w k p from i mine e =
-    ap (λ (c : Bool). decision p i (cond (is_none (learned w p i) && c) (if_own m p i (trying w p i) (proposed w i (trying w p i))) None)) (accepters_majority m w k p from i e)
-    ∙ ap (λ (o : Option Value). decision p i (cond (is_none (learned w p i) && are_majority m (accepters (Heard k p ∷ w) p i (trying w p i))) o None)) (own_said m p i (trying w p i) (proposed w i (trying w p i)) mine)
-    ∙ cond-decision p i (is_none (learned w p i) && are_majority m (accepters (Heard k p ∷ w) p i (trying w p i))) (proposed w i (trying w p i))
-    ∙ ap (λ (c : Bool). cond ((c && is_none (learned w p i)) && are_majority m (accepters (Heard k p ∷ w) p i (trying w p i))) (decision p i (proposed w i (trying w p i))) [])
+    ap (λ (c : Bool). decision p i
+    (cond (is_none (learned w p i) && c) (if_own m p i (trying w p i) (proposed w i (trying w p i))) None))
+    (accepters_majority m w k p from i e)
+    ∙ ap (λ (o : Option Value). decision p i
+    (cond (is_none (learned w p i) && are_majority m (accepters (Heard k p ∷ w) p i (trying w p i))) o None))
+    (own_said m p i (trying w p i) (proposed w i (trying w p i)) mine)
+    ∙ cond-decision p i (is_none (learned w p i) && are_majority m (accepters (Heard k p ∷ w) p i (trying w p i)))
+    (proposed w i (trying w p i))
+    ∙ ap (λ (c : Bool). cond
+    ((c && is_none (learned w p i)) && are_majority m (accepters (Heard k p ∷ w) p i (trying w p i)))
+    (decision p i (proposed w i (trying w p i))) [])
     (sym (eq-eqb (trying w p i) (trying w p i) refl))
 
-accepted_cases : (m : Membership) (w : History) (k p from i b : ℕ) → i < instance_count → (b ≡ 0 → owner m i ≡ p) → slice_get (sent w) k ≡ Some (Accepted from p i b)
-    → (c : Bool) → eqb b (trying w p i) ≡ c → Meets m w k p (Accepted from p i b) (on_accepted m w (Heard k p ∷ w) p i b)
+accepted_cases : (m : Membership) (w : History) (k p from i b : ℕ) → i < instance_count → (b ≡ 0 → owner m i ≡ p)
+    → slice_get (sent w) k ≡ Some (Accepted from p i b)
+    → (c : Bool) → eqb b (trying w p i) ≡ c
+    → Meets m w k p (Accepted from p i b) (on_accepted m w (Heard k p ∷ w) p i b)
 accepted_cases m w k p from i b small mine e true same =
     let tried : trying w p i ≡ b = sym (eqb-true b (trying w p i) same) in
-    let P : ℕ → Type 0 = λ a. (a ≡ 0 → owner m i ≡ p) → slice_get (sent w) k ≡ Some (Accepted from p i a) → Meets m w k p (Accepted from p i a) (on_accepted m w (Heard k p ∷ w) p i a) in
+    let P : ℕ → Type 0 =
+    λ a. (a ≡ 0 → owner m i ≡ p) → slice_get (sent w) k ≡ Some (Accepted from p i a)
+    → Meets m w k p (Accepted from p i a) (on_accepted m w (Heard k p ∷ w) p i a) in
     subst P tried
-    (λ own said. subst (λ (ls : List Line). Meets m w k p (Accepted from p i (trying w p i)) ls) (accepted_lines m w k p from i own said) (accepted_tried m w k p from i small said))
+    (λ own said. subst (λ (ls : List Line). Meets m w k p (Accepted from p i (trying w p i)) ls)
+    (accepted_lines m w k p from i own said) (accepted_tried m w k p from i small said))
     mine e
 accepted_cases m w k p from i b small mine e false other = record {
   sends = ap (decision_sent p i) (stale from) ∙ ap messages_of no_lines;
@@ -299,29 +377,36 @@ accepted_cases m w k p from i b small mine e false other = record {
   state =
       ap (λ (t : SlotState). with_slot (server_at m w p) i (after_acceptance t from b)) (slot-server_at m w p i small)
       ∙ ap (λ (c : Bool). with_slot (server_at m w p) i
-      (cond c (learning (with_accept (slot_at m w p i) from) (to_learn (with_accept (slot_at m w p i) from))) (slot_at m w p i))) other
+      (cond c (learning (with_accept (slot_at m w p i) from)
+      (to_learn (with_accept (slot_at m w p i) from))) (slot_at m w p i))) other
       ∙ server_written m w (Heard k p ∷ w) p i (front m w p) _ (omega arith)
       (slot_at-heard m w k p i _ e (uncounted_accepted from p i b i (trying w p i) (rw (eq-eqb i i refl, other))))
-      (λ j ne. slot_at-heard m w k p j _ e (uncounted_accepted from p i b j (trying w p j) (elsewhere i j b (trying w p j) ne)))
+      (λ j ne. slot_at-heard m w k p j _ e
+      (uncounted_accepted from p i b j (trying w p j) (elsewhere i j b (trying w p j) ne)))
       ∙ ap (λ (ls : List Line). server_at m (followed_by (Heard k p ∷ w) ls) p) no_lines;
 }
   where
     no_lines : [] ≡ on_accepted m w (Heard k p ∷ w) p i b
-    no_lines = ap (λ (c : Bool). cond ((c && is_none (learned w p i)) && are_majority m (accepters (Heard k p ∷ w) p i b)) (decision p i (proposed w i b)) []) (sym other)
+    no_lines = ap
+        (λ (c : Bool). cond ((c && is_none (learned w p i)) && are_majority m (accepters (Heard k p ∷ w) p i b))
+        (decision p i (proposed w i b)) []) (sym other)
 
     stale : (from : ℕ) → accept_answer (slot (server_at m w p) i) from b ≡ None
     stale from =
         ap (λ (t : SlotState). accept_answer t from b) (slot-server_at m w p i small)
         ∙ ap (λ (c : Bool). cond c (to_learn (with_accept (slot_at m w p i) from)) None) other
 
-pub meets_accepted : (m : Membership) (w : History) (k p from i b : ℕ) → i < instance_count → (b ≡ 0 → owner m i ≡ p) → slice_get (sent w) k ≡ Some (Accepted from p i b)
+pub meets_accepted : (m : Membership) (w : History) (k p from i b : ℕ) → i < instance_count → (b ≡ 0 → owner m i ≡ p)
+    → slice_get (sent w) k ≡ Some (Accepted from p i b)
     → Meets m w k p (Accepted from p i b) (on_accepted m w (Heard k p ∷ w) p i b)
 meets_accepted m w k p from i b small mine e = accepted_cases m w k p from i b small mine e (eqb b (trying w p i)) refl
 
 -- ---- Promise
 
-uncounted_promise : (from to i b : ℕ) (v : Option Vote) (j c : ℕ) → (eqb i j && eqb b c) ≡ false → IsUncounted j c (Promise from to i b v)
-uncounted_promise from to i b v j c other = record { promise = λ r. rw other; acceptance = λ r. refl; report = rw other }
+uncounted_promise : (from to i b : ℕ) (v : Option Vote) (j c : ℕ) → (eqb i j && eqb b c) ≡ false
+    → IsUncounted j c (Promise from to i b v)
+uncounted_promise from to i b v j c other =
+    record { promise = λ r. rw other; acceptance = λ r. refl; report = rw other }
 
 abbrev proposal : ℕ → ℕ → ℕ → Option Value → List Line
 proposal p i b None = []
@@ -336,12 +421,14 @@ counts_proposal p i b None = refl
 counts_proposal p i b (Some v) = refl
 
 -- only where nothing was proposed is there a proposal
-unsaid_proposes : (c d : Bool) (o x : Option Value) (v : Value) → cond ((c && is_none o) && d) x None ≡ Some v → o ≡ None
+unsaid_proposes : (c d : Bool) (o x : Option Value) (v : Value) → cond ((c && is_none o) && d) x None ≡ Some v
+    → o ≡ None
 unsaid_proposes true d None x v e = refl
 unsaid_proposes true d (Some u) x v e = absurd (cc)
 unsaid_proposes false d o x v e = absurd (cc)
 
-propose_decided : (m : Membership) (w : History) (k p from i : ℕ) (v : Option Vote) → i < instance_count → 0 < trying w p i → IsVoted w p i
+propose_decided : (m : Membership) (w : History) (k p from i : ℕ) (v : Option Vote) → i < instance_count
+    → 0 < trying w p i → IsVoted w p i
     → slice_get (sent w) k ≡ Some (Promise from p i (trying w p i) v)
     → (o : Option Value) → to_propose (with_promise (slot_at m w p i) from v) ≡ o
     → with_slot (server_at m w p) i (proposing (with_promise (slot_at m w p i) from v) o)
@@ -349,32 +436,40 @@ propose_decided : (m : Membership) (w : History) (k p from i : ℕ) (v : Option 
 propose_decided m w k p from i v small high voted e None un =
     server_written m w (Heard k p ∷ w) p i (front m w p) _ (omega arith)
     (slot_at-heard_promise m w k p i from v e)
-    (λ j ne. slot_at-heard m w k p j _ e (uncounted_promise from p i (trying w p i) v j (trying w p j) (elsewhere i j (trying w p i) (trying w p j) ne)))
+    (λ j ne. slot_at-heard m w k p j _ e
+    (uncounted_promise from p i (trying w p i) v j (trying w p j) (elsewhere i j (trying w p i) (trying w p j) ne)))
 propose_decided m w k p from i v small high voted e (Some u) decided =
     let ahead : front m (Sent (Propose p i (trying w p i) u) ∷ Heard k p ∷ w) p ≡ front m w p = omega arith in
     let tried : trying w p i ≡ trying (Heard k p ∷ w) p i = omega arith in
     let unsaid : proposed w i (trying w p i) ≡ None =
-    sym (own_said m p i (trying w p i) (proposed w i (trying w p i)) (λ z. absurd (omega arith))) ∙ unsaid_proposes _ _ _ _ u decided in
+    sym (own_said m p i (trying w p i) (proposed w i (trying w p i)) (λ z. absurd (omega arith)))
+    ∙ unsaid_proposes _ _ _ _ u decided in
     server_written m w (Sent (Propose p i (trying w p i) u) ∷ Heard k p ∷ w) p i (front m w p) _ ahead
     (slot_at-proposed m (Heard k p ∷ w) p i (trying w p i) u (voted_after m w k p i voted) high tried (rw unsaid)
     ∙ ap (λ (t : SlotState). record t { proposal = Some u }) (slot_at-heard_promise m w k p i from v e))
-    (λ j ne. slot_at-quiet m (Heard k p ∷ w) (Sent (Propose p i (trying w p i) u)) p j (quiet_propose p i (trying w p i) j u ne) refl
-    ∙ slot_at-heard m w k p j _ e (uncounted_promise from p i (trying w p i) v j (trying w p j) (elsewhere i j (trying w p i) (trying w p j) ne)))
+    (λ j ne. slot_at-quiet m (Heard k p ∷ w) (Sent (Propose p i (trying w p i) u)) p j
+    (quiet_propose p i (trying w p i) j u ne) refl
+    ∙ slot_at-heard m w k p j _ e
+    (uncounted_promise from p i (trying w p i) v j (trying w p j) (elsewhere i j (trying w p i) (trying w p j) ne)))
   where
     voted_after : (m : Membership) (w : History) (k p i : ℕ) → IsVoted w p i → IsVoted (Heard k p ∷ w) p i
     voted_after m w k p i voted = record {
       proposal = λ b e. let said = voted.proposal b (sym (greater-none (accepted w p i)) ∙ e) in (said.0, rw said.1);
     }
 
-promisers_majority : (m : Membership) (w : History) (k p from i : ℕ) (v : Option Vote) → slice_get (sent w) k ≡ Some (Promise from p i (trying w p i) v)
-    → is_majority m (with_promise (slot_at m w p i) from v).promisers ≡ are_majority m (promisers (Heard k p ∷ w) p i (trying w p i))
+promisers_majority : (m : Membership) (w : History) (k p from i : ℕ) (v : Option Vote)
+    → slice_get (sent w) k ≡ Some (Promise from p i (trying w p i) v)
+    → is_majority m (with_promise (slot_at m w p i) from v).promisers
+    ≡ are_majority m (promisers (Heard k p ∷ w) p i (trying w p i))
 promisers_majority m w k p from i v e =
     let tried : trying (Heard k p ∷ w) p i ≡ trying w p i = omega arith in
     sym (ap (λ (t : SlotState). is_majority m t.promisers) (slot_at-heard_promise m w k p i from v e))
-    ∙ ap (λ (n : ℕ). leb (majority m) n) (count_by-map (promisers (Heard k p ∷ w) p i (trying (Heard k p ∷ w) p i)) (below m.count))
+    ∙ ap (λ (n : ℕ). leb (majority m) n)
+    (count_by-map (promisers (Heard k p ∷ w) p i (trying (Heard k p ∷ w) p i)) (below m.count))
     ∙ ap (λ (b : ℕ). are_majority m (promisers (Heard k p ∷ w) p i b)) tried
 
-reported_after : (m : Membership) (w : History) (k p from i : ℕ) (v : Option Vote) → slice_get (sent w) k ≡ Some (Promise from p i (trying w p i) v)
+reported_after : (m : Membership) (w : History) (k p from i : ℕ) (v : Option Vote)
+    → slice_get (sent w) k ≡ Some (Promise from p i (trying w p i) v)
     → (with_promise (slot_at m w p i) from v).reported ≡ reported (Heard k p ∷ w) p i (trying w p i)
 reported_after m w k p from i v e =
     let tried : trying (Heard k p ∷ w) p i ≡ trying w p i = omega arith in
@@ -386,53 +481,78 @@ regroup : (a b c : Bool) → ((a && b) && c) ≡ ((true && a) && (b && c))
 regroup true b c = refl
 regroup false b c = refl
 
-proposal-cond : (p i b : ℕ) (c : Bool) (u : Value) → proposal p i b (cond c (Some u) None) ≡ cond c (Sent (Propose p i b u) ∷ []) []
+proposal-cond : (p i b : ℕ) (c : Bool) (u : Value)
+    → proposal p i b (cond c (Some u) None) ≡ cond c (Sent (Propose p i b u) ∷ []) []
 proposal-cond p i b true u = refl
 proposal-cond p i b false u = refl
 
-promise_lines : (m : Membership) (w : History) (k p from i : ℕ) (v : Option Vote) → 0 < trying w p i → slice_get (sent w) k ≡ Some (Promise from p i (trying w p i) v)
-    → proposal p i (trying w p i) (to_propose (with_promise (slot_at m w p i) from v)) ≡ on_promise m w (Heard k p ∷ w) p i (trying w p i)
+promise_lines : (m : Membership) (w : History) (k p from i : ℕ) (v : Option Vote) → 0 < trying w p i
+    → slice_get (sent w) k ≡ Some (Promise from p i (trying w p i) v)
+    → proposal p i (trying w p i) (to_propose (with_promise (slot_at m w p i) from v))
+    ≡ on_promise m w (Heard k p ∷ w) p i (trying w p i)
 promise_lines m w k p from i v high e =
     proposal-cond p i (trying w p i) _ _
-    ∙ ap (λ (u : Value). cond ((is_none (learned w p i) && is_none (if_own m p i (trying w p i) (proposed w i (trying w p i)))) && is_majority m (with_promise (slot_at m w p i) from v).promisers)
+    ∙ ap (λ (u : Value). cond
+    ((is_none (learned w p i) && is_none (if_own m p i (trying w p i) (proposed w i (trying w p i))))
+    && is_majority m (with_promise (slot_at m w p i) from v).promisers)
     (Sent (Propose p i (trying w p i) u) ∷ []) []) (ap value_or_noop (reported_after m w k p from i v e))
-    ∙ ap (λ (c : Bool). cond c (Sent (Propose p i (trying w p i) (value_or_noop (reported (Heard k p ∷ w) p i (trying w p i)))) ∷ []) []) test
+    ∙ ap (λ (c : Bool). cond c
+    (Sent (Propose p i (trying w p i) (value_or_noop (reported (Heard k p ∷ w) p i (trying w p i)))) ∷ []) []) test
   where
-    test : ((is_none (learned w p i) && is_none (if_own m p i (trying w p i) (proposed w i (trying w p i)))) && is_majority m (with_promise (slot_at m w p i) from v).promisers)
-        ≡ ((eqb (trying w p i) (trying w p i) && is_none (learned w p i)) && (is_none (proposed w i (trying w p i)) && are_majority m (promisers (Heard k p ∷ w) p i (trying w p i))))
+    test : ((is_none (learned w p i) && is_none (if_own m p i (trying w p i) (proposed w i (trying w p i))))
+        && is_majority m (with_promise (slot_at m w p i) from v).promisers)
+        ≡ ((eqb (trying w p i) (trying w p i) && is_none (learned w p i))
+        && (is_none (proposed w i (trying w p i)) && are_majority m (promisers (Heard k p ∷ w) p i (trying w p i))))
     test =
-        ap (λ (o : Option Value). (is_none (learned w p i) && is_none o) && is_majority m (with_promise (slot_at m w p i) from v).promisers)
+        ap (λ (o : Option Value). (is_none (learned w p i) && is_none o)
+        && is_majority m (with_promise (slot_at m w p i) from v).promisers)
         (own_said m p i (trying w p i) (proposed w i (trying w p i)) (λ z. absurd (omega arith)))
-        ∙ ap (λ (c : Bool). (is_none (learned w p i) && is_none (proposed w i (trying w p i))) && c) (promisers_majority m w k p from i v e)
-        ∙ regroup (is_none (learned w p i)) (is_none (proposed w i (trying w p i))) (are_majority m (promisers (Heard k p ∷ w) p i (trying w p i)))
-        ∙ ap (λ (c : Bool). (c && is_none (learned w p i)) && (is_none (proposed w i (trying w p i)) && are_majority m (promisers (Heard k p ∷ w) p i (trying w p i))))
+        ∙ ap (λ (c : Bool). (is_none (learned w p i) && is_none (proposed w i (trying w p i))) && c)
+        (promisers_majority m w k p from i v e)
+        ∙ regroup (is_none (learned w p i)) (is_none (proposed w i (trying w p i)))
+        (are_majority m (promisers (Heard k p ∷ w) p i (trying w p i)))
+        ∙ ap (λ (c : Bool). (c && is_none (learned w p i))
+        && (is_none (proposed w i (trying w p i)) && are_majority m (promisers (Heard k p ∷ w) p i (trying w p i))))
         (sym (eq-eqb (trying w p i) (trying w p i) refl))
 
-promise_tried : (m : Membership) (w : History) (k p from i : ℕ) (v : Option Vote) → i < instance_count → 0 < trying w p i → IsVoted w p i
+promise_tried : (m : Membership) (w : History) (k p from i : ℕ) (v : Option Vote) → i < instance_count
+    → 0 < trying w p i → IsVoted w p i
     → slice_get (sent w) k ≡ Some (Promise from p i (trying w p i) v)
-    → Meets m w k p (Promise from p i (trying w p i) v) (proposal p i (trying w p i) (to_propose (with_promise (slot_at m w p i) from v)))
+    → Meets m w k p (Promise from p i (trying w p i) v)
+    (proposal p i (trying w p i) (to_propose (with_promise (slot_at m w p i) from v)))
 promise_tried m w k p from i v small high voted e =
-    let answer : promise_answer (slot (server_at m w p) i) from (trying w p i) v ≡ to_propose (with_promise (slot_at m w p i) from v) =
+    let answer : promise_answer (slot (server_at m w p) i) from (trying w p i) v
+    ≡ to_propose (with_promise (slot_at m w p i) from v) =
     ap (λ (t : SlotState). promise_answer t from (trying w p i) v) (slot-server_at m w p i small)
-    ∙ ap (λ (c : Bool). cond c (to_propose (with_promise (slot_at m w p i) from v)) None) (eq-eqb (trying w p i) (trying w p i) refl) in
+    ∙ ap (λ (c : Bool). cond c (to_propose (with_promise (slot_at m w p i) from v)) None)
+    (eq-eqb (trying w p i) (trying w p i) refl) in
     record {
-      sends = ap (proposal_sent p i (trying w p i)) answer ∙ sends_proposal p i (trying w p i) (to_propose (with_promise (slot_at m w p i) from v));
+      sends = ap (proposal_sent p i (trying w p i)) answer
+          ∙ sends_proposal p i (trying w p i) (to_propose (with_promise (slot_at m w p i) from v));
       learns = counts_proposal p i (trying w p i) (to_propose (with_promise (slot_at m w p i) from v));
       state =
-          ap (λ (t : SlotState). with_slot (server_at m w p) i (after_promise t from (trying w p i) v)) (slot-server_at m w p i small)
+          ap (λ (t : SlotState). with_slot (server_at m w p) i (after_promise t from (trying w p i) v))
+          (slot-server_at m w p i small)
           ∙ ap (λ (c : Bool). with_slot (server_at m w p) i
-          (cond c (proposing (with_promise (slot_at m w p i) from v) (to_propose (with_promise (slot_at m w p i) from v))) (slot_at m w p i)))
+          (cond c (proposing (with_promise (slot_at m w p i) from v)
+          (to_propose (with_promise (slot_at m w p i) from v))) (slot_at m w p i)))
           (eq-eqb (trying w p i) (trying w p i) refl)
-          ∙ propose_decided m w k p from i v small high voted e (to_propose (with_promise (slot_at m w p i) from v)) refl;
+          ∙ propose_decided m w k p from i v small high voted e
+          (to_propose (with_promise (slot_at m w p i) from v)) refl;
     }
 
-promise_cases : (m : Membership) (w : History) (k p from i b : ℕ) (v : Option Vote) → i < instance_count → 0 < b → IsVoted w p i → slice_get (sent w) k ≡ Some (Promise from p i b v)
-    → (c : Bool) → eqb b (trying w p i) ≡ c → Meets m w k p (Promise from p i b v) (on_promise m w (Heard k p ∷ w) p i b)
+promise_cases : (m : Membership) (w : History) (k p from i b : ℕ) (v : Option Vote) → i < instance_count → 0 < b
+    → IsVoted w p i → slice_get (sent w) k ≡ Some (Promise from p i b v)
+    → (c : Bool) → eqb b (trying w p i) ≡ c
+    → Meets m w k p (Promise from p i b v) (on_promise m w (Heard k p ∷ w) p i b)
 promise_cases m w k p from i b v small high voted e true same =
     let tried : trying w p i ≡ b = sym (eqb-true b (trying w p i) same) in
-    let P : ℕ → Type 0 = λ a. 0 < a → slice_get (sent w) k ≡ Some (Promise from p i a v) → Meets m w k p (Promise from p i a v) (on_promise m w (Heard k p ∷ w) p i a) in
+    let P : ℕ → Type 0 =
+    λ a. 0 < a → slice_get (sent w) k ≡ Some (Promise from p i a v)
+    → Meets m w k p (Promise from p i a v) (on_promise m w (Heard k p ∷ w) p i a) in
     subst P tried
-    (λ above said. subst (λ (ls : List Line). Meets m w k p (Promise from p i (trying w p i) v) ls) (promise_lines m w k p from i v above said) (promise_tried m w k p from i v small above voted said))
+    (λ above said. subst (λ (ls : List Line). Meets m w k p (Promise from p i (trying w p i) v) ls)
+    (promise_lines m w k p from i v above said) (promise_tried m w k p from i v small above voted said))
     high e
 promise_cases m w k p from i b v small high voted e false other = record {
   sends = ap (proposal_sent p i b) stale ∙ ap messages_of no_lines;
@@ -440,15 +560,20 @@ promise_cases m w k p from i b v small high voted e false other = record {
   state =
       ap (λ (t : SlotState). with_slot (server_at m w p) i (after_promise t from b v)) (slot-server_at m w p i small)
       ∙ ap (λ (c : Bool). with_slot (server_at m w p) i
-      (cond c (proposing (with_promise (slot_at m w p i) from v) (to_propose (with_promise (slot_at m w p i) from v))) (slot_at m w p i))) other
+      (cond c (proposing (with_promise (slot_at m w p i) from v)
+      (to_propose (with_promise (slot_at m w p i) from v))) (slot_at m w p i))) other
       ∙ server_written m w (Heard k p ∷ w) p i (front m w p) _ (omega arith)
       (slot_at-heard m w k p i _ e (uncounted_promise from p i b v i (trying w p i) (rw (eq-eqb i i refl, other))))
-      (λ j ne. slot_at-heard m w k p j _ e (uncounted_promise from p i b v j (trying w p j) (elsewhere i j b (trying w p j) ne)))
+      (λ j ne. slot_at-heard m w k p j _ e
+      (uncounted_promise from p i b v j (trying w p j) (elsewhere i j b (trying w p j) ne)))
       ∙ ap (λ (ls : List Line). server_at m (followed_by (Heard k p ∷ w) ls) p) no_lines;
 }
   where
     no_lines : [] ≡ on_promise m w (Heard k p ∷ w) p i b
-    no_lines = ap (λ (c : Bool). cond ((c && is_none (learned w p i)) && (is_none (proposed w i b) && are_majority m (promisers (Heard k p ∷ w) p i b)))
+    no_lines = ap
+        (λ (c : Bool). cond
+        ((c && is_none (learned w p i))
+        && (is_none (proposed w i b) && are_majority m (promisers (Heard k p ∷ w) p i b)))
         (Sent (Propose p i b (value_or_noop (reported (Heard k p ∷ w) p i b))) ∷ []) []) (sym other)
 
     stale : promise_answer (slot (server_at m w p) i) from b v ≡ None
@@ -456,6 +581,8 @@ promise_cases m w k p from i b v small high voted e false other = record {
         ap (λ (t : SlotState). promise_answer t from b v) (slot-server_at m w p i small)
         ∙ ap (λ (c : Bool). cond c (to_propose (with_promise (slot_at m w p i) from v)) None) other
 
-pub meets_promise : (m : Membership) (w : History) (k p from i b : ℕ) (v : Option Vote) → i < instance_count → 0 < b → IsVoted w p i → slice_get (sent w) k ≡ Some (Promise from p i b v)
+pub meets_promise : (m : Membership) (w : History) (k p from i b : ℕ) (v : Option Vote) → i < instance_count → 0 < b
+    → IsVoted w p i → slice_get (sent w) k ≡ Some (Promise from p i b v)
     → Meets m w k p (Promise from p i b v) (on_promise m w (Heard k p ∷ w) p i b)
-meets_promise m w k p from i b v small high voted e = promise_cases m w k p from i b v small high voted e (eqb b (trying w p i)) refl
+meets_promise m w k p from i b v small high voted e =
+    promise_cases m w k p from i b v small high voted e (eqb b (trying w p i)) refl

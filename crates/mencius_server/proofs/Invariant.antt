@@ -26,23 +26,28 @@ use Rattle.mencius_server.proofs.SlotLaws.{SameAttempt-cond, SameAttempt-learn, 
 use Rattle.mencius_base.specs.Limits.{greatest_front, greatest_round, instance_count}
 
 with_slots : (m : Membership) (p f : ℕ) (xs ys : List SlotState) → xs ≡ ys
-    → ◌≡◌ {A = ServerState} (record { members = m; id = p; front = f; slots = xs }) (record { members = m; id = p; front = f; slots = ys })
+    → ◌≡◌ {A = ServerState} (record { members = m; id = p; front = f; slots = xs })
+    (record { members = m; id = p; front = f; slots = ys })
 with_slots m p f xs ys e = rw e
 
 -- what the server knows of an instance is what others see of it
-pub known_is : (m : Membership) (p f : ℕ) (k : KnownState) (now : ServerState) → record { members = m; id = p; front = f; slots = k.slots } ≡ now → k.members ≡ m
+pub known_is : (m : Membership) (p f : ℕ) (k : KnownState) (now : ServerState)
+    → record { members = m; id = p; front = f; slots = k.slots } ≡ now → k.members ≡ m
     → (i : ℕ) → known_slot k i ≡ slot now i
 known_is m p f k now shown same i =
     ap (λ (n : Membership). get_or k.slots i (new_slot n)) same ∙ ap (λ (s : ServerState). slot s i) shown
 
 -- the same server, with the same members
 pub kept_as : (s v : ServerState) (m n : Membership) (b : Noted) → s ≡ v → n ≡ m → IsKept v m b → IsKept s n b
-kept_as s v m n b same members kept = subst (λ (x : ServerState). IsKept x n b) (sym same) (subst (λ (x : Membership). IsKept v x b) (sym members) kept)
+kept_as s v m n b same members kept =
+    subst (λ (x : ServerState). IsKept x n b) (sym same) (subst (λ (x : Membership). IsKept v x b) (sym members) kept)
 
 -- where the own suggestions are the same, and no more is lost below a place
-same_keeps : (s v : ServerState) (m : Membership) (b c : Noted) → SaysSame s v → IsServer v → length v.slots ≡ instance_count → m ≡ v.members → s.front ≤ v.front
+same_keeps : (s v : ServerState) (m : Membership) (b c : Noted) → SaysSame s v → IsServer v
+    → length v.slots ≡ instance_count → m ≡ v.members → s.front ≤ v.front
     → c.lost_from ≤ b.lost_from → c.next_ticket ≡ b.next_ticket → c.moved ≡ b.moved
-    → ((j : ℕ) → j < c.lost_from → is_noop (slot v j).learned ≡ true → (is_noop (slot s j).learned ≡ true) ⊎ (suggested_at s j ≡ None))
+    → ((j : ℕ) → j < c.lost_from → is_noop (slot v j).learned ≡ true
+    → (is_noop (slot s j).learned ≡ true) ⊎ (suggested_at s j ≡ None))
     → IsKept s m b → IsKept v m c
 same_keeps s v m b c said server full members ahead early next marks since kept = record {
   full = full;
@@ -50,30 +55,40 @@ same_keeps s v m b c said server full members ahead early next marks since kept 
   server = server;
   early = omega (arith, kept.early);
   lost = λ j low. waits_none s v said j (omega (arith, kept.early)) (kept.lost j (omega arith)) (since j low);
-  tickets = λ j t small e. let low : t < b.next_ticket = kept.tickets j t small (sym (said.same j small) ∙ e) in omega arith;
+  tickets = λ j t small e. let low : t < b.next_ticket =
+      kept.tickets j t small (sym (said.same j small) ∙ e) in omega arith;
   short = rw marks (omega (arith, kept.short));
-  moved = λ j t small e. past_same s v said t j ∙ kept.moved j t small (sym (said.same j small) ∙ e) ∙ ap (λ (xs : List Bool). get_or xs j false) (sym marks);
+  moved = λ j t small e. past_same s v said t j ∙ kept.moved j t small (sym (said.same j small) ∙ e)
+      ∙ ap (λ (xs : List Bool). get_or xs j false) (sym marks);
 }
 
 -- a slot written that keeps an own proposal
 put_says : (s : ServerState) (i f : ℕ) (t : SlotState) → FitsAt s f i t → SaysSame s (with_slot_and_front s i t f)
 put_says s i f t fits = record { same = λ j small. go j (eqb (owner s.members j) s.id) refl } where
-  go : (j : ℕ) (c : Bool) → eqb (owner s.members j) s.id ≡ c → suggested_at (with_slot_and_front s i t f) j ≡ suggested_at s j
+  go : (j : ℕ) (c : Bool) → eqb (owner s.members j) s.id ≡ c
+      → suggested_at (with_slot_and_front s i t f) j ≡ suggested_at s j
   go j false other = rw other refl
   go j true mine =
       rw mine
-      (set_keeps (λ (u : SlotState). ticket_of u.proposal ≡ ticket_of (slot s j).proposal) s.slots i j t (new_slot s.members)
-      (λ at. ap ticket_of (fits.said (ap (owner s.members) (sym at) ∙ eqb-true _ _ mine)) ∙ ap (λ (x : ℕ). ticket_of (slot s x).proposal) (sym at)) refl)
+      (set_keeps (λ (u : SlotState). ticket_of u.proposal
+      ≡ ticket_of (slot s j).proposal) s.slots i j t (new_slot s.members)
+      (λ at. ap ticket_of (fits.said (ap (owner s.members) (sym at) ∙ eqb-true _ _ mine))
+      ∙ ap (λ (x : ℕ). ticket_of (slot s x).proposal) (sym at)) refl)
 
-put_since : (s : ServerState) (i f l : ℕ) (t : SlotState) → (l ≤ i) ⊎ (owner s.members i ≡ s.id → is_noop t.learned ≡ false)
-    → (j : ℕ) → j < l → is_noop (slot (with_slot_and_front s i t f) j).learned ≡ true → (is_noop (slot s j).learned ≡ true) ⊎ (suggested_at s j ≡ None)
+put_since : (s : ServerState) (i f l : ℕ) (t : SlotState)
+    → (l ≤ i) ⊎ (owner s.members i ≡ s.id → is_noop t.learned ≡ false)
+    → (j : ℕ) → j < l → is_noop (slot (with_slot_and_front s i t f) j).learned ≡ true
+    → (is_noop (slot s j).learned ≡ true) ⊎ (suggested_at s j ≡ None)
 put_since s i f l t (inl early) j low =
-    set_keeps (λ (u : SlotState). is_noop u.learned ≡ true → (is_noop (slot s j).learned ≡ true) ⊎ (suggested_at s j ≡ None)) s.slots i j t (new_slot s.members)
+    set_keeps (λ (u : SlotState). is_noop u.learned ≡ true
+    → (is_noop (slot s j).learned ≡ true) ⊎ (suggested_at s j ≡ None)) s.slots i j t (new_slot s.members)
     (λ at lost. absurd (omega arith)) (λ lost. inl lost)
 put_since s i f l t (inr kept) j low =
-    set_keeps (λ (u : SlotState). is_noop u.learned ≡ true → (is_noop (slot s j).learned ≡ true) ⊎ (suggested_at s j ≡ None)) s.slots i j t (new_slot s.members)
+    set_keeps (λ (u : SlotState). is_noop u.learned ≡ true
+    → (is_noop (slot s j).learned ≡ true) ⊎ (suggested_at s j ≡ None)) s.slots i j t (new_slot s.members)
     (λ at lost. elim (cases_Bool (eqb (owner s.members j) s.id)) [
-      | inl mine ↦ let no : is_noop t.learned ≡ false = kept (ap (owner s.members) (sym at) ∙ eqb-true _ _ mine) in absurd (cc)
+      | inl mine ↦ let no : is_noop t.learned ≡ false =
+          kept (ap (owner s.members) (sym at) ∙ eqb-true _ _ mine) in absurd (cc)
       | inr other ↦ inr (rw other refl)
     ]) (λ lost. inl lost)
 
@@ -84,21 +99,26 @@ pub put_keeps : (now : ServerState) (m : Membership) (i g : ℕ) (t : SlotState)
     → IsKept now m b → IsKept (with_slot_and_front now i t g) m (record b { lost_from = l })
 put_keeps now m i g t b l early lost fits ahead near kept =
     same_keeps now (with_slot_and_front now i t g) m b _ (put_says now i g t fits)
-    (IsServer-with_slot now i t g kept.server (KeepsAt-fits now g i t fits) ahead near) (length-set now.slots i t ∙ kept.full) kept.members ahead
+    (IsServer-with_slot now i t g kept.server (KeepsAt-fits now g i t fits) ahead near) (length-set now.slots i t
+    ∙ kept.full) kept.members ahead
     early refl refl (put_since now i g l t lost) kept
 
 pub put_shows : (m : Membership) (p f g : ℕ) (k new : KnownState) (now : ServerState) (i : ℕ) (t : SlotState)
     → record { members = m; id = p; front = f; slots = k.slots } ≡ now → new ≡ with_known k i t
     → record { members = m; id = p; front = g; slots = new.slots } ≡ with_slot_and_front now i t g
 put_shows m p f g k new now i t shown written =
-    subst (λ (s : ServerState). record { members = m; id = p; front = g; slots = new.slots } ≡ with_slot_and_front s i t g) shown
+    subst (λ (s : ServerState). record { members = m; id = p; front = g; slots = new.slots }
+    ≡ with_slot_and_front s i t g) shown
     (with_slots m p g _ _ (ap (λ (x : KnownState). x.slots) written))
 
 -- a Skip
-skip_slot : (s : ServerState) (q first stop j : ℕ) → j < instance_count → slot (after_skip s q first stop) j ≡ slot_given s.members q first stop j (slot s j)
-skip_slot s q first stop j small = get_or-map-instances (λ (i : ℕ). slot_given s.members q first stop i (slot s i)) j (new_slot s.members) small
+skip_slot : (s : ServerState) (q first stop j : ℕ) → j < instance_count
+    → slot (after_skip s q first stop) j ≡ slot_given s.members q first stop j (slot s j)
+skip_slot s q first stop j small =
+    get_or-map-instances (λ (i : ℕ). slot_given s.members q first stop i (slot s i)) j (new_slot s.members) small
 
-skip_since : (s : ServerState) (q first stop l : ℕ) → (l ≤ first) ⊎ (q ≡ s.id → ⊥) → (j : ℕ) → j < l → j < instance_count → is_noop (slot (after_skip s q first stop) j).learned ≡ true
+skip_since : (s : ServerState) (q first stop l : ℕ) → (l ≤ first) ⊎ (q ≡ s.id → ⊥) → (j : ℕ) → j < l
+    → j < instance_count → is_noop (slot (after_skip s q first stop) j).learned ≡ true
     → (is_noop (slot s j).learned ≡ true) ⊎ (suggested_at s j ≡ None)
 skip_since s q first stop l lost j low small noop =
     elim (cases_Bool (is_skipped s.members q first stop j)) [
@@ -113,82 +133,110 @@ skip_since s q first stop l lost j low small noop =
       | inr not_given ↦ inl (rw (skip_slot s q first stop j small, not_given) at noop)
     ]
 
-pub skip_keeps : (s : ServerState) (m : Membership) (q first stop : ℕ) (b : Noted) (l : ℕ) → l ≤ b.lost_from → (l ≤ first) ⊎ (q ≡ s.id → ⊥) → IsKept s m b
+pub skip_keeps : (s : ServerState) (m : Membership) (q first stop : ℕ) (b : Noted) (l : ℕ) → l ≤ b.lost_from
+    → (l ≤ first) ⊎ (q ≡ s.id → ⊥) → IsKept s m b
     → IsKept (after_skip s q first stop) m (record b { lost_from = l })
 skip_keeps s m q first stop b l early lost kept =
     same_keeps s (after_skip s q first stop) m b _
     (record {
       same = λ j small. ap (suggested_in s.members s.id j) (skip_slot s q first stop j small)
           ∙ ap (λ (o : Option Value). cond (eqb (owner s.members j) s.id) (ticket_of o) None)
-          (SameAttempt-cond (is_skipped s.members q first stop j) (slot s j) (after_learn (slot s j) Noop) (slot s j) (SameAttempt-learn (slot s j) Noop) (SameAttempt-self (slot s j))).proposal;
+          (SameAttempt-cond (is_skipped s.members q first stop j) (slot s j) (after_learn (slot s j) Noop) (slot s j)
+          (SameAttempt-learn (slot s j) Noop) (SameAttempt-self (slot s j))).proposal;
     })
-    (IsServer-skip s q first stop kept.server) (length-map-instances (λ (j : ℕ). slot_given s.members q first stop j (slot s j))) kept.members (omega arith)
+    (IsServer-skip s q first stop kept.server)
+    (length-map-instances (λ (j : ℕ). slot_given s.members q first stop j (slot s j))) kept.members (omega arith)
     early refl refl (λ j low noop. skip_since s q first stop l lost j low (omega (arith, kept.early)) noop) kept
 
 pub skip_shown : (m : Membership) (p f : ℕ) (k new : KnownState) (now : ServerState) (q first stop : ℕ)
-    → record { members = m; id = p; front = f; slots = k.slots } ≡ now → k.members ≡ m → new ≡ known_after_skip k q first stop
+    → record { members = m; id = p; front = f; slots = k.slots } ≡ now → k.members ≡ m
+    → new ≡ known_after_skip k q first stop
     → record { members = m; id = p; front = f; slots = new.slots } ≡ after_skip now q first stop
 skip_shown m p f k new now q first stop shown same made =
-    subst (λ (s : ServerState). record { members = m; id = p; front = f; slots = new.slots } ≡ after_skip s q first stop) shown
+    subst (λ (s : ServerState). record { members = m; id = p; front = f; slots = new.slots }
+    ≡ after_skip s q first stop) shown
     (with_slots m p f _ _
     (ap (λ (x : KnownState). x.slots) made
-    ∙ ap (λ (n : Membership). map (λ (j : ℕ). slot_given n q first stop j (get_or k.slots j (new_slot n))) instances) same))
+    ∙ ap (λ (n : Membership). map
+    (λ (j : ℕ). slot_given n q first stop j (get_or k.slots j (new_slot n))) instances) same))
 
 -- a suspicion
-suspect_slot : (s : ServerState) (q j : ℕ) → j < instance_count → slot (after_suspect s q) j ≡ slot_revoked s.members s.id q s.front j (slot s j)
-suspect_slot s q j small = get_or-map-instances (λ (i : ℕ). slot_revoked s.members s.id q s.front i (slot s i)) j (new_slot s.members) small
+suspect_slot : (s : ServerState) (q j : ℕ) → j < instance_count
+    → slot (after_suspect s q) j ≡ slot_revoked s.members s.id q s.front j (slot s j)
+suspect_slot s q j small =
+    get_or-map-instances (λ (i : ℕ). slot_revoked s.members s.id q s.front i (slot s i)) j (new_slot s.members) small
 
 -- an own slot is not touched
-suspect_own : (s : ServerState) (q j : ℕ) → (s.id ≡ q → ⊥) → j < instance_count → owner s.members j ≡ s.id → slot (after_suspect s q) j ≡ slot s j
+suspect_own : (s : ServerState) (q j : ℕ) → (s.id ≡ q → ⊥) → j < instance_count → owner s.members j ≡ s.id
+    → slot (after_suspect s q) j ≡ slot s j
 suspect_own s q j other small mine =
-    suspect_slot s q j small ∙ rw (unrevoked_other s.members q s.front j (slot s j) (ne_eqb (owner s.members j) q (λ theirs. other (sym mine ∙ theirs)))) refl
+    suspect_slot s q j small
+    ∙ rw (unrevoked_other s.members q s.front j (slot s j)
+    (ne_eqb (owner s.members j) q (λ theirs. other (sym mine ∙ theirs)))) refl
 
-suspect_says : (s : ServerState) (q j : ℕ) → (s.id ≡ q → ⊥) → j < instance_count → (c : Bool) → eqb (owner s.members j) s.id ≡ c → suggested_at (after_suspect s q) j ≡ suggested_at s j
-suspect_says s q j other small true mine = rw mine (ap (λ (u : SlotState). ticket_of u.proposal) (suspect_own s q j other small (eqb-true _ _ mine)))
+suspect_says : (s : ServerState) (q j : ℕ) → (s.id ≡ q → ⊥) → j < instance_count → (c : Bool)
+    → eqb (owner s.members j) s.id ≡ c → suggested_at (after_suspect s q) j ≡ suggested_at s j
+suspect_says s q j other small true mine =
+    rw mine (ap (λ (u : SlotState). ticket_of u.proposal) (suspect_own s q j other small (eqb-true _ _ mine)))
 suspect_says s q j other small false theirs = rw theirs refl
 
-suspect_since : (s : ServerState) (q j : ℕ) → (s.id ≡ q → ⊥) → j < instance_count → is_noop (slot (after_suspect s q) j).learned ≡ true → (c : Bool) → eqb (owner s.members j) s.id ≡ c
+suspect_since : (s : ServerState) (q j : ℕ) → (s.id ≡ q → ⊥) → j < instance_count
+    → is_noop (slot (after_suspect s q) j).learned ≡ true → (c : Bool) → eqb (owner s.members j) s.id ≡ c
     → (is_noop (slot s j).learned ≡ true) ⊎ (suggested_at s j ≡ None)
-suspect_since s q j other small noop true mine = inl (subst (λ (u : SlotState). is_noop u.learned ≡ true) (suspect_own s q j other small (eqb-true _ _ mine)) noop)
+suspect_since s q j other small noop true mine =
+    inl (subst (λ (u : SlotState). is_noop u.learned ≡ true) (suspect_own s q j other small (eqb-true _ _ mine)) noop)
 suspect_since s q j other small noop false theirs = inr (rw theirs refl)
 
-pub suspect_keeps : (s : ServerState) (m : Membership) (q : ℕ) (b : Noted) → (s.id ≡ q → ⊥) → IsKept s m b → IsKept (after_suspect s q) m b
+pub suspect_keeps : (s : ServerState) (m : Membership) (q : ℕ) (b : Noted) → (s.id ≡ q → ⊥) → IsKept s m b
+    → IsKept (after_suspect s q) m b
 suspect_keeps s m q b other kept =
     same_keeps s (after_suspect s q) m b b
     (record { same = λ j small. suspect_says s q j other small _ refl })
-    (IsServer-suspect s q other kept.server) (length-map-instances (λ (j : ℕ). slot_revoked s.members s.id q s.front j (slot s j))) kept.members (omega arith)
+    (IsServer-suspect s q other kept.server)
+    (length-map-instances
+    (λ (j : ℕ). slot_revoked s.members s.id q s.front j (slot s j))) kept.members (omega arith)
     (omega arith) refl refl (λ j low noop. suspect_since s q j other (omega (arith, kept.early)) noop _ refl) kept
 
 -- a suspicion, as what the server knows has it
 module _ (m : Membership) (p f : ℕ) (k : KnownState) (now : ServerState) (q : ℕ)
     (shown : record { members = m; id = p; front = f; slots = k.slots } ≡ now) (same : k.members ≡ m) where
   pub open_shown : (j : ℕ) → is_open k q f j ≡ is_suspected now q j
-  open_shown j = ap (λ (n : Membership). is_revoked n q f j (get_or k.slots j (new_slot n))) same ∙ ap (λ (s : ServerState). is_suspected s q j) shown
+  open_shown j =
+      ap (λ (n : Membership). is_revoked n q f j (get_or k.slots j (new_slot n))) same
+      ∙ ap (λ (s : ServerState). is_suspected s q j) shown
 
   pub open_count : count_by (is_open k q f) instances ≡ count_by (is_suspected now q) instances
   open_count =
       ap (λ (n : Membership). count_by (λ (j : ℕ). is_revoked n q f j (get_or k.slots j (new_slot n))) instances) same
       ∙ ap (λ (s : ServerState). count_by (is_suspected s q) instances) shown
 
-  pub open_rounds : ((j : ℕ) → j < instance_count → is_suspected now q j ≡ true → round_after now.members (slot now j) ≤ greatest_round)
+  pub open_rounds : ((j : ℕ) → j < instance_count → is_suspected now q j ≡ true
+      → round_after now.members (slot now j) ≤ greatest_round)
       → (j : ℕ) → j < instance_count → is_open k q f j ≡ true → round_after k.members (known_slot k j) ≤ greatest_round
   open_rounds rounds j small e =
       let there = rounds j small (sym (open_shown j) ∙ e) in
       let is : round_after k.members (known_slot k j) ≡ round_after now.members (slot now j) =
-      ap (λ (n : Membership). round_after n (get_or k.slots j (new_slot n))) same ∙ ap (λ (s : ServerState). round_after s.members (slot s j)) shown in
+      ap (λ (n : Membership). round_after n (get_or k.slots j (new_slot n))) same
+      ∙ ap (λ (s : ServerState). round_after s.members (slot s j)) shown in
       rw is there
 
-  pub full_shown : list_any (is_round_full_at k) (filter (is_open k q f) instances) ≡ list_any (is_round_full now) (filter (is_suspected now q) instances)
+  pub full_shown : list_any (is_round_full_at k) (filter (is_open k q f) instances)
+      ≡ list_any (is_round_full now) (filter (is_suspected now q) instances)
   full_shown =
-      ap (λ (n : Membership). list_any (λ (j : ℕ). ltb greatest_round (round_after n (get_or k.slots j (new_slot n)))) (filter (λ (j : ℕ). is_revoked n q f j (get_or k.slots j (new_slot n))) instances)) same
+      ap (λ (n : Membership). list_any
+      (λ (j : ℕ). ltb greatest_round (round_after n (get_or k.slots j (new_slot n))))
+      (filter (λ (j : ℕ). is_revoked n q f j (get_or k.slots j (new_slot n))) instances)) same
       ∙ ap (λ (s : ServerState). list_any (is_round_full s) (filter (is_suspected s q) instances)) shown
 
-  pub suspect_shown : (new : KnownState) → new ≡ known_after_suspect k p q f → record { members = m; id = p; front = f; slots = new.slots } ≡ after_suspect now q
+  pub suspect_shown : (new : KnownState) → new ≡ known_after_suspect k p q f
+      → record { members = m; id = p; front = f; slots = new.slots } ≡ after_suspect now q
   suspect_shown new made =
-      subst (λ (s : ServerState). record { members = m; id = p; front = f; slots = new.slots } ≡ after_suspect s q) shown
+      subst (λ (s : ServerState). record { members = m; id = p; front = f; slots = new.slots }
+      ≡ after_suspect s q) shown
       (with_slots m p f _ _
       (ap (λ (x : KnownState). x.slots) made
-      ∙ ap (λ (n : Membership). map (λ (j : ℕ). slot_revoked n p q f j (get_or k.slots j (new_slot n))) instances) same))
+      ∙ ap (λ (n : Membership). map
+      (λ (j : ℕ). slot_revoked n p q f j (get_or k.slots j (new_slot n))) instances) same))
 
 -- an instance at which the server may suggest
 pub record IsFree (s : ServerState) (i : ℕ) : Type 0 where
@@ -201,7 +249,8 @@ pub record IsFree (s : ServerState) (i : ℕ) : Type 0 where
 pub place_keeps : (s : ServerState) (m : Membership) (i t : ℕ) (b : Noted) (v : ℕ) (marks : List Bool)
     → 1 ≤ s.members.count → s.members.count ≤ 7 → IsFree s i
     → b.next_ticket ≤ v → t < v → length marks ≤ s.front
-    → ((j : ℕ) → get_or marks j false ≡ (get_or b.moved j false || is_ticket t (suggested_in s.members s.id j (slot s j))))
+    → ((j : ℕ) → get_or marks j false
+    ≡ (get_or b.moved j false || is_ticket t (suggested_in s.members s.id j (slot s j))))
     → IsKept s m b
     → IsKept (after_submit s i t) m (record b { next_ticket = v; moved = marks })
 place_keeps s m i t b v marks some few free more above short marked kept =
@@ -209,7 +258,9 @@ place_keeps s m i t b v marks some few free more above short marked kept =
     record {
       full = length-set s.slots i (record (slot s i) { proposal = Some (Ticket t) }) ∙ kept.full;
       members = kept.members;
-      server = IsServer-with_slot s i _ (i + s.members.count) kept.server (KeepsAt-suggested s (i + s.members.count) i (Some (Ticket t)) (omega arith) kept.server) (omega (arith, free.ahead)) (omega (arith, free.small));
+      server = IsServer-with_slot s i _ (i + s.members.count) kept.server
+          (KeepsAt-suggested s (i + s.members.count) i (Some (Ticket t)) (omega arith) kept.server)
+          (omega (arith, free.ahead)) (omega (arith, free.small));
       early = kept.early;
       lost = λ j low. waits_later s i t kept.server free.own free.ahead inside free.small j free.blank (kept.lost j low);
       tickets = tickets_later s i t kept.server free.own free.ahead inside free.small b.next_ticket v more above kept.tickets;
@@ -222,29 +273,37 @@ pub place_shows : (m : Membership) (p f : ℕ) (k new : KnownState) (now : Serve
     → new ≡ with_known k i u → u ≡ record (known_slot k i) { proposal = Some (Ticket t) }
     → record { members = m; id = p; front = i + m.count; slots = new.slots } ≡ after_submit now i t
 place_shows m p f k new now i t u shown same written made =
-    subst (λ (s : ServerState). record { members = m; id = p; front = i + m.count; slots = new.slots } ≡ after_submit s i t) shown
+    subst (λ (s : ServerState). record { members = m; id = p; front = i + m.count; slots = new.slots }
+    ≡ after_submit s i t) shown
     (with_slots m p (i + m.count) _ _
     (ap (λ (x : KnownState). x.slots) written ∙ ap (set k.slots i) made
-    ∙ ap (λ (n : Membership). set k.slots i (record (get_or k.slots i (new_slot n)) { proposal = Some (Ticket t) })) same))
+    ∙ ap (λ (n : Membership). set k.slots i
+    (record (get_or k.slots i (new_slot n)) { proposal = Some (Ticket t) })) same))
 
 -- the marks that a suggestion makes, as others see the server before it
-pub place_marks : (m : Membership) (p f : ℕ) (k new : KnownState) (now : ServerState) (i t : ℕ) (u : SlotState) (old blank marks : List Bool)
+pub place_marks : (m : Membership) (p f : ℕ) (k new : KnownState) (now : ServerState) (i t : ℕ) (u : SlotState)
+    (old blank marks : List Bool)
     → record { members = m; id = p; front = f; slots = k.slots } ≡ now → k.members ≡ m → new ≡ with_known k i u → f ≤ i
     → IsServer (record { members = m; id = p; front = f; slots = k.slots }) → length k.slots ≡ instance_count
     → ((j : ℕ) → get_or blank j false ≡ get_or old j false)
-    → ((j : ℕ) → j < f → j < instance_count → get_or marks j false ≡ (get_or blank j false || is_ticket t (suggested_in m p j (known_slot new j))))
+    → ((j : ℕ) → j < f → j < instance_count
+    → get_or marks j false ≡ (get_or blank j false || is_ticket t (suggested_in m p j (known_slot new j))))
     → ((j : ℕ) → min f instance_count ≤ j → get_or marks j false ≡ get_or blank j false)
-    → (j : ℕ) → get_or marks j false ≡ (get_or old j false || is_ticket t (suggested_in now.members now.id j (slot now j)))
+    → (j : ℕ) → get_or marks j false
+    ≡ (get_or old j false || is_ticket t (suggested_in now.members now.id j (slot now j)))
 place_marks m p f k new now i t u old blank marks shown same written ahead server full kept marked rest j =
-    subst (λ (s : ServerState). get_or marks j false ≡ (get_or old j false || is_ticket t (suggested_in s.members s.id j (slot s j)))) shown
+    subst (λ (s : ServerState). get_or marks j false
+    ≡ (get_or old j false || is_ticket t (suggested_in s.members s.id j (slot s j)))) shown
     (⊎_elim
     (λ (low : j < min f instance_count).
     marked j (omega arith) (omega arith)
     ∙ ap (λ (b : Bool). b || is_ticket t (suggested_in m p j (known_slot new j))) (kept j)
-    ∙ ap (λ (x : SlotState). get_or old j false || is_ticket t (suggested_in m p j x)) (slot_is (λ at. absurd (omega arith))))
+    ∙ ap (λ (x : SlotState). get_or old j false || is_ticket t (suggested_in m p j x))
+    (slot_is (λ at. absurd (omega arith))))
     (λ (high : min f instance_count ≤ j).
     rest j high ∙ kept j
-    ∙ sym (ap (λ (b : Bool). get_or old j false || b) (untold (eqb (owner m j) p) refl high) ∙ or-false (get_or old j false)))
+    ∙ sym (ap (λ (b : Bool). get_or old j false || b) (untold (eqb (owner m j) p) refl high)
+    ∙ or-false (get_or old j false)))
     (cases_lt j (min f instance_count)))
   where
     slot_is : (j ≡ i → ⊥) → known_slot new j ≡ get_or k.slots j (new_slot m)
@@ -257,11 +316,13 @@ place_marks m p f k new now i t u old blank marks shown same written ahead serve
     or-false true = refl
     or-false false = refl
 
-    untold : (b : Bool) → eqb (owner m j) p ≡ b → min f instance_count ≤ j → is_ticket t (suggested_in m p j (get_or k.slots j (new_slot m))) ≡ false
+    untold : (b : Bool) → eqb (owner m j) p ≡ b → min f instance_count ≤ j
+        → is_ticket t (suggested_in m p j (get_or k.slots j (new_slot m))) ≡ false
     untold false other high = rw other refl
     untold true mine high =
         rw mine
         (⊎_elim
-        (λ (low : j < f). let past : length k.slots ≤ j = omega (arith, full) in rw (get_or_past k.slots j (new_slot m) past) refl)
+        (λ (low : j < f). let past : length k.slots ≤ j = omega (arith, full) in
+        rw (get_or_past k.slots j (new_slot m) past) refl)
         (λ (past : f ≤ j). rw (server.unsaid j (eqb-true _ _ mine) past) refl)
         (cases_lt j f))

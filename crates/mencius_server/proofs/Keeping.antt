@@ -43,7 +43,8 @@ module _ (m : Membership) (p f : ℕ) (k new : KnownState) (b c : Noted) (kept :
   slot_is i = ap (λ (n : Membership). get_or k.slots i (new_slot n)) kept.members
 
   -- a change of one slot
-  pub change_kept : (i l : ℕ) (d : Change) → i < instance_count → IsSaid m d → new ≡ with_known k i (changed (known_slot k i) d)
+  pub change_kept : (i l : ℕ) (d : Change) → i < instance_count → IsSaid m d
+      → new ≡ with_known k i (changed (known_slot k i) d)
       → l ≤ b.lost_from → (l ≤ i) ⊎ (owner m i ≡ p → is_noop (known_slot new i).learned ≡ false)
       → c ≡ record b { lost_from = l }
       → IsKept (seen m p f new) new.members c

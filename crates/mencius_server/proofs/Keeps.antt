@@ -21,7 +21,8 @@ pub past-replicate : (n i : ℕ) (t : SlotState) → get_or (replicate n t) i t 
 past-replicate n i t =
     ⊎_elim
     (λ (within : i < n). get_or-replicate n i t t within)
-    (λ (past : n ≤ i). let none : length (replicate n t) ≤ i = simp length-replicate (omega arith) in get_or_past (replicate n t) i t none)
+    (λ (past : n ≤ i). let none : length (replicate n t) ≤ i = simp length-replicate (omega arith) in
+    get_or_past (replicate n t) i t none)
     (cases_lt i n)
 
 -- a new server keeps all this
@@ -35,7 +36,8 @@ IsServer-new m p member few = record {
 }
 
 -- a new server suggested nothing, and no ticket waits there
-none_said : (m : Membership) (p j : ℕ) (c : Bool) → cond c (ticket_of (get_or (replicate instance_count (new_slot m)) j (new_slot m)).proposal) None ≡ None
+none_said : (m : Membership) (p j : ℕ) (c : Bool)
+    → cond c (ticket_of (get_or (replicate instance_count (new_slot m)) j (new_slot m)).proposal) None ≡ None
 none_said m p j true = ap (λ (t : SlotState). ticket_of t.proposal) (past-replicate instance_count j (new_slot m))
 none_said m p j false = refl
 
@@ -46,7 +48,8 @@ pub new_waits : (m : Membership) (p j : ℕ) → waits_at (new_server m p) j ≡
 new_waits m p j = ap (waits_with (new_server m p) j) (none_said m p j (eqb (owner m j) p))
 
 -- what holds of the new slot and of the old ones holds after a write
-pub set_keeps : (P : SlotState → Type 0) (given : List SlotState) (i j : ℕ) (t d : SlotState) → (j ≡ i → P t) → P (get_or given j d) → P (get_or (set given i t) j d)
+pub set_keeps : (P : SlotState → Type 0) (given : List SlotState) (i j : ℕ) (t d : SlotState) → (j ≡ i → P t)
+    → P (get_or given j d) → P (get_or (set given i t) j d)
 set_keeps P given i j t d new old =
     ⊎_elim
     (λ (e : j ≡ i). ⊎_elim
@@ -69,15 +72,19 @@ pub KeepsAt-new : (s : ServerState) (f i : ℕ) → KeepsAt s f i (new_slot s.me
 KeepsAt-new s f i = record { same = refl; own = λ mine. refl; unsaid = λ mine ahead. refl }
 
 -- an instance before the front may have a proposal
-pub KeepsAt-suggested : (s : ServerState) (g i : ℕ) (o : Option Value) → i < g → IsServer s → KeepsAt s g i (record (slot s i) { proposal = o })
-KeepsAt-suggested s g i o before kept = record { same = kept.same i; own = kept.own i; unsaid = λ mine past. absurd (omega arith) }
+pub KeepsAt-suggested : (s : ServerState) (g i : ℕ) (o : Option Value) → i < g → IsServer s
+    → KeepsAt s g i (record (slot s i) { proposal = o })
+KeepsAt-suggested s g i o before kept =
+    record { same = kept.same i; own = kept.own i; unsaid = λ mine past. absurd (omega arith) }
 
-pub IsServer-with_slot : (s : ServerState) (i : ℕ) (t : SlotState) (f : ℕ) → IsServer s → KeepsAt s f i t → s.front ≤ f → f ≤ greatest_front
+pub IsServer-with_slot : (s : ServerState) (i : ℕ) (t : SlotState) (f : ℕ) → IsServer s → KeepsAt s f i t
+    → s.front ≤ f → f ≤ greatest_front
     → IsServer (with_slot_and_front s i t f)
 IsServer-with_slot s i t f kept fits ahead near = record {
   member = kept.member;
   near = near;
-  same = λ j. set_keeps (λ (u : SlotState). u.members ≡ s.members) s.slots i j t (new_slot s.members) (λ e. fits.same) (kept.same j);
+  same = λ j. set_keeps
+      (λ (u : SlotState). u.members ≡ s.members) s.slots i j t (new_slot s.members) (λ e. fits.same) (kept.same j);
   own = λ j mine. set_keeps (λ (u : SlotState). u.trying ≡ 0) s.slots i j t (new_slot s.members)
       (λ e. fits.own (ap (owner s.members) (sym e) ∙ mine)) (kept.own j mine);
   unsaid = λ j mine past. set_keeps (λ (u : SlotState). u.proposal ≡ None) s.slots i j t (new_slot s.members)
@@ -87,9 +94,11 @@ IsServer-with_slot s i t f kept fits ahead near = record {
 
 -- what a server keeps holds of each of its slots
 pub FitsAt-slot : (s : ServerState) (i : ℕ) → IsServer s → FitsAt s s.front i (slot s i)
-FitsAt-slot s i kept = record { stays = λ known. known; said = λ mine. refl; same = kept.same i; own = kept.own i; unsaid = kept.unsaid i }
+FitsAt-slot s i kept =
+    record { stays = λ known. known; said = λ mine. refl; same = kept.same i; own = kept.own i; unsaid = kept.unsaid i }
 
 -- where nothing is sent, only memory may be wanting
-pub refused_for_memory : (o : Outgoing) (r : Result ℕ Refusal) → length o.messages ≤ o.limit → IfErr r (λ e. e ≡ NoMemory) → IsRefusedFor (outbox_full o 0) r
+pub refused_for_memory : (o : Outgoing) (r : Result ℕ Refusal) → length o.messages ≤ o.limit
+    → IfErr r (λ e. e ≡ NoMemory) → IsRefusedFor (outbox_full o 0) r
 refused_for_memory o (Ok n) few memory = rw (le-ltb o.limit (length o.messages + 0) (omega arith))
 refused_for_memory o (Err e) few memory = rw (le-ltb o.limit (length o.messages + 0) (omega arith)) memory

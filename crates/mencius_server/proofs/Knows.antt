@@ -22,38 +22,49 @@ use Rattle.mencius_base.specs.Limits.{instance_count}
 
 -- ---- what is seen of an instance
 
-module _ (m : Membership) (slots : List (Option SlotState)) (rs : List (List Span)) (now : KnownState) (shown : known_of m slots rs ≡ now) where
+module _ (m : Membership) (slots : List (Option SlotState)) (rs : List (List Span)) (now : KnownState)
+    (shown : known_of m slots rs ≡ now) where
   pub seen : (j : ℕ) → j < instance_count → known_slot now j ≡ known_at m slots rs j
-  seen j small = subst (λ (k : KnownState). known_slot k j ≡ known_at m slots rs j) shown (get_or-map-instances (known_at m slots rs) j (new_slot m) small)
+  seen j small =
+      subst (λ (k : KnownState). known_slot k j ≡ known_at m slots rs j) shown
+      (get_or-map-instances (known_at m slots rs) j (new_slot m) small)
 
   pub seen_some : (j : ℕ) (t : SlotState) → j < instance_count → stand_at slots j ≡ Some t → known_slot now j ≡ t
   seen_some j t small e = seen j small ∙ ap (λ o. unwrap_or o (unheard m (is_passed m rs j))) e
 
-  pub seen_none : (j : ℕ) → j < instance_count → stand_at slots j ≡ None → known_slot now j ≡ unheard m (is_passed m rs j)
+  pub seen_none : (j : ℕ) → j < instance_count → stand_at slots j ≡ None
+      → known_slot now j ≡ unheard m (is_passed m rs j)
   seen_none j small e = seen j small ∙ ap (λ o. unwrap_or o (unheard m (is_passed m rs j))) e
 
   pub seen_stands : (j : ℕ) → j < instance_count → has_slot now j ≡ is_some (stand_at slots j)
-  seen_stands j small = subst (λ (k : KnownState). has_slot k j ≡ is_some (stand_at slots j)) shown (get_or-map-instances (λ i. is_some (stand_at slots i)) j false small)
+  seen_stands j small =
+      subst (λ (k : KnownState). has_slot k j ≡ is_some (stand_at slots j)) shown
+      (get_or-map-instances (λ i. is_some (stand_at slots i)) j false small)
 
 -- of an instance at which no slot stands, nothing was promised, accepted, tried or proposed
-pub unheard_quiet : (m : Membership) (b : Bool) → ((unheard m b).promised ≡ 0) × ((unheard m b).trying ≡ 0) × ((unheard m b).proposal ≡ None)
+pub unheard_quiet : (m : Membership) (b : Bool)
+    → ((unheard m b).promised ≡ 0) × ((unheard m b).trying ≡ 0) × ((unheard m b).proposal ≡ None)
 unheard_quiet m true = (refl, refl, refl)
 unheard_quiet m false = (refl, refl, refl)
 
 -- two states that agree at each instance are the same
-pub same_known : (m : Membership) (f g : ℕ → SlotState) (a b : ℕ → Bool) → ((j : ℕ) → j < instance_count → f j ≡ g j) → ((j : ℕ) → j < instance_count → a j ≡ b j)
-    → ◌≡◌ {A = KnownState} (record { members = m; slots = map f instances; stands = map a instances }) (record { members = m; slots = map g instances; stands = map b instances })
+pub same_known : (m : Membership) (f g : ℕ → SlotState) (a b : ℕ → Bool) → ((j : ℕ) → j < instance_count → f j ≡ g j)
+    → ((j : ℕ) → j < instance_count → a j ≡ b j)
+    → ◌≡◌ {A = KnownState} (record { members = m; slots = map f instances; stands = map a instances })
+    (record { members = m; slots = map g instances; stands = map b instances })
 same_known m f g a b e h = rw (map-instances_same f g (new_slot m) e, map-instances_same a b false h)
 
 -- ---- nothing yet
 
-pub no_ranges_more : (xs : List (List Span)) → ((j : ℕ) → get_or xs j [] ≡ []) → (j : ℕ) → get_or (xs ++ [] ∷ []) j [] ≡ []
+pub no_ranges_more : (xs : List (List Span)) → ((j : ℕ) → get_or xs j [] ≡ []) → (j : ℕ)
+    → get_or (xs ++ [] ∷ []) j [] ≡ []
 no_ranges_more [] h zero = refl
 no_ranges_more [] h (suc j) = refl
 no_ranges_more (x ∷ xs) h zero = h 0
 no_ranges_more (x ∷ xs) h (suc j) = no_ranges_more xs (λ i. h (suc i)) j
 
-module _ (m : Membership) (slots : List (Option SlotState)) (rs : List (List Span)) (empty : (j : ℕ) → stand_at slots j ≡ None) (none : (j : ℕ) → get_or rs j [] ≡ []) where
+module _ (m : Membership) (slots : List (Option SlotState)) (rs : List (List Span)) (empty : (j : ℕ)
+    → stand_at slots j ≡ None) (none : (j : ℕ) → get_or rs j [] ≡ []) where
   unheard_at : (j : ℕ) → known_at m slots rs j ≡ new_slot m
   unheard_at j = rw (empty j, none (owner m j))
 
@@ -71,23 +82,27 @@ module _ (m : Membership) (slots : List (Option SlotState)) (rs : List (List Spa
   }
 
   pub new_shows : known_of m slots rs ≡ new_known m
-  new_shows = same_known m (known_at m slots rs) (λ j. new_slot m) (λ j. is_some (stand_at slots j)) (λ j. false) (λ j small. unheard_at j) (λ j small. ap is_some (empty j))
+  new_shows = same_known m (known_at m slots rs) (λ j. new_slot m) (λ j. is_some (stand_at slots j)) (λ j. false)
+      (λ j small. unheard_at j) (λ j small. ap is_some (empty j))
 
 -- ---- a slot comes to stand
 
-module _ (m : Membership) (slots new : List (Option SlotState)) (rs : List (List Span)) (i : ℕ) (empty : stand_at slots i ≡ None)
+module _ (m : Membership) (slots new : List (Option SlotState)) (rs : List (List Span)) (i : ℕ)
+    (empty : stand_at slots i ≡ None)
     (stands : (j : ℕ) → stand_at new j ≡ cond (eqb j i) (Some (unheard m (is_passed m rs i))) (stand_at slots j)) where
   stood_here : (j : ℕ) → j ≡ i → stand_at new j ≡ Some (unheard m (is_passed m rs i))
   stood_here j at = stands j ∙ ap (λ b. cond b (Some (unheard m (is_passed m rs i))) (stand_at slots j)) (eq-eqb j i at)
 
   stood_off : (j : ℕ) → (j ≡ i → ⊥) → stand_at new j ≡ stand_at slots j
-  stood_off j off = stands j ∙ ap (λ b. cond b (Some (unheard m (is_passed m rs i))) (stand_at slots j)) (ne_eqb j i off)
+  stood_off j off =
+      stands j ∙ ap (λ b. cond b (Some (unheard m (is_passed m rs i))) (stand_at slots j)) (ne_eqb j i off)
 
   pub stood_at_same : (j : ℕ) → known_at m new rs j ≡ known_at m slots rs j
   stood_at_same j =
       ⊎_elim
       (λ (at : j ≡ i).
-      ap (λ o. unwrap_or o (unheard m (is_passed m rs j))) (stood_here j at) ∙ ap (λ k. unheard m (is_passed m rs k)) (sym at)
+      ap (λ o. unwrap_or o (unheard m (is_passed m rs j))) (stood_here j at)
+      ∙ ap (λ k. unheard m (is_passed m rs k)) (sym at)
       ∙ sym (ap (λ o. unwrap_or o (unheard m (is_passed m rs j))) (ap (stand_at slots) at ∙ empty)))
       (λ (off : j ≡ i → ⊥). ap (λ o. unwrap_or o (unheard m (is_passed m rs j))) (stood_off j off))
       (cases_eq j i)
@@ -96,7 +111,9 @@ module _ (m : Membership) (slots new : List (Option SlotState)) (rs : List (List
   stood_shows now shown =
       subst (λ (k : KnownState). known_of m new rs ≡ known_standing k i) shown
       (rw (map-instances_same (known_at m new rs) (known_at m slots rs) (new_slot m) (λ j small. stood_at_same j))
-      (ap (λ (xs : List Bool). with_stands xs) (sym (map-instances_set (λ j. is_some (stand_at slots j)) (λ j. is_some (stand_at new j)) i true false (ap is_some (stood_here i refl)) (λ k small off. ap is_some (sym (stood_off k off)))))))
+      (ap (λ (xs : List Bool). with_stands xs)
+      (sym (map-instances_set (λ j. is_some (stand_at slots j)) (λ j. is_some (stand_at new j)) i true false
+      (ap is_some (stood_here i refl)) (λ k small off. ap is_some (sym (stood_off k off)))))))
     where
       with_stands : List Bool → KnownState
       with_stands xs = record { members = m; slots = map (known_at m slots rs) instances; stands = xs }
@@ -116,22 +133,29 @@ module _ (m : Membership) (slots new : List (Option SlotState)) (rs : List (List
     least = λ l. rw (stood_at_same low) (h.least l);
   }
 
-pub stood_has : (m : Membership) (slots new : List (Option SlotState)) (rs : List (List Span)) (i : ℕ) → i < instance_count → (t : SlotState)
+pub stood_has : (m : Membership) (slots new : List (Option SlotState)) (rs : List (List Span)) (i : ℕ)
+    → i < instance_count → (t : SlotState)
     → ((j : ℕ) → stand_at new j ≡ cond (eqb j i) (Some t) (stand_at slots j)) → has_slot (known_of m new rs) i ≡ true
 stood_has m slots new rs i small t stands =
-    get_or-map-instances (λ j. is_some (stand_at new j)) i false small ∙ ap is_some (stands i ∙ ap (λ b. cond b (Some t) (stand_at slots i)) (eq-eqb i i refl))
+    get_or-map-instances (λ j. is_some (stand_at new j)) i false small
+    ∙ ap is_some (stands i ∙ ap (λ b. cond b (Some t) (stand_at slots i)) (eq-eqb i i refl))
 
 -- what was known of an instance is what its slot says, once it stands
-pub stood_slot : (m : Membership) (slots : List (Option SlotState)) (rs : List (List Span)) (now stood : KnownState) (i : ℕ) (t : SlotState) → known_of m slots rs ≡ stood → stood ≡ known_standing now i
+pub stood_slot : (m : Membership) (slots : List (Option SlotState)) (rs : List (List Span))
+    (now stood : KnownState) (i : ℕ) (t : SlotState) → known_of m slots rs ≡ stood → stood ≡ known_standing now i
     → i < instance_count → stand_at slots i ≡ Some t → known_slot now i ≡ t
-stood_slot m slots rs now stood i t shown ok small there = sym (ap (λ (k : KnownState). known_slot k i) ok) ∙ seen_some m slots rs stood shown i t small there
+stood_slot m slots rs now stood i t shown ok small there =
+    sym (ap (λ (k : KnownState). known_slot k i) ok) ∙ seen_some m slots rs stood shown i t small there
 
 -- a slot that stands already
-pub stood_already : (m : Membership) (slots : List (Option SlotState)) (rs : List (List Span)) (now : KnownState) (i : ℕ) → known_of m slots rs ≡ now → is_some (stand_at slots i) ≡ true
+pub stood_already : (m : Membership) (slots : List (Option SlotState))
+    (rs : List (List Span)) (now : KnownState) (i : ℕ) → known_of m slots rs ≡ now → is_some (stand_at slots i) ≡ true
     → now ≡ known_standing now i
 stood_already m slots rs now i shown there =
     subst (λ (k : KnownState). k ≡ known_standing k i) shown
-    (ap with_stands (sym (map-instances_set (λ j. is_some (stand_at slots j)) (λ j. is_some (stand_at slots j)) i true false there (λ k small off. refl))))
+    (ap with_stands
+    (sym (map-instances_set (λ j. is_some (stand_at slots j))
+    (λ j. is_some (stand_at slots j)) i true false there (λ k small off. refl))))
   where
     with_stands : List Bool → KnownState
     with_stands xs = record { members = m; slots = map (known_at m slots rs) instances; stands = xs }
@@ -163,11 +187,14 @@ module _ (m : Membership) (slots new : List (Option SlotState)) (rs : List (List
   was_here : (j : ℕ) → j ≡ i → known_at m slots rs j ≡ old
   was_here j at = ap (λ o. unwrap_or o (unheard m (is_passed m rs j))) (ap (stand_at slots) at ∙ there)
 
-  pub written_shows : (now : KnownState) → known_of m slots rs ≡ now → known_of m new rs ≡ record now { slots = set now.slots i t }
+  pub written_shows : (now : KnownState) → known_of m slots rs ≡ now
+      → known_of m new rs ≡ record now { slots = set now.slots i t }
   written_shows now shown =
       subst (λ (k : KnownState). known_of m new rs ≡ record k { slots = set k.slots i t }) shown
       (rw (map-instances_same (λ j. is_some (stand_at new j)) (λ j. is_some (stand_at slots j)) false stands_same)
-      (ap with_slots (sym (map-instances_set (known_at m slots rs) (known_at m new rs) i t (new_slot m) (at_here i refl) (λ k small off. sym (at_off k off))))))
+      (ap with_slots
+      (sym (map-instances_set (known_at m slots rs) (known_at m new rs) i t (new_slot m) (at_here i refl)
+      (λ k small off. sym (at_off k off))))))
     where
       with_slots : List SlotState → KnownState
       with_slots xs = record { members = m; slots = xs; stands = map (λ j. is_some (stand_at slots j)) instances }
@@ -179,8 +206,10 @@ module _ (m : Membership) (slots new : List (Option SlotState)) (rs : List (List
           (λ (off : j ≡ i → ⊥). ap is_some (written_off j off))
           (cases_eq j i)
 
-  pub written_told : (low : ℕ) → i < instance_count → (is_none old.learned ≡ false → is_none t.learned ≡ false) → IsSound m slots rs low
-      → (j : ℕ) (u : SlotState) → j < instance_count → is_passed m rs j ≡ true → stand_at new j ≡ Some u → is_none u.learned ≡ false
+  pub written_told : (low : ℕ) → i < instance_count → (is_none old.learned ≡ false → is_none t.learned ≡ false)
+      → IsSound m slots rs low
+      → (j : ℕ) (u : SlotState) → j < instance_count → is_passed m rs j ≡ true → stand_at new j ≡ Some u
+      → is_none u.learned ≡ false
   written_told low inside stays h j u small passed stands =
       ⊎_elim
       (λ (at : j ≡ i).
@@ -190,7 +219,8 @@ module _ (m : Membership) (slots new : List (Option SlotState)) (rs : List (List
       (λ (off : j ≡ i → ⊥). h.told j u small passed (sym (written_off j off) ∙ stands))
       (cases_eq j i)
 
-  pub written_known : (j : ℕ) → (is_none old.learned ≡ false → is_none t.learned ≡ false) → is_none (known_at m slots rs j).learned ≡ false → is_none (known_at m new rs j).learned ≡ false
+  pub written_known : (j : ℕ) → (is_none old.learned ≡ false → is_none t.learned ≡ false)
+      → is_none (known_at m slots rs j).learned ≡ false → is_none (known_at m new rs j).learned ≡ false
   written_known j stays e =
       ⊎_elim
       (λ (at : j ≡ i). rw (at_here j at) (stays (sym (ap (λ (s : SlotState). is_none s.learned) (was_here j at)) ∙ e)))
@@ -198,7 +228,8 @@ module _ (m : Membership) (slots new : List (Option SlotState)) (rs : List (List
       (cases_eq j i)
 
   -- where the instance is not the least unlearned one, that stays
-  pub written_sound : (low : ℕ) → i < instance_count → (is_none old.learned ≡ false → is_none t.learned ≡ false) → (low ≡ i → ⊥) → IsSound m slots rs low → IsSound m new rs low
+  pub written_sound : (low : ℕ) → i < instance_count → (is_none old.learned ≡ false → is_none t.learned ≡ false)
+      → (low ≡ i → ⊥) → IsSound m slots rs low → IsSound m new rs low
   written_sound low inside stays off h = record {
     sorted = h.sorted;
     told = written_told low inside stays h;
@@ -208,19 +239,23 @@ module _ (m : Membership) (slots new : List (Option SlotState)) (rs : List (List
   }
 
   -- where it is, the least one is found anew
-  pub written_sound_from : (low next : ℕ) → i < instance_count → (is_none old.learned ≡ false → is_none t.learned ≡ false) → next ≤ instance_count
+  pub written_sound_from : (low next : ℕ) → i < instance_count
+      → (is_none old.learned ≡ false → is_none t.learned ≡ false) → next ≤ instance_count
       → ((j : ℕ) → low ≤ j → j < next → is_none (known_at m new rs j).learned ≡ false)
-      → (next < instance_count → is_none (known_at m new rs next).learned ≡ true) → IsSound m slots rs low → IsSound m new rs next
+      → (next < instance_count → is_none (known_at m new rs next).learned ≡ true) → IsSound m slots rs low
+      → IsSound m new rs next
   written_sound_from low next inside stays small further least h = record {
     sorted = h.sorted;
     told = written_told low inside stays h;
     small = small;
-    known = λ j l. ⊎_elim (λ (before : j < low). written_known j stays (h.known j before)) (λ (from : low ≤ j). further j from l) (cases_lt j low);
+    known = λ j l. ⊎_elim (λ (before : j < low). written_known j stays (h.known j before))
+        (λ (from : low ≤ j). further j from l) (cases_lt j low);
     least = least;
   }
 
   -- where what was learned is as before, so is the least unlearned instance
-  pub written_quiet : (low : ℕ) → i < instance_count → t.learned ≡ old.learned → IsSound m slots rs low → IsSound m new rs low
+  pub written_quiet : (low : ℕ) → i < instance_count → t.learned ≡ old.learned → IsSound m slots rs low
+      → IsSound m new rs low
   written_quiet low inside same h = record {
     sorted = h.sorted;
     told = written_told low inside stays h;
@@ -240,7 +275,8 @@ pub changed_learned : (t : SlotState) (c : Change) → is_none t.learned ≡ fal
 changed_learned t (Promise b) h = rw h h
 changed_learned t (Accept b v) h = either (nat_le t.promised b)
   where
-    either : (x : Bool) → is_none (cond x (record t { promised = b; vote = Some (record { ballot = b; value = v }) }) t).learned ≡ false
+    either : (x : Bool)
+        → is_none (cond x (record t { promised = b; vote = Some (record { ballot = b; value = v }) }) t).learned ≡ false
     either true = h
     either false = h
 changed_learned t (CountPromise q b v) h = counted (eqb b t.trying)
@@ -249,7 +285,8 @@ changed_learned t (CountPromise q b v) h = counted (eqb b t.trying)
     noted None = h
     noted (Some x) = h
 
-    counted : (x : Bool) → is_none (cond x (proposing (with_promise t q v) (to_propose (with_promise t q v))) t).learned ≡ false
+    counted : (x : Bool)
+        → is_none (cond x (proposing (with_promise t q v) (to_propose (with_promise t q v))) t).learned ≡ false
     counted true = noted (to_propose (with_promise t q v))
     counted false = h
 changed_learned t (CountAccept q b) h = counted (eqb b t.trying)
@@ -271,13 +308,17 @@ pub some_there : {A : Type 0} (o : Option A) → is_some o ≡ true → IsSome o
 some_there o e = e
 
 -- how many slots stand
-pub stand_count : (m : Membership) (slots : List (Option SlotState)) (rs : List (List Span)) (now : KnownState) → known_of m slots rs ≡ now → length slots ≡ instance_count
+pub stand_count : (m : Membership) (slots : List (Option SlotState)) (rs : List (List Span)) (now : KnownState)
+    → known_of m slots rs ≡ now → length slots ≡ instance_count
     → count_by is_some slots ≡ count_by (λ b. b) now.stands
 stand_count m slots rs now shown all =
-    ap (count_by is_some) (map-below_by (stand_at slots) slots instance_count None all (λ k l. refl)) ∙ counts (below instance_count)
-    ∙ ap (λ xs. count_by (λ b. b) (map (λ j. is_some (stand_at slots j)) xs)) (sym instances-below) ∙ ap (λ (k : KnownState). count_by (λ b. b) k.stands) shown
+    ap (count_by is_some) (map-below_by (stand_at slots) slots instance_count None all (λ k l. refl))
+    ∙ counts (below instance_count)
+    ∙ ap (λ xs. count_by (λ b. b) (map (λ j. is_some (stand_at slots j)) xs)) (sym instances-below)
+    ∙ ap (λ (k : KnownState). count_by (λ b. b) k.stands) shown
   where
-    counts : (xs : List ℕ) → count_by is_some (map (stand_at slots) xs) ≡ count_by (λ b. b) (map (λ j. is_some (stand_at slots j)) xs)
+    counts : (xs : List ℕ)
+        → count_by is_some (map (stand_at slots) xs) ≡ count_by (λ b. b) (map (λ j. is_some (stand_at slots j)) xs)
     counts [] = refl
     counts (x ∷ xs) =
         let rest = counts xs in
@@ -285,5 +326,6 @@ stand_count m slots rs now shown all =
           arith,
           rest,
           sum_by-cons (λ (o : Option SlotState). cond (is_some o) 1 0) (stand_at slots x) (map (stand_at slots) xs),
-          sum_by-cons (λ (b : Bool). cond b 1 0) (is_some (stand_at slots x)) (map (λ j. is_some (stand_at slots j)) xs),
+          sum_by-cons (λ (b : Bool). cond b 1 0) (is_some (stand_at slots x))
+              (map (λ j. is_some (stand_at slots j)) xs),
         )

@@ -26,13 +26,16 @@ both_ways false false f g = refl
 pub record SaysSame (s v : ServerState) : Type 0 where
   pub same : (j : ℕ) → j < instance_count → suggested_at v j ≡ suggested_at s j
 
-pub past_same : (s v : ServerState) → SaysSame s v → (t i : ℕ) → list_any (is_suggested_past v t i) instances ≡ list_any (is_suggested_past s t i) instances
+pub past_same : (s v : ServerState) → SaysSame s v → (t i : ℕ)
+    → list_any (is_suggested_past v t i) instances ≡ list_any (is_suggested_past s t i) instances
 past_same s v said t i =
     both_ways _ _
     (λ h. let f = any-instances_found (is_suggested_past v t i) h in
-    any-instances (is_suggested_past s t i) f.0 f.1 (ap (λ (o : Option ℕ). ltb i f.0 && is_ticket t o) (sym (said.same f.0 f.1)) ∙ f.2))
+    any-instances (is_suggested_past s t i) f.0 f.1
+    (ap (λ (o : Option ℕ). ltb i f.0 && is_ticket t o) (sym (said.same f.0 f.1)) ∙ f.2))
     (λ h. let f = any-instances_found (is_suggested_past s t i) h in
-    any-instances (is_suggested_past v t i) f.0 f.1 (ap (λ (o : Option ℕ). ltb i f.0 && is_ticket t o) (said.same f.0 f.1) ∙ f.2))
+    any-instances (is_suggested_past v t i) f.0 f.1
+    (ap (λ (o : Option ℕ). ltb i f.0 && is_ticket t o) (said.same f.0 f.1) ∙ f.2))
 
 unless_none : (b : Bool) (t : ℕ) → unless b (Some t) ≡ None → b ≡ true
 unless_none true t h = refl
@@ -56,8 +59,10 @@ waits_cases s v said j none since (Some t) e =
     ]
 
 pub waits_none : (s v : ServerState) → SaysSame s v → (j : ℕ) → j < instance_count → waits_at s j ≡ None
-    → (is_noop (slot v j).learned ≡ true → (is_noop (slot s j).learned ≡ true) ⊎ (suggested_at s j ≡ None)) → waits_at v j ≡ None
-waits_none s v said j small none since = ap (waits_with v j) (said.same j small) ∙ waits_cases s v said j none since (suggested_at s j) refl
+    → (is_noop (slot v j).learned ≡ true → (is_noop (slot s j).learned ≡ true) ⊎ (suggested_at s j ≡ None))
+    → waits_at v j ≡ None
+waits_none s v said j small none since =
+    ap (waits_with v j) (said.same j small) ∙ waits_cases s v said j none since (suggested_at s j) refl
 
 -- ---- one more suggestion
 
@@ -80,7 +85,8 @@ said_before s kept j t e =
     unsaid past false other = let k = rw other at e in cc
 
 eqb_swap : (a b : ℕ) → eqb a b ≡ eqb b a
-eqb_swap a b = both_ways (eqb a b) (eqb b a) (λ h. eq-eqb b a (sym (eqb-true a b h))) (λ h. eq-eqb a b (sym (eqb-true b a h)))
+eqb_swap a b =
+    both_ways (eqb a b) (eqb b a) (λ h. eq-eqb b a (sym (eqb-true a b h))) (λ h. eq-eqb a b (sym (eqb-true b a h)))
 
 either_no : (a b : Bool) → (a ≡ true → ⊥) → (b ≡ true → ⊥) → (a || b) ≡ false
 either_no true b f g = absurd (f refl)
@@ -91,7 +97,8 @@ and-true : (b : Bool) → (b && true) ≡ b
 and-true true = refl
 and-true false = refl
 
-module _ (s : ServerState) (k t : ℕ) (kept : IsServer s) (mine : owner s.members k ≡ s.id) (ahead : s.front ≤ k) (within : k < length s.slots) (small : k < instance_count) where
+module _ (s : ServerState) (k t : ℕ) (kept : IsServer s) (mine : owner s.members k ≡ s.id) (ahead : s.front ≤ k)
+    (within : k < length s.slots) (small : k < instance_count) where
   abbrev later : ServerState
   later = after_submit s k t
 
@@ -105,15 +112,19 @@ module _ (s : ServerState) (k t : ℕ) (kept : IsServer s) (mine : owner s.membe
   said_here = rw (eq-eqb (owner s.members k) s.id mine) (ap (λ (u : SlotState). ticket_of u.proposal) here)
 
   pub said_there : (j : ℕ) → (j ≡ k → ⊥) → suggested_at later j ≡ suggested_at s j
-  said_there j off = ap (λ (u : SlotState). cond (eqb (owner s.members j) s.id) (ticket_of u.proposal) None) (there j off)
+  said_there j off =
+      ap (λ (u : SlotState). cond (eqb (owner s.members j) s.id) (ticket_of u.proposal) None) (there j off)
 
   unsaid_here : (u : ℕ) → suggested_at s k ≡ Some u → ⊥
   unsaid_here u e = let low : k < s.front = said_before s kept k u e in omega arith
 
-  past_more : (u j : ℕ) → list_any (is_suggested_past later u j) instances ≡ (list_any (is_suggested_past s u j) instances || (eqb t u && ltb j k))
+  past_more : (u j : ℕ)
+      → list_any (is_suggested_past later u j) instances
+      ≡ (list_any (is_suggested_past s u j) instances || (eqb t u && ltb j k))
   past_more u j = both_ways _ _ more fewer
     where
-      found : (i : ℕ) → (ltb j i && is_ticket u (suggested_at later i)) ≡ true → i < instance_count → (list_any (is_suggested_past s u j) instances || (eqb t u && ltb j k)) ≡ true
+      found : (i : ℕ) → (ltb j i && is_ticket u (suggested_at later i)) ≡ true → i < instance_count
+          → (list_any (is_suggested_past s u j) instances || (eqb t u && ltb j k)) ≡ true
       found i e small =
           let parts = and_parts (ltb j i) (is_ticket u (suggested_at later i)) e in
           ⊎_elim
@@ -123,20 +134,24 @@ module _ (s : ServerState) (k t : ℕ) (kept : IsServer s) (mine : owner s.membe
           or_right (list_any (is_suggested_past s u j) instances) _ (rw (eq-eqb t u same) (rw (← at) parts.0)))
           (λ (off : i ≡ k → ⊥).
           or_left _ (eqb t u && ltb j k)
-          (any-instances (is_suggested_past s u j) i small (ap (λ (o : Option ℕ). ltb j i && is_ticket u o) (sym (said_there i off)) ∙ e)))
+          (any-instances (is_suggested_past s u j) i small
+          (ap (λ (o : Option ℕ). ltb j i && is_ticket u o) (sym (said_there i off)) ∙ e)))
           (cases_eq i k)
 
-      more : list_any (is_suggested_past later u j) instances ≡ true → (list_any (is_suggested_past s u j) instances || (eqb t u && ltb j k)) ≡ true
+      more : list_any (is_suggested_past later u j) instances ≡ true
+          → (list_any (is_suggested_past s u j) instances || (eqb t u && ltb j k)) ≡ true
       more h = let f = any-instances_found (is_suggested_past later u j) h in found f.0 f.2 f.1
 
-      fewer : (list_any (is_suggested_past s u j) instances || (eqb t u && ltb j k)) ≡ true → list_any (is_suggested_past later u j) instances ≡ true
+      fewer : (list_any (is_suggested_past s u j) instances || (eqb t u && ltb j k)) ≡ true
+          → list_any (is_suggested_past later u j) instances ≡ true
       fewer h =
           ⊎_elim
           (λ (e : list_any (is_suggested_past s u j) instances ≡ true).
           let f = any-instances_found (is_suggested_past s u j) e in
           let parts = and_parts (ltb j f.0) (is_ticket u (suggested_at s f.0)) f.2 in
           let off : f.0 ≡ k → ⊥ = λ at. unsaid_here u (ap (suggested_at s) (sym at) ∙ ticket_is u _ parts.1) in
-          any-instances (is_suggested_past later u j) f.0 f.1 (ap (λ (o : Option ℕ). ltb j f.0 && is_ticket u o) (said_there f.0 off) ∙ f.2))
+          any-instances (is_suggested_past later u j) f.0 f.1
+          (ap (λ (o : Option ℕ). ltb j f.0 && is_ticket u o) (said_there f.0 off) ∙ f.2))
           (λ (e : (eqb t u && ltb j k) ≡ true).
           let parts = and_parts (eqb t u) (ltb j k) e in
           let same : t ≡ u = eqb-true t u parts.0 in
@@ -153,7 +168,8 @@ module _ (s : ServerState) (k t : ℕ) (kept : IsServer s) (mine : owner s.membe
       (cases_eq j k)
     where
       free : (o : Option Value) → (slot s k).learned ≡ o → waits_with later k (Some t) ≡ None
-      free None e = let known : (slot later k).learned ≡ None = ap (λ (u : SlotState). u.learned) here ∙ e in rw known refl
+      free None e =
+          let known : (slot later k).learned ≡ None = ap (λ (u : SlotState). u.learned) here ∙ e in rw known refl
       free (Some v) e = let k = rw e at blank in absurd (cc)
 
       longer : (a b c : Bool) (u : ℕ) → (a || b) ≡ true → unless (a || (b || c)) (Some u) ≡ None
@@ -165,13 +181,17 @@ module _ (s : ServerState) (k t : ℕ) (kept : IsServer s) (mine : owner s.membe
       kept_waiting off None e = refl
       kept_waiting off (Some u) e =
           let before = unless_none _ u (rw e at none) in
-          rw (there j off, past_more u j) (longer (not (is_noop (slot s j).learned)) (list_any (is_suggested_past s u j) instances) (eqb t u && ltb j k) u before)
+          rw (there j off, past_more u j)
+          (longer (not (is_noop (slot s j).learned))
+          (list_any (is_suggested_past s u j) instances) (eqb t u && ltb j k) u before)
 
   -- the marks after it
   pub moved_later : (old new : List Bool) → length old ≤ s.front
-      → ((j u : ℕ) → j < instance_count → suggested_at s j ≡ Some u → list_any (is_suggested_past s u j) instances ≡ get_or old j false)
+      → ((j u : ℕ) → j < instance_count → suggested_at s j ≡ Some u
+      → list_any (is_suggested_past s u j) instances ≡ get_or old j false)
       → ((j : ℕ) → get_or new j false ≡ (get_or old j false || is_ticket t (suggested_at s j)))
-      → (j u : ℕ) → j < instance_count → suggested_at later j ≡ Some u → list_any (is_suggested_past later u j) instances ≡ get_or new j false
+      → (j u : ℕ) → j < instance_count → suggested_at later j ≡ Some u
+      → list_any (is_suggested_past later u j) instances ≡ get_or new j false
   moved_later old new short marks marked j u inside e = past_more u j ∙ ⊎_elim at_place elsewhere (cases_eq j k)
     where
       at_place : j ≡ k → (list_any (is_suggested_past s u j) instances || (eqb t u && ltb j k)) ≡ get_or new j false
@@ -185,9 +205,12 @@ module _ (s : ServerState) (k t : ℕ) (kept : IsServer s) (mine : owner s.membe
           let high : j < f.0 = ltb-true j f.0 parts.0 in
           absurd (omega arith))
           (λ h. let high : j < k = ltb-true j k (and_parts (eqb t u) (ltb j k) h).1 in absurd (omega arith))
-          ∙ sym (marked j ∙ either_no _ _ (λ h. let p = get_or_past old j false none in absurd (cc)) (λ h. absurd (unsaid_here t (ap (suggested_at s) (sym at) ∙ ticket_is t _ h))))
+          ∙ sym (marked j
+          ∙ either_no _ _ (λ h. let p = get_or_past old j false none in
+          absurd (cc)) (λ h. absurd (unsaid_here t (ap (suggested_at s) (sym at) ∙ ticket_is t _ h))))
 
-      elsewhere : (j ≡ k → ⊥) → (list_any (is_suggested_past s u j) instances || (eqb t u && ltb j k)) ≡ get_or new j false
+      elsewhere : (j ≡ k → ⊥)
+          → (list_any (is_suggested_past s u j) instances || (eqb t u && ltb j k)) ≡ get_or new j false
       elsewhere off =
           let said : suggested_at s j ≡ Some u = sym (said_there j off) ∙ e in
           let low : j < s.front = said_before s kept j u said in
@@ -197,9 +220,12 @@ module _ (s : ServerState) (k t : ℕ) (kept : IsServer s) (mine : owner s.membe
           ∙ ap (λ (b : Bool). get_or old j false || b) (and-true (eqb t u) ∙ eqb_swap t u)
           ∙ sym (marked j ∙ ap (λ (o : Option ℕ). get_or old j false || is_ticket t o) said)
 
-  pub tickets_later : (n v : ℕ) → n ≤ v → t < v → ((j u : ℕ) → j < instance_count → suggested_at s j ≡ Some u → u < n) → (j u : ℕ) → j < instance_count → suggested_at later j ≡ Some u → u < v
+  pub tickets_later : (n v : ℕ) → n ≤ v → t < v
+      → ((j u : ℕ) → j < instance_count → suggested_at s j ≡ Some u → u < n) → (j u : ℕ) → j < instance_count
+      → suggested_at later j ≡ Some u → u < v
   tickets_later n v more new below j u inside e =
       ⊎_elim
-      (λ (at : j ≡ k). let same : Some t ≡ Some u = sym said_here ∙ ap (suggested_at later) (sym at) ∙ e in let same' : t ≡ u = cc in omega arith)
+      (λ (at : j ≡ k). let same : Some t ≡ Some u = sym said_here ∙ ap (suggested_at later) (sym at) ∙ e in
+      let same' : t ≡ u = cc in omega arith)
       (λ (off : j ≡ k → ⊥). let low : u < n = below j u inside (sym (said_there j off) ∙ e) in omega arith)
       (cases_eq j k)

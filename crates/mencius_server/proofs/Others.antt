@@ -36,19 +36,30 @@ module _ (p q : ℕ) (ne : p ≡ q → ⊥) where
   -- all but a proposal is quiet
   module _ (m : Membership) (w : History) (i : ℕ) where
     skip_quiet : (from f s : ℕ) → IsQuiet q i (Sent (Skip from f s))
-    skip_quiet from f s = record { promised = refl; proposed = λ b. refl; accepted = refl; learned = refl; tried = refl }
+    skip_quiet from f s =
+        record { promised = refl; proposed = λ b. refl; accepted = refl; learned = refl; tried = refl }
 
     accepted_quiet : (from to j b : ℕ) → from ≡ p → IsQuiet q i (Sent (Accepted from to j b))
-    accepted_quiet from to j b e = record { promised = rw (not_q from e); proposed = λ c. refl; accepted = rw (not_q from e); learned = refl; tried = refl }
+    accepted_quiet from to j b e =
+        record {
+          promised = rw (not_q from e);
+          proposed = λ c. refl;
+          accepted = rw (not_q from e);
+          learned = refl;
+          tried = refl;
+        }
 
     prepare_quiet : (from j b : ℕ) → from ≡ p → IsQuiet q i (Sent (Prepare from j b))
-    prepare_quiet from j b e = record { promised = refl; proposed = λ c. refl; accepted = refl; learned = refl; tried = rw (not_q from e) }
+    prepare_quiet from j b e =
+        record { promised = refl; proposed = λ c. refl; accepted = refl; learned = refl; tried = rw (not_q from e) }
 
     promise_quiet : (from to j b : ℕ) (v : Option Vote) → from ≡ p → IsQuiet q i (Sent (Promise from to j b v))
-    promise_quiet from to j b v e = record { promised = rw (not_q from e); proposed = λ c. refl; accepted = refl; learned = refl; tried = refl }
+    promise_quiet from to j b v e =
+        record { promised = rw (not_q from e); proposed = λ c. refl; accepted = refl; learned = refl; tried = refl }
 
     learned_quiet : (s j : ℕ) (v : Value) → s ≡ p → IsQuiet q i (Learned s j v)
-    learned_quiet s j v e = record { promised = refl; proposed = λ c. refl; accepted = refl; learned = rw (not_q s e); tried = refl }
+    learned_quiet s j v e =
+        record { promised = refl; proposed = λ c. refl; accepted = refl; learned = rw (not_q s e); tried = refl }
 
     voted : IsGrown m w → IsVoted w q i
     voted g = record { proposal = λ b e. let r = accepted_in w q i b e in accepted_proposed m w g q r.0 i b r.1 }
@@ -62,44 +73,67 @@ module _ (p q : ℕ) (ne : p ≡ q → ⊥) where
         let zero = eqb-true b 0 r.1 in
         let theirs : eqb (owner m i) q ≡ false = not_q (owner m i) (ap (owner m) (sym here) ∙ own) in
         rw (zero, theirs)
-    suggest_other from j t b own false e = ap (if_own m q i b) (oldest_quiet (proposed_by i b) (Sent (Suggest from j t)) w (rw e))
+    suggest_other from j t b own false e =
+        ap (if_own m q i b) (oldest_quiet (proposed_by i b) (Sent (Suggest from j t)) w (rw e))
 
-    propose_other : (from j b : ℕ) (v : Value) (t : ℕ) → owner m b ≡ p → (0 < t → owner m t ≡ q) → (c : Bool) → ((eqb j i && eqb b t) && ltb 0 t) ≡ c
+    propose_other : (from j b : ℕ) (v : Value) (t : ℕ) → owner m b ≡ p → (0 < t → owner m t ≡ q) → (c : Bool)
+        → ((eqb j i && eqb b t) && ltb 0 t) ≡ c
         → if_own m q i t (proposed (Sent (Propose from j b v) ∷ w) i t) ≡ if_own m q i t (proposed w i t)
     propose_other from j b v t own tried true e =
         let r = and_parts (eqb j i && eqb b t) (ltb 0 t) e in
         let here = eqb-true b t (and_parts (eqb j i) (eqb b t) r.0).1 in
         absurd (ne (sym own ∙ ap (owner m) here ∙ tried (ltb-true 0 t r.1)))
-    propose_other from j b v t own tried false e = ap (if_own m q i t) (oldest_quiet (proposed_by i t) (Sent (Propose from j b v)) w (rw e))
+    propose_other from j b v t own tried false e =
+        ap (if_own m q i t) (oldest_quiet (proposed_by i t) (Sent (Propose from j b v)) w (rw e))
 
     slot_other : (l : Line) → IsGrown m (l ∷ w) → IsBy p l → slot_at m (l ∷ w) q i ≡ slot_at m w q i
     slot_other (Sent (Suggest from j t)) g by =
         let may : MaySuggest m w from j t = g.1 in
-        slot_at-proposing m w (Sent (Suggest from j t)) q i (if_own m q i (trying w q i) (proposed w i (trying w q i))) (voted g.0) refl refl refl refl refl
+        slot_at-proposing m w (Sent (Suggest from j t)) q i
+        (if_own m q i (trying w q i) (proposed w i (trying w q i))) (voted g.0) refl refl refl refl refl
         (suggest_other from j t (trying w q i) (may.own ∙ by) (eqb j i && eqb (trying w q i) 0) refl)
     slot_other (Sent (Skip from f s)) g by = slot_at-quiet m w (Sent (Skip from f s)) q i (skip_quiet from f s) refl
-    slot_other (Sent (Accepted from to j b)) g by = slot_at-quiet m w (Sent (Accepted from to j b)) q i (accepted_quiet from to j b by) refl
-    slot_other (Sent (Prepare from j b)) g by = slot_at-quiet m w (Sent (Prepare from j b)) q i (prepare_quiet from j b by) refl
-    slot_other (Sent (Promise from to j b v)) g by = slot_at-quiet m w (Sent (Promise from to j b v)) q i (promise_quiet from to j b v by) refl
+    slot_other (Sent (Accepted from to j b)) g by =
+        slot_at-quiet m w (Sent (Accepted from to j b)) q i (accepted_quiet from to j b by) refl
+    slot_other (Sent (Prepare from j b)) g by =
+        slot_at-quiet m w (Sent (Prepare from j b)) q i (prepare_quiet from j b by) refl
+    slot_other (Sent (Promise from to j b v)) g by =
+        slot_at-quiet m w (Sent (Promise from to j b v)) q i (promise_quiet from to j b v by) refl
     slot_other (Sent (Propose from j b v)) g by =
-        slot_at-proposing m w (Sent (Propose from j b v)) q i (if_own m q i (trying w q i) (proposed w i (trying w q i))) (voted g.0) refl refl refl refl refl
-        (propose_other from j b v (trying w q i) ((propose_ballot m (Sent (Propose from j b v) ∷ w) g from j b v (inl refl)).1 ∙ by) (tried_owner m w g.0 q i)
+        slot_at-proposing m w (Sent (Propose from j b v)) q i
+        (if_own m q i (trying w q i) (proposed w i (trying w q i))) (voted g.0) refl refl refl refl refl
+        (propose_other from j b v (trying w q i)
+        ((propose_ballot m (Sent (Propose from j b v) ∷ w) g from j b v (inl refl)).1
+        ∙ by) (tried_owner m w g.0 q i)
         ((eqb j i && eqb b (trying w q i)) && ltb 0 (trying w q i)) refl)
     slot_other (Sent (Learn from j v)) g by =
-        slot_at-quiet m w (Sent (Learn from j v)) q i (record { promised = refl; proposed = λ b. refl; accepted = refl; learned = refl; tried = refl }) refl
+        slot_at-quiet m w (Sent (Learn from j v)) q i
+        (record { promised = refl; proposed = λ b. refl; accepted = refl; learned = refl; tried = refl }) refl
     slot_other (Learned s j v) g by = slot_at-quiet m w (Learned s j v) q i (learned_quiet s j v by) refl
     slot_other (Heard k d) g by =
-        slot_at-quiet m w (Heard k d) q i (record { promised = refl; proposed = λ b. refl; accepted = refl; learned = refl; tried = refl }) (rw (not_q d by))
+        slot_at-quiet m w (Heard k d) q i
+        (record {
+          promised = refl;
+          proposed = λ b. refl;
+          accepted = refl;
+          learned = refl;
+          tried = refl;
+        }) (rw (not_q d by))
     slot_other (Submitted c s) g by =
-        slot_at-quiet m w (Submitted c s) q i (record { promised = refl; proposed = λ b. refl; accepted = refl; learned = refl; tried = refl }) refl
+        slot_at-quiet m w (Submitted c s) q i
+        (record { promised = refl; proposed = λ b. refl; accepted = refl; learned = refl; tried = refl }) refl
     slot_other (Lost k d) g by =
-        slot_at-quiet m w (Lost k d) q i (record { promised = refl; proposed = λ b. refl; accepted = refl; learned = refl; tried = refl }) refl
+        slot_at-quiet m w (Lost k d) q i
+        (record { promised = refl; proposed = λ b. refl; accepted = refl; learned = refl; tried = refl }) refl
     slot_other (Suspected a b) g by =
-        slot_at-quiet m w (Suspected a b) q i (record { promised = refl; proposed = λ c. refl; accepted = refl; learned = refl; tried = refl }) refl
+        slot_at-quiet m w (Suspected a b) q i
+        (record { promised = refl; proposed = λ c. refl; accepted = refl; learned = refl; tried = refl }) refl
     slot_other (Retried a) g by =
-        slot_at-quiet m w (Retried a) q i (record { promised = refl; proposed = λ b. refl; accepted = refl; learned = refl; tried = refl }) refl
+        slot_at-quiet m w (Retried a) q i
+        (record { promised = refl; proposed = λ b. refl; accepted = refl; learned = refl; tried = refl }) refl
     slot_other (Done s) g by =
-        slot_at-quiet m w (Done s) q i (record { promised = refl; proposed = λ b. refl; accepted = refl; learned = refl; tried = refl }) refl
+        slot_at-quiet m w (Done s) q i
+        (record { promised = refl; proposed = λ b. refl; accepted = refl; learned = refl; tried = refl }) refl
 
   front_other : (m : Membership) (l : Line) → IsBy p l → front_by m q l ≡ 0
   front_other m (Sent (Suggest from j t)) by = rw (not_q from by)
@@ -117,16 +151,21 @@ module _ (p q : ℕ) (ne : p ≡ q → ⊥) where
   front_other m (Retried a) by = refl
   front_other m (Done s) by = refl
 
-  server_other : (m : Membership) (w : History) (l : Line) → IsGrown m (l ∷ w) → IsBy p l → server_at m w q ≡ server_at m (l ∷ w) q
+  server_other : (m : Membership) (w : History) (l : Line) → IsGrown m (l ∷ w) → IsBy p l
+      → server_at m w q ≡ server_at m (l ∷ w) q
   server_other m w l g by =
-      server_unchanged m w (l ∷ w) q (ap (max q) (greatest_quiet (front_by m q) l w (front_other m l by))) (λ j. slot_other m w j l g by)
+      server_unchanged m w (l ∷ w) q (ap (max q) (greatest_quiet (front_by m q) l w (front_other m l by)))
+      (λ j. slot_other m w j l g by)
 
-  servers_other : (m : Membership) (ls : List Line) (w : History) → IsGrown m w → AllMay m w ls → AreBy p ls → server_at m w q ≡ server_at m (followed_by w ls) q
+  servers_other : (m : Membership) (ls : List Line) (w : History) → IsGrown m w → AllMay m w ls → AreBy p ls
+      → server_at m w q ≡ server_at m (followed_by w ls) q
   servers_other m [] w g may by = refl
-  servers_other m (l ∷ ls) w g may by = server_other m w l (g, may.0) by.0 ∙ servers_other m ls (l ∷ w) (g, may.0) may.1 by.1
+  servers_other m (l ∷ ls) w g may by =
+      server_other m w l (g, may.0) by.0 ∙ servers_other m ls (l ∷ w) (g, may.0) may.1 by.1
 
 -- an event that is not refused leaves every server but its own as it was
-pub others_stay : (m : Membership) (w : History) (e : Event) → IsReached m w → refused m w e ≡ None → (q : ℕ) → (server_of e ≡ q → ⊥)
+pub others_stay : (m : Membership) (w : History) (e : Event) → IsReached m w → refused m w e ≡ None → (q : ℕ)
+    → (server_of e ≡ q → ⊥)
     → server_at m (with_event m w e) q ≡ server_at m w q
 others_stay m w e r allowed q ne =
     let g = reached_grown m w r in
@@ -135,12 +174,16 @@ others_stay m w e r allowed q ne =
     sym (servers_other (server_of e) q ne m (head e ∷ lines m w e) w g may (head_by e, lines_by m w e))
 
 -- a loss or an execution leaves every server as it was
-pub loss_stays : (m : Membership) (w : History) (k d q : ℕ) → server_at m (with_event m w (Lose k d)) q ≡ server_at m w q
+pub loss_stays : (m : Membership) (w : History) (k d q : ℕ)
+    → server_at m (with_event m w (Lose k d)) q ≡ server_at m w q
 loss_stays m w k d q =
     sym (server_unchanged m w (Lost k d ∷ w) q (ap (max q) (greatest_quiet (front_by m q) (Lost k d) w refl))
-    (λ j. slot_at-quiet m w (Lost k d) q j (record { promised = refl; proposed = λ b. refl; accepted = refl; learned = refl; tried = refl }) refl))
+    (λ j. slot_at-quiet m w (Lost k d) q j
+    (record { promised = refl; proposed = λ b. refl; accepted = refl; learned = refl; tried = refl }) refl))
 
-pub execution_stays : (m : Membership) (w : History) (s q : ℕ) → server_at m (with_event m w (Execute s)) q ≡ server_at m w q
+pub execution_stays : (m : Membership) (w : History) (s q : ℕ)
+    → server_at m (with_event m w (Execute s)) q ≡ server_at m w q
 execution_stays m w s q =
     sym (server_unchanged m w (Done s ∷ w) q (ap (max q) (greatest_quiet (front_by m q) (Done s) w refl))
-    (λ j. slot_at-quiet m w (Done s) q j (record { promised = refl; proposed = λ b. refl; accepted = refl; learned = refl; tried = refl }) refl))
+    (λ j. slot_at-quiet m w (Done s) q j
+    (record { promised = refl; proposed = λ b. refl; accepted = refl; learned = refl; tried = refl }) refl))

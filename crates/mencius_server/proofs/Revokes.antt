@@ -29,7 +29,8 @@ module _ (m : Membership) (p f : ℕ) (k : KnownState) (now : ServerState) (q : 
       suspect_cause_is now o q (eqb v.open_count 0) v.is_full
       (ne_eqb now.id q (λ e. other (ap (λ (s : ServerState). s.id) shown ∙ e)))
       (ap (λ (n : ℕ). eqb n 0) (sym count_is)) (sym full_is)
-      ∙ ap (λ (n : ℕ). cond (eqb v.open_count 0) (Some NothingToRevoke) (cond v.is_full (Some RoundsFull) (outbox_full o n)))
+      ∙ ap (λ (n : ℕ). cond (eqb v.open_count 0) (Some NothingToRevoke)
+      (cond v.is_full (Some RoundsFull) (outbox_full o n)))
       (sym count_is)
 
   pub rounds_left : v.is_full ≡ false → (j : ℕ) → j < instance_count → is_open k q f j ≡ true

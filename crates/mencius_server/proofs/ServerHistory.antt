@@ -22,15 +22,18 @@ use Rattle.mencius_server.specs.Machine.{sent_on, after_hearing, learned_on}
 use Rattle.mencius_server.specs.Reached.{server_at}
 use Rattle.mencius_base.specs.Limits.{instance_count}
 
-pub slot-server_at : (m : Membership) (w : History) (p i : ℕ) → i < instance_count → slot (server_at m w p) i ≡ slot_at m w p i
+pub slot-server_at : (m : Membership) (w : History) (p i : ℕ) → i < instance_count
+    → slot (server_at m w p) i ≡ slot_at m w p i
 slot-server_at m w p i h = get_or-map-instances (slot_at m w p) i (new_slot m) h
 
 same_front : (m : Membership) (p f g : ℕ) (xs ys : List SlotState) → f ≡ g → xs ≡ ys
-    → ◌≡◌ {A = ServerState} (record { members = m; id = p; front = f; slots = xs }) (record { members = m; id = p; front = g; slots = ys })
+    → ◌≡◌ {A = ServerState} (record { members = m; id = p; front = f; slots = xs })
+    (record { members = m; id = p; front = g; slots = ys })
 same_front m p f g xs ys e h = rw (e, h)
 
 -- one slot and the front have changed
-pub server_written : (m : Membership) (w v : History) (p i f : ℕ) (t : SlotState) → front m v p ≡ f → slot_at m v p i ≡ t
+pub server_written : (m : Membership) (w v : History) (p i f : ℕ) (t : SlotState) → front m v p ≡ f
+    → slot_at m v p i ≡ t
     → ((j : ℕ) → (j ≡ i → ⊥) → slot_at m v p j ≡ slot_at m w p j)
     → with_slot_and_front (server_at m w p) i t f ≡ server_at m v p
 server_written m w v p i f t ahead here there =
@@ -38,9 +41,11 @@ server_written m w v p i f t ahead here there =
     (map-instances_set (slot_at m w p) (slot_at m v p) i t (new_slot m) here (λ j h ne. sym (there j ne)))
 
 -- nothing has changed
-pub server_unchanged : (m : Membership) (w v : History) (p : ℕ) → front m v p ≡ front m w p → ((j : ℕ) → slot_at m v p j ≡ slot_at m w p j) → server_at m w p ≡ server_at m v p
+pub server_unchanged : (m : Membership) (w v : History) (p : ℕ) → front m v p ≡ front m w p
+    → ((j : ℕ) → slot_at m v p j ≡ slot_at m w p j) → server_at m w p ≡ server_at m v p
 server_unchanged m w v p ahead there =
-    same_front m p _ _ _ _ (sym ahead) (map-instances_same (slot_at m w p) (slot_at m v p) (new_slot m) (λ j h. sym (there j)))
+    same_front m p _ _ _ _ (sym ahead)
+    (map-instances_same (slot_at m w p) (slot_at m v p) (new_slot m) (λ j h. sym (there j)))
 
 -- what a server does on a message is these lines
 pub record Meets (m : Membership) (w : History) (k p : ℕ) (x : Message) (ls : List Line) : Type 0 where
@@ -49,14 +54,18 @@ pub record Meets (m : Membership) (w : History) (k p : ℕ) (x : Message) (ls : 
   pub state : after_hearing (server_at m w p) x ≡ server_at m (followed_by (Heard k p ∷ w) ls) p
 
 -- an acceptance after a message that is in no tally
-accepting : (m : Membership) (w : History) (k p q i b : ℕ) (v : Value) (x : Message) → slice_get (sent w) k ≡ Some x → ((j c : ℕ) → IsUncounted j c x)
+accepting : (m : Membership) (w : History) (k p q i b : ℕ) (v : Value) (x : Message) → slice_get (sent w) k ≡ Some x
+    → ((j c : ℕ) → IsUncounted j c x)
     → promised w p i ≤ b → proposed w i b ≡ Some v
-    → slot_at m (Sent (Accepted p q i b) ∷ Heard k p ∷ w) p i ≡ record (slot_at m w p i) { promised = b; vote = Some (record { ballot = b; value = v }) }
+    → slot_at m (Sent (Accepted p q i b) ∷ Heard k p ∷ w) p i
+    ≡ record (slot_at m w p i) { promised = b; vote = Some (record { ballot = b; value = v }) }
 accepting m w k p q i b v x e un high said =
     slot_at-accepted m (Heard k p ∷ w) p q i b v (omega arith) (rw said)
-    ∙ ap (λ (t : SlotState). record t { promised = b; vote = Some (record { ballot = b; value = v }) }) (slot_at-heard m w k p i x e (un i (trying w p i)))
+    ∙ ap (λ (t : SlotState). record t { promised = b; vote = Some (record { ballot = b; value = v }) })
+    (slot_at-heard m w k p i x e (un i (trying w p i)))
 
-accepting_elsewhere : (m : Membership) (w : History) (k p q i b j : ℕ) (x : Message) → slice_get (sent w) k ≡ Some x → ((j c : ℕ) → IsUncounted j c x)
+accepting_elsewhere : (m : Membership) (w : History) (k p q i b j : ℕ) (x : Message) → slice_get (sent w) k ≡ Some x
+    → ((j c : ℕ) → IsUncounted j c x)
     → (j ≡ i → ⊥) → slot_at m (Sent (Accepted p q i b) ∷ Heard k p ∷ w) p j ≡ slot_at m w p j
 accepting_elsewhere m w k p q i b j x e un ne =
     slot_at-quiet m (Heard k p ∷ w) (Sent (Accepted p q i b)) p j (quiet_accepted p q i b j ne) refl
@@ -65,14 +74,20 @@ accepting_elsewhere m w k p q i b j x e un ne =
 uncounted_propose : (q i b : ℕ) (v : Value) (j c : ℕ) → IsUncounted j c (Propose q i b v)
 uncounted_propose q i b v j c = record { promise = λ r. refl; acceptance = λ r. refl; report = refl }
 
-propose_cases : (m : Membership) (w : History) (k p q i b : ℕ) (v : Value) → i < instance_count → slice_get (sent w) k ≡ Some (Propose q i b v) → proposed w i b ≡ Some v
-    → (c : Bool) → leb (promised w p i) b ≡ c → Meets m w k p (Propose q i b v) (cond c (Sent (Accepted p q i b) ∷ []) [])
+propose_cases : (m : Membership) (w : History) (k p q i b : ℕ) (v : Value) → i < instance_count
+    → slice_get (sent w) k ≡ Some (Propose q i b v) → proposed w i b ≡ Some v
+    → (c : Bool) → leb (promised w p i) b ≡ c
+    → Meets m w k p (Propose q i b v) (cond c (Sent (Accepted p q i b) ∷ []) [])
 propose_cases m w k p q i b v small e said true high = record {
   sends = rw (slot-server_at m w p i small, high);
   learns = refl;
   state =
       ap (λ (t : SlotState). with_slot (server_at m w p) i (after_accept t b v)) (slot-server_at m w p i small)
-      ∙ ap (λ (c : Bool). with_slot (server_at m w p) i (cond c (record (slot_at m w p i) { promised = b; vote = Some (record { ballot = b; value = v }) }) (slot_at m w p i))) high
+      ∙ ap (λ (c : Bool). with_slot (server_at m w p) i
+      (cond c (record (slot_at m w p i) {
+        promised = b;
+        vote = Some (record { ballot = b; value = v });
+      }) (slot_at m w p i))) high
       ∙ server_written m w (Sent (Accepted p q i b) ∷ Heard k p ∷ w) p i (front m w p) _ (omega arith)
       (accepting m w k p q i b v _ e (uncounted_propose q i b v) (leb-true _ _ high) said)
       (λ j ne. accepting_elsewhere m w k p q i b j _ e (uncounted_propose q i b v) ne);
@@ -82,12 +97,17 @@ propose_cases m w k p q i b v small e said false low = record {
   learns = refl;
   state =
       ap (λ (t : SlotState). with_slot (server_at m w p) i (after_accept t b v)) (slot-server_at m w p i small)
-      ∙ ap (λ (c : Bool). with_slot (server_at m w p) i (cond c (record (slot_at m w p i) { promised = b; vote = Some (record { ballot = b; value = v }) }) (slot_at m w p i))) low
+      ∙ ap (λ (c : Bool). with_slot (server_at m w p) i
+      (cond c (record (slot_at m w p i) {
+        promised = b;
+        vote = Some (record { ballot = b; value = v });
+      }) (slot_at m w p i))) low
       ∙ server_written m w (Heard k p ∷ w) p i (front m w p) _ (omega arith)
       (slot_at-heard m w k p i _ e (uncounted_propose q i b v i (trying w p i)))
       (λ j ne. slot_at-heard m w k p j _ e (uncounted_propose q i b v j (trying w p j)));
 }
 
-pub meets_propose : (m : Membership) (w : History) (k p q i b : ℕ) (v : Value) → i < instance_count → slice_get (sent w) k ≡ Some (Propose q i b v) → proposed w i b ≡ Some v
+pub meets_propose : (m : Membership) (w : History) (k p q i b : ℕ) (v : Value) → i < instance_count
+    → slice_get (sent w) k ≡ Some (Propose q i b v) → proposed w i b ≡ Some v
     → Meets m w k p (Propose q i b v) (on_propose w p q i b)
 meets_propose m w k p q i b v small e said = propose_cases m w k p q i b v small e said (leb (promised w p i) b) refl

@@ -24,7 +24,8 @@ use Rattle.mencius_server.proofs.Knows.{same_known, seen}
 use Rattle.mencius_server.proofs.Spans.{within_before, within_past, within_yes}
 use Rattle.mencius_base.specs.Limits.{instance_count}
 
-noop_again : (b : Bool) (t : SlotState) → cond b (after_learn (after_learn t Noop) Noop) (after_learn t Noop) ≡ after_learn t Noop
+noop_again : (b : Bool) (t : SlotState)
+    → cond b (after_learn (after_learn t Noop) Noop) (after_learn t Noop) ≡ after_learn t Noop
 noop_again false t = refl
 noop_again true t = go (is_none t.learned) refl
   where
@@ -33,12 +34,14 @@ noop_again true t = go (is_none t.learned) refl
     go false e = rw (e, e) refl
 
 -- where no slot stands
-unheard_given : (t : Stretch) (m : Membership) (j : ℕ) (b w : Bool) → is_in t j ≡ w → unheard m (b || w) ≡ given t j (unheard m b)
+unheard_given : (t : Stretch) (m : Membership) (j : ℕ) (b w : Bool) → is_in t j ≡ w
+    → unheard m (b || w) ≡ given t j (unheard m b)
 unheard_given t m j true w e = sym (noop_again (is_in t j) (new_slot m))
 unheard_given t m j false true e = rw e refl
 unheard_given t m j false false e = rw e refl
 
-stays_learned : (t : Stretch) (j : ℕ) (u : SlotState) → is_none u.learned ≡ false → is_none (given t j u).learned ≡ false
+stays_learned : (t : Stretch) (j : ℕ) (u : SlotState) → is_none u.learned ≡ false
+    → is_none (given t j u).learned ≡ false
 stays_learned t j u h = go (is_in t j)
   where
     go : (b : Bool) → is_none (cond b (after_learn u Noop) u).learned ≡ false
@@ -52,33 +55,46 @@ learned_noop u = go (is_none u.learned) refl
     go true e = rw e refl
     go false e = rw (e, e) refl
 
-module _ (m : Membership) (t : Stretch) (members : t.members ≡ m) (slots new : List (Option SlotState)) (rs : List (List Span)) (member : t.server < length rs)
-    (ys : List Span) (covered : (j : ℕ) → j < instance_count → owner t.members j ≡ t.server → covers ys j ≡ (covers (get_or rs t.server []) j || is_within t.first t.stop j))
+module _ (m : Membership) (t : Stretch) (members : t.members ≡ m) (slots new : List (Option SlotState))
+    (rs : List (List Span)) (member : t.server < length rs)
+    (ys : List Span) (covered : (j : ℕ) → j < instance_count → owner t.members j ≡ t.server
+    → covers ys j ≡ (covers (get_or rs t.server []) j || is_within t.first t.stop j))
     (gives : (j : ℕ) → j < instance_count → stand_at new j ≡ option_map (given t j) (stand_at slots j)) where
   passed_theirs : (j : ℕ) → (owner m j ≡ t.server → ⊥) → is_passed m (set rs t.server ys) j ≡ is_passed m rs j
   passed_theirs j other = ap (λ xs. covers xs j) (get_or-set_other rs t.server (owner m j) ys [] other)
 
-  passed_own : (j : ℕ) → j < instance_count → owner m j ≡ t.server → is_passed m (set rs t.server ys) j ≡ (is_passed m rs j || is_within t.first t.stop j)
+  passed_own : (j : ℕ) → j < instance_count → owner m j ≡ t.server
+      → is_passed m (set rs t.server ys) j ≡ (is_passed m rs j || is_within t.first t.stop j)
   passed_own j small own =
       ap (λ xs. covers xs j) (get_or-set_at rs t.server (owner m j) ys [] own member)
-      ∙ covered j small (ap (λ n. owner n j) members ∙ own) ∙ ap (λ x. covers (get_or rs x []) j || is_within t.first t.stop j) (sym own)
+      ∙ covered j small (ap (λ n. owner n j) members ∙ own)
+      ∙ ap (λ x. covers (get_or rs x []) j || is_within t.first t.stop j) (sym own)
 
   in_own : (j : ℕ) → owner m j ≡ t.server → is_in t j ≡ is_within t.first t.stop j
   in_own j own = rw (eq-eqb (owner t.members j) t.server (ap (λ n. owner n j) members ∙ own)) refl
 
   in_theirs : (j : ℕ) → (owner m j ≡ t.server → ⊥) → is_in t j ≡ false
-  in_theirs j other = unskipped_other t.members t.server t.first t.stop j (ne_eqb (owner t.members j) t.server (λ e. other (sym (ap (λ n. owner n j) members) ∙ e)))
+  in_theirs j other =
+      unskipped_other t.members t.server t.first t.stop j
+      (ne_eqb (owner t.members j) t.server (λ e. other (sym (ap (λ n. owner n j) members) ∙ e)))
 
-  skip_at : (j : ℕ) → j < instance_count → (o : Option SlotState) → stand_at slots j ≡ o → known_at m new (set rs t.server ys) j ≡ given t j (known_at m slots rs j)
+  skip_at : (j : ℕ) → j < instance_count → (o : Option SlotState) → stand_at slots j ≡ o
+      → known_at m new (set rs t.server ys) j ≡ given t j (known_at m slots rs j)
   skip_at j small (Some u) e =
-      ap (λ o. unwrap_or o (unheard m (is_passed m (set rs t.server ys) j))) (gives j small ∙ ap (option_map (given t j)) e)
+      ap (λ o. unwrap_or o (unheard m (is_passed m (set rs t.server ys) j))) (gives j small
+      ∙ ap (option_map (given t j)) e)
       ∙ sym (ap (λ o. given t j (unwrap_or o (unheard m (is_passed m rs j)))) e)
   skip_at j small None e =
-      ap (λ o. unwrap_or o (unheard m (is_passed m (set rs t.server ys) j))) (gives j small ∙ ap (option_map (given t j)) e)
+      ap (λ o. unwrap_or o (unheard m (is_passed m (set rs t.server ys) j))) (gives j small
+      ∙ ap (option_map (given t j)) e)
       ∙ ⊎_elim
-      (λ (own : owner m j ≡ t.server). ap (unheard m) (passed_own j small own) ∙ unheard_given t m j (is_passed m rs j) (is_within t.first t.stop j) (in_own j own))
+      (λ (own : owner m j ≡ t.server). ap (unheard m) (passed_own j small own)
+      ∙ unheard_given t m j (is_passed m rs j) (is_within t.first t.stop j) (in_own j own))
       (λ (other : owner m j ≡ t.server → ⊥).
-      ap (unheard m) (passed_theirs j other) ∙ sym (ap (λ b. cond b (after_learn (unheard m (is_passed m rs j)) Noop) (unheard m (is_passed m rs j))) (in_theirs j other)))
+      ap (unheard m) (passed_theirs j other)
+      ∙ sym (ap
+      (λ b. cond b (after_learn (unheard m (is_passed m rs j)) Noop)
+      (unheard m (is_passed m rs j))) (in_theirs j other)))
       (cases_eq (owner m j) t.server)
       ∙ sym (ap (λ o. given t j (unwrap_or o (unheard m (is_passed m rs j)))) e)
 
@@ -89,20 +105,26 @@ module _ (m : Membership) (t : Stretch) (members : t.members ≡ m) (slots new :
       kept None = refl
       kept (Some u) = refl
 
-  pub skip_shows : (now : KnownState) → known_of m slots rs ≡ now → known_of m new (set rs t.server ys) ≡ record now { slots = map (λ j. given t j (known_slot now j)) instances }
+  pub skip_shows : (now : KnownState) → known_of m slots rs ≡ now
+      → known_of m new (set rs t.server ys) ≡ record now { slots = map (λ j. given t j (known_slot now j)) instances }
   skip_shows now shown =
-      same_known m (known_at m new (set rs t.server ys)) (λ j. given t j (known_slot now j)) (λ j. is_some (stand_at new j)) (λ j. is_some (stand_at slots j))
-      (λ j small. skip_at j small (stand_at slots j) refl ∙ ap (given t j) (sym (seen m slots rs now shown j small))) stands_same
+      same_known m (known_at m new (set rs t.server ys)) (λ j. given t j (known_slot now j))
+      (λ j. is_some (stand_at new j)) (λ j. is_some (stand_at slots j))
+      (λ j small. skip_at j small (stand_at slots j) refl
+      ∙ ap (given t j) (sym (seen m slots rs now shown j small))) stands_same
       ∙ ap (λ (k : KnownState). record k { slots = map (λ j. given t j (known_slot now j)) instances }) shown
 
-  pub skip_sorted : IsRising 0 ys → IsOwned m t.server (first_owned m t.server instance_count) ys → IsSorted m rs → IsSorted m (set rs t.server ys)
+  pub skip_sorted : IsRising 0 ys → IsOwned m t.server (first_owned m t.server instance_count) ys → IsSorted m rs
+      → IsSorted m (set rs t.server ys)
   skip_sorted rising owned h = record {
     count = length-set rs t.server ys ∙ h.count;
     rising = λ p inside. at_place (λ p xs. IsRising 0 xs) p (λ e. rising) (h.rising p inside);
-    owned = λ p inside. at_place (λ p xs. IsOwned m p (first_owned m p instance_count) xs) p (λ e. subst (λ x. IsOwned m x (first_owned m x instance_count) ys) (sym e) owned) (h.owned p inside);
+    owned = λ p inside. at_place (λ p xs. IsOwned m p (first_owned m p instance_count) xs) p
+        (λ e. subst (λ x. IsOwned m x (first_owned m x instance_count) ys) (sym e) owned) (h.owned p inside);
   }
     where
-      at_place : (P : ℕ → List Span → Type 0) (p : ℕ) → (p ≡ t.server → P p ys) → P p (get_or rs p []) → P p (get_or (set rs t.server ys) p [])
+      at_place : (P : ℕ → List Span → Type 0) (p : ℕ) → (p ≡ t.server → P p ys) → P p (get_or rs p [])
+          → P p (get_or (set rs t.server ys) p [])
       at_place P p new_one old =
           ⊎_elim
           (λ (e : p ≡ t.server). subst (P p) (sym (get_or-set_at rs t.server p ys [] e member)) (new_one e))
@@ -126,34 +148,44 @@ module _ (m : Membership) (t : Stretch) (members : t.members ≡ m) (slots new :
     least = least;
   }
     where
-      told_at : (j : ℕ) (u : SlotState) → j < instance_count → is_passed m (set rs t.server ys) j ≡ true → (o : Option SlotState) → stand_at slots j ≡ o → option_map (given t j) (stand_at slots j) ≡ Some u
+      told_at : (j : ℕ) (u : SlotState) → j < instance_count → is_passed m (set rs t.server ys) j ≡ true
+          → (o : Option SlotState) → stand_at slots j ≡ o → option_map (given t j) (stand_at slots j) ≡ Some u
           → is_none u.learned ≡ false
-      told_at j u l passed None e stands = let no : Some u ≡ None = sym stands ∙ ap (option_map (given t j)) e in absurd (cc)
+      told_at j u l passed None e stands =
+          let no : Some u ≡ None = sym stands ∙ ap (option_map (given t j)) e in absurd (cc)
       told_at j u l passed (Some v) e stands =
           let both : Some (given t j v) ≡ Some u = sym (ap (option_map (given t j)) e) ∙ stands in
           let is : given t j v ≡ u = cc in
           rw (← is)
           (⊎_elim
-          (λ (own : owner m j ≡ t.server). by_range (is_passed m rs j) (is_within t.first t.stop j) refl (in_own j own) (sym (passed_own j l own) ∙ passed) (λ k. h.told j v l k e))
-          (λ (other : owner m j ≡ t.server → ⊥). stays_learned t j v (h.told j v l (sym (passed_theirs j other) ∙ passed) e))
+          (λ (own : owner m j ≡ t.server). by_range (is_passed m rs j)
+          (is_within t.first t.stop j) refl (in_own j own) (sym (passed_own j l own)
+          ∙ passed) (λ k. h.told j v l k e))
+          (λ (other : owner m j ≡ t.server
+          → ⊥). stays_learned t j v (h.told j v l (sym (passed_theirs j other) ∙ passed) e))
           (cases_eq (owner m j) t.server))
         where
-          by_range : (b w : Bool) → is_passed m rs j ≡ b → is_in t j ≡ w → (b || w) ≡ true → (b ≡ true → is_none v.learned ≡ false) → is_none (given t j v).learned ≡ false
+          by_range : (b w : Bool) → is_passed m rs j ≡ b → is_in t j ≡ w → (b || w) ≡ true
+              → (b ≡ true → is_none v.learned ≡ false) → is_none (given t j v).learned ≡ false
           by_range true w p s k old = stays_learned t j v (old refl)
           by_range false true p s k old = rw s (learned_noop v)
           by_range false false p s k old = absurd (cc)
 
 -- what a Skip gives up, by slots and ranges
-given_same : (m : Membership) (t : Stretch) (slots : List (Option SlotState)) (rs : List (List Span)) (low : ℕ) → t.members ≡ m → IsSound m slots rs low
-    → (j : ℕ) → j < instance_count → is_given_in t (get_or rs t.server []) slots j ≡ (is_in t j && is_none (known_at m slots rs j).learned)
+given_same : (m : Membership) (t : Stretch) (slots : List (Option SlotState)) (rs : List (List Span)) (low : ℕ)
+    → t.members ≡ m → IsSound m slots rs low
+    → (j : ℕ) → j < instance_count
+    → is_given_in t (get_or rs t.server []) slots j ≡ (is_in t j && is_none (known_at m slots rs j).learned)
 given_same m t slots rs low members h j small =
     ⊎_elim
     (λ (own : owner t.members j ≡ t.server).
     ap (λ b. is_in t j && b)
-    (ap (λ x. not (covers (get_or rs x []) j) && not (is_learned (stand_at slots j))) (sym own ∙ ap (λ n. owner n j) members) ∙ go (stand_at slots j) refl (is_passed m rs j) refl))
+    (ap (λ x. not (covers (get_or rs x []) j) && not (is_learned (stand_at slots j))) (sym own
+    ∙ ap (λ n. owner n j) members) ∙ go (stand_at slots j) refl (is_passed m rs j) refl))
     (λ (other : owner t.members j ≡ t.server → ⊥).
     let no = unskipped_other t.members t.server t.first t.stop j (ne_eqb (owner t.members j) t.server other) in
-    and_left _ (not (covers (get_or rs t.server []) j) && not (is_learned (stand_at slots j))) no ∙ sym (and_left _ (is_none (known_at m slots rs j).learned) no))
+    and_left _ (not (covers (get_or rs t.server []) j) && not (is_learned (stand_at slots j))) no
+    ∙ sym (and_left _ (is_none (known_at m slots rs j).learned) no))
     (cases_eq (owner t.members j) t.server)
   where
     twice : (b : Bool) → not (not b) ≡ b
@@ -175,14 +207,18 @@ pub record IsAligned (q first stop : ℕ) (t : Stretch) : Type 0 where
   pub above_stop : min stop instance_count ≤ t.stop
   pub least_stop : (i : ℕ) → min stop instance_count ≤ i → owner t.members i ≡ q → t.stop ≤ i
 
-pub aligned_in : (q first stop : ℕ) (t : Stretch) → IsAligned q first stop t → (j : ℕ) → j < instance_count → is_in t j ≡ is_skipped t.members q first stop j
+pub aligned_in : (q first stop : ℕ) (t : Stretch) → IsAligned q first stop t → (j : ℕ) → j < instance_count
+    → is_in t j ≡ is_skipped t.members q first stop j
 aligned_in q first stop t al j small =
     ⊎_elim
     (λ (own : owner t.members j ≡ q).
-    regroup (eqb (owner t.members j) t.server) (nat_le t.first j) (nat_lt j t.stop) ∙ ap (λ k. eqb (owner t.members j) k && is_within t.first t.stop j) al.server
-    ∙ ap (λ b. eqb (owner t.members j) q && b) (within own) ∙ sym (regroup (eqb (owner t.members j) q) (nat_le first j) (nat_lt j stop)))
+    regroup (eqb (owner t.members j) t.server) (nat_le t.first j) (nat_lt j t.stop)
+    ∙ ap (λ k. eqb (owner t.members j) k && is_within t.first t.stop j) al.server
+    ∙ ap (λ b. eqb (owner t.members j) q && b) (within own)
+    ∙ sym (regroup (eqb (owner t.members j) q) (nat_le first j) (nat_lt j stop)))
     (λ (other : owner t.members j ≡ q → ⊥).
-    unskipped_other t.members t.server t.first t.stop j (ne_eqb (owner t.members j) t.server (λ e. other (e ∙ al.server)))
+    unskipped_other t.members t.server t.first t.stop j
+    (ne_eqb (owner t.members j) t.server (λ e. other (e ∙ al.server)))
     ∙ sym (unskipped_other t.members q first stop j (ne_eqb (owner t.members j) q other)))
     (cases_eq (owner t.members j) q)
   where
@@ -193,32 +229,42 @@ aligned_in q first stop t al j small =
     within : owner t.members j ≡ q → is_within t.first t.stop j ≡ is_within first stop j
     within own =
         ⊎_elim
-        (λ (before : j < first). within_before t.first t.stop j (omega (arith, al.above_first)) ∙ sym (within_before first stop j before))
+        (λ (before : j < first). within_before t.first t.stop j (omega (arith, al.above_first))
+        ∙ sym (within_before first stop j before))
         (λ (from : first ≤ j).
         let low = al.least_first j from own in
         ⊎_elim
-        (λ (less : j < stop). within_yes t.first t.stop j low (omega (arith, al.above_stop)) ∙ sym (within_yes first stop j from less))
-        (λ (past : stop ≤ j). let high = al.least_stop j (omega arith) own in within_past t.first t.stop j high ∙ sym (within_past first stop j past))
+        (λ (less : j < stop). within_yes t.first t.stop j low (omega (arith, al.above_stop))
+        ∙ sym (within_yes first stop j from less))
+        (λ (past : stop ≤ j). let high = al.least_stop j (omega arith) own in within_past t.first t.stop j high
+        ∙ sym (within_past first stop j past))
         (cases_lt j stop))
         (cases_lt j first)
 
 -- what the whole Skip makes, and at how many instances it is news
-module _ (q first stop : ℕ) (t : Stretch) (al : IsAligned q first stop t) (now : KnownState) (same : t.members ≡ now.members) where
+module _ (q first stop : ℕ) (t : Stretch) (al : IsAligned q first stop t) (now : KnownState)
+    (same : t.members ≡ now.members) where
   in_is : (j : ℕ) → j < instance_count → is_in t j ≡ is_skipped now.members q first stop j
   in_is j small = aligned_in q first stop t al j small ∙ ap (λ n. is_skipped n q first stop j) same
 
-  pub skip_is : ◌≡◌ {A = KnownState} (record now { slots = map (λ j. given t j (known_slot now j)) instances }) (known_after_skip now q first stop)
+  pub skip_is : ◌≡◌ {A = KnownState} (record now { slots = map (λ j. given t j (known_slot now j)) instances })
+      (known_after_skip now q first stop)
   skip_is =
       ap (λ xs. record now { slots = xs })
-      (map-instances_same (λ j. given t j (known_slot now j)) (λ j. slot_given now.members q first stop j (known_slot now j)) (new_slot now.members)
+      (map-instances_same (λ j. given t j (known_slot now j))
+      (λ j. slot_given now.members q first stop j (known_slot now j)) (new_slot now.members)
       (λ j small. ap (λ b. cond b (after_learn (known_slot now j) Noop) (known_slot now j)) (in_is j small)))
 
-  pub news_is : (m : Membership) (slots : List (Option SlotState)) (rs : List (List Span)) (low : ℕ) → known_of m slots rs ≡ now → IsSound m slots rs low
+  pub news_is : (m : Membership) (slots : List (Option SlotState)) (rs : List (List Span)) (low : ℕ)
+      → known_of m slots rs ≡ now → IsSound m slots rs low
       → count_by (is_given_in t (get_or rs t.server []) slots) instances ≡ known_given now q first stop
   news_is m slots rs low shown sound =
       let members : t.members ≡ m = same ∙ sym (ap (λ (k : KnownState). k.members) shown) in
       ap (count_by (is_given_in t (get_or rs t.server []) slots)) instances-below
-      ∙ count_same (is_given_in t (get_or rs t.server []) slots) (λ j. is_given now.members q first stop j (known_slot now j)) instance_count
-      (λ j small. given_same m t slots rs low members sound j small ∙ ap (λ b. b && is_none (known_at m slots rs j).learned) (in_is j small)
-      ∙ ap (λ (s : SlotState). is_skipped now.members q first stop j && is_none s.learned) (sym (seen m slots rs now shown j small)))
+      ∙ count_same (is_given_in t (get_or rs t.server []) slots)
+      (λ j. is_given now.members q first stop j (known_slot now j)) instance_count
+      (λ j small. given_same m t slots rs low members sound j small
+      ∙ ap (λ b. b && is_none (known_at m slots rs j).learned) (in_is j small)
+      ∙ ap (λ (s : SlotState). is_skipped now.members q first stop j && is_none s.learned)
+      (sym (seen m slots rs now shown j small)))
       ∙ ap (count_by (λ j. is_given now.members q first stop j (known_slot now j))) (sym instances-below)

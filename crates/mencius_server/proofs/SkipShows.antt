@@ -28,15 +28,18 @@ IsServer-skip s q first stop kept = record {
   where
     given : (i : ℕ) → FitsAt s s.front i (slot_given s.members q first stop i (slot s i))
     given i = FitsAt-same s s.front i (slot s i) _
-        (SameAttempt-cond (is_skipped s.members q first stop i) (slot s i) _ (slot s i) (SameAttempt-learn (slot s i) Noop) (SameAttempt-self (slot s i)))
+        (SameAttempt-cond (is_skipped s.members q first stop i) (slot s i) _ (slot s i)
+        (SameAttempt-learn (slot s i) Noop) (SameAttempt-self (slot s i)))
         (FitsAt-slot s i kept)
 
     fits : (i : ℕ) → KeepsAt s s.front i (slot (after_skip s q first stop) i)
     fits i =
         ⊎_elim
-        (λ (small : i < instance_count). subst (KeepsAt s s.front i) (sym (get_or-map-instances _ i (new_slot s.members) small)) (KeepsAt-fits s s.front i _ (given i)))
+        (λ (small : i < instance_count). subst (KeepsAt s s.front i)
+        (sym (get_or-map-instances _ i (new_slot s.members) small)) (KeepsAt-fits s s.front i _ (given i)))
         (λ (past : instance_count ≤ i).
-        let none : length (slots_given s q first stop) ≤ i = rw (length-map-instances (λ (j : ℕ). slot_given s.members q first stop j (slot s j))) past in
+        let none : length (slots_given s q first stop) ≤ i =
+        rw (length-map-instances (λ (j : ℕ). slot_given s.members q first stop j (slot s j))) past in
         subst (KeepsAt s s.front i) (sym (get_or_past (slots_given s q first stop) i (new_slot s.members) none))
         (KeepsAt-new s s.front i))
         (cases_lt i instance_count)

@@ -11,7 +11,8 @@ pub record IsCountUpTo (test : ℕ → Bool) (i count : ℕ) : Type 0 where
 pub count_none : (test : ℕ → Bool) → IsCountUpTo test 0 0
 count_none test = record { counted = sym (count_by-below_zero test) }
 
-pub count_more : (test : ℕ → Bool) (i count n : ℕ) → n ≡ cond (test i) 1 0 → IsCountUpTo test i count → IsCountUpTo test (i + 1) (count + n)
+pub count_more : (test : ℕ → Bool) (i count n : ℕ) → n ≡ cond (test i) 1 0 → IsCountUpTo test i count
+    → IsCountUpTo test (i + 1) (count + n)
 count_more test i count n here before = record {
   counted = rw (here, before.counted) (sym (count_by-below_more test i));
 }

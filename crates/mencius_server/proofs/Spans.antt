@@ -7,30 +7,38 @@ use Rattle.mencius_server.specs.Ranges.{IsOwned, IsRising, covers, is_within, jo
 
 -- ---- lists that rise, by place
 
-pub rising_at : (low : ℕ) (rs : List Span) → IsRising low rs → (j : ℕ) (d : Span) → j < length rs → (low ≤ (get_or rs j d).first) × ((get_or rs j d).first < (get_or rs j d).stop)
+pub rising_at : (low : ℕ) (rs : List Span) → IsRising low rs → (j : ℕ) (d : Span) → j < length rs
+    → (low ≤ (get_or rs j d).first) × ((get_or rs j d).first < (get_or rs j d).stop)
 rising_at low [] h j d k = absurd (omega arith)
 rising_at low (r ∷ rs) h zero d k = (h.0, h.1)
-rising_at low (r ∷ rs) h (suc j) d k = let t = rising_at (r.stop + 1) rs h.2 j d (omega arith) in (omega (arith, t.0, h.0, h.1), t.1)
+rising_at low (r ∷ rs) h (suc j) d k =
+    let t = rising_at (r.stop + 1) rs h.2 j d (omega arith) in (omega (arith, t.0, h.0, h.1), t.1)
 
-pub rising_stop : (low : ℕ) (rs : List Span) → IsRising low rs → (i j : ℕ) (d : Span) → i ≤ j → j < length rs → (get_or rs i d).stop ≤ (get_or rs j d).stop
+pub rising_stop : (low : ℕ) (rs : List Span) → IsRising low rs → (i j : ℕ) (d : Span) → i ≤ j → j < length rs
+    → (get_or rs i d).stop ≤ (get_or rs j d).stop
 rising_stop low [] h i j d l k = absurd (omega arith)
 rising_stop low (r ∷ rs) h zero zero d l k = omega arith
-rising_stop low (r ∷ rs) h zero (suc j) d l k = let t = rising_at (r.stop + 1) rs h.2 j d (omega arith) in omega (arith, t.0, t.1)
+rising_stop low (r ∷ rs) h zero (suc j) d l k =
+    let t = rising_at (r.stop + 1) rs h.2 j d (omega arith) in omega (arith, t.0, t.1)
 rising_stop low (r ∷ rs) h (suc i) zero d l k = absurd (omega arith)
 rising_stop low (r ∷ rs) h (suc i) (suc j) d l k = rising_stop (r.stop + 1) rs h.2 i j d (omega arith) (omega arith)
 
-pub rising_first : (low : ℕ) (rs : List Span) → IsRising low rs → (i j : ℕ) (d : Span) → i ≤ j → j < length rs → (get_or rs i d).first ≤ (get_or rs j d).first
+pub rising_first : (low : ℕ) (rs : List Span) → IsRising low rs → (i j : ℕ) (d : Span) → i ≤ j → j < length rs
+    → (get_or rs i d).first ≤ (get_or rs j d).first
 rising_first low [] h i j d l k = absurd (omega arith)
 rising_first low (r ∷ rs) h zero zero d l k = omega arith
-rising_first low (r ∷ rs) h zero (suc j) d l k = let t = rising_at (r.stop + 1) rs h.2 j d (omega arith) in omega (arith, t.0, h.1)
+rising_first low (r ∷ rs) h zero (suc j) d l k =
+    let t = rising_at (r.stop + 1) rs h.2 j d (omega arith) in omega (arith, t.0, h.1)
 rising_first low (r ∷ rs) h (suc i) zero d l k = absurd (omega arith)
 rising_first low (r ∷ rs) h (suc i) (suc j) d l k = rising_first (r.stop + 1) rs h.2 i j d (omega arith) (omega arith)
 
 -- each begins past the end of those before it
-rising_gap : (low : ℕ) (rs : List Span) → IsRising low rs → (i j : ℕ) (d : Span) → i < j → j < length rs → (get_or rs i d).stop < (get_or rs j d).first
+rising_gap : (low : ℕ) (rs : List Span) → IsRising low rs → (i j : ℕ) (d : Span) → i < j → j < length rs
+    → (get_or rs i d).stop < (get_or rs j d).first
 rising_gap low [] h i j d l k = absurd (omega arith)
 rising_gap low (r ∷ rs) h zero zero d l k = absurd (omega arith)
-rising_gap low (r ∷ rs) h zero (suc j) d l k = let t = rising_at (r.stop + 1) rs h.2 j d (omega arith) in omega (arith, t.0)
+rising_gap low (r ∷ rs) h zero (suc j) d l k =
+    let t = rising_at (r.stop + 1) rs h.2 j d (omega arith) in omega (arith, t.0)
 rising_gap low (r ∷ rs) h (suc i) zero d l k = absurd (omega arith)
 rising_gap low (r ∷ rs) h (suc i) (suc j) d l k = rising_gap (r.stop + 1) rs h.2 i j d (omega arith) (omega arith)
 
@@ -72,32 +80,38 @@ within_before first stop j h = and_left _ _ (lt-leb first j h)
 pub within_past : (first stop j : ℕ) → stop ≤ j → is_within first stop j ≡ false
 within_past first stop j h = and_right _ _ (le-ltb j stop h)
 
-pub covers_in : (rs : List Span) (at i : ℕ) (d : Span) → at < length rs → (get_or rs at d).first ≤ i → i < (get_or rs at d).stop → covers rs i ≡ true
+pub covers_in : (rs : List Span) (at i : ℕ) (d : Span) → at < length rs → (get_or rs at d).first ≤ i
+    → i < (get_or rs at d).stop → covers rs i ≡ true
 covers_in [] at i d k low high = absurd (omega arith)
 covers_in (r ∷ rs) zero i d k low high = rw (within_yes r.first r.stop i low high) refl
-covers_in (r ∷ rs) (suc at) i d k low high = rw (covers_in rs at i d (omega arith) low high) (or-true (is_within r.first r.stop i))
+covers_in (r ∷ rs) (suc at) i d k low high =
+    rw (covers_in rs at i d (omega arith) low high) (or-true (is_within r.first r.stop i))
 
 outside : (r : Span) (i : ℕ) → (r.stop ≤ i) ⊎ (i < r.first) → is_within r.first r.stop i ≡ false
 outside r i (inl past) = within_past r.first r.stop i past
 outside r i (inr before) = within_before r.first r.stop i before
 
-pub covers_out : (rs : List Span) (i : ℕ) (d : Span) → ((j : ℕ) → j < length rs → ((get_or rs j d).stop ≤ i) ⊎ (i < (get_or rs j d).first)) → covers rs i ≡ false
+pub covers_out : (rs : List Span) (i : ℕ) (d : Span)
+    → ((j : ℕ) → j < length rs → ((get_or rs j d).stop ≤ i) ⊎ (i < (get_or rs j d).first)) → covers rs i ≡ false
 covers_out [] i d h = refl
 covers_out (r ∷ rs) i d h = rw (outside r i (h 0 (omega arith))) (covers_out rs i d (λ j k. h (suc j) (omega arith)))
 
 -- the end of a range lies in none
-pub open_stop : (rs : List Span) → IsRising 0 rs → (at : ℕ) (d : Span) → at < length rs → covers rs (get_or rs at d).stop ≡ false
+pub open_stop : (rs : List Span) → IsRising 0 rs → (at : ℕ) (d : Span) → at < length rs
+    → covers rs (get_or rs at d).stop ≡ false
 open_stop rs h at d k = covers_out rs (get_or rs at d).stop d (λ j within. ⊎_elim
     (λ (past : at < j). inr (rising_gap 0 rs h at j d past within))
     (λ (upto : j ≤ at). inl (rising_stop 0 rs h j at d upto k))
     (cases_lt at j))
 
 -- nor does what lies past the end of those before it, and before the next one
-pub open_between : (rs : List Span) → IsRising 0 rs → (at i : ℕ) (d : Span) → ((j : ℕ) → j < at → (get_or rs j d).stop ≤ i)
+pub open_between : (rs : List Span) → IsRising 0 rs → (at i : ℕ) (d : Span)
+    → ((j : ℕ) → j < at → (get_or rs j d).stop ≤ i)
     → (at < length rs → i < (get_or rs at d).first) → covers rs i ≡ false
 open_between rs h at i d before next = covers_out rs i d (λ j within. ⊎_elim
     (λ (low : j < at). inl (before j low))
-    (λ (high : at ≤ j). let rises = rising_first 0 rs h at j d high within in let ahead = next (omega arith) in inr (omega (arith, rises, ahead)))
+    (λ (high : at ≤ j). let rises = rising_first 0 rs h at j d high within in let ahead = next (omega arith) in
+    inr (omega (arith, rises, ahead)))
     (cases_lt j at))
 
 -- ---- one range more
@@ -106,7 +120,11 @@ open_between rs h at i d before next = covers_out rs i d (λ j within. ⊎_elim
 hull : (a b c e j : ℕ) → a ≤ e → c ≤ b → is_within (min a c) (max b e) j ≡ (is_within c e j || is_within a b j)
 hull a b c e j h k =
     ⊎_elim
-    (λ (low : j < min a c). rw (within_before (min a c) (max b e) j low, within_before c e j (omega arith), within_before a b j (omega arith)) refl)
+    (λ (low : j < min a c). rw (
+      within_before (min a c) (max b e) j low,
+      within_before c e j (omega arith),
+      within_before a b j (omega arith),
+    ) refl)
     (λ (from : min a c ≤ j). ⊎_elim
     (λ (before : j < max b e).
     within_yes (min a c) (max b e) j from before
@@ -117,7 +135,8 @@ hull a b c e j h k =
     (cases_lt j b))
     (λ (less : j < a). rw (within_yes c e j (omega arith) (omega arith)) refl)
     (turn (cases_lt j a))))
-    (λ (past : max b e ≤ j). rw (within_past (min a c) (max b e) j past, within_past c e j (omega arith), within_past a b j (omega arith)) refl)
+    (λ (past : max b e ≤ j). rw
+    (within_past (min a c) (max b e) j past, within_past c e j (omega arith), within_past a b j (omega arith)) refl)
     (cases_lt j (max b e)))
     (cases_lt j (min a c))
   where
@@ -129,10 +148,12 @@ hull a b c e j h k =
 after_it : (r : Span) (rs : List Span) (f s : ℕ) → r.stop < f → joined (r ∷ rs) f s ≡ r ∷ joined rs f s
 after_it r rs f s h = rw (lt-ltb r.stop f h) refl
 
-before_it : (r : Span) (rs : List Span) (f s : ℕ) → f ≤ r.stop → s < r.first → joined (r ∷ rs) f s ≡ record { first = f; stop = s } ∷ r ∷ rs
+before_it : (r : Span) (rs : List Span) (f s : ℕ) → f ≤ r.stop → s < r.first
+    → joined (r ∷ rs) f s ≡ record { first = f; stop = s } ∷ r ∷ rs
 before_it r rs f s h k = rw (le-ltb r.stop f h, lt-ltb s r.first k) refl
 
-pub meeting_it : (r : Span) (rs : List Span) (f s : ℕ) → f ≤ r.stop → r.first ≤ s → joined (r ∷ rs) f s ≡ joined rs (min f r.first) (max s r.stop)
+pub meeting_it : (r : Span) (rs : List Span) (f s : ℕ) → f ≤ r.stop → r.first ≤ s
+    → joined (r ∷ rs) f s ≡ joined rs (min f r.first) (max s r.stop)
 meeting_it r rs f s h k = rw (le-ltb r.stop f h, le-ltb s r.first k) refl
 
 -- the three places where a range may go
@@ -141,21 +162,28 @@ IsPlace r f s = (r.stop < f) ⊎ ((f ≤ r.stop) × ((s < r.first) ⊎ (r.first 
 
 place_of : (r : Span) (f s : ℕ) → IsPlace r f s
 unfolding IsPlace
-place_of r f s = ⊎_elim (λ (h : r.stop < f). inl h) (λ (h : f ≤ r.stop). inr (h, cases_lt s r.first)) (cases_lt r.stop f)
+place_of r f s =
+    ⊎_elim (λ (h : r.stop < f). inl h) (λ (h : f ≤ r.stop). inr (h, cases_lt s r.first)) (cases_lt r.stop f)
 
 pub covers_joined : (rs : List Span) (f s j : ℕ) → covers (joined rs f s) j ≡ (covers rs j || is_within f s j)
 unfolding IsPlace
 covers_joined [] f s j = or-false (is_within f s j)
 covers_joined (r ∷ rs) f s j =
     elim (place_of r f s) [
-      | inl h ↦ rw (after_it r rs f s h, covers_joined rs f s j) (or-assoc (is_within r.first r.stop j) (covers rs j) (is_within f s j))
+      | inl h ↦ rw (after_it r rs f s h, covers_joined rs f s j)
+          (or-assoc (is_within r.first r.stop j) (covers rs j) (is_within f s j))
       | inr p ↦ elim p.1 [
         | inl k ↦ rw (before_it r rs f s p.0 k) (or-swap (is_within f s j) (is_within r.first r.stop j) (covers rs j))
-        | inr k ↦ rw (meeting_it r rs f s p.0 k, covers_joined rs (min f r.first) (max s r.stop) j, hull f s r.first r.stop j p.0 k) (or-middle (covers rs j) (is_within r.first r.stop j) (is_within f s j))
+        | inr k ↦ rw (
+          meeting_it r rs f s p.0 k,
+          covers_joined rs (min f r.first) (max s r.stop) j,
+          hull f s r.first r.stop j p.0 k,
+        ) (or-middle (covers rs j) (is_within r.first r.stop j) (is_within f s j))
       ]
     ]
 
-pub rising_joined : (low : ℕ) (rs : List Span) (f s : ℕ) → low ≤ f → f < s → IsRising low rs → IsRising low (joined rs f s)
+pub rising_joined : (low : ℕ) (rs : List Span) (f s : ℕ) → low ≤ f → f < s → IsRising low rs
+    → IsRising low (joined rs f s)
 unfolding IsPlace
 rising_joined low [] f s l k h = (l, k, tt)
 rising_joined low (r ∷ rs) f s l k h =
@@ -164,7 +192,8 @@ rising_joined low (r ∷ rs) f s l k h =
       | inr p ↦ elim p.1 [
         | inl e ↦ rw (before_it r rs f s p.0 e) (l, k, (omega arith, h.1, h.2))
         | inr e ↦ rw (meeting_it r rs f s p.0 e)
-            (rising_joined low rs (min f r.first) (max s r.stop) (omega (arith, h.0)) (omega (arith, h.1)) (rising_from (r.stop + 1) low rs (omega (arith, h.0, h.1)) h.2))
+            (rising_joined low rs (min f r.first) (max s r.stop) (omega (arith, h.0)) (omega (arith, h.1))
+            (rising_from (r.stop + 1) low rs (omega (arith, h.0, h.1)) h.2))
       ]
     ]
 
@@ -182,7 +211,8 @@ owner_max m q a b h k =
     (λ (l : b ≤ a). let e : max a b ≡ a = omega arith in rw e h)
     (cases_lt a b)
 
-pub owned_joined : (m : Membership) (q top : ℕ) (rs : List Span) (f s : ℕ) → owner m f ≡ q → owner m s ≡ q → s ≤ top → IsOwned m q top rs → IsOwned m q top (joined rs f s)
+pub owned_joined : (m : Membership) (q top : ℕ) (rs : List Span) (f s : ℕ) → owner m f ≡ q → owner m s ≡ q → s ≤ top
+    → IsOwned m q top rs → IsOwned m q top (joined rs f s)
 unfolding IsPlace
 owned_joined m q top [] f s a b c h = (a, b, c, tt)
 owned_joined m q top (r ∷ rs) f s a b c h =
@@ -191,18 +221,21 @@ owned_joined m q top (r ∷ rs) f s a b c h =
       | inr p ↦ elim p.1 [
         | inl e ↦ rw (before_it r rs f s p.0 e) (a, b, c, h)
         | inr e ↦ rw (meeting_it r rs f s p.0 e)
-            (owned_joined m q top rs (min f r.first) (max s r.stop) (owner_min m q f r.first a h.0) (owner_max m q s r.stop b h.1) (omega (arith, h.2)) h.3)
+            (owned_joined m q top rs (min f r.first) (max s r.stop) (owner_min m q f r.first a h.0)
+            (owner_max m q s r.stop b h.1) (omega (arith, h.2)) h.3)
       ]
     ]
 
 -- ---- the loop that joins
 
 -- the ranges that end before the new one stay
-pub joined_from : (rs : List Span) (at f s : ℕ) (d : Span) → at ≤ length rs → ((j : ℕ) → j < at → (get_or rs j d).stop < f) → joined rs f s ≡ take at rs ++ joined (drop at rs) f s
+pub joined_from : (rs : List Span) (at f s : ℕ) (d : Span) → at ≤ length rs
+    → ((j : ℕ) → j < at → (get_or rs j d).stop < f) → joined rs f s ≡ take at rs ++ joined (drop at rs) f s
 joined_from rs zero f s d k h = refl
 joined_from [] (suc at) f s d k h = absurd (omega arith)
 joined_from (r ∷ rs) (suc at) f s d k h =
-    after_it r rs f s (h 0 (omega arith)) ∙ ap (λ xs. r ∷ xs) (joined_from rs at f s d (omega arith) (λ j l. h (suc j) (omega arith)))
+    after_it r rs f s (h 0 (omega arith))
+    ∙ ap (λ xs. r ∷ xs) (joined_from rs at f s d (omega arith) (λ j l. h (suc j) (omega arith)))
 
 -- the first of the ranges that are left ends at or past the place
 abbrev pub HeadPast : ℕ → List Span → Type 0
@@ -221,22 +254,28 @@ pub record IsJoining (old now : List Span) (first stop at f s absorbed : ℕ) : 
   pub bound : (absorbed ≡ 0) ⊎ ((absorbed + f + 1 ≤ low) × (low ≤ s + 1))
 
 -- so far absorbed fits in the union
-pub absorbed_fits : (old now : List Span) (first stop at f s absorbed : ℕ) → IsJoining old now first stop at f s absorbed → absorbed ≤ s - f
-absorbed_fits old now first stop at f s absorbed h = elim h.bound [ inl e ↦ omega arith | inr e ↦ omega (arith, e.0, e.1) ]
+pub absorbed_fits : (old now : List Span) (first stop at f s absorbed : ℕ)
+    → IsJoining old now first stop at f s absorbed → absorbed ≤ s - f
+absorbed_fits old now first stop at f s absorbed h =
+    elim h.bound [ inl e ↦ omega arith | inr e ↦ omega (arith, e.0, e.1) ]
 
 rising_drop : (low : ℕ) (rs : List Span) (at : ℕ) → IsRising low rs → IsRising low (drop at rs)
 rising_drop low rs zero h = h
 rising_drop low [] (suc at) h = tt
-rising_drop low (r ∷ rs) (suc at) h = rising_drop low rs at (rising_from (r.stop + 1) low rs (omega (arith, h.0, h.1)) h.2)
+rising_drop low (r ∷ rs) (suc at) h =
+    rising_drop low rs at (rising_from (r.stop + 1) low rs (omega (arith, h.0, h.1)) h.2)
 
-head_past : (f : ℕ) (rs : List Span) (at : ℕ) (d : Span) → ((j : ℕ) → at ≤ j → j < length rs → f ≤ (get_or rs j d).stop) → HeadPast f (drop at rs)
+head_past : (f : ℕ) (rs : List Span) (at : ℕ) (d : Span)
+    → ((j : ℕ) → at ≤ j → j < length rs → f ≤ (get_or rs j d).stop) → HeadPast f (drop at rs)
 head_past f [] zero d h = tt
 head_past f (r ∷ rs) zero d h = h 0 (omega arith) (omega arith)
 head_past f [] (suc at) d h = tt
 head_past f (r ∷ rs) (suc at) d h = head_past f rs at d (λ j l k. h (suc j) (omega arith) (omega arith))
 
 pub joining_start : (old : List Span) (first stop at : ℕ) (d : Span) → IsRising 0 old → first < stop → at ≤ length old
-    → ((j : ℕ) → j < at → (get_or old j d).stop < first) → ((j : ℕ) → at ≤ j → j < length old → first ≤ (get_or old j d).stop) → IsJoining old old first stop at first stop 0
+    → ((j : ℕ) → j < at → (get_or old j d).stop < first)
+    → ((j : ℕ) → at ≤ j → j < length old → first ≤ (get_or old j d).stop)
+    → IsJoining old old first stop at first stop 0
 joining_start old first stop at d rising some within before after = record {
   within = within;
   some = some;
@@ -286,22 +325,32 @@ past_more low f [] h k = tt
 past_more low f (r ∷ rs) h k = omega (arith, k.0, k.1)
 
 -- one range is absorbed
-pub joining_more : (old now new : List Span) (first stop at f s absorbed g t more : ℕ) (r : Span) → at < length now → (get_or now at r) ≡ r → r.first ≤ s
-    → new ≡ take at now ++ drop (suc at) now → g ≡ min f r.first → t ≡ max s r.stop → more ≡ absorbed + (r.stop - r.first)
+pub joining_more : (old now new : List Span) (first stop at f s absorbed g t more : ℕ) (r : Span) → at < length now
+    → (get_or now at r) ≡ r → r.first ≤ s
+    → new ≡ take at now ++ drop (suc at) now → g ≡ min f r.first → t ≡ max s r.stop
+    → more ≡ absorbed + (r.stop - r.first)
     → IsJoining old now first stop at f s absorbed → IsJoining old new first stop at g t more
 joining_more old now new first stop at f s absorbed g t more r inside here meets removed g_is t_is more_is h =
-    let parts : drop at now ≡ r ∷ drop (suc at) now = drop_here at now r inside ∙ ap (λ x. x ∷ drop (suc at) now) here in
+    let parts : drop at now ≡ r ∷ drop (suc at) now =
+    drop_here at now r inside ∙ ap (λ x. x ∷ drop (suc at) now) here in
     let rising : IsRising h.low (r ∷ drop (suc at) now) = subst (IsRising h.low) parts h.rising in
     let past : f ≤ r.stop = subst (HeadPast f) parts h.past in
-    let kept : take at new ≡ take at now = ap (take at) removed ∙ take_again (take at now) (drop (suc at) now) at (take_length at now h.within) in
-    let left : drop at new ≡ drop (suc at) now = ap (drop at) removed ∙ drop_again (take at now) (drop (suc at) now) at (take_length at now h.within) in
-    let all : reach_of now ≡ reach_of (take at now) + reach_of (drop at now) = ap reach_of (sym (take_drop at now)) ∙ reach_append (take at now) (drop at now) in
-    let less : reach_of new ≡ reach_of (take at now) + reach_of (drop (suc at) now) = ap reach_of removed ∙ reach_append (take at now) (drop (suc at) now) in
+    let kept : take at new ≡ take at now =
+    ap (take at) removed ∙ take_again (take at now) (drop (suc at) now) at (take_length at now h.within) in
+    let left : drop at new ≡ drop (suc at) now =
+    ap (drop at) removed ∙ drop_again (take at now) (drop (suc at) now) at (take_length at now h.within) in
+    let all : reach_of now ≡ reach_of (take at now) + reach_of (drop at now) =
+    ap reach_of (sym (take_drop at now)) ∙ reach_append (take at now) (drop at now) in
+    let less : reach_of new ≡ reach_of (take at now) + reach_of (drop (suc at) now) =
+    ap reach_of removed ∙ reach_append (take at now) (drop (suc at) now) in
     let whole : reach_of (drop at now) ≡ (r.stop - r.first) + reach_of (drop (suc at) now) = ap reach_of parts in
     record {
-      within = let e : length new ≡ length (take at now ++ drop (suc at) now) = ap length removed in omega (arith, e, length-append (take at now) (drop (suc at) now), take_length at now h.within);
+      within = let e : length new ≡ length (take at now ++ drop (suc at) now) =
+          ap length removed in
+          omega (arith, e, length-append (take at now) (drop (suc at) now), take_length at now h.within);
       some = omega (arith, h.some);
-      same = h.same ∙ ap (λ xs. take at now ++ joined xs f s) parts ∙ ap (λ xs. take at now ++ xs) (meeting_it r (drop (suc at) now) f s past meets)
+      same = h.same ∙ ap (λ xs. take at now ++ joined xs f s) parts
+          ∙ ap (λ xs. take at now ++ xs) (meeting_it r (drop (suc at) now) f s past meets)
           ∙ sym (rw (kept, left, g_is, t_is) refl);
       reach = omega (arith, h.reach, all, less, whole);
       low = r.stop + 1;
@@ -314,23 +363,30 @@ joining_more old now new first stop at f s absorbed g t more r inside here meets
     }
 
 -- what is left begins past the union
-pub joining_ends : (old now new : List Span) (first stop at f s absorbed : ℕ) (u d : Span) → u ≡ record { first = f; stop = s }
+pub joining_ends : (old now new : List Span) (first stop at f s absorbed : ℕ) (u d : Span)
+    → u ≡ record { first = f; stop = s }
     → (at < length now → s < (get_or now at d).first) → new ≡ take at now ++ u ∷ drop at now
-    → IsJoining old now first stop at f s absorbed → (new ≡ joined old first stop) × (((s - f) - absorbed) + reach_of old ≡ reach_of new)
+    → IsJoining old now first stop at f s absorbed
+    → (new ≡ joined old first stop) × (((s - f) - absorbed) + reach_of old ≡ reach_of new)
 joining_ends old now new first stop at f s absorbed u d u_is beyond inserted h =
     let last : joined (drop at now) f s ≡ u ∷ drop at now = ⊎_elim
     (λ (inside : at < length now).
     let parts = drop_here at now d inside in
     let past : f ≤ (get_or now at d).stop = subst (HeadPast f) parts h.past in
-    ap (λ xs. joined xs f s) parts ∙ before_it (get_or now at d) (drop (suc at) now) f s past (beyond inside) ∙ sym (rw (u_is, parts) refl))
+    ap (λ xs. joined xs f s) parts ∙ before_it (get_or now at d) (drop (suc at) now) f s past (beyond inside)
+    ∙ sym (rw (u_is, parts) refl))
     (λ (end : length now ≤ at). let none = drop_past at now end in rw (none, u_is) refl)
     (cases_lt at (length now)) in
-    let all : reach_of now ≡ reach_of (take at now) + reach_of (drop at now) = ap reach_of (sym (take_drop at now)) ∙ reach_append (take at now) (drop at now) in
-    let more : reach_of new ≡ reach_of (take at now) + ((u.stop - u.first) + reach_of (drop at now)) = ap reach_of inserted ∙ reach_append (take at now) (u ∷ drop at now) in
+    let all : reach_of now ≡ reach_of (take at now) + reach_of (drop at now) =
+    ap reach_of (sym (take_drop at now)) ∙ reach_append (take at now) (drop at now) in
+    let more : reach_of new ≡ reach_of (take at now) + ((u.stop - u.first) + reach_of (drop at now)) =
+    ap reach_of inserted ∙ reach_append (take at now) (u ∷ drop at now) in
     let stop_is : u.stop ≡ s = ap (λ (x : Span). x.stop) u_is in
     let first_is : u.first ≡ f = ap (λ (x : Span). x.first) u_is in
-    let fits = absorbed_fits old now first stop at f s absorbed h in
-    (inserted ∙ sym (h.same ∙ ap (λ xs. take at now ++ xs) last), omega (arith, h.reach, all, more, stop_is, first_is, fits))
+    let fits = absorbed_fits old now first stop at f s absorbed h in (
+      inserted ∙ sym (h.same ∙ ap (λ xs. take at now ++ xs) last),
+      omega (arith, h.reach, all, more, stop_is, first_is, fits),
+    )
   where
     drop_past : (at : ℕ) (rs : List Span) → length rs ≤ at → drop at rs ≡ []
     drop_past zero [] e = refl

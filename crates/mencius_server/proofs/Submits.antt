@@ -33,7 +33,8 @@ use Rattle.mencius_base.specs.Limits.{instance_count}
 free-server_at : (m : Membership) (w : History) (p : ℕ) → free_at (server_at m w p) ≡ free m w p
 free-server_at m w p =
     find-instances_same (is_free_at (server_at m w p)) (is_free m w p)
-    (λ j h. ap (λ (t : SlotState). (eqb (owner m j) p && leb (front m w p) j) && is_none t.learned) (slot-server_at m w p j h))
+    (λ j h. ap (λ (t : SlotState). (eqb (owner m j) p && leb (front m w p) j) && is_none t.learned)
+    (slot-server_at m w p j h))
 
 -- the first line of an event of p's own
 pub record IsHead (m : Membership) (p : ℕ) (l : Line) : Type 0 where
@@ -59,10 +60,12 @@ sends_suggestion : (s : ServerState) (t : ℕ) (o : Option ℕ) → submit_sent 
 sends_suggestion s t None = refl
 sends_suggestion s t (Some k) = refl
 
-suggest_world : (m : Membership) (w : History) (l : Line) (p t : ℕ) → IsHead m p l → IsSound m w → (o : Option ℕ) → free m w p ≡ o
+suggest_world : (m : Membership) (w : History) (l : Line) (p t : ℕ) → IsHead m p l → IsSound m w → (o : Option ℕ)
+    → free m w p ≡ o
     → after_submit_at (server_at m w p) t o ≡ server_at m (followed_by (l ∷ w) (suggestion p o t)) p
 suggest_world m w l p t first facts None none =
-    server_unchanged m w (l ∷ w) p (greatest_still m w l p first) (λ j. slot_at-quiet m w l p j (first.quiet j) (first.deaf w))
+    server_unchanged m w (l ∷ w) p (greatest_still m w l p first)
+    (λ j. slot_at-quiet m w l p j (first.quiet j) (first.deaf w))
   where
     greatest_still : (m : Membership) (w : History) (l : Line) (p : ℕ) → IsHead m p l → front m (l ∷ w) p ≡ front m w p
     greatest_still m w l p first = ap (max p) (greatest_quiet (front_by m p) l w first.still)
@@ -72,17 +75,24 @@ suggest_world m w l p t first facts (Some k) found =
     let mine : owner m k ≡ p = eqb-true _ _ (and_parts _ _ test.0).0 in
     let ahead : front m w p ≤ k = leb-true _ _ (and_parts _ _ test.0).1 in
     let small : k < instance_count = place.small in
-    let quiet : (j : ℕ) → slot_at m (l ∷ w) p j ≡ slot_at m w p j = λ j. slot_at-quiet m w l p j (first.quiet j) (first.deaf w) in
+    let quiet : (j : ℕ) → slot_at m (l ∷ w) p j ≡ slot_at m w p j =
+    λ j. slot_at-quiet m w l p j (first.quiet j) (first.deaf w) in
     let same : accepted (l ∷ w) p k ≡ accepted w p k = rw (first.quiet k).accepted (greater-none (accepted w p k)) in
     let voted : IsVoted (l ∷ w) p k = record {
-      proposal = λ b e. let said = facts.voted p k b (sym same ∙ e) in (said.0, oldest_stays (proposed_by k b) l w said.0 said.1);
+      proposal = λ b e. let said =
+          facts.voted p k b (sym same ∙ e) in (said.0, oldest_stays (proposed_by k b) l w said.0 said.1);
     } in
-    let unsaid : proposed (l ∷ w) k 0 ≡ None = oldest_quiet (proposed_by k 0) l w ((first.quiet k).proposed 0) ∙ facts.own_unsaid p k mine ahead in
-    let untried : trying (l ∷ w) p k ≡ 0 = greatest_quiet (tried_by p k) l w (first.quiet k).tried ∙ facts.own_untried p k mine in
-    let still : greatest (front_by m p) (l ∷ w) ≡ greatest (front_by m p) w = greatest_quiet (front_by m p) l w first.still in
-    ap (λ (u : SlotState). with_slot_and_front (server_at m w p) k (record u { proposal = Some (Ticket t) }) (k + m.count)) (slot-server_at m w p k small)
+    let unsaid : proposed (l ∷ w) k 0 ≡ None =
+    oldest_quiet (proposed_by k 0) l w ((first.quiet k).proposed 0) ∙ facts.own_unsaid p k mine ahead in
+    let untried : trying (l ∷ w) p k ≡ 0 =
+    greatest_quiet (tried_by p k) l w (first.quiet k).tried ∙ facts.own_untried p k mine in
+    let still : greatest (front_by m p) (l ∷ w) ≡ greatest (front_by m p) w =
+    greatest_quiet (front_by m p) l w first.still in
+    ap (λ (u : SlotState). with_slot_and_front (server_at m w p) k
+    (record u { proposal = Some (Ticket t) }) (k + m.count)) (slot-server_at m w p k small)
     ∙ server_written m w (Sent (Suggest p k t) ∷ l ∷ w) p k (k + m.count) _
-    (rw (eq-eqb p p refl) (grown_front p (greatest (front_by m p) w) (greatest (front_by m p) (l ∷ w)) k m.count still ahead))
+    (rw (eq-eqb p p refl)
+    (grown_front p (greatest (front_by m p) w) (greatest (front_by m p) (l ∷ w)) k m.count still ahead))
     (slot_at-suggested m (l ∷ w) p k t voted mine untried unsaid
     ∙ ap (λ (u : SlotState). record u { proposal = Some (Ticket t) }) (quiet k))
     (λ j ne. slot_at-quiet m (l ∷ w) (Sent (Suggest p k t)) p j (quiet_suggest p k t j ne) refl ∙ quiet j)
@@ -91,29 +101,38 @@ suggest_world m w l p t first facts (Some k) found =
     grown_front p a b k n e h = omega arith
 
 pub submit_step : (r : Result (Unit {0}) Refusal) (t : ℕ) (old new : ServerState) (before after : Outgoing)
-    → OnOk r (after.messages ≡ before.messages ++ submit_sent old t (free_at old)) → OnOk r (new ≡ after_submit_at old t (free_at old))
-    → OnOk r ((w : History) (c : Command) → IsAt w old → t ≡ length (submitted w) → IsStep w (Submit old.id c) old new before after)
+    → OnOk r (after.messages ≡ before.messages ++ submit_sent old t (free_at old))
+    → OnOk r (new ≡ after_submit_at old t (free_at old))
+    → OnOk r ((w : History) (c : Command) → IsAt w old → t ≡ length (submitted w)
+    → IsStep w (Submit old.id c) old new before after)
 submit_step (Ok n) t old new before after sends becomes = λ w c at next.
     let same : free_at old ≡ free old.members w old.id = ap free_at at.state ∙ free-server_at old.members w old.id in
-    let row : suggestion old.id (free old.members w old.id) t ≡ lines old.members w (Submit old.id c) = ap (suggestion old.id (free old.members w old.id)) next in
+    let row : suggestion old.id (free old.members w old.id) t ≡ lines old.members w (Submit old.id c) =
+    ap (suggestion old.id (free old.members w old.id)) next in
     record {
       sent = sends ∙ ap (λ (ms : List Message). before.messages ++ ms)
           (ap (submit_sent old t) same ∙ sends_suggestion old t (free old.members w old.id) ∙ ap messages_of row);
-      state = becomes ∙ ap (after_submit_at old t) same ∙ ap (λ (s : ServerState). after_submit_at s t (free old.members w old.id)) at.state
-          ∙ suggest_world old.members w (Submitted c old.id) old.id t (head_submitted old.members c old.id old.id) (sound old.members w at.reached) (free old.members w old.id) refl
+      state = becomes ∙ ap (after_submit_at old t) same
+          ∙ ap (λ (s : ServerState). after_submit_at s t (free old.members w old.id)) at.state
+          ∙ suggest_world old.members w (Submitted c old.id) old.id t (head_submitted old.members c old.id old.id)
+          (sound old.members w at.reached) (free old.members w old.id) refl
           ∙ ap (λ (ls : List Line). server_at old.members (followed_by (Submitted c old.id ∷ w) ls) old.id) row;
     }
 submit_step (Err e) t old new before after sends becomes = tt
 
-submit_causes : (w : History) (c : Command) (s : ServerState) (o : Outgoing) (k : Option ℕ) → free s.members w s.id ≡ k → submit_cause o k ≡ refusal_of w (Submit s.id c) s o
+submit_causes : (w : History) (c : Command) (s : ServerState) (o : Outgoing) (k : Option ℕ)
+    → free s.members w s.id ≡ k → submit_cause o k ≡ refusal_of w (Submit s.id c) s o
 submit_causes w c s o None none = rw none
 submit_causes w c s o (Some k) found = rw found
 
-pub submit_refusal : (r : Result (Unit {0}) Refusal) (t : ℕ) (old : ServerState) (before : Outgoing) → IsRefusedFor (submit_cause before (free_at old)) r
-    → (w : History) (c : Command) → IsAt w old → t ≡ length (submitted w) → IsRefusedFor (refusal_of w (Submit old.id c) old before) r
+pub submit_refusal : (r : Result (Unit {0}) Refusal) (t : ℕ) (old : ServerState) (before : Outgoing)
+    → IsRefusedFor (submit_cause before (free_at old)) r
+    → (w : History) (c : Command) → IsAt w old → t ≡ length (submitted w)
+    → IsRefusedFor (refusal_of w (Submit old.id c) old before) r
 submit_refusal r t old before refused w c at next =
     let same : free_at old ≡ free old.members w old.id = ap free_at at.state ∙ free-server_at old.members w old.id in
-    subst (λ (o : Option Refusal). IsRefusedFor o r) (ap (submit_cause before) same ∙ submit_causes w c old before (free old.members w old.id) refl) refused
+    subst (λ (o : Option Refusal). IsRefusedFor o r) (ap (submit_cause before) same
+    ∙ submit_causes w c old before (free old.members w old.id) refl) refused
 
 -- ---- a retry
 
@@ -125,34 +144,41 @@ sends_again : (w : History) (s : ServerState) → free_at s ≡ free s.members w
 sends_again w s same None = refl
 sends_again w s same (Some t) = ap (submit_sent s t) same ∙ sends_suggestion s t (free s.members w s.id)
 
-again_world : (w : History) (s : ServerState) → IsAt w s → (o : Option ℕ) → after_retry s o ≡ server_at s.members (followed_by (Retried s.id ∷ w) (again s.members w s.id o)) s.id
+again_world : (w : History) (s : ServerState) → IsAt w s → (o : Option ℕ)
+    → after_retry s o ≡ server_at s.members (followed_by (Retried s.id ∷ w) (again s.members w s.id o)) s.id
 again_world w s at None =
-    at.state ∙ server_unchanged s.members w (Retried s.id ∷ w) s.id (ap (max s.id) (greatest_quiet (front_by s.members s.id) (Retried s.id) w refl))
+    at.state ∙ server_unchanged s.members w (Retried s.id ∷ w) s.id
+    (ap (max s.id) (greatest_quiet (front_by s.members s.id) (Retried s.id) w refl))
     (λ j. slot_at-quiet s.members w (Retried s.id) s.id j ((head_retried s.members s.id s.id).quiet j) refl)
 again_world w s at (Some t) =
     let same : free_at s ≡ free s.members w s.id = ap free_at at.state ∙ free-server_at s.members w s.id in
     ap (after_submit_at s t) same ∙ ap (λ (u : ServerState). after_submit_at u t (free s.members w s.id)) at.state
-    ∙ suggest_world s.members w (Retried s.id) s.id t (head_retried s.members s.id s.id) (sound s.members w at.reached) (free s.members w s.id) refl
+    ∙ suggest_world s.members w (Retried s.id) s.id t (head_retried s.members s.id s.id)
+    (sound s.members w at.reached) (free s.members w s.id) refl
 
 pub retry_step : (r : Result (Unit {0}) Refusal) (old new : ServerState) (before after : Outgoing)
-    → OnOk r (after.messages ≡ before.messages ++ retry_sent old (first_waiting old)) → OnOk r (new ≡ after_retry old (first_waiting old))
+    → OnOk r (after.messages ≡ before.messages ++ retry_sent old (first_waiting old))
+    → OnOk r (new ≡ after_retry old (first_waiting old))
     → OnOk r ((w : History) → IsAt w old → IsStep w (Retry old.id) old new before after)
 retry_step (Ok n) old new before after sends becomes = λ w at.
     let same : free_at old ≡ free old.members w old.id = ap free_at at.state ∙ free-server_at old.members w old.id in
     let first = first_waiting_at w old at in
     record {
-      sent = sends ∙ ap (λ (ms : List Message). before.messages ++ ms) (ap (retry_sent old) first ∙ sends_again w old same (first_item (waiting w old.id)));
+      sent = sends ∙ ap (λ (ms : List Message). before.messages ++ ms) (ap (retry_sent old) first
+          ∙ sends_again w old same (first_item (waiting w old.id)));
       state = becomes ∙ ap (after_retry old) first ∙ again_world w old at (first_item (waiting w old.id));
     }
 retry_step (Err e) old new before after sends becomes = tt
 
-retry_causes : (w : History) (s : ServerState) (o : Outgoing) (t k : Option ℕ) → first_item (waiting w s.id) ≡ t → free_at s ≡ k → free s.members w s.id ≡ k
+retry_causes : (w : History) (s : ServerState) (o : Outgoing) (t k : Option ℕ) → first_item (waiting w s.id) ≡ t
+    → free_at s ≡ k → free s.members w s.id ≡ k
     → retry_cause s o t ≡ refusal_of w (Retry s.id) s o
 retry_causes w s o None k none here there = rw none
 retry_causes w s o (Some t) None first here there = rw (first, here, there)
 retry_causes w s o (Some t) (Some k) first here there = rw (first, here, there)
 
-pub retry_refusal : (r : Result (Unit {0}) Refusal) (old : ServerState) (before : Outgoing) → IsRefusedFor (retry_cause old before (first_waiting old)) r
+pub retry_refusal : (r : Result (Unit {0}) Refusal) (old : ServerState) (before : Outgoing)
+    → IsRefusedFor (retry_cause old before (first_waiting old)) r
     → (w : History) → IsAt w old → IsRefusedFor (refusal_of w (Retry old.id) old before) r
 retry_refusal r old before refused w at =
     let same : free_at old ≡ free old.members w old.id = ap free_at at.state ∙ free-server_at old.members w old.id in

@@ -46,9 +46,11 @@ record IsTried (p j : ℕ) (l : Line) : Type 0 where
   accepted : accepted_by p j l ≡ None
   learned : learned_by p j l ≡ None
 
-trying_same : (m : Membership) (w : History) (l : Line) (p j b : ℕ) → IsTried p j l → heard (l ∷ w) p ≡ heard w p → slot_trying m (l ∷ w) p j b ≡ slot_trying m w p j b
+trying_same : (m : Membership) (w : History) (l : Line) (p j b : ℕ) → IsTried p j l → heard (l ∷ w) p ≡ heard w p
+    → slot_trying m (l ∷ w) p j b ≡ slot_trying m w p j b
 trying_same m w l p j b quiet deaf =
-    let proposals : (c : ℕ) → proposed (l ∷ w) j c ≡ proposed w j c = λ c. oldest_quiet (proposed_by j c) l w (quiet.proposed c) in
+    let proposals : (c : ℕ) → proposed (l ∷ w) j c ≡ proposed w j c =
+    λ c. oldest_quiet (proposed_by j c) l w (quiet.proposed c) in
     let acceptance : accepted (l ∷ w) p j ≡ accepted w p j = rw quiet.accepted (greater-none (accepted w p j)) in
     same_slot _ _ refl
     (greatest_quiet (promised_by p j) l w quiet.promised)
@@ -65,13 +67,15 @@ prepared_same : (m : Membership) (w0 : History) (p j b : ℕ) (js : List ℕ) (u
 prepared_same m w0 p j b [] u = refl
 prepared_same m w0 p j b (a ∷ js) u =
     prepared_same m w0 p j b js (preparation m w0 p a ∷ u)
-    ∙ trying_same m u (preparation m w0 p a) p j b (record { promised = refl; proposed = λ c. refl; accepted = refl; learned = refl }) refl
+    ∙ trying_same m u (preparation m w0 p a) p j b
+    (record { promised = refl; proposed = λ c. refl; accepted = refl; learned = refl }) refl
 
 abbrev ballot_for : Membership → History → ℕ → ℕ → ℕ
 ballot_for m w p j = ballot_of m (next_round m w p j) p
 
 -- which ballot is tried after the lines
-tried_cond : (p a j b t : ℕ) (f : ℕ → ℕ) (c : Bool) → eqb a j ≡ c → max t (cond (eqb p p && eqb a j) (f a) 0) ≡ cond c (max t (f j)) t
+tried_cond : (p a j b t : ℕ) (f : ℕ → ℕ) (c : Bool) → eqb a j ≡ c
+    → max t (cond (eqb p p && eqb a j) (f a) 0) ≡ cond c (max t (f j)) t
 tried_cond p a j b t f true e = rw (same p, e, eqb-true a j e) refl
 tried_cond p a j b t f false e = rw (same p, e) (omega arith)
 
@@ -79,28 +83,37 @@ max_twice : (t x : ℕ) → max (max t x) x ≡ max t x
 max_twice t x = omega arith
 
 tried_after : (m : Membership) (w0 : History) (p j : ℕ) (js : List ℕ) (u : History)
-    → trying (followed_by u (map (preparation m w0 p) js)) p j ≡ cond (list_any (λ (a : ℕ). eqb a j) js) (max (trying u p j) (ballot_for m w0 p j)) (trying u p j)
+    → trying (followed_by u (map (preparation m w0 p) js)) p j
+    ≡ cond (list_any (λ (a : ℕ). eqb a j) js) (max (trying u p j) (ballot_for m w0 p j)) (trying u p j)
 tried_after m w0 p j [] u = refl
 tried_after m w0 p j (a ∷ js) u =
     tried_after m w0 p j js (preparation m w0 p a ∷ u)
-    ∙ ap (λ (t : ℕ). cond (list_any (λ (c : ℕ). eqb c j) js) (max t (ballot_for m w0 p j)) t) (tried_cond p a j 0 (trying u p j) (ballot_for m w0 p) (eqb a j) refl)
+    ∙ ap (λ (t : ℕ). cond (list_any (λ (c : ℕ). eqb c j) js) (max t (ballot_for m w0 p j)) t)
+    (tried_cond p a j 0 (trying u p j) (ballot_for m w0 p) (eqb a j) refl)
     ∙ either (eqb a j) (list_any (λ (c : ℕ). eqb c j) js) (trying u p j) (ballot_for m w0 p j)
   where
-    either : (c d : Bool) (t x : ℕ) → cond d (max (cond c (max t x) t) x) (cond c (max t x) t) ≡ cond (c || d) (max t x) t
+    either : (c d : Bool) (t x : ℕ)
+        → cond d (max (cond c (max t x) t) x) (cond c (max t x) t) ≡ cond (c || d) (max t x) t
     either true true t x = max_twice t x
     either true false t x = refl
     either false d t x = refl
 
-front_prepared : (m : Membership) (w0 : History) (p : ℕ) (js : List ℕ) (u : History) → front m (followed_by u (map (preparation m w0 p) js)) p ≡ front m u p
+front_prepared : (m : Membership) (w0 : History) (p : ℕ) (js : List ℕ) (u : History)
+    → front m (followed_by u (map (preparation m w0 p) js)) p ≡ front m u p
 front_prepared m w0 p [] u = refl
-front_prepared m w0 p (a ∷ js) u = front_prepared m w0 p js (preparation m w0 p a ∷ u) ∙ ap (max p) (greatest_quiet (front_by m p) (preparation m w0 p a) u refl)
+front_prepared m w0 p (a ∷ js) u =
+    front_prepared m w0 p js (preparation m w0 p a ∷ u)
+    ∙ ap (max p) (greatest_quiet (front_by m p) (preparation m w0 p a) u refl)
 
-sends_prepared : (m : Membership) (w : History) (p : ℕ) (js : List ℕ) → map (λ (j : ℕ). Prepare p j (ballot_for m w p j)) js ≡ messages_of (map (preparation m w p) js)
+sends_prepared : (m : Membership) (w : History) (p : ℕ) (js : List ℕ)
+    → map (λ (j : ℕ). Prepare p j (ballot_for m w p j)) js ≡ messages_of (map (preparation m w p) js)
 sends_prepared m w p [] = refl
-sends_prepared m w p (j ∷ js) = ap (λ (ms : List Message). Prepare p j (ballot_for m w p j) ∷ ms) (sends_prepared m w p js)
+sends_prepared m w p (j ∷ js) =
+    ap (λ (ms : List Message). Prepare p j (ballot_for m w p j) ∷ ms) (sends_prepared m w p js)
 
 -- a ballot of p's own, above all that it tried, is in nobody's message
-module _ (m : Membership) (w : History) (p j b : ℕ) (g : IsGrown m w) (mine : owner m b ≡ p) (above : trying w p j < b) where
+module _ (m : Membership) (w : History) (p j b : ℕ) (g : IsGrown m w) (mine : owner m b ≡ p)
+    (above : trying w p j < b) where
   unprepared : (to : ℕ) → IsIn (Sent (Prepare to j b)) w → ⊥
   unprepared to h =
       let home : to ≡ p = sym (prepare_right m w g to j b h).own ∙ mine in
@@ -118,7 +131,8 @@ module _ (m : Membership) (w : History) (p j b : ℕ) (g : IsGrown m w) (mine : 
   no_promiser : (q : ℕ) → promisers w p j b q ≡ false
   no_promiser q =
       elim (cases_Bool (promisers w p j b q)) [
-        | inl e ↦ let h = promiser w p j b q e in absurd (unprepared h.to (promise_asked m w g q h.to j b h.vote h.promise))
+        | inl e ↦ let h =
+            promiser w p j b q e in absurd (unprepared h.to (promise_asked m w g q h.to j b h.vote h.promise))
         | inr e ↦ e
       ]
 
@@ -154,12 +168,15 @@ module _ (m : Membership) (w : History) (p q : ℕ) (r : IsReached m w) (member 
   mine : (j : ℕ) → owner m (ballot_for m w p j) ≡ p
   mine j = mod-mul-add (next_round m w p j) m.count p member
 
-  tried_here : (j : ℕ) → j < instance_count → (c : Bool) → is_suspect m w p q j ≡ c → trying later p j ≡ cond c (ballot_for m w p j) (trying w p j)
+  tried_here : (j : ℕ) → j < instance_count → (c : Bool) → is_suspect m w p q j ≡ c
+      → trying later p j ≡ cond c (ballot_for m w p j) (trying w p j)
   tried_here j small c e =
       let which : list_any (λ (a : ℕ). eqb a j) covered ≡ c =
-      among (is_suspect m w p q) instances j ∙ ap (λ (d : Bool). is_suspect m w p q j && d) (is_instance j small) ∙ and-true (is_suspect m w p q j) ∙ e in
+      among (is_suspect m w p q) instances j ∙ ap (λ (d : Bool). is_suspect m w p q j && d) (is_instance j small)
+      ∙ and-true (is_suspect m w p q j) ∙ e in
       tried_after m w p j covered (Suspected p q ∷ w)
-      ∙ ap (λ (t : ℕ). cond (list_any (λ (a : ℕ). eqb a j) covered) (max t (ballot_for m w p j)) t) (greatest_quiet (tried_by p j) (Suspected p q) w refl)
+      ∙ ap (λ (t : ℕ). cond (list_any (λ (a : ℕ). eqb a j) covered) (max t (ballot_for m w p j)) t)
+      (greatest_quiet (tried_by p j) (Suspected p q) w refl)
       ∙ ap (λ (d : Bool). cond d (max (trying w p j) (ballot_for m w p j)) (trying w p j)) which
       ∙ ap (λ (t : ℕ). cond c t (trying w p j)) (greater_one (trying w p j) (ballot_for m w p j) (above j))
     where
@@ -173,41 +190,51 @@ module _ (m : Membership) (w : History) (p q : ℕ) (r : IsReached m w) (member 
   slot_same : (j b : ℕ) → slot_trying m later p j b ≡ slot_trying m w p j b
   slot_same j b =
       prepared_same m w p j b covered (Suspected p q ∷ w)
-      ∙ trying_same m w (Suspected p q) p j b (record { promised = refl; proposed = λ c. refl; accepted = refl; learned = refl }) refl
+      ∙ trying_same m w (Suspected p q) p j b
+      (record { promised = refl; proposed = λ c. refl; accepted = refl; learned = refl }) refl
 
-  slot_after : (j : ℕ) → j < instance_count → (c : Bool) → is_suspect m w p q j ≡ c → slot_at m later p j ≡ cond c (after_begin (slot_at m w p j) (ballot_for m w p j)) (slot_at m w p j)
+  slot_after : (j : ℕ) → j < instance_count → (c : Bool) → is_suspect m w p q j ≡ c
+      → slot_at m later p j ≡ cond c (after_begin (slot_at m w p j) (ballot_for m w p j)) (slot_at m w p j)
   slot_after j small true e =
-      slot_same j (trying later p j) ∙ ap (slot_trying m w p j) (tried_here j small true e) ∙ slot_untried m w p j (ballot_for m w p j) (untried m w p j (ballot_for m w p j) (reached_grown m w r) (mine j) (above j))
+      slot_same j (trying later p j) ∙ ap (slot_trying m w p j) (tried_here j small true e)
+      ∙ slot_untried m w p j (ballot_for m w p j)
+      (untried m w p j (ballot_for m w p j) (reached_grown m w r) (mine j) (above j))
   slot_after j small false e = slot_same j (trying later p j) ∙ ap (slot_trying m w p j) (tried_here j small false e)
 
   same_state : (xs : List SlotState) → xs ≡ map (slot_at m later p) instances
       → ◌≡◌ {A = ServerState} (record { members = m; id = p; front = front m w p; slots = xs }) (server_at m later p)
   same_state xs e =
       let ahead : front m later p ≡ front m w p =
-      front_prepared m w p covered (Suspected p q ∷ w) ∙ ap (max p) (greatest_quiet (front_by m p) (Suspected p q) w refl) in
+      front_prepared m w p covered (Suspected p q ∷ w)
+      ∙ ap (max p) (greatest_quiet (front_by m p) (Suspected p q) w refl) in
       rw (← ahead, e)
 
   suspect_world : after_suspect (server_at m w p) q ≡ server_at m later p
   suspect_world =
       same_state _
       (map-instances_same _ (slot_at m later p) (new_slot m)
-      (λ j small. ap (slot_revoked m p q (front m w p) j) (slot-server_at m w p j small) ∙ sym (slot_after j small (is_suspect m w p q j) refl)))
+      (λ j small. ap (slot_revoked m p q (front m w p) j) (slot-server_at m w p j small)
+      ∙ sym (slot_after j small (is_suspect m w p q j) refl)))
 
   suspect_messages : suspect_sent (server_at m w p) q ≡ messages_of (map (preparation m w p) covered)
   suspect_messages =
-      map-filter-instances_same (prepare_for (server_at m w p)) (λ (j : ℕ). Prepare p j (ballot_for m w p j)) (is_suspected (server_at m w p) q) (is_suspect m w p q)
+      map-filter-instances_same (prepare_for (server_at m w p)) (λ (j : ℕ). Prepare p j (ballot_for m w p j))
+      (is_suspected (server_at m w p) q) (is_suspect m w p q)
       (λ j small. ap (λ (t : SlotState). Prepare p j (ballot_after m p t)) (slot-server_at m w p j small))
       (λ j small. ap (λ (t : SlotState). is_revoked m q (front m w p) j t) (slot-server_at m w p j small))
       ∙ sends_prepared m w p covered
 
-pub suspect_step : (r : Result (Unit {0}) Refusal) (q : ℕ) (old new : ServerState) (before after : Outgoing) → old.id < old.members.count
+pub suspect_step : (r : Result (Unit {0}) Refusal) (q : ℕ) (old new : ServerState) (before after : Outgoing)
+    → old.id < old.members.count
     → OnOk r (after.messages ≡ before.messages ++ suspect_sent old q) → OnOk r (new ≡ after_suspect old q)
     → OnOk r ((w : History) → IsAt w old → IsStep w (Suspect old.id q) old new before after)
 suspect_step (Ok n) q old new before after member sends becomes = λ w at.
     record {
       sent = sends ∙ ap (λ (ms : List Message). before.messages ++ ms)
-          (ap (λ (s : ServerState). suspect_sent s q) at.state ∙ suspect_messages old.members w old.id q at.reached member);
-      state = becomes ∙ ap (λ (s : ServerState). after_suspect s q) at.state ∙ suspect_world old.members w old.id q at.reached member;
+          (ap (λ (s : ServerState). suspect_sent s q) at.state
+          ∙ suspect_messages old.members w old.id q at.reached member);
+      state = becomes ∙ ap (λ (s : ServerState). after_suspect s q) at.state
+          ∙ suspect_world old.members w old.id q at.reached member;
     }
 suspect_step (Err e) q old new before after member sends becomes = tt
 
@@ -216,15 +243,18 @@ same_causes : (a b b' c c' d d' : Bool) → b ≡ b' → c ≡ c' → d ≡ d'
     ≡ first_cause ((a, SelfSuspect) ∷ (b', NothingToRevoke) ∷ (c', RoundsFull) ∷ (d', MessagesFull) ∷ [])
 same_causes a b b' c c' d d' e f g = rw (e, f, g)
 
-suspect_causes : (m : Membership) (w : History) (p q : ℕ) (s : ServerState) (o : Outgoing) → s ≡ server_at m w p → IsReached m w → p < m.count
+suspect_causes : (m : Membership) (w : History) (p q : ℕ) (s : ServerState) (o : Outgoing) → s ≡ server_at m w p
+    → IsReached m w → p < m.count
     → suspect_cause (server_at m w p) o q ≡ first_cause (found_by_server m w (Suspect p q) (length o.messages) o.limit)
 unfolding most_rounds
 suspect_causes m w p q s o e r member =
     same_causes (eqb p q) _ _ _ _ _ _
-    (ap (λ (xs : List ℕ). is_none (first_item xs)) (filter-instances_same (is_suspected (server_at m w p) q) (is_suspect m w p q) covers))
+    (ap (λ (xs : List ℕ). is_none (first_item xs))
+    (filter-instances_same (is_suspected (server_at m w p) q) (is_suspect m w p q) covers))
     (any-map (is_round_full (server_at m w p)) (filter (is_suspected (server_at m w p) q) instances)
     ∙ ap (list_any (λ (b : Bool). b))
-    (map-filter-instances_same (is_round_full (server_at m w p)) (λ (i : ℕ). ltb greatest_round (next_round m w p i)) (is_suspected (server_at m w p) q) (is_suspect m w p q)
+    (map-filter-instances_same (is_round_full (server_at m w p)) (λ (i : ℕ). ltb greatest_round (next_round m w p i))
+    (is_suspected (server_at m w p) q) (is_suspect m w p q)
     (λ j small. ap (λ (t : SlotState). ltb greatest_round (round_after m t)) (slot-server_at m w p j small)) covers)
     ∙ sym (any-map (λ (i : ℕ). ltb greatest_round (next_round m w p i)) (suspects m w p q)))
     (ap (λ (ms : List Message). ltb o.limit (length o.messages + length ms)) (suspect_messages m w p q r member))
@@ -232,8 +262,10 @@ suspect_causes m w p q s o e r member =
     covers : (j : ℕ) → j < instance_count → is_suspected (server_at m w p) q j ≡ is_suspect m w p q j
     covers j small = ap (λ (t : SlotState). is_revoked m q (front m w p) j t) (slot-server_at m w p j small)
 
-pub suspect_refusal : (r : Result (Unit {0}) Refusal) (q : ℕ) (old : ServerState) (before : Outgoing) → old.id < old.members.count → IsRefusedFor (suspect_cause old before q) r
+pub suspect_refusal : (r : Result (Unit {0}) Refusal) (q : ℕ) (old : ServerState) (before : Outgoing)
+    → old.id < old.members.count → IsRefusedFor (suspect_cause old before q) r
     → (w : History) → IsAt w old → IsRefusedFor (refusal_of w (Suspect old.id q) old before) r
 suspect_refusal r q old before member refused w at =
     subst (λ (o : Option Refusal). IsRefusedFor o r)
-    (ap (λ (s : ServerState). suspect_cause s before q) at.state ∙ suspect_causes old.members w old.id q old before at.state at.reached member) refused
+    (ap (λ (s : ServerState). suspect_cause s before q) at.state
+    ∙ suspect_causes old.members w old.id q old before at.state at.reached member) refused

@@ -25,7 +25,8 @@ use Rattle.mencius_server.specs.Reached.{server_at}
 use Rattle.mencius_server.proofs.ServerHistory.{slot-server_at}
 use Rattle.mencius_base.specs.Limits.{instance_count}
 
-past_line : (p t i : ℕ) (l : Line) → is_suggestion_past p t i l ≡ true → (k : ℕ) × (ltb i k ≡ true) × (l ≡ Sent (Suggest p k t))
+past_line : (p t i : ℕ) (l : Line) → is_suggestion_past p t i l ≡ true
+    → (k : ℕ) × (ltb i k ≡ true) × (l ≡ Sent (Suggest p k t))
 past_line p t i (Sent (Suggest from inst ticket)) h =
     let r = and_parts (eqb from p && eqb ticket t) (ltb i inst) h in
     let s = and_parts (eqb from p) (eqb ticket t) r.0 in
@@ -65,20 +66,25 @@ module _ (m : Membership) (w : History) (p : ℕ) (r : IsReached m w) where
   other_unsaid i ne None e = refl
   other_unsaid i ne (Some t) e = absurd (ne (suggest_owner m w grown p i t (suggested_in w p i t e)))
 
-  ticket_at : (i : ℕ) (c : Bool) → eqb (owner m i) p ≡ c → cond c (ticket_of (if_own m p i (trying w p i) (proposed w i (trying w p i)))) None ≡ suggested w p i
+  ticket_at : (i : ℕ) (c : Bool) → eqb (owner m i) p ≡ c
+      → cond c (ticket_of (if_own m p i (trying w p i) (proposed w i (trying w p i)))) None ≡ suggested w p i
   ticket_at i true e =
       let mine = eqb-true (owner m i) p e in
       ap (λ (b : ℕ). ticket_of (if_own m p i b (proposed w i b))) (own_untried m w grown p i mine)
       ∙ ap (λ (c : Bool). ticket_of (cond (c || ltb 0 0) (proposed w i 0) None)) e
       ∙ owner_said i mine (proposed w i 0) refl
-  ticket_at i false e = other_unsaid i (λ mine. let k : eqb (owner m i) p ≡ true = eq-eqb (owner m i) p mine in absurd (cc)) (suggested w p i) refl
+  ticket_at i false e =
+      other_unsaid i (λ mine. let k : eqb (owner m i) p ≡ true = eq-eqb (owner m i) p mine in
+      absurd (cc)) (suggested w p i) refl
 
   suggested_same : (i : ℕ) → i < instance_count → suggested_at (server_at m w p) i ≡ suggested w p i
   suggested_same i small =
-      ap (λ (t : SlotState). cond (eqb (owner m i) p) (ticket_of t.proposal) None) (slot-server_at m w p i small) ∙ ticket_at i (eqb (owner m i) p) refl
+      ap (λ (t : SlotState). cond (eqb (owner m i) p) (ticket_of t.proposal) None) (slot-server_at m w p i small)
+      ∙ ticket_at i (eqb (owner m i) p) refl
 
   -- nowhere further on
-  past_same : (i t : ℕ) → list_any (is_suggested_past (server_at m w p) t i) instances ≡ list_any (is_suggestion_past p t i) w
+  past_same : (i t : ℕ)
+      → list_any (is_suggested_past (server_at m w p) t i) instances ≡ list_any (is_suggestion_past p t i) w
   past_same i t =
       both_ways _ _
       (λ h.
@@ -97,7 +103,9 @@ module _ (m : Membership) (w : History) (p : ℕ) (r : IsReached m w) where
   waits_same : (i : ℕ) → i < instance_count → (o : Option ℕ) → waits_with (server_at m w p) i o ≡ waits w p i o
   waits_same i small None = refl
   waits_same i small (Some t) =
-      ap (λ (s : SlotState). unless (not (is_noop s.learned) || list_any (is_suggested_past (server_at m w p) t i) instances) (Some t)) (slot-server_at m w p i small)
+      ap (λ (s : SlotState). unless
+      (not (is_noop s.learned) || list_any (is_suggested_past (server_at m w p) t i) instances) (Some t))
+      (slot-server_at m w p i small)
       ∙ ap (λ (c : Bool). unless (not (is_noop (learned w p i)) || c) (Some t)) (past_same i t)
 
   pub first_waiting_same : first_waiting (server_at m w p) ≡ first_item (waiting w p)

@@ -17,4 +17,5 @@ pub record IsKept (s : ServerState) (m : Membership) (n : Noted) : Type 0 where
   pub lost : (j : ℕ) → j < n.lost_from → waits_at s j ≡ None
   pub tickets : (j t : ℕ) → j < instance_count → suggested_at s j ≡ Some t → t < n.next_ticket
   pub short : length n.moved ≤ s.front
-  pub moved : (j t : ℕ) → j < instance_count → suggested_at s j ≡ Some t → list_any (is_suggested_past s t j) instances ≡ slice_index_or n.moved j false
+  pub moved : (j t : ℕ) → j < instance_count → suggested_at s j ≡ Some t
+      → list_any (is_suggested_past s t j) instances ≡ slice_index_or n.moved j false

@@ -69,7 +69,8 @@ pub record IsSorted (m : Membership) (rs : List (List Span)) : Type 0 where
 -- a slot that stands at a skipped instance knows it, and a place is the least instance that is not learned
 pub record IsSound (m : Membership) (slots : List (Option SlotState)) (rs : List (List Span)) (low : ℕ) : Type 0 where
   pub sorted : IsSorted m rs
-  pub told : (j : ℕ) (t : SlotState) → j < instance_count → is_passed m rs j ≡ true → stand_at slots j ≡ Some t → is_none t.learned ≡ false
+  pub told : (j : ℕ) (t : SlotState) → j < instance_count → is_passed m rs j ≡ true → stand_at slots j ≡ Some t
+      → is_none t.learned ≡ false
   pub small : low ≤ instance_count
   pub known : (j : ℕ) → j < low → is_none (known_at m slots rs j).learned ≡ false
   pub least : low < instance_count → is_none (known_at m slots rs low).learned ≡ true
@@ -83,7 +84,8 @@ known_after_suggest k i t = with_known k i (record (known_slot k i) { proposal =
 
 -- no slot comes to stand
 abbrev pub known_after_skip : KnownState → ℕ → ℕ → ℕ → KnownState
-known_after_skip k q first stop = record k { slots = map (λ j. slot_given k.members q first stop j (known_slot k j)) instances }
+known_after_skip k q first stop =
+    record k { slots = map (λ j. slot_given k.members q first stop j (known_slot k j)) instances }
 
 -- an instance that a Skip gives up was not learned
 abbrev pub is_given_in : Stretch → List Span → List (Option SlotState) → ℕ → Bool
@@ -117,18 +119,21 @@ known_stood k t = record k { stands = map (λ j. has_slot k j || is_open_in k t 
 -- a first phase is started at all of them
 abbrev pub known_begun : KnownState → ℕ → Stretch → KnownState
 known_begun k p t = record k {
-  slots = map (λ j. if is_open_in k t j then after_begin (known_slot k j) (ballot_after k.members p (known_slot k j)) else known_slot k j) instances;
+  slots = map (λ j. if is_open_in k t j then after_begin (known_slot k j)
+      (ballot_after k.members p (known_slot k j)) else known_slot k j) instances;
 }
 
 abbrev pub prepares_in : KnownState → ℕ → Stretch → List Message
-prepares_in k p t = map (λ j. Prepare p j (ballot_after k.members p (known_slot k j))) (filter (is_open_in k t) (below t.stop))
+prepares_in k p t =
+    map (λ j. Prepare p j (ballot_after k.members p (known_slot k j))) (filter (is_open_in k t) (below t.stop))
 
 -- there is no further round at an instance
 abbrev pub is_round_full_at : KnownState → ℕ → Bool
 is_round_full_at k j = nat_lt greatest_round (round_after k.members (known_slot k j))
 
 abbrev pub prepares : KnownState → ℕ → ℕ → ℕ → List Message
-prepares k p q front = map (λ j. Prepare p j (ballot_after k.members p (known_slot k j))) (filter (is_open k q front) instances)
+prepares k p q front =
+    map (λ j. Prepare p j (ballot_after k.members p (known_slot k j))) (filter (is_open k q front) instances)
 
 -- slots stand where first phases are started, and nowhere else
 abbrev pub known_after_suspect : KnownState → ℕ → ℕ → ℕ → KnownState

@@ -13,4 +13,5 @@ FrontAnswers = (w : History) (s : ServerState) → IsAt w s → s.front ≡ fron
 
 -- and has learned there what it has learned by that history
 abbrev pub LearnedAnswers : Type 0
-LearnedAnswers = (w : History) (s : ServerState) → IsAt w s → (i : ℕ) → i < instance_count → (slot s i).learned ≡ learned w s.id i
+LearnedAnswers =
+    (w : History) (s : ServerState) → IsAt w s → (i : ℕ) → i < instance_count → (slot s i).learned ≡ learned w s.id i

@@ -172,7 +172,8 @@ is_suggested_past s t i j = nat_lt i j && is_ticket t (suggested_at s j)
 -- it waits where no-op was learned there, and it was suggested nowhere further on
 abbrev pub waits_with : ServerState → ℕ → Option ℕ → Option ℕ
 waits_with s i None = None
-waits_with s i (Some t) = unless (not (is_noop (slot s i).learned) || list_any (is_suggested_past s t i) instances) (Some t)
+waits_with s i (Some t) =
+    unless (not (is_noop (slot s i).learned) || list_any (is_suggested_past s t i) instances) (Some t)
 
 abbrev pub waits_at : ServerState → ℕ → Option ℕ
 waits_at s i = waits_with s i (suggested_at s i)

@@ -47,6 +47,8 @@ pub record IsOpenStretch (k : KnownState) (q front : ℕ) (t : Stretch) : Type 0
   pub before : (j : ℕ) → j < t.first → is_open k q front j ≡ false
 
 -- what is known, with what was found before: it was found of what is known now
-pub record IsKnown (m : Membership) (slots : List (Option SlotState)) (rs : List (List Span)) (low : ℕ) (surveys : List (Option Found)) : Type 0 where
+pub record IsKnown (m : Membership) (slots : List (Option SlotState)) (rs : List (List Span)) (low : ℕ)
+    (surveys : List (Option Found)) : Type 0 where
   pub sound : IsSound m slots rs low
-  pub found : (q : ℕ) (f : Found) → slice_index_or surveys q None ≡ Some f → IsSurvey (known_of m slots rs) q f.front f.survey
+  pub found : (q : ℕ) (f : Found) → slice_index_or surveys q None ≡ Some f
+      → IsSurvey (known_of m slots rs) q f.front f.survey

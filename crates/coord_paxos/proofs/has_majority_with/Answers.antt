@@ -6,4 +6,6 @@ use Rattle.coord_paxos.proofs.has_majority_with.Goals as goal
 pub returns : goal.returns
 returns c =
     let parts = take-set-lt c.args.members.count c.args.among c.args.from true c.requires in
-    c.has_majority.ensures ∙ ap (is_majority c.args.members) (ap (λ n. take n (set c.args.among c.args.from true)) c.count-count.ensures.count ∙ parts)
+    c.has_majority.ensures
+    ∙ ap (is_majority c.args.members)
+    (ap (λ n. take n (set c.args.among c.args.from true)) c.count-count.ensures.count ∙ parts)

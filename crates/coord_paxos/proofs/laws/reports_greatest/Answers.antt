@@ -11,7 +11,8 @@ use Rattle.coord_paxos.proofs.laws.reports_greatest.Goals as goal
 -- the vote reported stands against each that was heard
 stands : (w : History) (p i b : ℕ) (u : Vote) → HearsReport w p i b u → Stands (reported w p i b) (Some u)
 stands w p i b u hears =
-    let reports : vote_reported i b (Promise hears.0 hears.1 i b (Some u)) ≡ Some u = rw (eq-eqb i i refl, eq-eqb b b refl) in
+    let reports : vote_reported i b (Promise hears.0 hears.1 i b (Some u)) ≡ Some u =
+    rw (eq-eqb i i refl, eq-eqb b b refl) in
     subst (λ (o : Option Vote). Stands (reported w p i b) o) reports
     (Stands-heard (vote_reported i b) (heard w p) (Promise hears.0 hears.1 i b (Some u)) hears.2)
 
@@ -19,7 +20,9 @@ pub returns-clause-heard : goal.returns-clause-heard
 returns-clause-heard c = λ w p i b v e. highest_vote-heard i b v (heard w p) e
 
 pub returns-clause-greatest : goal.returns-clause-greatest
-returns-clause-greatest c = λ w p i b u v e hears. subst (λ (o : Option Vote). Stands o (Some u)) e (stands w p i b u hears)
+returns-clause-greatest c =
+    λ w p i b u v e hears. subst (λ (o : Option Vote). Stands o (Some u)) e (stands w p i b u hears)
 
 pub returns-clause-some : goal.returns-clause-some
-returns-clause-some c = λ w p i b u hears none. subst (λ (o : Option Vote). Stands o (Some u)) none (stands w p i b u hears)
+returns-clause-some c =
+    λ w p i b u hears none. subst (λ (o : Option Vote). Stands o (Some u)) none (stands w p i b u hears)

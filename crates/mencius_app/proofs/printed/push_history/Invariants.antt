@@ -6,4 +6,6 @@ use Rattle.mencius_cluster.specs.State.{history_of}
 use Rattle.mencius_app.proofs.printed.push_history.Given as goal
 
 abbrev pub invariant-loop-ticket : goal.invariant-loop-ticket
-invariant-loop-ticket l = string_bytes l.text ≡ string_bytes l.initial.text ++ flat_map (λ u. spaced_id (command_at (history_of l.cluster) u)) (take l.ticket-index l.tickets)
+invariant-loop-ticket l =
+    string_bytes l.text ≡ string_bytes l.initial.text
+    ++ flat_map (λ u. spaced_id (command_at (history_of l.cluster) u)) (take l.ticket-index l.tickets)

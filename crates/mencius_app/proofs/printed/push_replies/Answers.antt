@@ -5,4 +5,6 @@ use Rattle.mencius_app.proofs.printed.push_replies.Goals as goal
 
 pub loop-ticket-preserved : goal.loop-ticket-preserved
 loop-ticket-preserved c =
-    texts_further (reply_line (history_of c.args.cluster.now)) c.loop-ticket.ticket _ _ _ c.loop-ticket.invariant c.in_ok-push_reply.ensures
+    texts_further
+    (reply_line
+    (history_of c.args.cluster.now)) c.loop-ticket.ticket _ _ _ c.loop-ticket.invariant c.in_ok-push_reply.ensures

@@ -4,4 +4,5 @@ use Rattle.mencius_cluster.specs.State.{history_of}
 use Rattle.mencius_app.proofs.printed.push_replies.Given as goal
 
 abbrev pub invariant-loop-ticket : goal.invariant-loop-ticket
-invariant-loop-ticket l = string_bytes l.text ≡ string_bytes l.initial.text ++ reply_lines (history_of l.cluster) l.ticket
+invariant-loop-ticket l =
+    string_bytes l.text ≡ string_bytes l.initial.text ++ reply_lines (history_of l.cluster) l.ticket

@@ -5,4 +5,6 @@ use Rattle.mencius_app.proofs.printed.push_servers.Goals as goal
 
 pub loop-server-preserved : goal.loop-server-preserved
 loop-server-preserved c =
-    texts_further (server_line c.args.cluster.now.members (history_of c.args.cluster.now)) c.loop-server.server _ _ _ c.loop-server.invariant c.in_ok-push_server.ensures
+    texts_further
+    (server_line c.args.cluster.now.members
+    (history_of c.args.cluster.now)) c.loop-server.server _ _ _ c.loop-server.invariant c.in_ok-push_server.ensures

@@ -4,4 +4,5 @@ use Rattle.mencius_cluster.specs.State.{history_of}
 use Rattle.mencius_app.proofs.printed.push_servers.Given as goal
 
 abbrev pub invariant-loop-server : goal.invariant-loop-server
-invariant-loop-server l = string_bytes l.text ≡ string_bytes l.initial.text ++ server_lines l.cluster.members (history_of l.cluster) l.server
+invariant-loop-server l =
+    string_bytes l.text ≡ string_bytes l.initial.text ++ server_lines l.cluster.members (history_of l.cluster) l.server

@@ -8,7 +8,10 @@ use Rattle.mencius_cluster.proofs.submission.enroll.Goals as goal
 
 pub returns : goal.returns
 returns c =
-    let absent = subst (λ (x : CommandId). lookup (is_same_id x) c.args.submissions.now.entries ≡ None) (sym c.id-id.ensures) c.requires.new in
+    let absent = subst
+    (λ (x : CommandId). lookup (is_same_id x) c.args.submissions.now.entries
+    ≡ None) (sym c.id-id.ensures) c.requires.new in
     c.in-Ok.ensures.entries
     ∙ insert_entry-new is_same_id c.args.submissions.now c.id-id.result (new_row c.args.command c.args.home).1 absent
-    ∙ ap (λ (x : CommandId). c.args.submissions.now.entries ++ (x, (new_row c.args.command c.args.home).1) ∷ []) c.id-id.ensures
+    ∙ ap (λ (x : CommandId). c.args.submissions.now.entries ++ (x, (new_row c.args.command c.args.home).1)
+    ∷ []) c.id-id.ensures

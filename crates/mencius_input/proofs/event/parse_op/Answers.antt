@@ -8,22 +8,44 @@ use Rattle.mencius_input.proofs.Reading.{op_one, op_set, op_get, op_del, op_othe
 use Rattle.mencius_input.proofs.event.parse_op.Goals as goal
 
 pub returns-in_err-word : goal.returns-in_err-word
-returns-in_err-word c = passed_on _ _ _ c.from_residual.ensures.1 (shapeless unlimited (op_of (words c.args.text.now)) _ c.in_err-word.ensures.0 (rw c.in_err-word.ensures.1 (op_one c.args.text.now)))
+returns-in_err-word c =
+    passed_on _ _ _ c.from_residual.ensures.1
+    (shapeless unlimited (op_of (words c.args.text.now)) _ c.in_err-word.ensures.0
+    (rw c.in_err-word.ensures.1 (op_one c.args.text.now)))
 
 pub returns-in-set : goal.returns-in-set
 returns-in-set c = rw (c.in_ok-word.ensures, c.in-set.is, op_set) c.parse_set.ensures
 
 pub returns-in_ok-key-in-get : goal.returns-in_ok-key-in-get
-returns-in_ok-key-in-get c = rw (c.in_ok-word.ensures, c.in-get.is, op_get c.in_ok-word.rest.now) (made_given Get unlimited unlimited (λ _. refl) (name_of c.in_ok-word.rest.now) (Ok c.in_ok-key-in-get.key) c.in_ok-key-in-get.ensures)
+returns-in_ok-key-in-get c =
+    rw (c.in_ok-word.ensures, c.in-get.is, op_get c.in_ok-word.rest.now)
+    (made_given Get unlimited unlimited (λ _. refl) (name_of c.in_ok-word.rest.now)
+    (Ok c.in_ok-key-in-get.key) c.in_ok-key-in-get.ensures)
 
 pub returns-in_ok-key-in-del : goal.returns-in_ok-key-in-del
-returns-in_ok-key-in-del c = rw (c.in_ok-word.ensures, c.in-del.is, op_del c.in_ok-word.rest.now) (made_given Del unlimited unlimited (λ _. refl) (name_of c.in_ok-word.rest.now) (Ok c.in_ok-key-in-del.key) c.in_ok-key-in-del.ensures)
+returns-in_ok-key-in-del c =
+    rw (c.in_ok-word.ensures, c.in-del.is, op_del c.in_ok-word.rest.now)
+    (made_given Del unlimited unlimited (λ _. refl) (name_of c.in_ok-word.rest.now)
+    (Ok c.in_ok-key-in-del.key) c.in_ok-key-in-del.ensures)
 
 pub returns-in_err-key-in-get : goal.returns-in_err-key-in-get
-returns-in_err-key-in-get c = passed_on _ _ _ c.from_residual-in_err-key-in-get.ensures.1 (rw (c.in_ok-word.ensures, c.in-get.is, op_get c.in_ok-word.rest.now) (made_given Get unlimited unlimited (λ _. refl) (name_of c.in_ok-word.rest.now) (Err c.in_err-key-in-get.field-0.0) c.in_err-key-in-get.ensures))
+returns-in_err-key-in-get c =
+    passed_on _ _ _ c.from_residual-in_err-key-in-get.ensures.1
+    (rw (c.in_ok-word.ensures, c.in-get.is, op_get c.in_ok-word.rest.now)
+    (made_given Get unlimited unlimited (λ _. refl) (name_of c.in_ok-word.rest.now)
+    (Err c.in_err-key-in-get.field-0.0) c.in_err-key-in-get.ensures))
 
 pub returns-in_err-key-in-del : goal.returns-in_err-key-in-del
-returns-in_err-key-in-del c = passed_on _ _ _ c.from_residual-in_err-key-in-del.ensures.1 (rw (c.in_ok-word.ensures, c.in-del.is, op_del c.in_ok-word.rest.now) (made_given Del unlimited unlimited (λ _. refl) (name_of c.in_ok-word.rest.now) (Err c.in_err-key-in-del.field-0.0) c.in_err-key-in-del.ensures))
+returns-in_err-key-in-del c =
+    passed_on _ _ _ c.from_residual-in_err-key-in-del.ensures.1
+    (rw (c.in_ok-word.ensures, c.in-del.is, op_del c.in_ok-word.rest.now)
+    (made_given Del unlimited unlimited (λ _. refl) (name_of c.in_ok-word.rest.now)
+    (Err c.in_err-key-in-del.field-0.0) c.in_err-key-in-del.ensures))
 
 pub returns-in_default : goal.returns-in_default
-returns-in_default c = rw (c.in_ok-word.ensures, op_other c.in_ok-word.word.now (words c.in_ok-word.rest.now) c.in_default.not-set c.in_default.not-get c.in_default.not-del) refl
+returns-in_default c =
+    rw (
+      c.in_ok-word.ensures,
+      op_other c.in_ok-word.word.now
+          (words c.in_ok-word.rest.now) c.in_default.not-set c.in_default.not-get c.in_default.not-del,
+    ) refl

@@ -9,7 +9,8 @@ invariant-loop-buf g l = record {
   retried : l.retries ≤ 1000;
   taken : Consumes (g.R.Source.remaining l.initial.source) (g.R.Source.remaining l.source) l.bytes.items;
   few : g.R.Source.failed l.source ≤ g.R.Source.failed l.initial.source + l.retries;
-  counted : (g.R.Source.failed l.initial.source ≤ g.R.Source.failed l.source) ⊎ (g.R.Source.failed l.source ≡ most_failures);
+  counted : (g.R.Source.failed l.initial.source ≤ g.R.Source.failed l.source)
+      ⊎ (g.R.Source.failed l.source ≡ most_failures);
 }
 
 abbrev pub decreases-loop-buf : goal.decreases-loop-buf

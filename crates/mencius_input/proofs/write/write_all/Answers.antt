@@ -8,7 +8,9 @@ pub loop-written-preserved-in-Ok : goal.loop-written-preserved-in-Ok
 loop-written-preserved-in-Ok g c =
     let rest = take_rest c.args.text.now c.loop-written.written in
     let sent = rw rest at c.in-Ok.ensures in
-    let unfailed = took_some (nat_lt 0 (length (drop c.loop-written.written c.args.text.now))) c.in-Ok.n (g.W.Sink.failed c.loop-written.sink) (g.W.Sink.failed c.write.new.self) sent.count c.in-Ok.n-test.1 in
+    let unfailed =
+    took_some (nat_lt 0 (length (drop c.loop-written.written c.args.text.now))) c.in-Ok.n
+    (g.W.Sink.failed c.loop-written.sink) (g.W.Sink.failed c.write.new.self) sent.count c.in-Ok.n-test.1 in
     record {
       within = omega (arith, sent.bound, length-drop c.loop-written.written c.args.text.now);
       retried = search rules;

@@ -17,8 +17,12 @@ loop-inst-preserved c =
     record {
       own = c.next_own-inst-in-loop-inst.ensures.own;
       low = omega (arith, c.next_own-inst-in-loop-inst.ensures.above);
-      none = none_more (is_free_at c.args.self.now) c.loop-inst.inst c.next_own-inst-in-loop-inst.result (known_unfree c.args.self.now c.loop-inst.inst known)
-          (λ j low high. other_unfree c.args.self.now j (unowned c.args.self.now.members c.args.self.now.id (c.loop-inst.inst + 1) c.next_own-inst-in-loop-inst.result c.next_own-inst-in-loop-inst.ensures.least j low high))
+      none = none_more (is_free_at c.args.self.now) c.loop-inst.inst c.next_own-inst-in-loop-inst.result
+          (known_unfree c.args.self.now c.loop-inst.inst known)
+          (λ j low high. other_unfree c.args.self.now j
+          (unowned c.args.self.now.members c.args.self.now.id
+          (c.loop-inst.inst
+          + 1) c.next_own-inst-in-loop-inst.result c.next_own-inst-in-loop-inst.ensures.least j low high))
           c.loop-inst.invariant.none;
     }
 

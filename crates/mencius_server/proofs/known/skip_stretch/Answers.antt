@@ -5,7 +5,9 @@ use Rattle.mencius_server.proofs.Spans.{covers_joined, owned_joined, rising_join
 use Rattle.mencius_server.proofs.known.skip_stretch.Goals as goal
 
 pub returns-then-past-stop-clause-learned : goal.returns-then-past-stop-clause-learned
-returns-then-past-stop-clause-learned c = old_news c.args.stretch.now c.args.ranges.now c.args.slots.now (λ j from to. c.past.ensures.covered j from (omega (arith, to, c.if-past-stop.true)))
+returns-then-past-stop-clause-learned c =
+    old_news c.args.stretch.now c.args.ranges.now c.args.slots.now
+    (λ j from to. c.past.ensures.covered j from (omega (arith, to, c.if-past-stop.true)))
 
 pub returns-clause-owned : goal.returns-clause-owned
 returns-clause-owned c =
@@ -13,11 +15,15 @@ returns-clause-owned c =
     (owned_joined c.args.stretch.now.members c.args.stretch.now.server _ c.args.ranges.now c.args.stretch.now.first c.args.stretch.now.stop c.requires.stretch.own c.requires.end c.requires.low c.requires.owned)
 
 pub returns-clause-covers : goal.returns-clause-covers
-returns-clause-covers c = λ j small own. rw c.in_ok-further.ensures.ok (covers_joined c.args.ranges.now c.args.stretch.now.first c.args.stretch.now.stop j)
+returns-clause-covers c =
+    λ j small own. rw c.in_ok-further.ensures.ok
+    (covers_joined c.args.ranges.now c.args.stretch.now.first c.args.stretch.now.stop j)
 
 pub returns-clause-rising : goal.returns-clause-rising
 returns-clause-rising c =
-    rw c.in_ok-further.ensures.ok (rising_joined 0 c.args.ranges.now c.args.stretch.now.first c.args.stretch.now.stop (omega arith) (omega (arith, c.past.ensures.above, c.if-past-stop.false)) c.requires.rising)
+    rw c.in_ok-further.ensures.ok
+    (rising_joined 0 c.args.ranges.now c.args.stretch.now.first c.args.stretch.now.stop (omega arith)
+    (omega (arith, c.past.ensures.above, c.if-past-stop.false)) c.requires.rising)
 
 pub overflow_sub-result : goal.overflow_sub-result
 overflow_sub-result c =

@@ -9,4 +9,5 @@ returns-clause-front c = λ w s at. ap (λ (x : ServerState). x.front) at.state
 
 pub returns-clause-learned : goal.returns-clause-learned
 returns-clause-learned c = λ w s at i small.
-    ap (λ (x : ServerState). (slot x i).learned) at.state ∙ ap (λ (t : SlotState). t.learned) (slot-server_at s.members w s.id i small)
+    ap (λ (x : ServerState). (slot x i).learned) at.state
+    ∙ ap (λ (t : SlotState). t.learned) (slot-server_at s.members w s.id i small)

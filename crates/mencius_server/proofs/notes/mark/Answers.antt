@@ -7,11 +7,17 @@ use Rattle.mencius_server.proofs.notes.mark.Goals as goal
 use Rattle.mencius_server.proofs.notes.mark.Goals.{then-is_of, else-is_of}
 
 pub loop-inst-init : goal.loop-inst-init
-loop-inst-init c = record { len = refl; own = c.first_owned-inst.ensures.owned; marked = marked_start _ _ _ _ _ _ _ c.first_owned-inst.ensures.least }
+loop-inst-init c =
+    record {
+      len = refl;
+      own = c.first_owned-inst.ensures.owned;
+      marked = marked_start _ _ _ _ _ _ _ c.first_owned-inst.ensures.least;
+    }
 
 pub loop-inst-preserved : goal.loop-inst-preserved
 loop-inst-preserved c =
-    let here : is_ticket c.args.ticket (ticket_of (known_slot c.args.known.now c.loop-inst.inst).proposal) ≡ c.is_of.result = sym c.is_of.ensures in
+    let here : is_ticket c.args.ticket (ticket_of (known_slot c.args.known.now c.loop-inst.inst).proposal)
+    ≡ c.is_of.result = sym c.is_of.ensures in
     let inside : c.loop-inst.inst < length c.loop-inst.moved.items = omega arith in
     record {
       len = elim c.if-is_of.branch [ then-is_of w ↦ rw w.moved-is (omega arith) | else-is_of w ↦ rw w.moved-is (omega arith) ];
@@ -19,9 +25,11 @@ loop-inst-preserved c =
       marked = elim c.if-is_of.branch [
         | then-is_of w ↦
             marked_more _ _ _ _ c.loop-inst.inst _ _ _ c.loop-inst.moved.items _ true c.loop-inst-test.true inside c.loop-inst.invariant.own
-            c.first_owned-inst-in-loop-inst.ensures.least c.first_owned-inst-in-loop-inst.ensures.above (here ∙ w.if-is_of.true) (ap (λ v. v.items) w.moved-is) c.loop-inst.invariant.marked
+            c.first_owned-inst-in-loop-inst.ensures.least c.first_owned-inst-in-loop-inst.ensures.above (here
+            ∙ w.if-is_of.true) (ap (λ v. v.items) w.moved-is) c.loop-inst.invariant.marked
         | else-is_of w ↦
             marked_more _ _ _ _ c.loop-inst.inst _ _ _ c.loop-inst.moved.items _ false c.loop-inst-test.true inside c.loop-inst.invariant.own
-            c.first_owned-inst-in-loop-inst.ensures.least c.first_owned-inst-in-loop-inst.ensures.above (here ∙ w.if-is_of.false) (ap (λ v. v.items) w.moved-is) c.loop-inst.invariant.marked
+            c.first_owned-inst-in-loop-inst.ensures.least c.first_owned-inst-in-loop-inst.ensures.above (here
+            ∙ w.if-is_of.false) (ap (λ v. v.items) w.moved-is) c.loop-inst.invariant.marked
       ];
     }

@@ -9,11 +9,16 @@ loop-low-preserved-then-spans-middle c = record {
   ordered = omega arith;
   within = c.loop-low.invariant.within;
   before = λ j d low.
-      let inside : c.loop-low.low + (c.loop-low.high - c.loop-low.low) / 2 < length c.args.spans.now = omega (arith, c.loop-low.invariant.within) in
-      let here = get_or_default c.args.spans.now (c.loop-low.low + (c.loop-low.high - c.loop-low.low) / 2) d (record { first = 0; stop = 0 }) inside in
-      let rises = rising_stop 0 c.args.spans.now c.requires j (c.loop-low.low + (c.loop-low.high - c.loop-low.low) / 2) d (omega arith) inside in
+      let inside : c.loop-low.low + (c.loop-low.high - c.loop-low.low) / 2 < length c.args.spans.now =
+      omega (arith, c.loop-low.invariant.within) in
+      let here = get_or_default c.args.spans.now (c.loop-low.low + (c.loop-low.high - c.loop-low.low) / 2) d
+      (record { first = 0; stop = 0 }) inside in
+      let rises = rising_stop 0 c.args.spans.now c.requires j
+      (c.loop-low.low + (c.loop-low.high - c.loop-low.low) / 2) d (omega arith) inside in
       let P : Span → Type 0 = λ r. (get_or c.args.spans.now j d).stop ≤ r.stop in
-      let rises_here : (get_or c.args.spans.now j d).stop ≤ (get_or c.args.spans.now (c.loop-low.low + (c.loop-low.high - c.loop-low.low) / 2) (record { first = 0; stop = 0 })).stop = subst P here rises in
+      let rises_here : (get_or c.args.spans.now j d).stop
+      ≤ (get_or c.args.spans.now (c.loop-low.low + (c.loop-low.high - c.loop-low.low) / 2)
+      (record { first = 0; stop = 0 })).stop = subst P here rises in
       omega (arith, rises_here, c.if-spans-middle.true);
   after = c.loop-low.invariant.after;
 }
@@ -24,10 +29,15 @@ loop-low-preserved c = record {
   within = omega (arith, c.loop-low.invariant.within);
   before = c.loop-low.invariant.before;
   after = λ j d low k.
-      let inside : c.loop-low.low + (c.loop-low.high - c.loop-low.low) / 2 < length c.args.spans.now = omega (arith, c.loop-low.invariant.within) in
-      let here = get_or_default c.args.spans.now (c.loop-low.low + (c.loop-low.high - c.loop-low.low) / 2) d (record { first = 0; stop = 0 }) inside in
-      let rises = rising_stop 0 c.args.spans.now c.requires (c.loop-low.low + (c.loop-low.high - c.loop-low.low) / 2) j d low k in
+      let inside : c.loop-low.low + (c.loop-low.high - c.loop-low.low) / 2 < length c.args.spans.now =
+      omega (arith, c.loop-low.invariant.within) in
+      let here = get_or_default c.args.spans.now (c.loop-low.low + (c.loop-low.high - c.loop-low.low) / 2) d
+      (record { first = 0; stop = 0 }) inside in
+      let rises = rising_stop 0 c.args.spans.now c.requires
+      (c.loop-low.low + (c.loop-low.high - c.loop-low.low) / 2) j d low k in
       let P : Span → Type 0 = λ r. r.stop ≤ (get_or c.args.spans.now j d).stop in
-      let rises_here : (get_or c.args.spans.now (c.loop-low.low + (c.loop-low.high - c.loop-low.low) / 2) (record { first = 0; stop = 0 })).stop ≤ (get_or c.args.spans.now j d).stop = subst P here rises in
+      let rises_here :
+      (get_or c.args.spans.now (c.loop-low.low + (c.loop-low.high - c.loop-low.low) / 2)
+      (record { first = 0; stop = 0 })).stop ≤ (get_or c.args.spans.now j d).stop = subst P here rises in
       omega (arith, rises_here, c.if-spans-middle.false);
 }

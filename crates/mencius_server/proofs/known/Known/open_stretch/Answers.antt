@@ -7,7 +7,13 @@ pub returns : goal.returns
 returns c =
     let members = ap (λ (k : KnownState). k.members) c.self.view_is in
     record {
-      stretch = record { member = omega (arith, c.requires.suspected, ap (λ (k : KnownState). k.members.count) c.self.view_is); own = c.first_owned-first.ensures.owned; small = omega (arith, c.min.ensures) };
+      stretch = record {
+        member = omega
+            (arith, c.requires.suspected, ap (λ (k : KnownState). k.members.count) c.self.view_is);
+        own =
+            c.first_owned-first.ensures.owned;
+        small = omega (arith, c.min.ensures);
+      };
       members = members;
       server = refl;
       stop = c.min.ensures;

@@ -5,7 +5,13 @@ use Rattle.mencius_server.proofs.Knows.{seen_none, seen_some}
 use Rattle.mencius_server.proofs.known.Known.prepare_answer.Goals as goal
 
 pub returns-in-Some : goal.returns-in-Some
-returns-in-Some c = c.prepare_answer.ensures ∙ ap (λ (s : SlotState). prepare_answer s c.args.ballot) (sym (seen_some c.self.inside.members c.self.inside.slots c.self.inside.skipped.items c.args.self.now c.self.view_is c.args.inst c.in-Some.slot.now c.requires c.in-Some.ensures.there))
+returns-in-Some c =
+    c.prepare_answer.ensures
+    ∙ ap (λ (s : SlotState). prepare_answer s c.args.ballot)
+    (sym (seen_some c.self.inside.members c.self.inside.slots c.self.inside.skipped.items c.args.self.now c.self.view_is c.args.inst c.in-Some.slot.now c.requires c.in-Some.ensures.there))
 
 pub returns-in-None : goal.returns-in-None
-returns-in-None c = c.prepare_answer-in-None.ensures ∙ ap (λ (s : SlotState). prepare_answer s c.args.ballot) (c.unheard.ensures ∙ sym (seen_none c.self.inside.members c.self.inside.slots c.self.inside.skipped.items c.args.self.now c.self.view_is c.args.inst c.requires c.in-None.ensures.none))
+returns-in-None c =
+    c.prepare_answer-in-None.ensures
+    ∙ ap (λ (s : SlotState). prepare_answer s c.args.ballot) (c.unheard.ensures
+    ∙ sym (seen_none c.self.inside.members c.self.inside.slots c.self.inside.skipped.items c.args.self.now c.self.view_is c.args.inst c.requires c.in-None.ensures.none))

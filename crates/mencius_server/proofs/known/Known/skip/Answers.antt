@@ -13,8 +13,10 @@ use Rattle.mencius_server.proofs.known.Known.skip.Goals as goal
 
 pub skip_stretch-requires-clause-low : goal.skip_stretch-requires-clause-low
 skip_stretch-requires-clause-low c =
-    let member : c.args.from < c.self.inside.members.count = omega (arith, c.requires.member, ap (λ (k : KnownState). k.members.count) c.self.view_is) in
-    c.first_owned-stop.ensures.least (first_owned c.self.inside.members c.args.from instance_count) (omega (arith, c.min.ensures)) (first_owned_owner c.self.inside.members c.args.from instance_count member)
+    let member : c.args.from < c.self.inside.members.count =
+    omega (arith, c.requires.member, ap (λ (k : KnownState). k.members.count) c.self.view_is) in
+    c.first_owned-stop.ensures.least (first_owned c.self.inside.members c.args.from instance_count)
+    (omega (arith, c.min.ensures)) (first_owned_owner c.self.inside.members c.args.from instance_count member)
 
 -- the stretch that is skipped
 abbrev skipped : Membership → ℕ → ℕ → ℕ → Stretch
@@ -24,47 +26,77 @@ pub invariant_of-self-2 : goal.invariant_of-self-2
 invariant_of-self-2 c =
     let m = c.self.inside.members in
     let rs = c.self.inside.skipped.items in
-    let member : c.args.from < length rs = omega (arith, c.requires.member, ap (λ (k : KnownState). k.members.count) c.self.view_is, c.self.invariant.sound.sorted.count) in
-    let range : c.index_mut-ranges.result.now ≡ get_or rs c.args.from [] = c.index_mut-ranges.ensures.value ∙ get_or_default rs c.args.from _ [] member in
-    let covered = λ (j : ℕ) (small : j < instance_count) (own : owner m j ≡ c.args.from). c.in_ok-learned.ensures.covers j small own
+    let member : c.args.from < length rs =
+    omega (
+      arith,
+      c.requires.member,
+      ap (λ (k : KnownState). k.members.count) c.self.view_is,
+      c.self.invariant.sound.sorted.count,
+    ) in
+    let range : c.index_mut-ranges.result.now ≡ get_or rs c.args.from [] =
+    c.index_mut-ranges.ensures.value ∙ get_or_default rs c.args.from _ [] member in
+    let covered =
+    λ (j : ℕ) (small : j < instance_count)
+    (own : owner m j ≡ c.args.from). c.in_ok-learned.ensures.covers j small own
     ∙ ap (λ xs. covers xs j || is_within c.first_owned-first.result c.first_owned-stop.result j) range in
     let t = skipped m c.args.from c.first_owned-first.result c.first_owned-stop.result in
-    renewed _ _ _ _ _ (skip_sound m t refl c.self.inside.slots c.skip_stretch.new.slots rs member c.skip_stretch.new.ranges covered c.in_ok-learned.ensures.slots
+    renewed _ _ _ _ _
+    (skip_sound m t refl c.self.inside.slots c.skip_stretch.new.slots rs member c.skip_stretch.new.ranges covered c.in_ok-learned.ensures.slots
     c.self.inside.learned_below c.learned_from-self-inside.result
     (skip_sorted m t refl c.self.inside.slots c.skip_stretch.new.slots rs member c.skip_stretch.new.ranges covered c.in_ok-learned.ensures.slots
     c.skip_stretch.ensures.rising c.skip_stretch.ensures.owned c.self.invariant.sound.sorted)
     c.learned_from-self-inside.ensures.small c.learned_from-self-inside.ensures.known c.learned_from-self-inside.ensures.least c.self.invariant.sound) c.clear.ensures
 
 -- the range begins and ends at the first instances of the skipper from its places on
-abbrev aligned : (m : Membership) (q first stop a b : ℕ) → first ≤ a → ((i : ℕ) → first ≤ i → owner m i ≡ q → a ≤ i) → min stop instance_count ≤ b → ((i : ℕ) → min stop instance_count ≤ i → owner m i ≡ q → b ≤ i)
+abbrev aligned : (m : Membership) (q first stop a b : ℕ) → first ≤ a → ((i : ℕ) → first ≤ i → owner m i ≡ q → a ≤ i)
+    → min stop instance_count ≤ b → ((i : ℕ) → min stop instance_count ≤ i → owner m i ≡ q → b ≤ i)
     → IsAligned q first stop (skipped m q a b)
-aligned m q first stop a b la ma lb mb = record { server = refl; above_first = la; least_first = ma; above_stop = lb; least_stop = mb }
+aligned m q first stop a b la ma lb mb =
+    record { server = refl; above_first = la; least_first = ma; above_stop = lb; least_stop = mb }
 
 pub returns-clause-after : goal.returns-clause-after
 returns-clause-after c =
     let m = c.self.inside.members in
     let rs = c.self.inside.skipped.items in
-    let member : c.args.from < length rs = omega (arith, c.requires.member, ap (λ (k : KnownState). k.members.count) c.self.view_is, c.self.invariant.sound.sorted.count) in
-    let range : c.index_mut-ranges.result.now ≡ get_or rs c.args.from [] = c.index_mut-ranges.ensures.value ∙ get_or_default rs c.args.from _ [] member in
-    let covered = λ (j : ℕ) (small : j < instance_count) (own : owner m j ≡ c.args.from). c.in_ok-learned.ensures.covers j small own
+    let member : c.args.from < length rs =
+    omega (
+      arith,
+      c.requires.member,
+      ap (λ (k : KnownState). k.members.count) c.self.view_is,
+      c.self.invariant.sound.sorted.count,
+    ) in
+    let range : c.index_mut-ranges.result.now ≡ get_or rs c.args.from [] =
+    c.index_mut-ranges.ensures.value ∙ get_or_default rs c.args.from _ [] member in
+    let covered =
+    λ (j : ℕ) (small : j < instance_count)
+    (own : owner m j ≡ c.args.from). c.in_ok-learned.ensures.covers j small own
     ∙ ap (λ xs. covers xs j || is_within c.first_owned-first.result c.first_owned-stop.result j) range in
     let t = skipped m c.args.from c.first_owned-first.result c.first_owned-stop.result in
     skip_shows m t refl c.self.inside.slots c.skip_stretch.new.slots rs member c.skip_stretch.new.ranges covered c.in_ok-learned.ensures.slots c.args.self.now c.self.view_is
     ∙ skip_is c.args.from c.args.first c.args.stop t
     (aligned m c.args.from c.args.first c.args.stop c.first_owned-first.result c.first_owned-stop.result c.first_owned-first.ensures.above c.first_owned-first.ensures.least
-    (omega (arith, c.min.ensures, c.first_owned-stop.ensures.above)) (λ i low own. c.first_owned-stop.ensures.least i (omega (arith, low, c.min.ensures)) own))
+    (omega (arith, c.min.ensures, c.first_owned-stop.ensures.above))
+    (λ i low own. c.first_owned-stop.ensures.least i (omega (arith, low, c.min.ensures)) own))
     c.args.self.now (ap (λ (k : KnownState). k.members) c.self.view_is)
 
 pub returns-clause-learned : goal.returns-clause-learned
 returns-clause-learned c =
     let m = c.self.inside.members in
     let rs = c.self.inside.skipped.items in
-    let member : c.args.from < length rs = omega (arith, c.requires.member, ap (λ (k : KnownState). k.members.count) c.self.view_is, c.self.invariant.sound.sorted.count) in
-    let range : c.index_mut-ranges.result.now ≡ get_or rs c.args.from [] = c.index_mut-ranges.ensures.value ∙ get_or_default rs c.args.from _ [] member in
+    let member : c.args.from < length rs =
+    omega (
+      arith,
+      c.requires.member,
+      ap (λ (k : KnownState). k.members.count) c.self.view_is,
+      c.self.invariant.sound.sorted.count,
+    ) in
+    let range : c.index_mut-ranges.result.now ≡ get_or rs c.args.from [] =
+    c.index_mut-ranges.ensures.value ∙ get_or_default rs c.args.from _ [] member in
     let t = skipped m c.args.from c.first_owned-first.result c.first_owned-stop.result in
     c.in_ok-learned.ensures.learned ∙ ap (λ r. count_by (is_given_in t r c.self.inside.slots) instances) range
     ∙ news_is c.args.from c.args.first c.args.stop t
     (aligned m c.args.from c.args.first c.args.stop c.first_owned-first.result c.first_owned-stop.result c.first_owned-first.ensures.above c.first_owned-first.ensures.least
-    (omega (arith, c.min.ensures, c.first_owned-stop.ensures.above)) (λ i low own. c.first_owned-stop.ensures.least i (omega (arith, low, c.min.ensures)) own))
+    (omega (arith, c.min.ensures, c.first_owned-stop.ensures.above))
+    (λ i low own. c.first_owned-stop.ensures.least i (omega (arith, low, c.min.ensures)) own))
     c.args.self.now (ap (λ (k : KnownState). k.members) c.self.view_is)
     m c.self.inside.slots rs c.self.inside.learned_below c.self.view_is c.self.invariant.sound

@@ -21,14 +21,18 @@ invariant_of-self-2 c =
     let gone = none_there (stand_at c.self.inside.slots c.args.inst) c.has.result c.has.ensures c.if-has.false in
     renewed _ _ _ _ _
     (stood_sound c.self.inside.members c.self.inside.slots c.stand.new.self c.self.inside.skipped.items c.args.inst gone
-    (λ j. c.in_ok-stand.ensures.ok j ∙ ap (λ (t : SlotState). cond (eqb j c.args.inst) (Some t) (stand_at c.self.inside.slots j)) c.unheard-slot.ensures) c.self.inside.learned_below c.self.invariant.sound)
+    (λ j. c.in_ok-stand.ensures.ok j
+    ∙ ap (λ (t : SlotState). cond (eqb j c.args.inst) (Some t)
+    (stand_at c.self.inside.slots j)) c.unheard-slot.ensures) c.self.inside.learned_below c.self.invariant.sound)
     c.clear.ensures
 
 pub returns-clause-ok : goal.returns-clause-ok
 returns-clause-ok c =
     let gone = none_there (stand_at c.self.inside.slots c.args.inst) c.has.result c.has.ensures c.if-has.false in
     stood_shows c.self.inside.members c.self.inside.slots c.stand.new.self c.self.inside.skipped.items c.args.inst gone
-    (λ j. c.in_ok-stand.ensures.ok j ∙ ap (λ (t : SlotState). cond (eqb j c.args.inst) (Some t) (stand_at c.self.inside.slots j)) c.unheard-slot.ensures) c.args.self.now c.self.view_is
+    (λ j. c.in_ok-stand.ensures.ok j
+    ∙ ap (λ (t : SlotState). cond (eqb j c.args.inst) (Some t)
+    (stand_at c.self.inside.slots j)) c.unheard-slot.ensures) c.args.self.now c.self.view_is
 
 pub returns-clause-there : goal.returns-clause-there
 returns-clause-there c =

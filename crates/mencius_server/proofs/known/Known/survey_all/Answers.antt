@@ -5,7 +5,8 @@ use Rattle.mencius_server.proofs.known.Known.survey_all.Goals as goal
 
 pub loop-inst-init : goal.loop-inst-init
 loop-inst-init c = record {
-  surveyed = subst (λ (v : Survey). IsSurveyedUpTo c.args.self.now c.open_stretch-stretch.result v c.open_stretch-stretch.result.first) (sym c.nothing-survey.ensures)
+  surveyed = subst
+      (λ (v : Survey). IsSurveyedUpTo c.args.self.now c.open_stretch-stretch.result v c.open_stretch-stretch.result.first) (sym c.nothing-survey.ensures)
       (surveyed_start c.args.self.now c.open_stretch-stretch.result c.open_stretch-stretch.ensures.stretch c.open_stretch-stretch.ensures.members);
   opens = c.open_stretch-stretch.ensures;
   stop = refl;
@@ -15,7 +16,11 @@ pub loop-inst-preserved : goal.loop-inst-preserved
 loop-inst-preserved c = record {
   surveyed = surveyed_more c.args.self.now c.open_stretch-stretch.result c.open_stretch-stretch.ensures.stretch c.open_stretch-stretch.ensures.members
       c.loop-inst.survey c.survey_at-next.result.0 c.loop-inst.inst c.survey_at-next.result.1 c.loop-inst-test.true c.survey_at-next.ensures.above c.survey_at-next.ensures.owned
-      c.survey_at-next.ensures.known (omega (arith, c.open_stretch-stretch.ensures.stop)) c.survey_at-next.ensures.survey c.loop-inst.invariant.surveyed;
+      c.survey_at-next.ensures.known
+      (omega (
+        arith,
+        c.open_stretch-stretch.ensures.stop,
+      )) c.survey_at-next.ensures.survey c.loop-inst.invariant.surveyed;
   opens = c.open_stretch-stretch.ensures;
   stop = refl;
 }

@@ -4,7 +4,12 @@ use Rattle.mencius_server.proofs.Knows.{seen_none, seen_some, unheard_quiet}
 use Rattle.mencius_server.proofs.known.Known.trying.Goals as goal
 
 pub returns-in-Some : goal.returns-in-Some
-returns-in-Some c = c.trying.ensures ∙ ap (λ (s : SlotState). s.trying) (sym (seen_some c.self.inside.members c.self.inside.slots c.self.inside.skipped.items c.args.self.now c.self.view_is c.args.inst c.in-Some.slot.now c.requires c.in-Some.ensures.there))
+returns-in-Some c =
+    c.trying.ensures
+    ∙ ap (λ (s : SlotState). s.trying)
+    (sym (seen_some c.self.inside.members c.self.inside.slots c.self.inside.skipped.items c.args.self.now c.self.view_is c.args.inst c.in-Some.slot.now c.requires c.in-Some.ensures.there))
 
 pub returns-in-None : goal.returns-in-None
-returns-in-None c = sym (ap (λ (s : SlotState). s.trying) (seen_none c.self.inside.members c.self.inside.slots c.self.inside.skipped.items c.args.self.now c.self.view_is c.args.inst c.requires c.in-None.ensures.none) ∙ (unheard_quiet c.self.inside.members _).1)
+returns-in-None c =
+    sym (ap (λ (s : SlotState). s.trying)
+    (seen_none c.self.inside.members c.self.inside.slots c.self.inside.skipped.items c.args.self.now c.self.view_is c.args.inst c.requires c.in-None.ensures.none) ∙ (unheard_quiet c.self.inside.members _).1)

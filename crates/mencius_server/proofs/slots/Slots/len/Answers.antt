@@ -13,4 +13,6 @@ returns-clause-count c =
     ∙ ap (count_by is_some) c.self.view_is
 
 pub returns-clause-all : goal.returns-clause-all
-returns-clause-all c = sym (ap length c.self.view_is) ∙ length-map-instances (standing_at c.self.inside.places.items c.self.inside.slots.items)
+returns-clause-all c =
+    sym (ap length c.self.view_is)
+    ∙ length-map-instances (standing_at c.self.inside.places.items c.self.inside.slots.items)

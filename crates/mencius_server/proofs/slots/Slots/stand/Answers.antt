@@ -5,7 +5,8 @@ use Rattle.mencius_server.proofs.slots.Slots.stand.Goals as goal
 
 pub invariant_of-self-2 : goal.invariant_of-self-2
 invariant_of-self-2 c =
-    let few : length c.widen.new.places.items ≤ instance_count = omega (arith, c.widen.ensures.few, c.widen.new.places.ok.0) in
+    let few : length c.widen.new.places.items ≤ instance_count =
+    omega (arith, c.widen.ensures.few, c.widen.new.places.ok.0) in
     let within : c.args.inst < length c.widen.new.places.items =
     omega (arith, c.in_ok-widen.ensures.reach, c.widen.new.places.ok.0) in
     placed_stand c.self.inside.places.items c.widen.new.places.items c.self.inside.slots.items _ _ c.len.result
@@ -15,7 +16,8 @@ invariant_of-self-2 c =
 
 pub returns-clause-ok : goal.returns-clause-ok
 returns-clause-ok c =
-    let few : length c.widen.new.places.items ≤ instance_count = omega (arith, c.widen.ensures.few, c.widen.new.places.ok.0) in
+    let few : length c.widen.new.places.items ≤ instance_count =
+    omega (arith, c.widen.ensures.few, c.widen.new.places.ok.0) in
     let within : c.args.inst < length c.widen.new.places.items =
     omega (arith, c.in_ok-widen.ensures.reach, c.widen.new.places.ok.0) in
     stand_stand c.self.inside.places.items c.widen.new.places.items c.self.inside.slots.items _ _ c.len.result

@@ -22,7 +22,8 @@ returns-then-lacking-eq0-clause-ok c = λ j.
 
 pub push_lacking-requires-clause-placed : goal.push_lacking-requires-clause-placed
 push_lacking-requires-clause-placed c =
-    let few : length c.widen.new.places.items ≤ instance_count = omega (arith, c.widen.ensures.few, c.widen.new.places.ok.0) in
+    let few : length c.widen.new.places.items ≤ instance_count =
+    omega (arith, c.widen.ensures.few, c.widen.new.places.ok.0) in
     rw c.reserve.ensures.len (placed_wider c.self.inside.places.items c.widen.new.places.items _ few
     c.widen.ensures.same c.self.invariant)
 
@@ -32,7 +33,8 @@ if_ok (Err x) P e h = absurd (cc)
 
 pub push_lacking-requires-clause-room : goal.push_lacking-requires-clause-room
 push_lacking-requires-clause-room c =
-    let few : length c.widen.new.places.items ≤ instance_count = omega (arith, c.widen.ensures.few, c.widen.new.places.ok.0) in
+    let few : length c.widen.new.places.items ≤ instance_count =
+    omega (arith, c.widen.ensures.few, c.widen.new.places.ok.0) in
     let fits : vec_len c.reserve.new.self + c.args.lacking ≤ vec_capacity c.reserve.new.self =
     if_ok c.reserve.result _ c.if-is_err.ensures.negation c.reserve.ensures.ok in
     let same = count_same (is_lacking c.args.stretch c.args.skipped.now
@@ -46,7 +48,8 @@ push_lacking-requires-clause-room c =
 
 pub returns-clause-ok : goal.returns-clause-ok
 returns-clause-ok c = λ j.
-    let few : length c.widen.new.places.items ≤ instance_count = omega (arith, c.widen.ensures.few, c.widen.new.places.ok.0) in
+    let few : length c.widen.new.places.items ≤ instance_count =
+    omega (arith, c.widen.ensures.few, c.widen.new.places.ok.0) in
     c.push_lacking.ensures.stand j
     ∙ ap (stood_at c.args.stretch c.args.skipped.now j)
     (stand_wider c.self.inside.places.items c.widen.new.places.items c.self.inside.slots.items
