@@ -1,4 +1,3 @@
-pub mod Tallies
-pub mod SlotHistory
+pub mod SlotTrace
 pub mod Repeats
 pub mod SlotLaws

@@ -8,20 +8,22 @@ use Rattle.mencius_base.specs.declared.message.Message.TheVariants.{Suggest, Ski
 use Rattle.mencius_base.specs.declared.message.Value.{Value}
 use Rattle.mencius_base.specs.declared.message.Vote.{Vote}
 use Rattle.mencius_base.specs.Members.{Membership, below, owner}
-use Rattle.mencius_model.specs.History.{Line, Heard, Sent, Learned, History, earlier, followed_by, heard, sent}
-use Rattle.mencius_model.specs.Instance.{accepted, accepters, greater, higher_vote, highest_vote, is_acceptance, is_promise, learned, promised, promisers, proposed, proposed_by, reported, tried_by, trying, value_or_noop, vote, vote_of, vote_reported, IsUntried, IsVoted}
+use Rattle.mencius_model.specs.Trace.{Line, Heard, Sent, Learned, Trace, earlier, followed_by, heard, sent}
+use Rattle.mencius_model.specs.Instance.{accepted, accepters, are_majority, greater, higher_vote, highest_vote, is_acceptance, is_promise, learned, promised, promisers, proposed, proposed_by, reported, tried_by, trying, value_or_noop, vote, vote_of, vote_reported, IsUntried, IsVoted}
+use Rattle.mencius_model.specs.Rules.{acceptor_answer, answer_lines, decision_due, decision_lines, proposal_due, proposal_lines}
+use Rattle.mencius_model.specs.Next.{decision_at, on_prepare, on_propose, proposal_at}
 use Rattle.coord_paxos.specs.SlotState.{SlotState}
 use Rattle.coord_paxos.specs.Fresh.{new_slot}
-use Rattle.coord_paxos.specs.Slot.{accept_answer, after_accept, after_acceptance, after_begin, after_learn, after_prepare, after_promise, answer_of, is_majority, learning, prepare_answer, promise_answer, proposing, to_learn, to_propose, with_accept, with_promise}
+use Rattle.coord_paxos.specs.Slot.{accept_answer, after_accept, after_acceptance, after_begin, after_learn, after_prepare, after_promise, is_majority, learning, promise_answer, proposing, to_learn, to_propose, with_accept, with_promise}
 use Rattle.coord_paxos.specs.Reached.{if_own, slot_at}
-use Rattle.coord_paxos.specs.Laws.{accept_lines, counts, decision_due, decision_lines, prepare_lines, proposal_due, proposal_lines, touches}
-use Rattle.coord_paxos.specs.declared.Answer.TheVariants.{Promise as Promised, Silent}
-use Rattle.mencius_model.proofs.Below.{count_by-map, map-below_constant, map-below_same}
-use Rattle.mencius_model.proofs.Lines.{earlier-none, greater-none, max-zero, greatest_quiet, oldest_quiet, vote_of_same}
+use Rattle.coord_paxos.specs.Laws.{counts, touches}
+use Rattle.mencius_base.specs.declared.message.Answer.TheVariants.{Promise as Promised, Silent}
+use Rattle.mencius_model.proofs.NumberLists.{count_by-map, map-below_constant, map-below_same}
+use Rattle.mencius_model.proofs.OneMoreLine.{earlier-none, greater-none, max-zero, greatest_quiet, oldest_quiet, vote_of_same}
 use Rattle.mencius_model.proofs.Reports.{Stands-heard, any_again, higher_vote-stands}
-use Rattle.mencius_model.proofs.Quiet.{IsQuiet, IsUncounted, quiet_heard, quiet_learn}
-use Rattle.coord_paxos.proofs.SlotHistory.{same_slot, slot_at-accepted, slot_at-heard, slot_at-heard_acceptance, slot_at-heard_promise, slot_at-learned, slot_at-learning, slot_at-promised, slot_at-proposed, slot_at-proposing, slot_at-quiet, slot_at-unsaid, slot_hearing}
-use Rattle.mencius_model.proofs.Tally.{heard_more, or-true, votes_more}
+use Rattle.mencius_model.proofs.QuietLines.{IsQuiet, IsUncounted, quiet_heard, quiet_learn}
+use Rattle.coord_paxos.proofs.SlotTrace.{same_slot, slot_at-accepted, slot_at-heard, slot_at-heard_acceptance, slot_at-heard_promise, slot_at-learned, slot_at-learning, slot_at-promised, slot_at-proposed, slot_at-proposing, slot_at-quiet, slot_at-unsaid, slot_hearing}
+use Rattle.mencius_model.proofs.Tallies.{heard_more, or-true, votes_more}
 
 -- ---- nothing
 
@@ -35,32 +37,31 @@ slot_at-empty m p i = same_slot _ _ refl refl refl refl refl refl (nothing_owned
 
 -- ---- prepare
 
-module _ (m : Membership) (w : History) (p q i b : ℕ) where
+module _ (m : Membership) (w : Trace) (p q i b : ℕ) where
   abbrev promised_at : SlotState
   promised_at = record (slot_at m w p i) { promised = b }
 
   prepared_unlearned : (c : Bool) → ltb (promised w p i) b ≡ c
-      → slot_at m (followed_by w (prepare_lines p q i b (cond c (Promised (vote w p i)) Silent))) p i
+      → slot_at m (followed_by w (answer_lines p q i b (cond c (Promised (vote w p i)) Silent))) p i
       ≡ cond c promised_at (slot_at m w p i)
   prepared_unlearned true above =
       let over : promised w p i < b = ltb-true _ _ above in slot_at-promised m w p q i b (vote w p i) (omega arith)
   prepared_unlearned false below = refl
 
   prepared_knowing : (o : Option Value)
-      → slot_at m (followed_by w (prepare_lines p q i b (answer_of (slot_at m w p i) b o))) p i
+      → slot_at m (followed_by w (answer_lines p q i b (acceptor_answer (promised w p i) (vote w p i) b o))) p i
       ≡ cond (is_none o && ltb (promised w p i) b) promised_at (slot_at m w p i)
   prepared_knowing None = prepared_unlearned (ltb (promised w p i) b) refl
   prepared_knowing (Some v) = slot_at-quiet m w (Sent (Learn p i v)) p i (quiet_learn p p i i v) refl
 
-  pub prepared : slot_at m (followed_by w (prepare_lines p q i b (prepare_answer (slot_at m w p i) b))) p i
-      ≡ after_prepare (slot_at m w p i) b
+  pub prepared : slot_at m (followed_by w (on_prepare w p q i b)) p i ≡ after_prepare (slot_at m w p i) b
   prepared = prepared_knowing (learned w p i)
 
 -- ---- accept
 
-module _ (m : Membership) (w : History) (p q i b : ℕ) (v : Value) (said : proposed w i b ≡ Some v) where
+module _ (m : Membership) (w : Trace) (p q i b : ℕ) (v : Value) (said : proposed w i b ≡ Some v) where
   accepted_or_not : (c : Bool) → leb (promised w p i) b ≡ c
-      → slot_at m (followed_by w (accept_lines p q i b c)) p i
+      → slot_at m (followed_by w (cond c (Sent (Accepted p q i b) ∷ []) [])) p i
       ≡ cond c (record (slot_at m w p i) {
         promised = b;
         vote = Some (record { ballot = b; value = v });
@@ -68,8 +69,7 @@ module _ (m : Membership) (w : History) (p q i b : ℕ) (v : Value) (said : prop
   accepted_or_not true high = slot_at-accepted m w p q i b v (leb-true _ _ high) said
   accepted_or_not false low = refl
 
-  pub accepts : slot_at m (followed_by w (accept_lines p q i b (leb (promised w p i) b))) p i
-      ≡ after_accept (slot_at m w p i) b v
+  pub accepts : slot_at m (followed_by w (on_propose w p q i b)) p i ≡ after_accept (slot_at m w p i) b v
   accepts = accepted_or_not (leb (promised w p i) b) refl
 
 -- ---- learn
@@ -79,14 +79,14 @@ learning_once : (s : SlotState) (v : Value) (o : Option Value) → s.learned ≡
 learning_once s v None e = refl
 learning_once s v (Some u) e = ap (λ (o : Option Value). record s { learned = o }) (sym e)
 
-pub learns : (m : Membership) (w : History) (p i : ℕ) (v : Value)
+pub learns : (m : Membership) (w : Trace) (p i : ℕ) (v : Value)
     → slot_at m (Learned p i v ∷ w) p i ≡ after_learn (slot_at m w p i) v
 learns m w p i v = slot_at-learning m w p i v ∙ learning_once (slot_at m w p i) v (learned w p i) refl
 
 -- ---- begin
 
 -- p's slot for i, were b the ballot that it tries
-abbrev pub slot_trying : Membership → History → ℕ → ℕ → ℕ → SlotState
+abbrev pub slot_trying : Membership → Trace → ℕ → ℕ → ℕ → SlotState
 slot_trying m w p i b = record (slot_at m w p i) {
   trying = b;
   reported = reported w p i b;
@@ -95,7 +95,7 @@ slot_trying m w p i b = record (slot_at m w p i) {
   accepters = map (accepters w p i b) (below m.count);
 }
 
-slot_at-tried : (m : Membership) (w : History) (p i b : ℕ) → trying w p i < b
+slot_at-tried : (m : Membership) (w : Trace) (p i b : ℕ) → trying w p i < b
     → slot_at m (Sent (Prepare p i b) ∷ w) p i ≡ slot_trying m w p i b
 slot_at-tried m w p i b above =
     let l : Line = Sent (Prepare p i b) in
@@ -138,7 +138,7 @@ unreported i b (x ∷ hs) none =
     (report_of i b x (λ q. (neither (is_promise i b q x) (list_any (is_promise i b q) hs) (none q)).0))
     ∙ unreported i b hs (λ q. (neither (is_promise i b q x) (list_any (is_promise i b q) hs) (none q)).1)
 
-pub slot_untried : (m : Membership) (w : History) (p i b : ℕ) → IsUntried w p i b
+pub slot_untried : (m : Membership) (w : Trace) (p i b : ℕ) → IsUntried w p i b
     → slot_trying m w p i b ≡ after_begin (slot_at m w p i) b
 slot_untried m w p i b untried =
     same_slot _ _ refl refl refl refl refl
@@ -147,7 +147,7 @@ slot_untried m w p i b untried =
     (sym (map-below_constant (promisers w p i b) m.count false (λ q h. untried.unpromised q)))
     (sym (map-below_constant (accepters w p i b) m.count false (λ q h. untried.unaccepted q)))
 
-pub begins : (m : Membership) (w : History) (p i b : ℕ) → trying w p i < b → IsUntried w p i b
+pub begins : (m : Membership) (w : Trace) (p i b : ℕ) → trying w p i < b → IsUntried w p i b
     → slot_at m (Sent (Prepare p i b) ∷ w) p i ≡ after_begin (slot_at m w p i) b
 begins m w p i b above untried = slot_at-tried m w p i b above ∙ slot_untried m w p i b untried
 
@@ -161,27 +161,29 @@ owned m p i b o mine =
     (λ (untried : b ≤ 0). let zero : b ≡ 0 = omega arith in rw (eq-eqb (owner m i) p (mine zero)))
     (cases_lt 0 b)
 
-pub to_propose-slot_at : (m : Membership) (u : History) (p i b : ℕ) → 0 < b → b ≡ trying u p i
-    → to_propose (slot_at m u p i) ≡ proposal_due m u p i b
-to_propose-slot_at m u p i b tried same =
+pub to_propose-slot_at : (m : Membership) (w : Trace) (p i b : ℕ) → 0 < b → b ≡ trying w p i
+    → to_propose (slot_at m w p i)
+    ≡ proposal_due (learned w p i) (proposed w i b) (are_majority m (promisers w p i b)) (reported w p i b)
+to_propose-slot_at m w p i b tried same =
     ap (λ (c : ℕ). cond
-    ((is_none (learned u p i) && is_none (if_own m p i c (proposed u i c)))
-    && is_majority m (map (promisers u p i c) (below m.count)))
-    (Some (value_or_noop (reported u p i c))) None) (sym same)
+    ((is_none (learned w p i) && is_none (if_own m p i c (proposed w i c)))
+    && is_majority m (map (promisers w p i c) (below m.count)))
+    (Some (value_or_noop (reported w p i c))) None) (sym same)
     ∙ rw (
-      owned m p i b (proposed u i b) (λ zero. absurd (omega arith)),
-      count_by-map (promisers u p i b) (below m.count),
+      owned m p i b (proposed w i b) (λ zero. absurd (omega arith)),
+      count_by-map (promisers w p i b) (below m.count),
     )
 
-pub to_learn-slot_at : (m : Membership) (u : History) (p i b : ℕ) → (b ≡ 0 → owner m i ≡ p) → b ≡ trying u p i
-    → to_learn (slot_at m u p i) ≡ decision_due m u p i b
-to_learn-slot_at m u p i b mine same =
+pub to_learn-slot_at : (m : Membership) (w : Trace) (p i b : ℕ) → (b ≡ 0 → owner m i ≡ p) → b ≡ trying w p i
+    → to_learn (slot_at m w p i)
+    ≡ decision_due (learned w p i) (proposed w i b) (are_majority m (accepters w p i b))
+to_learn-slot_at m w p i b mine same =
     ap (λ (c : ℕ). cond
-    (is_none (learned u p i) && is_majority m (map (accepters u p i c) (below m.count)))
-    (if_own m p i c (proposed u i c)) None) (sym same)
-    ∙ rw (owned m p i b (proposed u i b) mine, count_by-map (accepters u p i b) (below m.count))
+    (is_none (learned w p i) && is_majority m (map (accepters w p i c) (below m.count)))
+    (if_own m p i c (proposed w i c)) None) (sym same)
+    ∙ rw (owned m p i b (proposed w i b) mine, count_by-map (accepters w p i b) (below m.count))
 
-voted_later : (w : History) (l : Line) (p i : ℕ) → IsQuiet p i l → IsVoted w p i → IsVoted (l ∷ w) p i
+voted_later : (w : Trace) (l : Line) (p i : ℕ) → IsQuiet p i l → IsVoted w p i → IsVoted (l ∷ w) p i
 voted_later w l p i quiet voted = record {
   proposal = λ b e.
       let before = voted.proposal b
@@ -209,7 +211,7 @@ decided_unlearned : (l : Option Value) (c : Bool) (o : Option Value) (v : Value)
 decided_unlearned None c o v e = refl
 decided_unlearned (Some u) c o v e = absurd (cc)
 
-module _ (m : Membership) (w : History) (k p i from b : ℕ) (v : Option Vote)
+module _ (m : Membership) (w : Trace) (k p i from b : ℕ) (v : Option Vote)
     (e : slice_get (sent w) k ≡ Some (Promise from p i b v)) where
   tried_still : trying (Heard k p ∷ w) p i ≡ trying w p i
   tried_still = greatest_quiet (tried_by p i) (Heard k p) w refl
@@ -217,12 +219,30 @@ module _ (m : Membership) (w : History) (k p i from b : ℕ) (v : Option Vote)
   promise_heard : b ≡ trying w p i → slot_at m (Heard k p ∷ w) p i ≡ with_promise (slot_at m w p i) from v
   promise_heard same = slot_at-heard_promise m w k p i from v (e ∙ ap (λ (c : ℕ). Some (Promise from p i c v)) same)
 
-  pub promise_answered : 0 < b → b ≡ trying w p i
-      → promise_answer (slot_at m w p i) from b v ≡ proposal_due m (Heard k p ∷ w) p i b
-  promise_answered tried same =
-      ap (λ (c : Bool). cond c (to_propose (with_promise (slot_at m w p i) from v)) None) (eq-eqb b (trying w p i) same)
-      ∙ ap to_propose (sym (promise_heard same))
+  -- what is due by all promises heard, this one among them
+  promise_due : 0 < b → b ≡ trying w p i
+      → to_propose (with_promise (slot_at m w p i) from v)
+      ≡ proposal_due (learned w p i) (proposed w i b) (are_majority m (promisers (Heard k p ∷ w) p i b))
+      (reported (Heard k p ∷ w) p i b)
+  promise_due tried same =
+      ap to_propose (sym (promise_heard same))
       ∙ to_propose-slot_at m (Heard k p ∷ w) p i b tried (same ∙ sym tried_still)
+      ∙ ap (λ (o : Option Value). proposal_due o (proposed (Heard k p ∷ w) i b)
+      (are_majority m (promisers (Heard k p ∷ w) p i b)) (reported (Heard k p ∷ w) p i b))
+      (earlier-none (learned w p i))
+      ∙ ap (λ (o : Option Value). proposal_due (learned w p i) o
+      (are_majority m (promisers (Heard k p ∷ w) p i b)) (reported (Heard k p ∷ w) p i b))
+      (earlier-none (proposed w i b))
+
+  pub promise_answered : 0 < b → promise_answer (slot_at m w p i) from b v ≡ proposal_at m w (Heard k p ∷ w) p i b
+  promise_answered tried = either (eqb b (trying w p i)) refl
+    where
+      either : (c : Bool) → eqb b (trying w p i) ≡ c
+          → cond c (to_propose (with_promise (slot_at m w p i) from v)) None
+          ≡ cond c (proposal_due (learned w p i) (proposed w i b) (are_majority m (promisers (Heard k p ∷ w) p i b))
+          (reported (Heard k p ∷ w) p i b)) None
+      either true at = promise_due tried (eqb-true _ _ at)
+      either false at = refl
 
   promise_proposed : 0 < b → IsVoted w p i → b ≡ trying w p i → (o : Option Value)
       → to_propose (with_promise (slot_at m w p i) from v) ≡ o
@@ -258,16 +278,32 @@ module _ (m : Membership) (w : History) (k p i from b : ℕ) (v : Option Vote)
 
 -- ---- add_accept
 
-module _ (m : Membership) (w : History) (k p i from b : ℕ) (e : slice_get (sent w) k ≡ Some (Accepted from p i b)) where
+module _ (m : Membership) (w : Trace) (k p i from b : ℕ) (e : slice_get (sent w) k ≡ Some (Accepted from p i b)) where
   acceptance_heard : b ≡ trying w p i → slot_at m (Heard k p ∷ w) p i ≡ with_accept (slot_at m w p i) from
   acceptance_heard same = slot_at-heard_acceptance m w k p i from (e ∙ ap (λ (c : ℕ). Some (Accepted from p i c)) same)
 
-  pub acceptance_answered : (b ≡ 0 → owner m i ≡ p) → b ≡ trying w p i
-      → accept_answer (slot_at m w p i) from b ≡ decision_due m (Heard k p ∷ w) p i b
-  acceptance_answered mine same =
-      ap (λ (c : Bool). cond c (to_learn (with_accept (slot_at m w p i) from)) None) (eq-eqb b (trying w p i) same)
-      ∙ ap to_learn (sym (acceptance_heard same))
+  -- what is decided by all acceptances heard, this one among them
+  acceptance_due : (b ≡ 0 → owner m i ≡ p) → b ≡ trying w p i
+      → to_learn (with_accept (slot_at m w p i) from)
+      ≡ decision_due (learned w p i) (proposed w i b) (are_majority m (accepters (Heard k p ∷ w) p i b))
+  acceptance_due mine same =
+      ap to_learn (sym (acceptance_heard same))
       ∙ to_learn-slot_at m (Heard k p ∷ w) p i b mine (same ∙ sym (greatest_quiet (tried_by p i) (Heard k p) w refl))
+      ∙ ap (λ (o : Option Value). decision_due o (proposed (Heard k p ∷ w) i b)
+      (are_majority m (accepters (Heard k p ∷ w) p i b))) (earlier-none (learned w p i))
+      ∙ ap (λ (o : Option Value). decision_due (learned w p i) o
+      (are_majority m (accepters (Heard k p ∷ w) p i b))) (earlier-none (proposed w i b))
+
+  pub acceptance_answered : (b ≡ 0 → owner m i ≡ p)
+      → accept_answer (slot_at m w p i) from b ≡ decision_at m w (Heard k p ∷ w) p i b
+  acceptance_answered mine = either (eqb b (trying w p i)) refl
+    where
+      either : (c : Bool) → eqb b (trying w p i) ≡ c
+          → cond c (to_learn (with_accept (slot_at m w p i) from)) None
+          ≡ cond c
+          (decision_due (learned w p i) (proposed w i b) (are_majority m (accepters (Heard k p ∷ w) p i b))) None
+      either true at = acceptance_due mine (eqb-true _ _ at)
+      either false at = refl
 
   acceptance_decided : b ≡ trying w p i → (o : Option Value) → to_learn (with_accept (slot_at m w p i) from) ≡ o
       → slot_at m (followed_by (Heard k p ∷ w) (decision_lines p i o)) p i
@@ -312,11 +348,11 @@ untouched_quiet p i (Learned server inst value) e =
 untouched_quiet p i l e =
     record { promised = refl; proposed = λ b. refl; accepted = refl; learned = refl; tried = refl }
 
-untouched_heard : (w : History) (p i : ℕ) (l : Line) → touches p i l ≡ false → heard (l ∷ w) p ≡ heard w p
+untouched_heard : (w : Trace) (p i : ℕ) (l : Line) → touches p i l ≡ false → heard (l ∷ w) p ≡ heard w p
 untouched_heard w p i (Heard message server) e = rw e
 untouched_heard w p i l e = refl
 
-pub untouched : (m : Membership) (w : History) (p i : ℕ) (l : Line) → touches p i l ≡ false
+pub untouched : (m : Membership) (w : Trace) (p i : ℕ) (l : Line) → touches p i l ≡ false
     → slot_at m (l ∷ w) p i ≡ slot_at m w p i
 untouched m w p i l e = slot_at-quiet m w l p i (untouched_quiet p i l e) (untouched_heard w p i l e)
 
@@ -330,23 +366,23 @@ counts_nothing i b (Propose from inst ballot value) e =
     record { promise = λ q. refl; acceptance = λ q. refl; report = refl }
 counts_nothing i b (Learn from inst value) e = record { promise = λ q. refl; acceptance = λ q. refl; report = refl }
 
-pub uncounted : (m : Membership) (w : History) (k p i : ℕ) (x : Message) → slice_get (sent w) k ≡ Some x
+pub uncounted : (m : Membership) (w : Trace) (k p i : ℕ) (x : Message) → slice_get (sent w) k ≡ Some x
     → counts i (trying w p i) x ≡ false
     → slot_at m (Heard k p ∷ w) p i ≡ slot_at m w p i
 uncounted m w k p i x e none = slot_at-heard m w k p i x e (counts_nothing i (trying w p i) x none)
 
 -- a line that proposes nothing at the ballot that p tries
-still_proposed : (w : History) (l : Line) (i b : ℕ) → proposed_by i b l ≡ None → proposed (l ∷ w) i b ≡ proposed w i b
+still_proposed : (w : Trace) (l : Line) (i b : ℕ) → proposed_by i b l ≡ None → proposed (l ∷ w) i b ≡ proposed w i b
 still_proposed w l i b none = oldest_quiet (proposed_by i b) l w none
 
-pub proposal_elsewhere : (m : Membership) (w : History) (p q i b : ℕ) (v : Value) → IsVoted w p i → b ≢ trying w p i
+pub proposal_elsewhere : (m : Membership) (w : Trace) (p q i b : ℕ) (v : Value) → IsVoted w p i → b ≢ trying w p i
     → slot_at m (Sent (Propose q i b v) ∷ w) p i ≡ slot_at m w p i
 proposal_elsewhere m w p q i b v voted other =
     slot_at-proposing m w (Sent (Propose q i b v)) p i _ voted refl refl refl refl refl
     (ap (if_own m p i (trying w p i))
     (still_proposed w (Sent (Propose q i b v)) i (trying w p i) (rw (eq-eqb i i refl, ne_eqb b (trying w p i) other))))
 
-pub suggestion_elsewhere : (m : Membership) (w : History) (p q i ticket : ℕ) → IsVoted w p i → owner m i ≢ p
+pub suggestion_elsewhere : (m : Membership) (w : Trace) (p q i ticket : ℕ) → IsVoted w p i → owner m i ≢ p
     → slot_at m (Sent (Suggest q i ticket) ∷ w) p i ≡ slot_at m w p i
 suggestion_elsewhere m w p q i ticket voted other =
     slot_at-proposing m w (Sent (Suggest q i ticket)) p i _ voted refl refl refl refl refl
@@ -359,7 +395,7 @@ suggestion_elsewhere m w p q i ticket voted other =
 
 -- ---- repeats
 
-pub message_twice : (m : Membership) (w : History) (k p i : ℕ) (x : Message) → slice_get (sent w) k ≡ Some x
+pub message_twice : (m : Membership) (w : Trace) (k p i : ℕ) (x : Message) → slice_get (sent w) k ≡ Some x
     → Contains (heard w p) x
     → slot_at m (Heard k p ∷ w) p i ≡ slot_at m w p i
 message_twice m w k p i x e before =

@@ -1,27 +1,28 @@
 -- What the calls of one slot promise together, in the subject's own words.
-use Rattle.std.specs.Prelude.{◌≡◌, ℕ, ◌<◌, ◌≤◌, true, Option, Some, None, Contains}
+use Rattle.std.specs.Prelude.{◌≡◌, ◌<◌, ◌≤◌, true, Option, Some, None, Contains}
+use Rattle.mencius_base.specs.Numbers.{ServerId, BallotNo}
 use Rattle.mencius_base.specs.declared.message.Value.{Value}
 use Rattle.mencius_base.specs.declared.message.Vote.{Vote}
 use Rattle.coord_paxos.specs.SlotState.{SlotState}
 use Rattle.coord_paxos.specs.Slot.{accept_answer, after_accept, after_acceptance, after_begin, after_learn, after_prepare, after_promise, prepare_answer, promise_answer, with_promise}
-use Rattle.coord_paxos.specs.declared.Answer.TheVariants.{Promise, Known}
+use Rattle.mencius_base.specs.declared.message.Answer.TheVariants.{Promise, Known}
 
 -- ---- the promise
 
 -- a ballot that is not above the promise is not promised
 abbrev pub PromisesAbove : Type 0
-PromisesAbove = (s : SlotState) (b : ℕ) (v : Option Vote) → prepare_answer s b ≡ Promise v → s.promised < b
+PromisesAbove = (s : SlotState) (b : BallotNo) (v : Option Vote) → prepare_answer s b ≡ Promise v → s.promised < b
 
 -- a promise binds: nothing below it is accepted
 abbrev pub PromiseBinds : Type 0
 PromiseBinds =
-    (s : SlotState) (b c : ℕ) (u : Value) (v : Option Vote) → prepare_answer s b ≡ Promise v → c < b
-    → after_accept (after_prepare s b) c u ≡ after_prepare s b
+    (s : SlotState) (b c : BallotNo) (x : Value) (v : Option Vote) → prepare_answer s b ≡ Promise v → c < b
+    → after_accept (after_prepare s b) c x ≡ after_prepare s b
 
 -- what is promised only grows
 abbrev pub PromiseGrows : Type 0
 PromiseGrows =
-    (s : SlotState) (b : ℕ) (v : Value)
+    (s : SlotState) (b : BallotNo) (v : Value)
     → (s.promised ≤ (after_prepare s b).promised) × (s.promised ≤ (after_accept s b v).promised)
 
 -- ---- a new ballot
@@ -29,55 +30,57 @@ PromiseGrows =
 -- both tallies are empty after it
 abbrev pub BeginEmpties : Type 0
 BeginEmpties =
-    (s : SlotState) (b : ℕ)
+    (s : SlotState) (b : BallotNo)
     → (¬ Contains (after_begin s b).promisers true) × (¬ Contains (after_begin s b).accepters true)
 
 -- ---- repeats
 
 -- the same promise a second time changes nothing and calls for nothing
-abbrev pub PromiseRepeats : Type 0
-PromiseRepeats =
-    (s : SlotState) (q b : ℕ) (v : Option Vote)
+abbrev pub RepeatedPromiseIgnored : Type 0
+RepeatedPromiseIgnored =
+    (s : SlotState) (q : ServerId) (b : BallotNo) (v : Option Vote)
     → (after_promise (after_promise s q b v) q b v ≡ after_promise s q b v)
     × (promise_answer (after_promise s q b v) q b v ≡ None)
 
 -- nor does the same acceptance
-abbrev pub AcceptanceRepeats : Type 0
-AcceptanceRepeats =
-    (s : SlotState) (q b : ℕ)
+abbrev pub RepeatedAcceptanceIgnored : Type 0
+RepeatedAcceptanceIgnored =
+    (s : SlotState) (q : ServerId) (b : BallotNo)
     → (after_acceptance (after_acceptance s q b) q b ≡ after_acceptance s q b)
     × (accept_answer (after_acceptance s q b) q b ≡ None)
 
 -- ---- the vote reported
 
 -- of equal ballots the first stands, and a smaller one changes nothing
-abbrev pub FirstStands : Type 0
-FirstStands =
-    (s : SlotState) (q : ℕ) (u v : Vote) → s.reported ≡ Some u → v.ballot ≤ u.ballot
-    → (with_promise s q (Some v)).reported ≡ Some u
+abbrev pub FirstVoteStands : Type 0
+FirstVoteStands =
+    (s : SlotState) (q : ServerId) (v x : Vote) → s.reported ≡ Some v → x.ballot ≤ v.ballot
+    → (with_promise s q (Some x)).reported ≡ Some v
 
 -- a greater ballot takes its place
-abbrev pub GreaterReplaces : Type 0
-GreaterReplaces =
-    (s : SlotState) (q : ℕ) (u v : Vote) → s.reported ≡ Some u → u.ballot < v.ballot
-    → (with_promise s q (Some v)).reported ≡ Some v
+abbrev pub GreaterVoteReplaces : Type 0
+GreaterVoteReplaces =
+    (s : SlotState) (q : ServerId) (v x : Vote) → s.reported ≡ Some v → v.ballot < x.ballot
+    → (with_promise s q (Some x)).reported ≡ Some x
 
 -- ---- proposals
 
 -- a value is proposed where none was proposed at this ballot and none is learned, and is noted
 abbrev pub ProposesOnce : Type 0
 ProposesOnce =
-    (s : SlotState) (q b : ℕ) (reported : Option Vote) (v : Value) → promise_answer s q b reported ≡ Some v
+    (s : SlotState) (q : ServerId) (b : BallotNo) (reported : Option Vote) (v : Value)
+    → promise_answer s q b reported ≡ Some v
     → (s.proposal ≡ None) × (s.learned ≡ None) × (b ≡ s.trying) × ((after_promise s q b reported).proposal ≡ Some v)
 
 -- until the next ballot the proposal stays, and no other one is due
 pub record KeepsProposal (s : SlotState) (v : Value) : Type 0 where
-  pub unproposed : (q b : ℕ) (reported : Option Vote) → promise_answer s q b reported ≡ None
-  pub prepare : (b : ℕ) → (after_prepare s b).proposal ≡ Some v
-  pub accept : (b : ℕ) (u : Value) → (after_accept s b u).proposal ≡ Some v
-  pub add_promise : (q b : ℕ) (reported : Option Vote) → (after_promise s q b reported).proposal ≡ Some v
-  pub add_accept : (q b : ℕ) → (after_acceptance s q b).proposal ≡ Some v
-  pub learn : (u : Value) → (after_learn s u).proposal ≡ Some v
+  pub unproposed : (q : ServerId) (b : BallotNo) (reported : Option Vote) → promise_answer s q b reported ≡ None
+  pub prepare : (b : BallotNo) → (after_prepare s b).proposal ≡ Some v
+  pub accept : (b : BallotNo) (x : Value) → (after_accept s b x).proposal ≡ Some v
+  pub add_promise : (q : ServerId) (b : BallotNo) (reported : Option Vote)
+      → (after_promise s q b reported).proposal ≡ Some v
+  pub add_accept : (q : ServerId) (b : BallotNo) → (after_acceptance s q b).proposal ≡ Some v
+  pub learn : (x : Value) → (after_learn s x).proposal ≡ Some v
 
 abbrev pub ProposalStays : Type 0
 ProposalStays = (s : SlotState) (v : Value) → s.proposal ≡ Some v → KeepsProposal s v
@@ -87,20 +90,21 @@ ProposalStays = (s : SlotState) (v : Value) → s.proposal ≡ Some v → KeepsP
 -- a value is learned from acceptances where none was learned, and it is this slot's own proposal there
 abbrev pub LearnsOwnProposal : Type 0
 LearnsOwnProposal =
-    (s : SlotState) (q b : ℕ) (v : Value) → accept_answer s q b ≡ Some v
+    (s : SlotState) (q : ServerId) (b : BallotNo) (v : Value) → accept_answer s q b ≡ Some v
     → (s.proposal ≡ Some v) × (s.learned ≡ None) × (b ≡ s.trying) × ((after_acceptance s q b).learned ≡ Some v)
 
 -- a learned value stays, and nothing more is proposed or decided
 pub record KeepsLearned (s : SlotState) (v : Value) : Type 0 where
-  pub known : (b : ℕ) → prepare_answer s b ≡ Known v
-  pub unproposed : (q b : ℕ) (reported : Option Vote) → promise_answer s q b reported ≡ None
-  pub undecided : (q b : ℕ) → accept_answer s q b ≡ None
-  pub prepare : (b : ℕ) → (after_prepare s b).learned ≡ Some v
-  pub accept : (b : ℕ) (u : Value) → (after_accept s b u).learned ≡ Some v
-  pub begin : (b : ℕ) → (after_begin s b).learned ≡ Some v
-  pub add_promise : (q b : ℕ) (reported : Option Vote) → (after_promise s q b reported).learned ≡ Some v
-  pub add_accept : (q b : ℕ) → (after_acceptance s q b).learned ≡ Some v
-  pub learn : (u : Value) → (after_learn s u).learned ≡ Some v
+  pub known : (b : BallotNo) → prepare_answer s b ≡ Known v
+  pub unproposed : (q : ServerId) (b : BallotNo) (reported : Option Vote) → promise_answer s q b reported ≡ None
+  pub undecided : (q : ServerId) (b : BallotNo) → accept_answer s q b ≡ None
+  pub prepare : (b : BallotNo) → (after_prepare s b).learned ≡ Some v
+  pub accept : (b : BallotNo) (x : Value) → (after_accept s b x).learned ≡ Some v
+  pub begin : (b : BallotNo) → (after_begin s b).learned ≡ Some v
+  pub add_promise : (q : ServerId) (b : BallotNo) (reported : Option Vote)
+      → (after_promise s q b reported).learned ≡ Some v
+  pub add_accept : (q : ServerId) (b : BallotNo) → (after_acceptance s q b).learned ≡ Some v
+  pub learn : (x : Value) → (after_learn s x).learned ≡ Some v
 
 abbrev pub LearnedStays : Type 0
 LearnedStays = (s : SlotState) (v : Value) → s.learned ≡ Some v → KeepsLearned s v

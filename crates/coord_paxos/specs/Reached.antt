@@ -1,21 +1,22 @@
--- What a slot holds, asked of the history.
-use Rattle.std.specs.Prelude.{ℕ, Option, None, ◌==◌, nat_lt, if◌then◌else◌, ◌||◌, map}
+-- What a slot holds, asked of the trace.
+use Rattle.std.specs.Prelude.{Option, None, ◌==◌, nat_lt, if◌then◌else◌, ◌||◌, map}
+use Rattle.mencius_base.specs.Numbers.{ServerId, Inst, BallotNo}
 use Rattle.mencius_base.specs.declared.message.Value.{Value}
 use Rattle.mencius_base.specs.Members.{Membership, below, owner}
-use Rattle.mencius_model.specs.History.{History}
+use Rattle.mencius_model.specs.Trace.{Trace}
 use Rattle.mencius_model.specs.Instance.{promised, vote, learned, trying, reported, proposed, promisers, accepters}
 use Rattle.coord_paxos.specs.SlotState.{SlotState}
 
 -- what was proposed at ballot b of i, as far as p may have proposed it: at ballot 0 only the owner does
-abbrev pub if_own : Membership → ℕ → ℕ → ℕ → Option Value → Option Value
+abbrev pub if_own : Membership → ServerId → Inst → BallotNo → Option Value → Option Value
 if_own m p i b v = if owner m i == p || nat_lt 0 b then v else None
 
 -- what p itself proposed at the ballot that it tries, which is ballot 0 until its first Prepare
-abbrev pub own_proposal : Membership → History → ℕ → ℕ → Option Value
+abbrev pub own_proposal : Membership → Trace → ServerId → Inst → Option Value
 own_proposal m w p i = if_own m p i (trying w p i) (proposed w i (trying w p i))
 
 -- server p's slot for instance i
-abbrev pub slot_at : Membership → History → ℕ → ℕ → SlotState
+abbrev pub slot_at : Membership → Trace → ServerId → Inst → SlotState
 slot_at m w p i = record {
   members = m;
   promised = promised w p i;

@@ -1,38 +1,35 @@
 -- What each call answers and makes of a slot, where q is a server, b a ballot and v a value or a vote.
-use Rattle.std.specs.Prelude.{ℕ, Bool, true, List, Option, Some, None, ◌==◌, nat_lt, nat_le, if◌then◌else◌, ◌&&◌, is_none, slice_set}
+use Rattle.std.specs.Prelude.{Bool, true, List, Option, Some, None, ◌==◌, nat_lt, nat_le, if◌then◌else◌, ◌&&◌, is_none, slice_set}
 use Rattle.std.specs.List.{count_by}
+use Rattle.mencius_base.specs.Numbers.{ServerId, BallotNo}
+use Rattle.mencius_base.specs.declared.message.Answer.{Answer}
 use Rattle.mencius_base.specs.declared.message.Value.{Value}
 use Rattle.mencius_base.specs.declared.message.Vote.{Vote}
 use Rattle.mencius_base.specs.Members.{Membership, majority}
-use Rattle.mencius_model.specs.Instance.{higher_vote, value_or_noop}
+use Rattle.mencius_model.specs.Instance.{higher_vote}
+use Rattle.mencius_model.specs.Rules.{acceptor_answer, decision_due, proposal_due}
 use Rattle.coord_paxos.specs.SlotState.{SlotState}
 use Rattle.coord_paxos.specs.Fresh.{nobody}
-use Rattle.coord_paxos.specs.declared.Answer.{Answer}
-use Rattle.coord_paxos.specs.declared.Answer.TheVariants.{Promise, Known, Silent}
 
 -- whether a majority of the servers is in the set, which has one truth value a server
 abbrev pub is_majority : Membership → List Bool → Bool
 is_majority m among = nat_le (majority m) (count_by (λ b. b) among)
 
--- what an acceptor answers to a Prepare, knowing the value or not
-abbrev pub answer_of : SlotState → ℕ → Option Value → Answer
-answer_of s b (Some v) = Known v
-answer_of s b None = if nat_lt s.promised b then Promise s.vote else Silent
-
-abbrev pub prepare_answer : SlotState → ℕ → Answer
-prepare_answer s b = answer_of s b s.learned
+-- what is answered to a Prepare
+abbrev pub prepare_answer : SlotState → BallotNo → Answer
+prepare_answer s b = acceptor_answer s.promised s.vote b s.learned
 
 -- a promise is made where the value is not known and the ballot is above every one promised
-abbrev pub after_prepare : SlotState → ℕ → SlotState
+abbrev pub after_prepare : SlotState → BallotNo → SlotState
 after_prepare s b = if is_none s.learned && nat_lt s.promised b then record s { promised = b } else s
 
 -- a ballot that is not below the promise is accepted, and the promise and the vote are its own
-abbrev pub after_accept : SlotState → ℕ → Value → SlotState
+abbrev pub after_accept : SlotState → BallotNo → Value → SlotState
 after_accept s b v =
     if nat_le s.promised b then record s { promised = b; vote = Some (record { ballot = b; value = v }) } else s
 
 -- a first phase starts with nothing reported, proposed or counted
-abbrev pub after_begin : SlotState → ℕ → SlotState
+abbrev pub after_begin : SlotState → BallotNo → SlotState
 after_begin s b = record s {
   trying = b;
   reported = None;
@@ -42,17 +39,15 @@ after_begin s b = record s {
 }
 
 -- one more promise of the ballot that is tried, and the vote in it
-abbrev pub with_promise : SlotState → ℕ → Option Vote → SlotState
+abbrev pub with_promise : SlotState → ServerId → Option Vote → SlotState
 with_promise s q v = record s {
   promisers = slice_set s.promisers q true;
   reported = higher_vote s.reported v;
 }
 
--- the value to propose, once a majority promised, where none is proposed or learned
+-- the value to propose, if one is due
 abbrev pub to_propose : SlotState → Option Value
-to_propose s =
-    if (is_none s.learned && is_none s.proposal) && is_majority s.members s.promisers
-    then Some (value_or_noop s.reported) else None
+to_propose s = proposal_due s.learned s.proposal (is_majority s.members s.promisers) s.reported
 
 -- with the proposal noted, if there is one
 abbrev pub proposing : SlotState → Option Value → SlotState
@@ -60,20 +55,20 @@ proposing s None = s
 proposing s (Some v) = record s { proposal = Some v }
 
 -- only a promise of the ballot that is tried counts
-abbrev pub promise_answer : SlotState → ℕ → ℕ → Option Vote → Option Value
+abbrev pub promise_answer : SlotState → ServerId → BallotNo → Option Vote → Option Value
 promise_answer s q b v = if b == s.trying then to_propose (with_promise s q v) else None
 
-abbrev pub after_promise : SlotState → ℕ → ℕ → Option Vote → SlotState
+abbrev pub after_promise : SlotState → ServerId → BallotNo → Option Vote → SlotState
 after_promise s q b v =
     if b == s.trying then proposing (with_promise s q v) (to_propose (with_promise s q v)) else s
 
 -- one more acceptance at the ballot that is tried
-abbrev pub with_accept : SlotState → ℕ → SlotState
+abbrev pub with_accept : SlotState → ServerId → SlotState
 with_accept s q = record s { accepters = slice_set s.accepters q true }
 
--- what this slot proposed is learned, once a majority accepted it, where nothing is learned
+-- the value that is decided, if one is: what this slot proposed
 abbrev pub to_learn : SlotState → Option Value
-to_learn s = if is_none s.learned && is_majority s.members s.accepters then s.proposal else None
+to_learn s = decision_due s.learned s.proposal (is_majority s.members s.accepters)
 
 -- with the value noted as learned, if there is one
 abbrev pub learning : SlotState → Option Value → SlotState
@@ -81,10 +76,10 @@ learning s None = s
 learning s (Some v) = record s { learned = Some v }
 
 -- only an acceptance at the ballot that is tried counts
-abbrev pub accept_answer : SlotState → ℕ → ℕ → Option Value
+abbrev pub accept_answer : SlotState → ServerId → BallotNo → Option Value
 accept_answer s q b = if b == s.trying then to_learn (with_accept s q) else None
 
-abbrev pub after_acceptance : SlotState → ℕ → ℕ → SlotState
+abbrev pub after_acceptance : SlotState → ServerId → BallotNo → SlotState
 after_acceptance s q b = if b == s.trying then learning (with_accept s q) (to_learn (with_accept s q)) else s
 
 -- the first value that is learned stays

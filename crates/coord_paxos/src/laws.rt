@@ -1,63 +1,64 @@
 //! Laws of one instance, each the contract of a function that does nothing when it runs.
 //!
-//! A slot's calls are stated over the slot's record. The laws say that the record is the history's:
-//! whatever is sent, heard or learned, the slot that the history shows afterwards is the one that
-//! the call leaves, and each answer is the one that the history asks for. `slot_at m w p i` is the
-//! slot of server p at instance i, asked of the history w.
+//! A slot's calls are stated over the slot's record. The laws say that the record is the trace's:
+//! whatever is sent, heard or learned, the slot that the trace shows afterwards is the one that
+//! the call leaves, and each answer is the one that the trace asks for. `slot_at m w p i` is the
+//! slot of server p at instance i, asked of the trace w.
 
-ghost use Rattle.coord_paxos.specs.CallLaws.{AcceptanceRepeats, BeginEmpties, FirstStands, GreaterReplaces, LearnedStays, LearnsOwnProposal, PromiseBinds, PromiseGrows, PromiseRepeats, PromisesAbove, ProposalStays, ProposesOnce};
-ghost use Rattle.coord_paxos.specs.Laws.{Accepts, AnswersAcceptances, AnswersKnown, AnswersNothing, AnswersPromise, AnswersPromises, Begins, CountsAcceptances, CountsPromises, IgnoresAcceptances, IgnoresPromises, LeavesProposals, LeavesRepeats, LeavesSuggestions, LeavesUncounted, LeavesUntouched, Learns, Prepares, Starts, Suggests};
-ghost use Rattle.mencius_model.specs.Laws.{ReportsGreatest, ReportsHeard, ReportsSome};
+ghost use Rattle.coord_paxos.specs.CallLaws.{RepeatedAcceptanceIgnored, BeginEmpties, FirstVoteStands, GreaterVoteReplaces, LearnedStays, LearnsOwnProposal, PromiseBinds, PromiseGrows, RepeatedPromiseIgnored, PromisesAbove, ProposalStays, ProposesOnce};
+ghost use Rattle.coord_paxos.specs.Laws.{SlotAfterAccept, AcceptanceAnswered, PrepareAnswered, PromiseAnswered, SlotAfterBegin, SlotAfterAcceptance, SlotAfterPromise, IgnoresAcceptances, IgnoresPromises, LeavesProposals, LeavesRepeats, LeavesSuggestions, LeavesUncounted, LeavesUntouched, SlotAfterLearn, SlotAfterPrepare, SlotAtTheStart, SlotAfterSuggest};
+ghost use Rattle.mencius_model.specs.Laws.{ReportedIsGreatest, ReportedWasHeard, ReportedWhereHeard};
 
 /// Where nothing happened, the slot is [`Slot::new`](crate::Slot::new)'s, and the owner's first
 /// suggestion leaves what [`suggest`](crate::Slot::suggest) makes of it.
 pub fn owner_proposes()
-    ensures start { Starts }
-    ensures suggested { Suggests }
+    ensures start { SlotAtTheStart }
+    ensures suggested { SlotAfterSuggest }
 {}
 
-/// [`prepare`](crate::Slot::prepare) answers as the history asks, and the slot after the answer is
-/// sent is the one that it leaves.
+/// What [`prepare`](crate::Slot::prepare) answers is what the trace asks to be sent, and the slot
+/// after that is the one that it leaves.
 pub fn prepares()
-    ensures known { AnswersKnown }
-    ensures above { AnswersPromise }
-    ensures below { AnswersNothing }
-    ensures after { Prepares }
+    ensures answer { PrepareAnswered }
+    ensures after { SlotAfterPrepare }
 {}
 
 /// The slot after an acceptance is sent is the one that [`accept`](crate::Slot::accept) leaves.
 pub fn accepts()
-    ensures { Accepts }
+    ensures { SlotAfterAccept }
 {}
 
 /// The slot after a Prepare is sent is the one that [`begin`](crate::Slot::begin) leaves.
 pub fn begins()
-    ensures { Begins }
+    ensures { SlotAfterBegin }
 {}
 
 /// [`add_promise`](crate::Slot::add_promise) gives the value that is due after all promises heard,
 /// and the slot after it is proposed is the one that the call leaves.
 pub fn counts_promises()
-    ensures tried { AnswersPromises }
+    ensures tried { PromiseAnswered }
     ensures other_ballot { IgnoresPromises }
-    ensures after { CountsPromises }
+    ensures after { SlotAfterPromise }
 {}
 
 /// [`add_accept`](crate::Slot::add_accept) gives the value that is decided by all acceptances
 /// heard, and the slot after it is learned is the one that the call leaves.
 pub fn counts_acceptances()
-    ensures tried { AnswersAcceptances }
+    ensures tried { AcceptanceAnswered }
     ensures other_ballot { IgnoresAcceptances }
-    ensures after { CountsAcceptances }
+    ensures after { SlotAfterAcceptance }
 {}
 
 /// The slot after a value is learned is the one that [`learn`](crate::Slot::learn) leaves.
 pub fn learns()
-    ensures { Learns }
+    ensures { SlotAfterLearn }
 {}
 
-/// Every other line of the history leaves the slot: what other servers say, what is said of other
-/// instances, and messages that count in no tally of the ballot tried.
+/// Which other lines leave the slot of server p at instance i: each line but a Suggest or a Propose
+/// of i, a Promise, an Accepted or a Prepare of i that p sent, what p learned at i, and what p heard;
+/// and a message that p heard and that is no Promise and no Accepted of the ballot that p tries at i.
+/// Where what p accepted at i had been proposed, as in every trace that comes about, so do a Propose
+/// at a ballot that p does not try, and a Suggest where p is not the owner.
 pub fn leaves_the_rest()
     ensures untouched { LeavesUntouched }
     ensures uncounted { LeavesUncounted }
@@ -69,8 +70,8 @@ pub fn leaves_the_rest()
 /// calls for nothing.
 pub fn ignores_repeats()
     ensures messages { LeavesRepeats }
-    ensures promises { PromiseRepeats }
-    ensures acceptances { AcceptanceRepeats }
+    ensures promises { RepeatedPromiseIgnored }
+    ensures acceptances { RepeatedAcceptanceIgnored }
 {}
 
 /// A promise is of a greater ballot than the one before, binds, and only grows.
@@ -83,11 +84,11 @@ pub fn keeps_promises()
 /// The vote reported is one that was heard, none that was heard has a greater ballot, and of equal
 /// ballots the first one stands.
 pub fn reports_greatest()
-    ensures heard { ReportsHeard }
-    ensures greatest { ReportsGreatest }
-    ensures some { ReportsSome }
-    ensures first { FirstStands }
-    ensures greater { GreaterReplaces }
+    ensures heard { ReportedWasHeard }
+    ensures greatest { ReportedIsGreatest }
+    ensures some { ReportedWhereHeard }
+    ensures first { FirstVoteStands }
+    ensures greater { GreaterVoteReplaces }
 {}
 
 /// A new ballot starts with empty tallies. It has at most one proposal, which stays until the next

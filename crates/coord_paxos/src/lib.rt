@@ -7,32 +7,22 @@
 //! what the answer calls for. No call takes memory, and no call fails.
 #![tactic(auto)]
 
-ghost use Rattle.std.specs.Prelude.{◌≡◌, ◌<◌, ◌≤◌, ◌==◌, Some, None, is_none, nat_le, slice_set, take, true};
+ghost use Rattle.std.specs.Prelude.{◌≡◌, ◌<◌, ◌≤◌, ◌==◌, Some, None, is_none, length, nat_le, slice_set, take, true};
 ghost use Rattle.coord_paxos.specs.Fresh.{new_slot};
 ghost use Rattle.coord_paxos.specs.Slot.{accept_answer, after_accept, after_acceptance, after_begin, after_learn, after_prepare, after_promise, is_majority, prepare_answer, promise_answer, to_learn, to_propose, with_accept, with_promise};
 ghost use Rattle.mencius_model.specs.Instance.{higher_vote, value_or_noop};
 ghost use Rattle.mencius_base.specs.declared.message.Value.TheVariants.{Ticket};
 
-use mencius_base::{Ballot, Members, Value, Vote};
+pub use mencius_base::Answer;
+use mencius_base::{Ballot, MOST_SERVERS, Members, Value, Vote};
 use std::marker::Model;
 
 pub mod laws;
 #[cfg(test)]
 mod tests;
 
-/// What an acceptor answers to a Prepare.
-#[derive(Clone, Copy, Debug, PartialEq, Eq)]
-pub enum Answer {
-    /// It will accept nothing below the ballot from now on, and reports what it accepted last.
-    Promise(Option<Vote>),
-    /// It has learned the instance's value already, and no ballot is needed any more.
-    Known(Value),
-    /// It promised this ballot or a greater one before, and says nothing.
-    Silent,
-}
-
 // One truth value for each of the at most seven servers; places past the last server stay false.
-type Tally = [bool; 7];
+type Tally = [bool; MOST_SERVERS as usize];
 
 /// What one server knows of one instance, as acceptor, as proposer and as learner.
 ///
@@ -89,8 +79,8 @@ impl Slot {
             trying: Ballot::OWNER,
             reported: None,
             proposal: None,
-            promisers: [false; 7],
-            accepters: [false; 7],
+            promisers: [false; MOST_SERVERS as usize],
+            accepters: [false; MOST_SERVERS as usize],
         }
     }
 
@@ -101,6 +91,13 @@ impl Slot {
         let mut slot = Slot::new(members);
         slot.learn(value);
         slot
+    }
+
+    /// The servers of the cluster, as [`Slot::new`] got them.
+    pub fn members(&self) -> Members
+        ensures { result ≡ self.now.members }
+    {
+        self.members
     }
 
     /// The greatest ballot promised or accepted here, `Ballot::OWNER` at the start. It only grows.
@@ -141,14 +138,16 @@ impl Slot {
 
     /// Of whose promises of the ballot tried this server heard: one truth value for each server.
     pub fn promises(&self) -> &[bool]
-        ensures { result.now ≡ self.now.promisers }
+        ensures value { result.now ≡ self.now.promisers }
+        ensures count { length result.now ≡ self.now.members.count }
     {
         &self.promisers[..self.members.count() as usize]
     }
 
     /// Of whose acceptances at the ballot tried this server heard: one truth value for each server.
     pub fn accepts(&self) -> &[bool]
-        ensures { result.now ≡ self.now.accepters }
+        ensures value { result.now ≡ self.now.accepters }
+        ensures count { length result.now ≡ self.now.members.count }
     {
         &self.accepters[..self.members.count() as usize]
     }
@@ -214,8 +213,8 @@ impl Slot {
         self.trying = ballot;
         self.reported = None;
         self.proposal = None;
-        self.promisers = [false; 7];
-        self.accepters = [false; 7];
+        self.promisers = [false; MOST_SERVERS as usize];
+        self.accepters = [false; MOST_SERVERS as usize];
     }
 
     /// Learns the instance's value where none was learned: whether it did. The first value stays.

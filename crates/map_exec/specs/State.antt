@@ -2,12 +2,13 @@
 use Rattle.std.specs.Prelude.{ℕ, List, [], ◌∷◌, ◌++◌, refl}
 use Rattle.std.specs.Coded.{Coded, code_by, coded×, coded_list, coded_ℕ}
 use Rattle.std.specs.FinMap as finite
+use Rattle.mencius_base.specs.Numbers.{TicketNo}
 use Rattle.mencius_base.specs.declared.command.Command.{Command}
 use Rattle.mencius_model.specs.Store.{Store, apply}
 
 pub record ExecutorState : Type 0 where
   pub store : Store
-  pub history : List ℕ
+  pub history : List TicketNo
 
 -- an executor is stored as the pair of its map and its history
 abbrev pub executor_code : Coded ExecutorState
@@ -16,5 +17,5 @@ executor_code =
     (λ x. (x.store, x.history)) (λ p. record { store = p.0; history = p.1 }) (λ _. refl)
 
 -- the executor after one more command, with its ticket
-abbrev pub after_execution : ExecutorState → Command → ℕ → ExecutorState
+abbrev pub after_execution : ExecutorState → Command → TicketNo → ExecutorState
 after_execution x c t = record { store = apply x.store c.op; history = x.history ++ t ∷ [] }

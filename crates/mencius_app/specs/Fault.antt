@@ -4,7 +4,7 @@ use Rattle.mencius_board.specs.declared.fault.BoardFault.TheVariants as board
 use Rattle.mencius_input.specs.declared.fault.AppFault.{AppFault}
 use Rattle.mencius_input.specs.declared.fault.AppFault.TheVariants.{NoMemory, BoardFailed}
 
--- want of memory is told as such
+-- running out of memory is told as such
 abbrev pub fault_of_board : BoardFault → AppFault
 fault_of_board board.NoMemory = NoMemory
 fault_of_board board.NoReader = BoardFailed

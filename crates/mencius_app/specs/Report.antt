@@ -1,10 +1,11 @@
--- The text of a report: every word is taken from the history that a cluster's journal makes.
+-- The text of a report: every word is taken from the trace that a cluster's journal makes.
 use Rattle.std.specs.Prelude.{ℕ, List, [], ◌∷◌, ◌++◌, codes, decimal, length, Option, Some, None}
 use Rattle.std.specs.List.{flat_map, range_with_len}
 use Rattle.mencius_base.specs.declared.command.Command.{Command}
 use Rattle.mencius_base.specs.declared.command.CommandId.{CommandId}
-use Rattle.mencius_model.specs.History.{History, events, sent, submitted}
+use Rattle.mencius_model.specs.Trace.{Trace, events, sent, submitted}
 use Rattle.mencius_base.specs.Members.{Membership}
+use Rattle.mencius_base.specs.Numbers.{ServerId, TicketNo}
 use Rattle.mencius_model.specs.Server.{done, front}
 use Rattle.mencius_model.specs.Replying.{Reply, Is, command_at, reply_of}
 use Rattle.mencius_model.specs.Executed.{executed}
@@ -21,14 +22,14 @@ spaced_id None = []
 spaced_id (Some c) = 32 ∷ id_text c.id
 
 -- the identities of what was executed, or a dash
-abbrev pub history_text : History → List ℕ → List ℕ
+abbrev pub history_text : Trace → List TicketNo → List ℕ
 history_text w [] = codes " -"
 history_text w (t ∷ ts) = flat_map (λ u. spaced_id (command_at w u)) (t ∷ ts)
 
-abbrev pub server_line : Membership → History → ℕ → List ℕ
-server_line m w s =
-    codes "server " ++ decimal s ++ codes " front " ++ decimal (front m w s) ++ codes " done " ++ decimal (done w s)
-    ++ codes " history" ++ history_text w (executed w s) ++ line_feed
+abbrev pub server_line : Membership → Trace → ServerId → List ℕ
+server_line m w p =
+    codes "server " ++ decimal p ++ codes " front " ++ decimal (front m w p) ++ codes " done " ++ decimal (done w p)
+    ++ codes " history" ++ history_text w (executed w p) ++ line_feed
 
 abbrev pub former_text : Option (List ℕ) → List ℕ
 former_text None = codes "none"
@@ -38,25 +39,25 @@ abbrev pub answer_text : Option Reply → List ℕ
 answer_text (Some (Is former)) = former_text former
 answer_text _ = codes "pending"
 
-abbrev pub reply_of_command : History → Option Command → List ℕ
+abbrev pub reply_of_command : Trace → Option Command → List ℕ
 reply_of_command w None = []
 reply_of_command w (Some c) = codes "reply " ++ id_text c.id ++ 32 ∷ answer_text (reply_of w c.id) ++ line_feed
 
 -- what became of the command of a ticket
-abbrev pub reply_line : History → ℕ → List ℕ
+abbrev pub reply_line : Trace → TicketNo → List ℕ
 reply_line w t = reply_of_command w (command_at w t)
 
-abbrev pub counts_line : Membership → History → List ℕ
+abbrev pub counts_line : Membership → Trace → List ℕ
 counts_line m w =
     codes "servers " ++ decimal m.count ++ codes " messages " ++ decimal (length (sent w)) ++ codes " events "
     ++ decimal (events w) ++ line_feed
 
-abbrev pub server_lines : Membership → History → ℕ → List ℕ
+abbrev pub server_lines : Membership → Trace → ℕ → List ℕ
 server_lines m w n = flat_map (server_line m w) (range_with_len 0 n)
 
-abbrev pub reply_lines : History → ℕ → List ℕ
+abbrev pub reply_lines : Trace → ℕ → List ℕ
 reply_lines w n = flat_map (reply_line w) (range_with_len 0 n)
 
 -- the counts, then each server, then each command in order of submission
-unfoldable pub report_text : Membership → History → List ℕ
+unfoldable pub report_text : Membership → Trace → List ℕ
 report_text m w = counts_line m w ++ server_lines m w m.count ++ reply_lines w (length (submitted w))

@@ -1,12 +1,9 @@
 -- The text of a run, and which input it is of.
 use Rattle.std.specs.Prelude.{◌≡◌, ◌⊎◌, ℕ, Bool, true, nat_lt, if◌then◌else◌, IfSome, Result, Ok, Err, List, [], ◌∷◌, ◌++◌, length, codes, Option, Some, None}
-use Rattle.std.specs.FinMap as finite
-use Rattle.mencius_model.specs.Store.{store_after}
-use Rattle.mencius_base.specs.declared.command.Command.{Command}
+use Rattle.mencius_model.specs.Store.{value_at}
 use Rattle.mencius_model.specs.Next.{replay}
-use Rattle.mencius_model.specs.Replying.{commands_of, longest_at}
-use Rattle.mencius_model.specs.Executed.{executed}
-use Rattle.mencius_cluster.specs.State.{ClusterState, history_of}
+use Rattle.mencius_model.specs.Replying.{longest_commands}
+use Rattle.mencius_cluster.specs.State.{ClusterState, trace_of}
 use Rattle.mencius_input.specs.declared.fault.AppFault.{AppFault}
 use Rattle.mencius_input.specs.declared.fault.AppFault.TheVariants.{BadLimit, BoardFailed, NoMemory}
 use Rattle.mencius_input.specs.Ends.{most_bytes}
@@ -20,13 +17,9 @@ use Rattle.mencius_app.specs.Report.{former_text, line_feed, report_text}
 abbrev pub journal_line : Bool → ClusterState → List ℕ
 journal_line asked c = if asked then journal_text c.members.count c.journal ++ line_feed else []
 
--- the commands of the longest history, in order
-abbrev pub longest_of : ClusterState → List Command
-longest_of c = commands_of (history_of c) (executed (history_of c) (longest_at c.members (history_of c)))
-
--- what their map holds at a key
+-- what the commands of the longest history leave at a key
 abbrev pub held_at : ClusterState → List ℕ → Option (List ℕ)
-held_at c key = finite.get (store_after (longest_of c)) key
+held_at c key = value_at key (longest_commands c.members (trace_of c))
 
 abbrev pub held_line : List ℕ → Option (List ℕ) → List ℕ
 held_line key held = codes "lookup " ++ (key ++ 32 ∷ (former_text held ++ line_feed))
@@ -43,7 +36,7 @@ lookup_line (Some key) c = held_line key (held_at c key)
 
 -- the journal's line, the report, and the lookup
 abbrev pub run_text : Bool → Option (List ℕ) → ClusterState → List ℕ
-run_text with_journal key c = journal_line with_journal c ++ (report_text c.members (history_of c) ++ lookup_line key c)
+run_text with_journal key c = journal_line with_journal c ++ (report_text c.members (trace_of c) ++ lookup_line key c)
 
 -- what was found at the key, where one is looked up
 abbrev pub IsFound : Option (List ℕ) → ClusterState → Option (List ℕ) → Type 0
@@ -75,6 +68,6 @@ pub record IsRunOf (known : Option (List ℕ)) (with_journal : Bool) (key : Opti
   pub written : WrittenPlan
   pub says : plan_input_of bytes ≡ Ok written
   pub cluster : ClusterState
-  pub replays : replay cluster.members cluster.journal ≡ Ok (history_of cluster)
+  pub replays : replay cluster.members cluster.journal ≡ Ok (trace_of cluster)
   pub run : text ≡ run_text with_journal key cluster
   pub reads_back : with_journal ≡ true → ReadsBack cluster

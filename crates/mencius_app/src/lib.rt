@@ -2,6 +2,9 @@
 //! a run make of their input, and the texts that they print.
 #![tactic(auto)]
 
+mod arguments;
+mod calling;
+mod ending;
 mod fault;
 mod journal;
 mod plan;
@@ -9,11 +12,14 @@ mod printed;
 mod replaying;
 mod running;
 
+pub use arguments::arguments_of;
+pub use calling::perform;
+pub use ending::{Ending, end};
 pub use mencius_board::{Gate, Open};
 pub use mencius_input::{
     AppFault, Scenario, Sink, Source, Std, Task, exit_status, read_command_line, read_scenario,
 };
 pub use plan::{RunScenario, read_plan};
 pub use printed::report;
-pub use replaying::replay;
+pub use replaying::{replay, replay_judged};
 pub use running::run;

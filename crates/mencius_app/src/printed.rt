@@ -1,26 +1,31 @@
 //! The report of a cluster.
 
-ghost use Rattle.std.specs.Prelude.{◌≡◌, ◌<◌, ◌⊎◌, ◌++◌, ◌∷◌, length, decimal, string_bytes, Some, IfErr, IfOk, IsErrOf, OnOk, option_copied, unwrap_or};
+ghost use Rattle.std.specs.Prelude.{ℕ, ◌≡◌, ◌<◌, ◌≤◌, ◌+◌, ◌⊎◌, ◌++◌, ◌∷◌, length, decimal, string_bytes, Some, IfErr, IfOk, IsErrOf, OnOk, slice_get};
 ghost use Rattle.std.specs.Io.KnownBytes.{Appends, Keeps};
-ghost use Rattle.mencius_input.specs.Ends.{HasFailed, WritesFront};
+ghost use Rattle.mencius_input.specs.Ends.{HasFailed, WritesFront, most_failed_calls};
 ghost use Rattle.mencius_app.specs.Report.{answer_text, counts_line, history_text, id_text, reply_line, reply_lines, reply_of_command, report_text, server_line, server_lines, spaced_id};
-ghost use Rattle.mencius_model.specs.History.{submitted};
-ghost use Rattle.mencius_model.specs.Replying.{reply_of};
-ghost use Rattle.mencius_cluster.specs.State.{history_of};
+ghost use Rattle.mencius_model.specs.Trace.{submitted};
+ghost use Rattle.mencius_cluster.specs.Answers.{bytes_in};
+ghost use Rattle.mencius_cluster.specs.State.{trace_of};
 
 use itoa::Buffer;
 use mencius_base::CommandId;
-use mencius_cluster::{Answered, Cluster};
+use mencius_cluster::{Answered, Cluster, laws};
 use mencius_input::{AppFault, Sink, write_all};
 use std::alloc::{AllocError, Global};
 
-/// Writes the report of a cluster, whole.
+/// Writes the report of a cluster, whole. At most 1,001 calls of the writer fail.
 pub fn report<W: Sink>(alloc: Global, cluster: &Cluster, sink: &mut W) -> Result<(), AppFault>
-    ensures whole { OnOk result (Appends (W.contents sink.old) (W.contents sink.new) (report_text cluster.now.members (history_of cluster.now))) }
+    ensures whole { OnOk result (Appends (W.contents sink.old) (W.contents sink.new)
+        (report_text cluster.now.members (trace_of cluster.now))) }
     ensures faults { IfErr result (λ f. (f ≡ AppFault.WriteFailed) ⊎ (f ≡ AppFault.NoMemory)) }
-    ensures failed { IsErrOf result AppFault.WriteFailed → HasFailed (W.failed sink.old) (W.failed sink.new) }
-    ensures front { IsErrOf result AppFault.WriteFailed → WritesFront (W.contents sink.old) (W.contents sink.new) (report_text cluster.now.members (history_of cluster.now)) }
+    ensures failed { IsErrOf result AppFault.WriteFailed
+        → HasFailed (W.failed sink.old) (W.failed sink.new) }
+    ensures front { IsErrOf result AppFault.WriteFailed
+        → WritesFront (W.contents sink.old) (W.contents sink.new)
+        (report_text cluster.now.members (trace_of cluster.now)) }
     ensures nothing { IsErrOf result AppFault.NoMemory → sink.new ≡ sink.old }
+    ensures tried { W.failed sink.new ≤ W.failed sink.old + most_failed_calls }
 {
     let mut text = String::new(alloc);
     push_report(&mut text, cluster)?;
@@ -30,7 +35,8 @@ pub fn report<W: Sink>(alloc: Global, cluster: &Cluster, sink: &mut W) -> Result
 /// Adds the report of a cluster to a text.
 #[tactic(auto, unfolding(crate::specs::Report::report_text))]
 pub(crate) fn push_report(text: &mut String, cluster: &Cluster) -> Result<(), AllocError>
-    ensures { OnOk result (string_bytes text.new ≡ string_bytes text.old ++ report_text cluster.now.members (history_of cluster.now)) }
+    ensures { OnOk result (string_bytes text.new
+        ≡ string_bytes text.old ++ report_text cluster.now.members (trace_of cluster.now)) }
 {
     push_counts(text, cluster)?;
     push_servers(text, cluster)?;
@@ -38,7 +44,8 @@ pub(crate) fn push_report(text: &mut String, cluster: &Cluster) -> Result<(), Al
 }
 
 fn push_counts(text: &mut String, cluster: &Cluster) -> Result<(), AllocError>
-    ensures { OnOk result (string_bytes text.new ≡ string_bytes text.old ++ counts_line cluster.now.members (history_of cluster.now)) }
+    ensures { OnOk result (string_bytes text.new
+        ≡ string_bytes text.old ++ counts_line cluster.now.members (trace_of cluster.now)) }
 {
     let servers = cluster.servers();
     let messages = cluster.messages();
@@ -50,7 +57,8 @@ fn push_counts(text: &mut String, cluster: &Cluster) -> Result<(), AllocError>
 }
 
 fn push_servers(text: &mut String, cluster: &Cluster) -> Result<(), AllocError>
-    ensures { OnOk result (string_bytes text.new ≡ string_bytes text.old ++ server_lines cluster.now.members (history_of cluster.now) cluster.now.members.count) }
+    ensures { OnOk result (string_bytes text.new ≡ string_bytes text.old
+        ++ server_lines cluster.now.members (trace_of cluster.now) cluster.now.members.count) }
 {
     for server in 0..cluster.servers() {
         push_server(text, cluster, server)?;
@@ -60,26 +68,41 @@ fn push_servers(text: &mut String, cluster: &Cluster) -> Result<(), AllocError>
 
 fn push_server(text: &mut String, cluster: &Cluster, server: u8) -> Result<(), AllocError>
     requires { server < cluster.now.members.count }
-    ensures { OnOk result (string_bytes text.new ≡ string_bytes text.old ++ server_line cluster.now.members (history_of cluster.now) server) }
+    ensures { OnOk result (string_bytes text.new
+        ≡ string_bytes text.old ++ server_line cluster.now.members (trace_of cluster.now) server) }
 {
-    let front = cluster.front(server).unwrap_or(0);
-    let done = cluster.done(server).unwrap_or(0);
+    // Called for their promises alone: what a server executed was submitted.
+    laws::once();
+    cluster.replays();
+    let Some(front) = cluster.front(server) else {
+        unreachable!();
+    };
+    let Some(done) = cluster.done(server) else {
+        unreachable!();
+    };
+    let Some(history) = cluster.history(server) else {
+        unreachable!();
+    };
     write!(text, "server {server} front {front} done {done} history")?;
-    push_history(text, cluster, cluster.history(server).unwrap_or(&[]))?;
+    push_history(text, cluster, history)?;
     text.push('\n')
 }
 
 fn push_history(text: &mut String, cluster: &Cluster, tickets: &[u32]) -> Result<(), AllocError>
-    ensures { OnOk result (string_bytes text.new ≡ string_bytes text.old ++ history_text (history_of cluster.now) tickets.now) }
+    requires { (k t : ℕ) → slice_get tickets.now k ≡ Some t
+        → t < length (submitted (trace_of cluster.now)) }
+    ensures { OnOk result (string_bytes text.new
+        ≡ string_bytes text.old ++ history_text (trace_of cluster.now) tickets.now) }
 {
     if tickets.is_empty() {
         return text.push_str(" -");
     }
     for ticket in tickets {
-        if let Some(command) = cluster.command(*ticket) {
-            text.push(' ')?;
-            push_id(text, command.id())?;
-        }
+        let Some(command) = cluster.command(*ticket) else {
+            unreachable!();
+        };
+        text.push(' ')?;
+        push_id(text, command.id())?;
     }
     Ok(())
 }
@@ -92,7 +115,8 @@ pub(crate) fn push_id(text: &mut String, id: CommandId) -> Result<(), AllocError
     push_number(text, id.number)
 }
 
-// Adds a number's digits. A report has as many identities as there are commands, and `write!` takes three times as long.
+// Adds a number's digits. A report has as many identities as there are commands, and `write!` takes three times
+// as long.
 fn push_number(text: &mut String, number: u32) -> Result<(), AllocError>
     ensures { OnOk result (string_bytes text.new ≡ string_bytes text.old ++ decimal number) }
 {
@@ -100,7 +124,8 @@ fn push_number(text: &mut String, number: u32) -> Result<(), AllocError>
 }
 
 fn push_replies(text: &mut String, cluster: &Cluster) -> Result<(), AllocError>
-    ensures { OnOk result (string_bytes text.new ≡ string_bytes text.old ++ reply_lines (history_of cluster.now) (length (submitted (history_of cluster.now)))) }
+    ensures { OnOk result (string_bytes text.new ≡ string_bytes text.old
+        ++ reply_lines (trace_of cluster.now) (length (submitted (trace_of cluster.now)))) }
 {
     for ticket in 0..cluster.commands() {
         push_reply(text, cluster, ticket)?;
@@ -109,25 +134,27 @@ fn push_replies(text: &mut String, cluster: &Cluster) -> Result<(), AllocError>
 }
 
 fn push_reply(text: &mut String, cluster: &Cluster, ticket: u32) -> Result<(), AllocError>
-    ensures { OnOk result (string_bytes text.new ≡ string_bytes text.old ++ reply_line (history_of cluster.now) ticket) }
+    requires { ticket < length (submitted (trace_of cluster.now)) }
+    ensures { OnOk result (string_bytes text.new
+        ≡ string_bytes text.old ++ reply_line (trace_of cluster.now) ticket) }
 {
-    let Some(command) = cluster.command(ticket) else {
-        return Ok(());
+    let Some(submission) = cluster.submission(ticket) else {
+        unreachable!();
     };
-    let id = command.id();
     text.push_str("reply ")?;
-    push_id(text, id)?;
+    push_id(text, submission.command.id())?;
     text.push(' ')?;
-    push_answer(text, cluster, id)?;
+    push_answer(text, &submission.answer)?;
     text.push('\n')
 }
 
-fn push_answer(text: &mut String, cluster: &Cluster, id: CommandId) -> Result<(), AllocError>
-    ensures { OnOk result (string_bytes text.new ≡ string_bytes text.old ++ answer_text (reply_of (history_of cluster.now) id)) }
+fn push_answer(text: &mut String, answer: &Answered) -> Result<(), AllocError>
+    ensures { OnOk result (string_bytes text.new
+        ≡ string_bytes text.old ++ answer_text (Some (bytes_in answer.now))) }
 {
-    match cluster.reply(id) {
-        Some(Answered::Given(Some(former))) => write!(text, "={former}"),
-        Some(Answered::Given(None)) => text.push_str("none"),
-        _ => text.push_str("pending"),
+    match answer {
+        Answered::Given(Some(former)) => write!(text, "={former}"),
+        Answered::Given(None) => text.push_str("none"),
+        Answered::Pending => text.push_str("pending"),
     }
 }

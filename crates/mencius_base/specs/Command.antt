@@ -2,6 +2,7 @@
 use Rattle.std.specs.Prelude.{ℕ, Bool, List, [], length, Option, Some, None, ◌==◌, ◌&&◌, ◌||◌, not, nat_le, if◌then◌else◌}
 use Rattle.std.specs.List.{list_all}
 use Rattle.std.specs.Char.{is_ascii_alphanumeric}
+use Rattle.mencius_base.specs.Limits.{most_key_bytes, most_text_bytes}
 use Rattle.mencius_base.specs.declared.command.BadCommand.{BadCommand}
 use Rattle.mencius_base.specs.declared.command.BadCommand.TheVariants.{KeyByte, TextByte, KeyLength, TextLength}
 use Rattle.mencius_base.specs.declared.command.CommandId.{CommandId}
@@ -16,10 +17,10 @@ unfoldable pub is_name : List ℕ → Bool
 is_name word = list_all is_name_byte word
 
 abbrev pub is_key_length : List ℕ → Bool
-is_key_length key = nat_le 1 (length key) && nat_le (length key) 64
+is_key_length key = nat_le 1 (length key) && nat_le (length key) most_key_bytes
 
 abbrev pub is_text_length : List ℕ → Bool
-is_text_length text = nat_le (length text) 256
+is_text_length text = nat_le (length text) most_text_bytes
 
 -- what is wrong with a key and a text: bytes first, then lengths
 abbrev pub bad_entry : List ℕ → List ℕ → Option BadCommand

@@ -1,3 +1,4 @@
+pub mod Numbers
 pub mod Limits
 pub mod Members
 pub mod Request

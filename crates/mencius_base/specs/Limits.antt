@@ -1,5 +1,9 @@
--- The limits of a cluster, by number. The code has the same numbers in `src/limits.rt`.
+-- The limits of a cluster and of a run, by number. The code has the same numbers in `src/limits.rt`.
 use Rattle.std.specs.Prelude.{ℕ}
+
+-- the greatest number of servers
+abbrev pub most_servers : ℕ
+most_servers = 7
 
 -- how many instances there are
 abbrev pub instance_count : ℕ
@@ -20,3 +24,20 @@ message_limit = 262144
 -- how many events may be accepted
 abbrev pub event_limit : ℕ
 event_limit = 262144
+
+-- the greatest numbers of workers of a run and of turns of a worker, and how many of 64 choices may lose a message
+abbrev pub most_workers : ℕ
+most_workers = 8
+
+abbrev pub most_turns : ℕ
+most_turns = 100000
+
+abbrev pub greatest_loss : ℕ
+greatest_loss = 32
+
+-- the greatest numbers of bytes of a key and of a text
+abbrev pub most_key_bytes : ℕ
+most_key_bytes = 64
+
+abbrev pub most_text_bytes : ℕ
+most_text_bytes = 256

@@ -1,6 +1,7 @@
 -- Who there is, who owns which instance, and who leads which ballot.
 use Rattle.std.specs.Prelude.{ℕ, ◌+◌, ◌-◌, ◌*◌, ◌/◌, ◌%◌, List, [], ◌∷◌, Option, Some, None, if◌then◌else◌, ◌==◌}
 use Rattle.std.specs.List.{range_with_len}
+use Rattle.mencius_base.specs.Numbers.{ServerId, Inst, BallotNo}
 use Rattle.mencius_base.specs.Limits.{event_limit, greatest_round, instance_count, message_limit}
 
 -- the servers of a cluster
@@ -12,21 +13,21 @@ abbrev pub majority : Membership → ℕ
 majority m = m.count / 2 + 1
 
 -- the instances are owned in turn
-abbrev pub owner : Membership → ℕ → ℕ
+abbrev pub owner : Membership → Inst → ServerId
 owner m i = i % m.count
 
 -- a server's least instance from a place on
-abbrev pub first_owned : Membership → ℕ → ℕ → ℕ
+abbrev pub first_owned : Membership → ServerId → Inst → Inst
 first_owned m p from = from + (p + m.count - from % m.count) % m.count
 
 -- the ballot of a round that a server leads; the round of ballot 0 is 0
-abbrev pub ballot_of : Membership → ℕ → ℕ → ℕ
+abbrev pub ballot_of : Membership → ℕ → ServerId → BallotNo
 ballot_of m round server = round * m.count + server
 
-abbrev pub round : Membership → ℕ → ℕ
+abbrev pub round : Membership → BallotNo → ℕ
 round m b = b / m.count
 
-abbrev pub leader : Membership → ℕ → ℕ → ℕ
+abbrev pub leader : Membership → BallotNo → Inst → ServerId
 leader m b i = if b == 0 then owner m i else b % m.count
 
 -- the numbers below n, rising
@@ -39,7 +40,7 @@ first_item [] = None
 first_item (t ∷ ts) = Some t
 
 -- every instance there is, and the greatest number of messages and of events
-unfoldable pub instances : List ℕ
+unfoldable pub instances : List Inst
 instances = below instance_count
 
 unfoldable pub most_messages : ℕ

@@ -1,19 +1,20 @@
 -- Where a message may go.
-use Rattle.std.specs.Prelude.{ℕ, Bool, true, Option, Some, None, ◌==◌, ◌&&◌, nat_le, nat_lt}
+use Rattle.std.specs.Prelude.{Bool, true, Option, Some, None, ◌==◌, ◌&&◌, nat_le, nat_lt}
+use Rattle.mencius_base.specs.Numbers.{ServerId}
 use Rattle.mencius_base.specs.declared.message.Message.{Message}
 use Rattle.mencius_base.specs.declared.message.Message.TheVariants.{Suggest, Skip, Accepted, Prepare, Promise, Propose, Learn}
 use Rattle.mencius_base.specs.Members.{Membership}
 use Rattle.mencius_base.specs.Limits.{greatest_front, instance_count}
 
 -- Accepted and Promise go to one server, all others to every server
-abbrev pub goes_to : ℕ → Message → Bool
-goes_to d (Accepted from to inst ballot) = to == d
-goes_to d (Promise from to inst ballot vote) = to == d
-goes_to d _ = true
+abbrev pub goes_to : ServerId → Message → Bool
+goes_to p (Accepted from to inst ballot) = to == p
+goes_to p (Promise from to inst ballot vote) = to == p
+goes_to p _ = true
 
-abbrev pub is_for : ℕ → Option Message → Bool
-is_for d None = true
-is_for d (Some x) = goes_to d x
+abbrev pub is_for : ServerId → Option Message → Bool
+is_for p None = true
+is_for p (Some x) = goes_to p x
 
 -- its servers are members, its instance is one of the 4,096, and what has a first phase has a ballot above 0
 abbrev pub is_within : Membership → Message → Bool
@@ -26,6 +27,6 @@ is_within m (Promise from to inst ballot vote) =
 is_within m (Propose from inst ballot value) = (nat_lt from m.count && nat_lt inst instance_count) && nat_lt 0 ballot
 is_within m (Learn from inst value) = nat_lt from m.count && nat_lt inst instance_count
 
--- the message goes to server d, and all its numbers are within their limits
-abbrev pub is_addressed : Membership → ℕ → Message → Bool
-is_addressed m d x = nat_lt d m.count && (goes_to d x && is_within m x)
+-- the message goes to server p, and all its numbers are within their limits
+abbrev pub is_addressed : Membership → ServerId → Message → Bool
+is_addressed m p x = nat_lt p m.count && (goes_to p x && is_within m x)

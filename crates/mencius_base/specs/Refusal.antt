@@ -35,12 +35,12 @@ refusal_name MessagesFull = codes "MessagesFull"
 refusal_name EventsFull = codes "EventsFull"
 refusal_name NoMemory = codes "NoMemory"
 
--- the cause, or want of memory where there is none
+-- the cause, or `NoMemory` where there is none
 abbrev pub cause_or_memory : Option Refusal → Refusal
 cause_or_memory None = NoMemory
 cause_or_memory (Some r) = r
 
--- refused for the cause where there is one, and else only for want of memory
+-- refused for the cause where there is one, and else only when out of memory
 abbrev pub IsRefusedFor : {A : Type 0} → Option Refusal → Result A Refusal → Type 0
 IsRefusedFor cause (Ok x) = cause ≡ None
 IsRefusedFor cause (Err r) = r ≡ cause_or_memory cause

@@ -34,7 +34,8 @@ impl Ballot {
     /// The ballot of a round that a server leads; `None` unless the round is 1 to 65,535 and the
     /// server is one of the members.
     pub fn new(members: Members, round: u32, server: u8) -> Option<Ballot>
-        ensures valid { IsSome result ↔ ((1 ≤ round) × (round ≤ greatest_round) × (server < members.count)) }
+        ensures valid { IsSome result
+            ↔ ((1 ≤ round) × (round ≤ greatest_round) × (server < members.count)) }
         ensures value { IfSome result (λ b. b ≡ ballot_of members round server) }
     {
         if round < 1 || round > GREATEST_ROUND || server >= members.count() {

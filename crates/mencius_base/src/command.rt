@@ -2,6 +2,7 @@ ghost use Rattle.std.specs.Prelude.{◌≡◌, MatchResult, MatchOption, None, S
 ghost use Rattle.std.specs.List.{list_all};
 ghost use Rattle.mencius_base.specs.Command.{bad_entry, bad_op, is_name};
 
+use crate::limits::{MOST_KEY_BYTES, MOST_TEXT_BYTES};
 use std::alloc::Global;
 use std::marker::Model;
 use thiserror::Error;
@@ -141,7 +142,8 @@ impl Command {
     /// The command of this identity and operation, or the first thing that is wrong with the
     /// operation: a bad byte in the key or in the text, and then a bad length of either.
     pub fn new(id: CommandId, op: Op) -> Result<Command, BadCommand>
-        ensures command { MatchResult result (λ c. c ≡ record { id = id; op = op }) (λ e. bad_op op ≡ Some e) }
+        ensures command { MatchResult result (λ c. c ≡ record { id = id; op = op })
+            (λ e. bad_op op ≡ Some e) }
         ensures good { MatchResult result (λ _. bad_op op ≡ None) (λ e. bad_op op ≡ Some e) }
     {
         match find_fault(&op) {
@@ -186,10 +188,10 @@ fn find_fault_of_entry(key: &str, text: &str) -> Option<BadCommand>
     if !is_name(text) {
         return Some(BadCommand::TextByte);
     }
-    if key.is_empty() || key.len() > 64 {
+    if key.is_empty() || key.len() > MOST_KEY_BYTES {
         return Some(BadCommand::KeyLength);
     }
-    if text.len() > 256 {
+    if text.len() > MOST_TEXT_BYTES {
         return Some(BadCommand::TextLength);
     }
     None

@@ -19,8 +19,11 @@ mod tests;
 pub use ballot::Ballot;
 pub use command::{BadCommand, Command, CommandId, Key, Op, Text, is_name};
 pub use event::{Entry, Event};
-pub use limits::{GREATEST_FRONT, GREATEST_ROUND, INSTANCES, MOST_EVENTS, MOST_MESSAGES};
+pub use limits::{
+    GREATEST_FRONT, GREATEST_LOSS, GREATEST_ROUND, INSTANCES, MOST_EVENTS, MOST_KEY_BYTES,
+    MOST_MESSAGES, MOST_SERVERS, MOST_TEXT_BYTES, MOST_TURNS, MOST_WORKERS,
+};
 pub use members::Members;
-pub use message::{Message, Value, Vote};
+pub use message::{Answer, Message, Value, Vote};
 pub use outbox::Outbox;
 pub use refusal::{NoMemory, Refusal};

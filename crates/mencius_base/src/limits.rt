@@ -1,4 +1,7 @@
-//! The limits of a cluster, by number. Definitions have the same numbers in `specs/Limits.antt`.
+//! The limits of a cluster and of a run, by number. Definitions have the same numbers in `specs/Limits.antt`.
+
+/// The greatest number of servers.
+pub const MOST_SERVERS: u8 = 7;
 
 /// How many instances there are.
 pub const INSTANCES: u32 = 4096;
@@ -14,3 +17,18 @@ pub const MOST_MESSAGES: u32 = 262_144;
 
 /// How many events may be accepted.
 pub const MOST_EVENTS: u32 = 262_144;
+
+/// The greatest number of workers of a run.
+pub const MOST_WORKERS: u8 = 8;
+
+/// The greatest number of turns of a worker.
+pub const MOST_TURNS: u32 = 100_000;
+
+/// The greatest loss of a run: how many of 64 choices lose a message.
+pub const GREATEST_LOSS: u8 = 32;
+
+/// The greatest number of bytes of a key.
+pub const MOST_KEY_BYTES: usize = 64;
+
+/// The greatest number of bytes of a text.
+pub const MOST_TEXT_BYTES: usize = 256;

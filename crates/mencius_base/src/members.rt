@@ -1,7 +1,8 @@
-ghost use Rattle.mencius_base.specs.Limits.{greatest_front};
+ghost use Rattle.mencius_base.specs.Limits.{greatest_front, most_servers};
 ghost use Rattle.std.specs.Prelude.{◌≡◌, ℕ, ◌+◌, ◌<◌, ◌≤◌, ◌↔◌, IsSome, IfSome};
 ghost use Rattle.mencius_base.specs.Members.{first_owned, majority, owner};
 
+use crate::limits::MOST_SERVERS;
 use std::marker::Model;
 
 /// The servers of a cluster, numbered from 0. They own the instances in turn, round-robin, as in
@@ -13,13 +14,14 @@ pub struct Members {
 
 impl Model for Members {
     ghost use Rattle.std.specs.Prelude.{◌≤◌};
+    ghost use Rattle.mencius_base.specs.Limits.{most_servers};
     ghost use Rattle.mencius_base.specs.Members.{Membership};
 
     ghost Value = { Membership };
 
     ghost view = { λ m. record { count = m.count } };
 
-    ghost invariant = { λ m. (1 ≤ m.count) × (m.count ≤ 7) };
+    ghost invariant = { λ m. (1 ≤ m.count) × (m.count ≤ most_servers) };
 
     ghost inverse = { λ v. record { count = v.count } };
 }
@@ -27,10 +29,10 @@ impl Model for Members {
 impl Members {
     /// The members of a cluster of `n` servers; `None` unless `n` is 1 to 7.
     pub fn new(n: u8) -> Option<Members>
-        ensures valid { IsSome result ↔ ((1 ≤ n) × (n ≤ 7)) }
+        ensures valid { IsSome result ↔ ((1 ≤ n) × (n ≤ most_servers)) }
         ensures value { IfSome result (λ m. m.count ≡ n) }
     {
-        if n < 1 || n > 7 {
+        if n < 1 || n > MOST_SERVERS {
             return None;
         }
         Some(Members { count: n })
@@ -40,7 +42,7 @@ impl Members {
     pub fn count(self) -> u8
         ensures count { result ≡ self.count }
         ensures some { 1 ≤ result }
-        ensures few { result ≤ 7 }
+        ensures few { result ≤ most_servers }
     {
         self.count
     }

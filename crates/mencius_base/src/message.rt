@@ -20,6 +20,17 @@ pub struct Vote {
     pub value: Value,
 }
 
+/// What an acceptor answers to a Prepare.
+#[derive(Clone, Copy, Debug, PartialEq, Eq)]
+pub enum Answer {
+    /// It will accept nothing below the ballot from now on, and reports what it accepted last.
+    Promise(Option<Vote>),
+    /// It has learned the instance's value already, and no ballot is needed any more.
+    Known(Value),
+    /// It promised this ballot or a greater one before, and says nothing.
+    Silent,
+}
+
 /// What a server sends. Messages are numbered from 0 in order of sending. Accepted and Promise go to
 /// one server, all others to every server, the sender too (OSDI 2008, Coordinated Paxos, with its
 /// actions suggest, skip and revoke).

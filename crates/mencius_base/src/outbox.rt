@@ -22,7 +22,11 @@ impl Model for Outbox {
 
     ghost Value = { Outgoing };
 
-    ghost view = { λ o. record { messages = o.messages.items; limit = o.limit; room = min (vec_capacity o.messages) o.limit - vec_len o.messages } };
+    ghost view = { λ o. record {
+      messages = o.messages.items;
+      limit = o.limit;
+      room = min (vec_capacity o.messages) o.limit - vec_len o.messages;
+    } };
 
     ghost invariant = { λ o. vec_len o.messages ≤ o.limit };
 }

@@ -5,7 +5,7 @@ use Rattle.mencius_board.specs.declared.workers.ProgressOf.{ProgressOf}
 use Rattle.mencius_board.specs.Plans.{PlanState}
 use Rattle.mencius_board.specs.Running.{Answers, EndState, EndsAs, HasEnded, IsEndOf}
 
-pub ended : {T : Type 0} (o : Option (PromisedHandle T ProgressOf)) (p : PlanState) (k : ℕ) (end : EndState)
-    → Answers p.seed p.turns k o → EndsAs o end → IsEndOf p k end
-ended None p k end a e = inr e
-ended (Some h) p k end a e = inl (subst (λ (q : ProgressOf). HasEnded q.seed q.worker q.turns end) a e)
+pub ended : {T : Type 0} (o : Option (PromisedHandle T ProgressOf)) (plan : PlanState) (worker : ℕ) (end : EndState)
+    → Answers plan.seed plan.turns worker o → EndsAs o end → IsEndOf plan worker end
+ended None plan worker end a e = inr e
+ended (Some h) plan worker end a e = inl (subst (λ (q : ProgressOf). HasEnded q.seed q.worker q.turns end) a e)

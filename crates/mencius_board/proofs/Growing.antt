@@ -1,5 +1,5 @@
 -- What a step leaves of what a board relies on.
-use Rattle.std.proofs.Common.{◌≡◌, ◌≤◌, ℕ, List, [], ◌∷◌, ◌++◌, Result, Ok, Err, IfOk, OnErr, refl, sym, subst}
+use Rattle.std.proofs.Common.{◌≡◌, ◌≤◌, List, [], ◌∷◌, ◌++◌, Result, Ok, Err, IfOk, OnErr, refl, sym, subst}
 use mathlib.Core.List.{IsPrefix}
 use Rattle.mencius_base.specs.declared.event.Event.{Event}
 use Rattle.mencius_base.specs.declared.refusal.Refusal.{Refusal}
@@ -7,37 +7,37 @@ use Rattle.mencius_base.specs.Members.{Membership}
 use Rattle.mencius_model.specs.Next.{replay}
 use Rattle.mencius_cluster.specs.declared.cluster.Effect.{Effect}
 use Rattle.mencius_model.specs.Replying.{longest_commands}
-use Rattle.mencius_cluster.specs.State.{ClusterState, IsStepped, history_of}
+use Rattle.mencius_cluster.specs.State.{ClusterState, IsStepped, trace_of}
 use Rattle.mencius_board.specs.Boards.{IsSteady, longest}
 use Rattle.mencius_board.proofs.Prefixes.{prefix_self}
 
 -- what a board relies on holds of the cluster that an event leaves
-steady_next : (x y : ClusterState) (e : Event) (first sent learned : ℕ) → IsSteady x
-    → IsStepped x y e first sent learned → IsSteady y
-steady_next x y e first sent learned s step = record {
+steady_next : (x y : ClusterState) (e : Event) (f : Effect) → IsSteady x
+    → IsStepped x y e f → IsSteady y
+steady_next x y e f s step = record {
   some_server = subst (λ (m : Membership). 1 ≤ m.count) (sym step.members) s.some_server;
   replays = step.replays;
   grows = s.grows;
 }
 
 -- and its longest history begins with the former one
-longest_grows : (x y : ClusterState) (e : Event) (first sent learned : ℕ) → IsSteady x
-    → IsStepped x y e first sent learned → IsPrefix (longest x) (longest y)
+longest_grows : (x y : ClusterState) (e : Event) (f : Effect) → IsSteady x
+    → IsStepped x y e f → IsPrefix (longest x) (longest y)
 unfolding longest
-longest_grows x y e first sent learned s step =
-    let now = subst (λ (m : Membership). replay m y.journal ≡ Ok (history_of y)) step.members step.replays in
-    let all = subst (λ (es : List Event). replay x.members es ≡ Ok (history_of y)) step.journal now in
-    let more = s.grows x.members (x.journal ++ e ∷ []) (history_of y) (history_of x)
+longest_grows x y e f s step =
+    let now = subst (λ (m : Membership). replay m y.journal ≡ Ok (trace_of y)) step.members step.replays in
+    let all = subst (λ (es : List Event). replay x.members es ≡ Ok (trace_of y)) step.journal now in
+    let more = s.grows x.members (x.journal ++ e ∷ []) (trace_of y) (trace_of x)
     (record { some_server = s.some_server; replays = all })
     (record { before = x.journal; after = e ∷ []; splits = refl; replays = s.replays }) in
-    subst (λ (m : Membership). IsPrefix (longest_commands x.members (history_of x)) (longest_commands m (history_of y)))
+    subst (λ (m : Membership). IsPrefix (longest_commands x.members (trace_of x)) (longest_commands m (trace_of y)))
     (sym step.members) (more.0, sym more.1)
 
 -- an event is accepted, or nothing changes
 pub answer_grows : (x y : ClusterState) (e : Event) (r : Result Effect Refusal) → IsSteady x
-    → IfOk r (λ f. IsStepped x y e f.first f.sent f.learned) → OnErr r (y ≡ x)
+    → IfOk r (IsStepped x y e) → OnErr r (y ≡ x)
     → IsSteady y × IsPrefix (longest x) (longest y)
 answer_grows x y e (Ok f) s step none =
-    (steady_next x y e f.first f.sent f.learned s step, longest_grows x y e f.first f.sent f.learned s step)
+    (steady_next x y e f s step, longest_grows x y e f s step)
 answer_grows x y e (Err r) s step none =
     subst (λ (z : ClusterState). IsSteady z × IsPrefix (longest x) (longest z)) (sym none) (s, prefix_self (longest x))

@@ -15,61 +15,68 @@ from_to-none : (a b : ℕ) → b ≤ a → from_to a b ≡ []
 from_to-none a b h = let none : b - a ≡ 0 = omega arith in ap (range_with_len a) none
 
 -- one server's command more
-row_from-more : (p : PlanState) (worker row s : ℕ) → s < length p.commands
-    → row_from p worker row s ≡ cons_option (own_command p worker row s) (row_from p worker row (s + 1))
-row_from-more p worker row s h = ap (filter_map (own_command p worker row)) (from_to-more s (length p.commands) h)
+row_from-more : (plan : PlanState) (worker row p : ℕ) → p < length plan.commands
+    → row_from plan worker row p ≡ cons_option (own_command plan worker row p) (row_from plan worker row (p + 1))
+row_from-more plan worker row p h =
+    ap (filter_map (own_command plan worker row)) (from_to-more p (length plan.commands) h)
 
-pub row_from-none : (p : PlanState) (worker row s : ℕ) → length p.commands ≤ s → row_from p worker row s ≡ []
-row_from-none p worker row s h = ap (filter_map (own_command p worker row)) (from_to-none s (length p.commands) h)
+pub row_from-none : (plan : PlanState) (worker row p : ℕ) → length plan.commands ≤ p → row_from plan worker row p ≡ []
+row_from-none plan worker row p h =
+    ap (filter_map (own_command plan worker row)) (from_to-none p (length plan.commands) h)
 
 -- a server with no command of the worker's at the row is passed over
-pub row_from-skip : (p : PlanState) (worker row s : ℕ) → s < length p.commands → own_command p worker row s ≡ None
-    → row_from p worker row s ≡ row_from p worker row (s + 1)
-row_from-skip p worker row s h none = row_from-more p worker row s h
-    ∙ ap (λ o. cons_option o (row_from p worker row (s + 1))) none
+pub row_from-skip : (plan : PlanState) (worker row p : ℕ) → p < length plan.commands
+    → own_command plan worker row p ≡ None → row_from plan worker row p ≡ row_from plan worker row (p + 1)
+row_from-skip plan worker row p h none = row_from-more plan worker row p h
+    ∙ ap (λ o. cons_option o (row_from plan worker row (p + 1))) none
 
-pub row_from-first : (p : PlanState) (worker row s : ℕ) (x : ℕ × Command) → s < length p.commands
-    → own_command p worker row s ≡ Some x
-    → row_from p worker row s ≡ x ∷ row_from p worker row (s + 1)
-row_from-first p worker row s x h some = row_from-more p worker row s h
-    ∙ ap (λ o. cons_option o (row_from p worker row (s + 1))) some
+pub row_from-first : (plan : PlanState) (worker row p : ℕ) (x : ℕ × Command) → p < length plan.commands
+    → own_command plan worker row p ≡ Some x
+    → row_from plan worker row p ≡ x ∷ row_from plan worker row (p + 1)
+row_from-first plan worker row p x h some = row_from-more plan worker row p h
+    ∙ ap (λ o. cons_option o (row_from plan worker row (p + 1))) some
 
 -- one row more
-pub rows_from-more : (p : PlanState) (worker row : ℕ) → row < row_count p.commands
-    → rows_from p worker row ≡ row_from p worker row 0 ++ rows_from p worker (row + 1)
-rows_from-more p worker row h = ap (flat_map (λ r. row_from p worker r 0)) (from_to-more row (row_count p.commands) h)
+pub rows_from-more : (plan : PlanState) (worker row : ℕ) → row < row_count plan.commands
+    → rows_from plan worker row ≡ row_from plan worker row 0 ++ rows_from plan worker (row + 1)
+rows_from-more plan worker row h =
+    ap (flat_map (λ r. row_from plan worker r 0)) (from_to-more row (row_count plan.commands) h)
 
-pub rows_from-none : (p : PlanState) (worker row : ℕ) → row_count p.commands ≤ row → rows_from p worker row ≡ []
-rows_from-none p worker row h = ap (flat_map (λ r. row_from p worker r 0)) (from_to-none row (row_count p.commands) h)
+pub rows_from-none : (plan : PlanState) (worker row : ℕ) → row_count plan.commands ≤ row
+    → rows_from plan worker row ≡ []
+rows_from-none plan worker row h =
+    ap (flat_map (λ r. row_from plan worker r 0)) (from_to-none row (row_count plan.commands) h)
 
 -- a row with no command of the worker's is passed over
-pub rows_from-skip : (p : PlanState) (worker row : ℕ) → row < row_count p.commands → row_from p worker row 0 ≡ []
-    → rows_from p worker row ≡ rows_from p worker (row + 1)
-rows_from-skip p worker row h none = rows_from-more p worker row h ∙ ap (λ xs. xs ++ rows_from p worker (row + 1)) none
+pub rows_from-skip : (plan : PlanState) (worker row : ℕ) → row < row_count plan.commands
+    → row_from plan worker row 0 ≡ [] → rows_from plan worker row ≡ rows_from plan worker (row + 1)
+rows_from-skip plan worker row h none =
+    rows_from-more plan worker row h ∙ ap (λ xs. xs ++ rows_from plan worker (row + 1)) none
 
 -- what leads the first part of a list leads the whole
-pub led_more : (p : PlanState) (worker : ℕ) (place : Place) (all rest more : List (ℕ × Command))
-    → IsLed p worker place all rest → IsLed p worker place (all ++ more) (rest ++ more)
-led_more p worker place all rest more h = record { first = h.first; there = h.there; is = ap (λ xs. xs ++ more) h.is }
+pub led_more : (plan : PlanState) (worker : ℕ) (place : Place) (all rest more : List (ℕ × Command))
+    → IsLed plan worker place all rest → IsLed plan worker place (all ++ more) (rest ++ more)
+led_more plan worker place all rest more h =
+    record { first = h.first; there = h.there; is = ap (λ xs. xs ++ more) h.is }
 
 -- what is left from the first place that is found on is all of the list that was searched
-pub left_found : (p : PlanState) (worker : ℕ) (o : Option Place) (all : List (ℕ × Command))
-    → IsFound p worker o all → left_at p worker o ≡ all
-left_found p worker None all h = sym h
-left_found p worker (Some place) all h = ap (λ x. led_by x (after_place p worker place)) h.there ∙ sym h.is
+pub left_found : (plan : PlanState) (worker : ℕ) (o : Option Place) (all : List (ℕ × Command))
+    → IsFound plan worker o all → left_at plan worker o ≡ all
+left_found plan worker None all h = sym h
+left_found plan worker (Some place) all h = ap (λ x. led_by x (after_place plan worker place)) h.there ∙ sym h.is
 
 -- the first command of a row leads that row and all later ones
-pub led_row : (p : PlanState) (worker : ℕ) (place : Place) (start row : ℕ) → row < row_count p.commands
-    → rows_from p worker start ≡ rows_from p worker row → place.row ≡ row
-    → IsLed p worker place (row_from p worker row 0) (row_from p worker row (place.server + 1))
-    → IsLed p worker place (rows_from p worker start) (after_place p worker place)
-led_row p worker place start row lt same at h = record {
+pub led_row : (plan : PlanState) (worker : ℕ) (place : Place) (start row : ℕ) → row < row_count plan.commands
+    → rows_from plan worker start ≡ rows_from plan worker row → place.row ≡ row
+    → IsLed plan worker place (row_from plan worker row 0) (row_from plan worker row (place.server + 1))
+    → IsLed plan worker place (rows_from plan worker start) (after_place plan worker place)
+led_row plan worker place start row lt same at h = record {
   first = h.first;
   there = h.there;
   is = same
-      ∙ (rows_from-more p worker row lt
-      ∙ (ap (λ xs. xs ++ rows_from p worker (row + 1)) h.is
-      ∙ ap (λ r. h.first ∷ (row_from p worker r (place.server + 1) ++ rows_from p worker (r + 1))) (sym at)));
+      ∙ (rows_from-more plan worker row lt
+      ∙ (ap (λ xs. xs ++ rows_from plan worker (row + 1)) h.is
+      ∙ ap (λ r. h.first ∷ (row_from plan worker r (place.server + 1) ++ rows_from plan worker (r + 1))) (sym at)));
 }
 
 pub none_from : {A : Type 0} (o : Option A) → is_some o ≡ false → o ≡ None

@@ -11,7 +11,7 @@ use Rattle.mencius_board.specs.Pending.{AreHanded, added}
 use Rattle.mencius_board.specs.Boards.{IsSound, IsSteady, longest}
 use Rattle.mencius_board.proofs.Prefixes.{prefix_empty, prefix_trans, prefix_length, take_begins}
 
--- the first commands of a list are the first of each that it begins
+-- the first commands of a list are the first of each of which it is a prefix
 handed_grows : (shown : List Command) (os : List Operation) (n : ℕ) (xs ys : List Command) → IsPrefix xs ys
     → AreHanded shown os n xs → AreHanded shown os n ys
 handed_grows shown os n xs ys p h = record {
@@ -32,7 +32,7 @@ sound_grows x y log opening seen shown os n p s = record {
   seen_is = s.seen_is;
 }
 
--- what is shown and what is pending begin the longest history
+-- what is shown and what is pending are a prefix of the longest history
 pub shown_first : (x : ClusterState) (shown : List Command) (os : List Operation) (n : ℕ)
     → AreHanded shown os n (longest x) → IsPrefix (shown ++ added os) (longest x)
 shown_first x shown os n h = subst (λ (l : List Command). IsPrefix l (longest x)) (sym h.first)

@@ -4,9 +4,9 @@ use mathlib.Core.List.{IsPrefix}
 use Rattle.logbook.specs.Pages.{Book}
 use Rattle.mencius_base.specs.declared.command.Command.{Command}
 use Rattle.mencius_model.specs.Next.{replay}
-use Rattle.mencius_model.specs.Laws.{LongestCommandsGrowing}
+use Rattle.mencius_model.specs.Laws.{LongestCommandsGrow}
 use Rattle.mencius_model.specs.Replying.{longest_commands}
-use Rattle.mencius_cluster.specs.State.{ClusterState, history_of}
+use Rattle.mencius_cluster.specs.State.{ClusterState, trace_of}
 use Rattle.mencius_board.specs.Marks.{MarkState, VersionState, mark_of}
 use Rattle.mencius_board.specs.Shown.{book_of}
 use Rattle.mencius_board.specs.declared.version.Operation.{Operation}
@@ -27,16 +27,17 @@ new_board b c readers = record { book = b; cluster = c; shown = []; pending = []
 
 -- the commands of the cluster's longest history, in order
 unfoldable pub longest : ClusterState → List Command
-longest c = longest_commands c.members (history_of c)
+longest c = longest_commands c.members (trace_of c)
 
 -- what a board relies on of its cluster: there are servers, the journal replays, and the longest history only grows
 pub record IsSteady (c : ClusterState) : Type 0 where
   pub some_server : 1 ≤ c.members.count
-  pub replays : replay c.members c.journal ≡ Ok (history_of c)
-  pub grows : LongestCommandsGrowing
+  pub replays : replay c.members c.journal ≡ Ok (trace_of c)
+  pub grows : LongestCommandsGrow
 
--- what every board keeps: what is shown and then what is pending begins the longest history. The log has the commands
--- that were ever to be shown, the opening is its mark when it was empty, and n commands were handed to the writer
+-- what every board keeps: what is shown and then what is pending is a prefix of the longest history. The log has the
+-- commands that were ever to be shown, the opening is its mark when it was empty, and n commands were handed to the
+-- writer
 pub record IsSound (cluster : ClusterState) (log opening : MarkState) (seen : Option MarkState) (shown : VersionState)
     (pending : List Operation) (n : ℕ) : Type 0 where
   pub steady : IsSteady cluster

@@ -2,6 +2,7 @@
 use Rattle.std.specs.Prelude.{◌≡◌, ◌*◌, ℕ, Bool, true, false, List, [], ◌∷◌, Option, Some, None}
 use Rattle.rand_pcg.specs.Lcg.{Lcg, advance, increment_of, next, started}
 use Rattle.rand_pcg.specs.Pcg.{multiplier_64, output_xsh_rr}
+use Rattle.mencius_base.specs.Numbers.{ServerId}
 use Rattle.mencius_base.specs.declared.command.Command.{Command}
 use Rattle.mencius_base.specs.declared.event.Event.{Event}
 use Rattle.mencius_base.specs.declared.event.Event.TheVariants.{Submit}
@@ -26,7 +27,7 @@ pub record ProgressState : Type 0 where
 pub record ChooserState : Type 0 where
   pub plan : PlanState
   pub drawing : Drawing
-  pub left : List (ℕ × Command)
+  pub left : List (ServerId × Command)
 
 -- ---- words
 
@@ -70,9 +71,10 @@ led_by None rest = []
 led_by (Some x) rest = x ∷ rest
 
 -- the worker's commands from its next one on
-abbrev pub left_at : PlanState → ℕ → Option Place → List (ℕ × Command)
-left_at p worker None = []
-left_at p worker (Some place) = led_by (own_command p worker place.row place.server) (after_place p worker place)
+abbrev pub left_at : PlanState → ℕ → Option Place → List (ServerId × Command)
+left_at plan worker None = []
+left_at plan worker (Some place) =
+    led_by (own_command plan worker place.row place.server) (after_place plan worker place)
 
 abbrev pub is_any : {A : Type 0} → List A → Bool
 is_any [] = false
@@ -80,16 +82,20 @@ is_any (x ∷ xs) = true
 
 -- a worker that has not chosen yet
 abbrev pub first_chooser : PlanState → ℕ → ChooserState
-first_chooser p worker = record { plan = p; drawing = first_drawing p.seed worker; left = commands_of_worker p worker }
+first_chooser plan worker = record {
+  plan = plan;
+  drawing = first_drawing plan.seed worker;
+  left = commands_of_worker plan worker;
+}
 
 -- the worker of this plan that has come so far
 abbrev pub chooser_at : PlanState → ProgressState → ChooserState
-chooser_at p x = record { plan = p; drawing = x.drawing; left = left_at p x.drawing.worker x.next }
+chooser_at plan x = record { plan = plan; drawing = x.drawing; left = left_at plan x.drawing.worker x.next }
 
 -- the worker's plan, number and generator after so many turns
-pub record HasTurned (c : ChooserState) (p : PlanState) (worker turns : ℕ) : Type 0 where
-  pub plan : c.plan ≡ p
-  pub drawing : c.drawing ≡ drawing_after p.seed worker turns
+pub record HasTurned (c : ChooserState) (own : PlanState) (worker turns : ℕ) : Type 0 where
+  pub plan : c.plan ≡ own
+  pub drawing : c.drawing ≡ drawing_after own.seed worker turns
 
 -- ---- choices
 
@@ -98,7 +104,7 @@ abbrev pub picked : ChooserState → ClusterState → Pick
 picked c x = pick_of x c.plan.loss (is_any c.left) (words_of c.drawing.generator)
 
 -- the event that a pick is, and the commands that it leaves
-abbrev pub IsTaken : Pick → List (ℕ × Command) → Event → List (ℕ × Command) → Type 0
+abbrev pub IsTaken : Pick → List (ServerId × Command) → Event → List (ServerId × Command) → Type 0
 IsTaken (Is x) left e rest = (e ≡ x) × (rest ≡ left)
 IsTaken NextCommand [] e rest = ⊥
 IsTaken NextCommand (first ∷ others) e rest = (e ≡ Submit first.0 first.1) × (rest ≡ others)
@@ -109,7 +115,7 @@ pub record IsChosen (old : ChooserState) (x : ClusterState) (e : Event) (new : C
   pub drawing : new.drawing ≡ drawn old.drawing
   pub taken : IsTaken (picked old x) old.left e new.left
 
--- a choice that is refused for want of memory: the words are drawn, and the command that they pick stays the next one
+-- a choice that is refused when out of memory: the words are drawn, and the command that they pick stays the next one
 pub record IsPutOff (old : ChooserState) (x : ClusterState) (new : ChooserState) : Type 0 where
   pub picks : picked old x ≡ NextCommand
   pub same : new ≡ record old { drawing = drawn old.drawing }

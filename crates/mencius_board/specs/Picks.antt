@@ -1,26 +1,27 @@
 -- The table by which a worker's words pick what it does.
 use Rattle.std.specs.Prelude.{ℕ, ◌+◌, ◌-◌, ◌/◌, ◌%◌, ◌==◌, Bool, List, [], ◌∷◌, Option, Some, length, min, nat_lt}
 use Rattle.std.specs.Prelude.{slice_get, slice_index, if◌then◌else◌}
+use Rattle.mencius_base.specs.Numbers.{ServerId, MessageNo}
 use Rattle.mencius_base.specs.declared.event.Event.TheVariants.{Deliver, Execute, Lose, Retry, Suspect}
 use Rattle.mencius_base.specs.declared.message.Message.{Message}
 use Rattle.mencius_base.specs.declared.message.Message.TheVariants.{Accepted, Promise}
-use Rattle.mencius_model.specs.History.{sent}
-use Rattle.mencius_cluster.specs.State.{ClusterState, history_of}
+use Rattle.mencius_model.specs.Trace.{sent}
+use Rattle.mencius_cluster.specs.State.{ClusterState, trace_of}
 use Rattle.mencius_board.specs.declared.choice.Pick.{Pick}
 use Rattle.mencius_board.specs.declared.choice.Pick.TheVariants.{NextCommand, Is}
 
 -- the message that a word names among so many: any of them by an even word, and one of the last 32 by an odd one
-abbrev pub message_named : ℕ → ℕ → ℕ
+abbrev pub message_named : ℕ → ℕ → MessageNo
 message_named word many =
     if many == 0 then 0
     else (if word % 2 == 0 then word / 2 % many
     else many - 1 - word / 2 % min many 32)
 
--- the server that a message is for, where there is such a message and it is for one alone, and else the server d
-abbrev pub addressee_or : Option Message → ℕ → ℕ
-addressee_or (Some (Accepted from to inst ballot)) d = to
-addressee_or (Some (Promise from to inst ballot vote)) d = to
-addressee_or _ d = d
+-- the server that a message is for, where there is such a message and it is for one alone, and else the server p
+abbrev pub addressee_or : Option Message → ServerId → ServerId
+addressee_or (Some (Accepted from to inst ballot)) p = to
+addressee_or (Some (Promise from to inst ballot vote)) p = to
+addressee_or _ p = p
 
 -- what stands in the first line of a table whose bound is above the row, and x where no bound is
 abbrev pub line_of : {A : Type 0} → ℕ → List (ℕ × A) → A → A
@@ -28,7 +29,7 @@ line_of row [] x = x
 line_of row (line ∷ lines) x = if nat_lt row line.0 then line.1 else line_of row lines x
 
 -- the table of choices, which has 64 rows: each line is for the rows below its bound that no line above takes
-abbrev pub pick_by : (row loss : ℕ) (left : Bool) (message server second third : ℕ) → Pick
+abbrev pub pick_by : (row loss : ℕ) (left : Bool) (message : MessageNo) (server second third : ServerId) → Pick
 pick_by row loss left message server second third =
     line_of row (
     (6, if left then NextCommand else Is (Deliver message server))
@@ -43,7 +44,7 @@ pick_by row loss left message server second third =
 abbrev pub pick_of : ClusterState → ℕ → Bool → List ℕ → Pick
 pick_of c loss left words =
     let n = c.members.count in
-    let messages = sent (history_of c) in
+    let messages = sent (trace_of c) in
     let message = message_named (slice_index words 1) (length messages) in
     let server = addressee_or (slice_get messages message) (slice_index words 2 % n) in
     pick_by (slice_index words 0 % 64) loss left message server (slice_index words 1 % n) (slice_index words 2 % n)

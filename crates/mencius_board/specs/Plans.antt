@@ -3,6 +3,8 @@ use Rattle.std.specs.Prelude.{◌≡◌, ◌≤◌, ℕ, ◌+◌, ◌-◌, ◌%�
 use Rattle.std.specs.Prelude.{length, max, fold, slice_get, if◌then◌else◌}
 use Rattle.std.specs.List.{filter_map, flat_map, range_with_len}
 use Rattle.std.specs.Option.{option_and_then, option_map}
+use Rattle.mencius_base.specs.Numbers.{ServerId}
+use Rattle.mencius_base.specs.Limits.{greatest_loss, most_servers, most_turns, most_workers}
 use Rattle.mencius_base.specs.declared.command.Command.{Command}
 use Rattle.mencius_board.specs.declared.plan.Place.{Place}
 
@@ -20,7 +22,8 @@ plan_of workers seed turns loss commands =
 
 -- how many workers, turns, lost messages in 64 choices and lists a plan may have
 abbrev pub AreInRange : ℕ → ℕ → ℕ → ℕ → Type 0
-AreInRange workers turns loss lists = (1 ≤ workers) × (workers ≤ 8) × (turns ≤ 100000) × (loss ≤ 32) × (lists ≤ 7)
+AreInRange workers turns loss lists =
+    (1 ≤ workers) × (workers ≤ most_workers) × (turns ≤ most_turns) × (loss ≤ greatest_loss) × (lists ≤ most_servers)
 
 -- the numbers from a on that are below b, rising
 abbrev pub from_to : ℕ → ℕ → List ℕ
@@ -31,36 +34,38 @@ abbrev pub row_count : List (List Command) → ℕ
 row_count lists = fold (λ n list. max n (length list)) 0 lists
 
 -- the command at a row of a server's list, with the server, where the list is one of the worker's and has so many
-abbrev pub own_command : PlanState → ℕ → ℕ → ℕ → Option (ℕ × Command)
-own_command p worker row server =
-    if server % p.workers == worker then option_map (λ c. (server, c))
-    (option_and_then (λ list. slice_get list row) (slice_get p.commands server))
+abbrev pub own_command : PlanState → ℕ → ℕ → ServerId → Option (ServerId × Command)
+own_command plan worker row server =
+    if server % plan.workers == worker then option_map (λ c. (server, c))
+    (option_and_then (λ list. slice_get list row) (slice_get plan.commands server))
     else None
 
--- the worker's commands at a row, of the servers from s on
-abbrev pub row_from : PlanState → ℕ → ℕ → ℕ → List (ℕ × Command)
-row_from p worker row s = filter_map (own_command p worker row) (from_to s (length p.commands))
+-- the worker's commands at a row, of the servers from p on
+abbrev pub row_from : PlanState → ℕ → ℕ → ServerId → List (ServerId × Command)
+row_from plan worker row p = filter_map (own_command plan worker row) (from_to p (length plan.commands))
 
 -- and at all rows from a row on
-abbrev pub rows_from : PlanState → ℕ → ℕ → List (ℕ × Command)
-rows_from p worker row = flat_map (λ r. row_from p worker r 0) (from_to row (row_count p.commands))
+abbrev pub rows_from : PlanState → ℕ → ℕ → List (ServerId × Command)
+rows_from plan worker row = flat_map (λ r. row_from plan worker r 0) (from_to row (row_count plan.commands))
 
 -- a worker's commands in the order in which they come, each with the server at which it is submitted: the first command
 -- of each of the worker's lists, by rising server, then the second of each, and so on
-abbrev pub commands_of_worker : PlanState → ℕ → List (ℕ × Command)
-commands_of_worker p worker = rows_from p worker 0
+abbrev pub commands_of_worker : PlanState → ℕ → List (ServerId × Command)
+commands_of_worker plan worker = rows_from plan worker 0
 
 -- the worker's commands that come after this place
-abbrev pub after_place : PlanState → ℕ → Place → List (ℕ × Command)
-after_place p worker place = row_from p worker place.row (place.server + 1) ++ rows_from p worker (place.row + 1)
+abbrev pub after_place : PlanState → ℕ → Place → List (ServerId × Command)
+after_place plan worker place =
+    row_from plan worker place.row (place.server + 1) ++ rows_from plan worker (place.row + 1)
 
 -- the list is the worker's command at this place, and then these
-pub record IsLed (p : PlanState) (worker : ℕ) (place : Place) (all rest : List (ℕ × Command)) : Type 0 where
-  pub first : ℕ × Command
-  pub there : own_command p worker place.row place.server ≡ Some first
+pub record IsLed (plan : PlanState) (worker : ℕ) (place : Place) (all rest : List (ServerId × Command)) : Type 0 where
+  pub first : ServerId × Command
+  pub there : own_command plan worker place.row place.server ≡ Some first
   pub is : all ≡ first ∷ rest
 
 -- the place is the first of the worker's commands in this list, which is what is left from there on; none where it is
 -- empty
-abbrev pub IsFound : PlanState → ℕ → Option Place → List (ℕ × Command) → Type 0
-IsFound p worker o all = MatchOption o (all ≡ []) (λ place. IsLed p worker place all (after_place p worker place))
+abbrev pub IsFound : PlanState → ℕ → Option Place → List (ServerId × Command) → Type 0
+IsFound plan worker o all =
+    MatchOption o (all ≡ []) (λ place. IsLed plan worker place all (after_place plan worker place))

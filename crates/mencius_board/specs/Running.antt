@@ -13,10 +13,10 @@ use Rattle.mencius_board.specs.Choices.{ChooserState, HasTurned, ProgressState, 
 abbrev pub EndState : Type 0
 EndState = Result ProgressState BoardFault
 
--- the thread, if there is one, is to answer how worker k ended
+-- the thread, if there is one, is to answer how this worker ended
 abbrev pub Answers : {T : Type 0} → ℕ → ℕ → ℕ → Option (PromisedHandle T ProgressOf) → Type 0
-Answers seed turns k None = Unit {0}
-Answers seed turns k (Some h) = h.promise ≡ record { seed = seed; worker = k; turns = turns }
+Answers seed turns worker None = Unit {0}
+Answers seed turns worker (Some h) = h.promise ≡ record { seed = seed; worker = worker; turns = turns }
 
 -- a worker that took turns drew three words in each of them, or ended at a fault that its turns may have
 abbrev pub HasEnded : ℕ → ℕ → ℕ → EndState → Type 0
@@ -28,24 +28,26 @@ abbrev pub EndsAs : {T : Type 0} → Option (PromisedHandle T ProgressOf) → En
 EndsAs None end = end ≡ Err NoWorker
 EndsAs (Some h) end = HasEnded h.promise.seed h.promise.worker h.promise.turns end
 
--- worker k of a plan took its turns, or its thread could not be started
+-- this worker of a plan took its turns, or its thread could not be started
 abbrev pub IsEndOf : PlanState → ℕ → EndState → Type 0
-IsEndOf p k end = HasEnded p.seed k p.turns end ⊎ (end ≡ Err NoWorker)
+IsEndOf plan worker end = HasEnded plan.seed worker plan.turns end ⊎ (end ≡ Err NoWorker)
 
 -- each of n workers ended so, by number
 abbrev pub HaveEnded : List EndState → PlanState → ℕ → Type 0
-HaveEnded xs p n = (k : ℕ) (d : EndState) → k < n → IsEndOf p k (slice_index_or xs k d)
+HaveEnded xs plan n = (worker : ℕ) (d : EndState) → worker < n → IsEndOf plan worker (slice_index_or xs worker d)
 
 -- what workers that ended so give, behind those that came before: their choosers, or the first fault
 abbrev pub settled_behind : PlanState → List ChooserState → List EndState → Result (List ChooserState) BoardFault
-settled_behind p done [] = Ok done
-settled_behind p done (Err f ∷ rest) = Err f
-settled_behind p done (Ok d ∷ rest) = settled_behind p (done ++ chooser_at p d ∷ []) rest
+settled_behind plan done [] = Ok done
+settled_behind plan done (Err f ∷ rest) = Err f
+settled_behind plan done (Ok d ∷ rest) = settled_behind plan (done ++ chooser_at plan d ∷ []) rest
 
 -- the choosers of workers by number, or the fault of the first that has one
 abbrev pub settled : PlanState → List EndState → Result (List ChooserState) BoardFault
-settled p ends = settled_behind p [] ends
+settled plan ends = settled_behind plan [] ends
 
 -- each chooser of the plan, by worker number, has taken all turns
 abbrev pub HaveTurned : List ChooserState → PlanState → Type 0
-HaveTurned xs p = (k : ℕ) (d : ChooserState) → k < p.workers → HasTurned (slice_index_or xs k d) p k p.turns
+HaveTurned xs plan =
+    (worker : ℕ) (d : ChooserState) → worker < plan.workers
+    → HasTurned (slice_index_or xs worker d) plan worker plan.turns

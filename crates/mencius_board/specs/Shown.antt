@@ -6,7 +6,7 @@ use lib.ListN.{get_elem?}
 use Rattle.logbook.specs.Pages.{Book}
 use Rattle.mencius_board.specs.Marks.{MarkState, VersionState}
 
--- what was seen begins this mark, of the same history. Who has not seen anything yet follows any
+-- what was seen is a prefix of this mark's list, of the same history. Who has not seen anything yet follows any
 abbrev pub Follows : Option MarkState → MarkState → Type 0
 Follows None m = Unit {0}
 Follows (Some v) m = (v.book ≡ m.book) × IsPrefix v.log m.log
@@ -15,11 +15,11 @@ abbrev pub book_of : Option MarkState → Option Book
 book_of None = None
 book_of (Some v) = Some v.book
 
--- the value's list is all of its mark, and what each has seen begins it
+-- the value's list is all of its mark, and what each has seen is a prefix of it
 abbrev pub Keeps : VersionState → List (Option MarkState) → Type 0
 Keeps x views = (x.mark.log ≡ x.list)
     × ((seat : ℕ) (v : Option MarkState) → get_elem? views seat ≡ some v → Follows v x.mark)
 
--- the value y was seen. What had been seen before begins its list
+-- the value y was seen. What had been seen before is a prefix of its list
 abbrev pub Shows : Option MarkState → VersionState → VersionState → Option MarkState → Type 0
 Shows v x y w = (y.mark.log ≡ y.list) × (w ≡ Some y.mark) × Follows v y.mark

@@ -14,10 +14,10 @@ use Rattle.mencius_board.specs.Choices.{ChooserState, IsChosen, IsPutOff}
 -- the cluster accepted the event, and the rest of the board stayed
 pub record IsAccepted (x y : BoardState) (e : Event) : Type 0 where
   pub effect : Effect
-  pub stepped : IsStepped x.cluster y.cluster e effect.first effect.sent effect.learned
+  pub stepped : IsStepped x.cluster y.cluster e effect
   pub rest : y ≡ record x { cluster = y.cluster }
 
--- or it refused the event, not for want of memory, and nothing changed
+-- or it refused the event, though not as out of memory, and nothing changed
 pub record IsRefusedBy (x y : BoardState) (e : Event) : Type 0 where
   pub refusal : Refusal
   pub is : IsRefusal x.cluster e refusal

@@ -25,7 +25,7 @@ use std::sync::Wait;
 ///
 /// Contracts see which board it is, the cluster, the list of commands that is shown, what is to be
 /// shown next, and how many readers may still be made. The type keeps that the two lists, one after
-/// the other, begin the longest history; so that holds whenever a lock on a board is got, whoever
+/// the other, are a prefix of the longest history; so that holds whenever a lock on a board is got, whoever
 /// had it before.
 ///
 /// A board cannot be dropped: it is used up by [`Board::end`].
@@ -80,7 +80,7 @@ impl Board {
         // What every cluster promises: the board's type keeps it from here on.
         laws::growth();
         cluster.servers();
-        cluster.members();
+        cluster.replays();
         let log = ShownLog::new();
         let opening = log.mark();
         let first = Version::new(alloc, log.mark());
@@ -105,7 +105,7 @@ impl Board {
 
     /// Takes one event, as [`Cluster::step`] does, with its refusals. What is shown stays.
     pub fn step(&mut self, event: Event) -> Result<Effect, Refusal>
-        ensures effect { IfOk result (λ x. IsStepped self.old.cluster self.new.cluster event x.first x.sent x.learned) }
+        ensures effect { IfOk result (IsStepped self.old.cluster self.new.cluster event) }
         ensures refusal { IfErr result (IsRefusal self.old.cluster event) }
         ensures err { OnErr result (self.new ≡ self.old) }
         ensures rest { self.new ≡ record self.old { cluster = self.new.cluster } }
@@ -113,7 +113,7 @@ impl Board {
         self.cluster.step(event)
     }
 
-    /// The cluster. What is shown, and then what is to be shown next, begin its longest history.
+    /// The cluster. What is shown, and then what is to be shown next, is a prefix of its longest history.
     pub fn cluster(&self) -> &Cluster
         ensures cluster { result.now ≡ self.now.cluster }
         ensures begins { IsPrefix (self.now.shown ++ self.now.pending) (longest self.now.cluster) }
@@ -128,7 +128,8 @@ impl Board {
     /// whatever the cause. Cluster and what is shown then stay; some of the new commands may be
     /// handed over already, and the next call shows them.
     pub fn show<R: Wait>(&mut self, rt: &R, alloc: Global) -> Result<News, BoardFault>
-        ensures shown { OnOk result (self.new ≡ record self.old { shown = longest self.old.cluster; pending = [] }) }
+        ensures shown { OnOk result (self.new
+            ≡ record self.old { shown = longest self.old.cluster; pending = [] }) }
         ensures news { IfOk result (λ n. n ≡ mark_of self.old.book (longest self.old.cluster)) }
         ensures err { OnErr result (self.new ≡ record self.old { pending = self.new.pending }) }
         ensures fault { IfErr result IsShowFault }

@@ -1,5 +1,6 @@
 //! What a worker chooses.
 ghost use Rattle.std.specs.Prelude.{◌≡◌, ◌+◌, ◌<◌, ◌^◌, ◌∷◌, [], MatchOption, MatchResult, OnSome, IfSome};
+ghost use Rattle.mencius_base.specs.Limits.{most_servers};
 ghost use Rattle.mencius_base.specs.declared.event.Event.TheVariants.{Submit};
 ghost use Rattle.mencius_board.specs.Plans.{after_place};
 ghost use Rattle.mencius_board.specs.Choices.{IsChosen, IsPutOff, chooser_at, drawn, first_chooser, words_of};
@@ -27,7 +28,10 @@ impl Model for Progress {
 
     ghost Value = { ProgressState };
 
-    ghost view = { λ p. record { drawing = record { worker = p.worker; generator = p.generator }; next = p.next } };
+    ghost view = { λ p. record {
+      drawing = record { worker = p.worker; generator = p.generator };
+      next = p.next;
+    } };
 }
 
 /// The choices of one worker. They follow from the plan, the worker's number and the clusters that
@@ -101,13 +105,15 @@ impl<'a> Chooser<'a> {
 
     // Submits a command, the worker's next one, and moves on to the one after it.
     fn submit(&mut self, place: Place, command: &Command) -> Result<Event, NoMemory>
-        requires server { place.server < 7 }
+        requires server { place.server < most_servers }
         requires row { place.row + 1 < 2 ^ 64 }
         requires next { self.old.left
-            ≡ (place.server, command.now) ∷ after_place self.old.plan self.old.drawing.worker place }
+            ≡ (place.server, command.now)
+            ∷ after_place self.old.plan self.old.drawing.worker place }
         ensures { let rest = after_place self.old.plan self.old.drawing.worker place in
             MatchResult result
-            (λ e. (e ≡ Submit place.server command.now) × (self.new ≡ record self.old { left = rest }))
+            (λ e. (e ≡ Submit place.server command.now)
+            × (self.new ≡ record self.old { left = rest }))
             (λ _. self.new ≡ self.old) }
     {
         let command = command.clone()?;
@@ -121,7 +127,7 @@ impl<'a> Chooser<'a> {
         ensures next { MatchOption result (self.now.left ≡ [])
             (λ x. self.now.left
             ≡ (x.0.server, x.1.now) ∷ after_place self.now.plan self.now.drawing.worker x.0) }
-        ensures server { IfSome result (λ x. x.0.server < 7) }
+        ensures server { IfSome result (λ x. x.0.server < most_servers) }
         ensures row { IfSome result (λ x. x.0.row + 1 < 2 ^ 64) }
     {
         let place = self.progress.next?;

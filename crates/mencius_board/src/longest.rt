@@ -1,11 +1,11 @@
 ghost use Rattle.std.specs.Prelude.{◌≡◌, ◌<◌, ◌^◌, ◌++◌, IfOk, OnOk, length};
-ghost use Rattle.mencius_model.specs.History.{option_to_list};
+ghost use Rattle.mencius_model.specs.Trace.{option_to_list, submitted};
 ghost use Rattle.mencius_model.specs.Replying.{command_at};
-ghost use Rattle.mencius_cluster.specs.State.{history_of};
+ghost use Rattle.mencius_cluster.specs.State.{trace_of};
 ghost use Rattle.mencius_board.specs.Boards.{longest};
 
 use mencius_base::{Command, NoMemory};
-use mencius_cluster::Cluster;
+use mencius_cluster::{Cluster, laws};
 use std::alloc::Global;
 
 /// A copy of the commands of the longest history, in order.
@@ -13,6 +13,9 @@ pub fn copy_longest(alloc: Global, cluster: &Cluster) -> Result<Vec<Command>, No
     ensures list { IfOk result (λ v. v.items ≡ longest cluster.now) }
     ensures limit { IfOk result (λ v. length v.items < 2 ^ 32) }
 {
+    // Called for their promises alone: what a server executed was submitted.
+    laws::once();
+    cluster.replays();
     let server = cluster.longest();
     // No history is longer than this, which is asked for that alone.
     let _done = cluster.done(server).unwrap();
@@ -24,13 +27,15 @@ pub fn copy_longest(alloc: Global, cluster: &Cluster) -> Result<Vec<Command>, No
     Ok(list)
 }
 
-// Adds a copy of the command of a ticket, if there is one.
+// Adds a copy of the command of a ticket.
 fn push_command(list: &mut Vec<Command>, cluster: &Cluster, ticket: u32) -> Result<(), NoMemory>
+    requires { ticket < length (submitted (trace_of cluster.now)) }
     ensures { OnOk result (list.new.items
-        ≡ list.old.items ++ option_to_list (command_at (history_of cluster.now) ticket)) }
+        ≡ list.old.items ++ option_to_list (command_at (trace_of cluster.now) ticket)) }
 {
-    if let Some(command) = cluster.command(ticket) {
-        list.push(command.clone()?)?;
-    }
+    let Some(command) = cluster.command(ticket) else {
+        unreachable!();
+    };
+    list.push(command.clone()?)?;
     Ok(())
 }

@@ -1,8 +1,9 @@
 //! What the workers of a run are to do.
 ghost use Rattle.std.specs.Prelude.{◌≡◌, ◌+◌, ◌<◌, ◌≤◌, ◌^◌, ◌↔◌, [], IsSome, IfSome, OnSome, MatchOption, map, length, vec_len, option_map, option_copied};
+ghost use Rattle.mencius_base.specs.Limits.{most_servers, most_turns, most_workers};
 ghost use Rattle.mencius_board.specs.Plans.{AreInRange, IsFound, IsLed, after_place, own_command, plan_of, row_count, row_from, rows_from};
 
-use mencius_base::Command;
+use mencius_base::{Command, GREATEST_LOSS, MOST_SERVERS, MOST_TURNS, MOST_WORKERS};
 use std::marker::Model;
 
 /// What the workers of a run are to do: how many there are, the seed of their choices, how many
@@ -28,7 +29,8 @@ impl Model for Plan {
 
     ghost Value = { PlanState };
 
-    ghost view = { λ p. plan_of p.workers p.seed p.turns p.loss (map (λ l. l.items) p.commands.items) };
+    ghost view = { λ p. plan_of p.workers p.seed p.turns p.loss
+        (map (λ l. l.items) p.commands.items) };
 
     ghost invariant = { λ p. AreInRange p.workers p.turns p.loss (length p.commands.items)
         × (p.rows ≡ row_count (map (λ l. l.items) p.commands.items)) };
@@ -52,9 +54,15 @@ impl Plan {
         commands: Vec<Vec<Command>>,
     ) -> Option<Plan>
         ensures valid { IsSome result ↔ AreInRange workers turns loss (vec_len commands) }
-        ensures plan { IfSome result (λ p. p ≡ plan_of workers seed turns loss (map (λ l. l.items) commands.items)) }
+        ensures plan { IfSome result (λ p. p
+            ≡ plan_of workers seed turns loss (map (λ l. l.items) commands.items)) }
     {
-        if workers < 1 || workers > 8 || turns > 100_000 || loss > 32 || commands.len() > 7 {
+        let is_in_range = workers >= 1
+            && workers <= MOST_WORKERS
+            && turns <= MOST_TURNS
+            && loss <= GREATEST_LOSS
+            && commands.len() <= usize::from(MOST_SERVERS);
+        if !is_in_range {
             return None;
         }
         let rows = count_rows(commands.as_slice());
@@ -72,7 +80,7 @@ impl Plan {
     pub fn workers(&self) -> u8
         ensures workers { result ≡ self.now.workers }
         ensures some { 1 ≤ result }
-        ensures few { result ≤ 8 }
+        ensures few { result ≤ most_workers }
     {
         self.workers
     }
@@ -87,7 +95,7 @@ impl Plan {
     /// How many turns each worker takes, at most 100,000.
     pub fn turns(&self) -> u32
         ensures turns { result ≡ self.now.turns }
-        ensures few { result ≤ 100000 }
+        ensures few { result ≤ most_turns }
     {
         self.turns
     }
@@ -103,7 +111,7 @@ impl Plan {
     pub(crate) fn own_command(&self, worker: u8, place: Place) -> Option<&Command>
         ensures command { option_map (λ c. (place.server, c)) (option_copied result)
             ≡ own_command self.now worker place.row place.server }
-        ensures server { OnSome result (place.server < 7) }
+        ensures server { OnSome result (place.server < most_servers) }
         ensures row { OnSome result (place.row + 1 < 2 ^ 64) }
     {
         if place.server % self.workers != worker {
@@ -130,7 +138,7 @@ impl Plan {
 
     // The first place of a command of the worker's that comes after this place.
     pub(crate) fn find_after(&self, worker: u8, place: Place) -> Option<Place>
-        requires server { place.server < 7 }
+        requires server { place.server < most_servers }
         requires row { place.row + 1 < 2 ^ 64 }
         ensures { IsFound self.now worker result (after_place self.now worker place) }
     {

@@ -12,6 +12,7 @@ use crate::news::News;
 use crate::shown::{Home, read};
 use crate::shown_log::Mark;
 use core::mem::replace_with;
+use mencius_base::MOST_TEXT_BYTES;
 use std::alloc::Global;
 use std::marker::Model;
 
@@ -56,19 +57,20 @@ impl Reader {
     }
 
     /// Enters what is shown, and answers the text at the key, if there is one, in the map that the
-    /// commands shown make. The floor becomes their list, which the old floor begins.
+    /// commands shown make. The old floor is a prefix of their list, which becomes the floor.
     ///
     /// `NoMemory` comes where room for the answer is refused, `NoReader` where the reader can't enter,
     /// as where the board is gone. The floor then stays.
     pub fn lookup(&mut self, alloc: Global, key: &str) -> Result<Option<String>, BoardFault>
         ensures board { self.new.book ≡ self.old.book }
         ensures grows { OnOk result (IsPrefix self.old.log self.new.log) }
-        ensures text { IfOk result (λ t. option_map string_bytes t ≡ value_at key.now self.new.log) }
+        ensures text { IfOk result (λ t. option_map string_bytes t
+            ≡ value_at key.now self.new.log) }
         ensures err { OnErr result (self.new ≡ self.old) }
         ensures fault { IfErr result IsLookupFault }
     {
         // The longest text that a command sets.
-        let Ok(room) = String::with_capacity(alloc, 256) else {
+        let Ok(room) = String::with_capacity(alloc, MOST_TEXT_BYTES) else {
             return Err(BoardFault::NoMemory);
         };
         let least = self.count;
@@ -82,7 +84,7 @@ impl Reader {
     }
 
     /// Takes in what a `show` of the reader's own board showed, whose News it uses up. Of the floor
-    /// and that list one begins the other, and the floor becomes the longer. It takes no memory.
+    /// and that list one is a prefix of the other, and the floor becomes the longer. It takes no memory.
     pub fn learn(&mut self, news: News)
         requires { news.book ≡ self.old.book }
         ensures comparable { IsComparable self.old.log news.log }

@@ -73,9 +73,11 @@ pub struct Found {
 /// writer is gone.
 pub fn read(home: Home, key: &str, room: String, least: u32) -> (Home, Result<Found, BoardFault>)
     requires { string_bytes room ≡ [] }
-    ensures book { (b : Book) → book_of (view home.place) ≡ Some b → book_of (view result.0.place) ≡ Some b }
+    ensures book { (b : Book) → book_of (view home.place) ≡ Some b
+        → book_of (view result.0.place) ≡ Some b }
     ensures follows { IfOk result.1 (λ f. Follows (view home.place) f.mark) }
-    ensures text { IfOk result.1 (λ f. option_map string_bytes f.text ≡ value_at key.now f.mark.log) }
+    ensures text { IfOk result.1 (λ f. option_map string_bytes f.text
+        ≡ value_at key.now f.mark.log) }
     ensures count { IfOk result.1 (λ f. (f.count ≡ length f.mark.log) × (least ≤ f.count)) }
     ensures fault { IfErr result.1 IsLookupFault }
 {
@@ -117,8 +119,10 @@ pub fn publish<R: Wait>(
     mut writer: Showing,
 ) -> (Showing, Result<(), AllocError>)
     requires marked { IsMarked log.now.book writer.desk.shown.value }
-    requires whole { writer.desk.shown.value.list ++ added (drop writer.behind writer.log.items) ≡ log.now.log }
-    ensures seen { MatchResult result.1 (λ _. book_of (view result.0.desk.place) ≡ Some log.now.book)
+    requires whole { writer.desk.shown.value.list
+        ++ added (drop writer.behind writer.log.items) ≡ log.now.log }
+    ensures seen { MatchResult result.1 (λ _.
+        book_of (view result.0.desk.place) ≡ Some log.now.book)
         (λ _. view result.0.desk.place ≡ view writer.desk.place) }
     ensures shown { MatchResult result.1
         (λ _. result.0.desk.shown.value ≡ record { mark = log.now; list = log.now.log })

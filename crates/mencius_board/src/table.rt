@@ -1,7 +1,7 @@
 //! The table by which three words pick an event.
 ghost use Rattle.std.specs.Prelude.{◌≡◌, ◌<◌, ◌%◌, length, slice_get, slice_index};
-ghost use Rattle.mencius_model.specs.History.{sent};
-ghost use Rattle.mencius_cluster.specs.State.{history_of};
+ghost use Rattle.mencius_model.specs.Trace.{sent};
+ghost use Rattle.mencius_cluster.specs.State.{trace_of};
 ghost use Rattle.mencius_board.specs.Picks.{addressee_or, message_named, pick_by, pick_of};
 
 use crate::choice::Pick;
@@ -95,7 +95,8 @@ fn find_message(word: u32, many: u32) -> u32
 // The server that a message is for, where it is for one alone, and else the one that the word names.
 fn find_server(cluster: &Cluster, message: u32, word: u32) -> u8
     ensures { result
-        ≡ addressee_or (slice_get (sent (history_of cluster.now)) message) (word % cluster.now.members.count) }
+        ≡ addressee_or (slice_get (sent (trace_of cluster.now)) message)
+        (word % cluster.now.members.count) }
 {
     match cluster.message(message) {
         Some(Message::Accepted { to, .. } | Message::Promise { to, .. }) => to,

@@ -5,23 +5,22 @@ ghost use Rattle.mencius_board.specs.Choices.{chooser_at, drawn};
 ghost use Rattle.mencius_board.specs.Turns.{EndsTurn, IsAfterTurn, TakesTurn};
 ghost use Rattle.mencius_board.specs.Faults.{IsRunFault, IsTurnFault};
 ghost use Rattle.mencius_board.specs.Running.{Answers, EndsAs, HasEnded, HaveEnded, HaveTurned, settled};
-ghost use Rattle.mencius_board.specs.declared.fault.BoardFault.TheVariants.{NoMemory};
 
 use crate::board::Board;
 use crate::chooser::{Chooser, Progress};
 use crate::fault::BoardFault;
 use crate::plan::Plan;
-use mencius_base::Refusal;
+use mencius_base::{NoMemory, Refusal};
 use std::alloc::Global;
 use std::sync::{Mutex, Wait};
 use std::thread;
 use std::thread::{Promise, PromisedHandle, Scope, Threads};
 
 /// One turn of a worker: chooses one event, as [`Chooser::choose`] does, and steps the board by it.
-/// A refusal other than for want of memory ends the turn well.
+/// A refusal other than `NoMemory` ends the turn well.
 ///
-/// `NoMemory` comes where the choice or the step is refused for want of memory; the board is then as
-/// it was, and the chooser as the choice left it.
+/// `NoMemory` comes where the choice or the step runs out of memory; the board is then as it was, and
+/// the chooser as the choice left it.
 pub fn worker_turn(board: &mut Board, chooser: &mut Chooser) -> Result<(), BoardFault>
     ensures turn { EndsTurn chooser.old chooser.new board.old board.new result }
     ensures drawn { chooser.new.drawing ≡ drawn chooser.old.drawing }
@@ -89,7 +88,8 @@ fn work<R: Wait, G: Gate>(
             rt,
             board,
             |board| -> (Progress, Result<(), BoardFault>)
-                ensures { (result.0.drawing ≡ drawn progress.drawing) × IfErr result.1 (IsTurnFault shows) }
+                ensures { (result.0.drawing ≡ drawn progress.drawing)
+                    × IfErr result.1 (IsTurnFault shows) }
             { take_turn(rt, alloc, board, plan, progress, shows) },
         );
         progress = next;
@@ -107,7 +107,8 @@ fn take_turn<R: Wait>(
     progress: Progress,
     shows: bool,
 ) -> (Progress, Result<(), BoardFault>)
-    ensures turn { TakesTurn (chooser_at plan.now progress) (chooser_at plan.now result.0) board.old board.new
+    ensures turn { TakesTurn (chooser_at plan.now progress) (chooser_at plan.now result.0)
+        board.old board.new
         shows result.1 }
     ensures drawn { result.0.drawing ≡ drawn progress.drawing }
     ensures fault { IfErr result.1 (IsTurnFault shows) }
@@ -183,7 +184,7 @@ fn gather<R: Threads>(
     ends
 }
 
-// Starts the workers in a scope, and joins them. Only want of memory keeps it from starting.
+// Starts the workers in a scope, and joins them.
 fn start_all<'s, E, R: Threads + Wait + Sync + 's, G: Gate + Sync + 's>(
     scope: &Scope<'s, E>,
     rt: &'s R,
@@ -191,18 +192,13 @@ fn start_all<'s, E, R: Threads + Wait + Sync + 's, G: Gate + Sync + 's>(
     board: &'s Mutex<Board>,
     plan: &'s Plan,
     gate: &'s G,
-) -> Result<Vec<Ended>, BoardFault>
+) -> Result<Vec<Ended>, NoMemory>
     ensures len { IfOk result (λ v. vec_len v ≡ plan.now.workers) }
     ensures each { IfOk result (λ v. HaveEnded v.items plan.now plan.now.workers) }
-    ensures err { IfErr result (λ f. f ≡ NoMemory) }
 {
     let many = usize::from(plan.workers());
-    let Ok(ends) = Vec::with_capacity(alloc, many) else {
-        return Err(BoardFault::NoMemory);
-    };
-    let Ok(mut running) = Vec::with_capacity(alloc, many) else {
-        return Err(BoardFault::NoMemory);
-    };
+    let ends = Vec::with_capacity(alloc, many)?;
+    let mut running = Vec::with_capacity(alloc, many)?;
     for worker in 0..plan.workers() {
         let promise = ProgressOf {
             seed: plan.seed(),
@@ -239,7 +235,7 @@ fn settle<'p>(
 /// A turn passes the gate, takes the lock and makes one [`worker_turn`]. Worker 0 also shows the
 /// longest history after each 64th turn of its own, under the same taking of the lock. A worker ends
 /// at its first fault, and all others go on. `NoMemory` comes first, where there is no memory to start
-/// with, and then the fault of the worker of least number that has one: want of memory, `NoWorker`
+/// with, and then the fault of the worker of least number that has one: `NoMemory`, `NoWorker`
 /// where its thread could not be started, or, of worker 0 and from its 64th turn on, `ShowRefused`.
 pub fn run_workers<'p, R: Threads + Wait + Sync, G: Gate + Sync>(
     rt: &R,
@@ -255,13 +251,15 @@ pub fn run_workers<'p, R: Threads + Wait + Sync, G: Gate + Sync>(
     let Ok(choosers) = Vec::with_capacity(alloc, usize::from(plan.workers())) else {
         return Err(BoardFault::NoMemory);
     };
-    let ends = thread::scope(
+    let Ok(ends) = thread::scope(
         thread::scope_env(),
         rt,
-        |scope| -> Result<Vec<Ended>, BoardFault>
-            ensures { MatchResult result (λ v. (vec_len v ≡ plan.entry.now.workers)
-                × HaveEnded v.items plan.entry.now plan.entry.now.workers) (λ f. f ≡ NoMemory) }
+        |scope| -> Result<Vec<Ended>, NoMemory>
+            ensures { IfOk result (λ v. (vec_len v ≡ plan.entry.now.workers)
+                × HaveEnded v.items plan.entry.now plan.entry.now.workers) }
         { start_all(scope, rt, alloc, board, plan, gate) },
-    )?;
+    ) else {
+        return Err(BoardFault::NoMemory);
+    };
     settle(plan, ends, choosers)
 }

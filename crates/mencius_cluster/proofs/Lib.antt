@@ -17,3 +17,4 @@ pub mod Executions
 pub mod Performs
 pub mod Executors
 pub mod Learned
+pub mod Masks

@@ -1,13 +1,8 @@
 -- How the fields of a cluster are seen.
-use Rattle.std.specs.Prelude.{ℕ, Bool, ◌&&◌, ◌==◌}
-use Rattle.std.specs.HashSet.{contains}
 use Rattle.mencius_cluster.specs.declared.cluster.Cluster.TheInside.{Inside}
+use Rattle.mencius_cluster.specs.Losses.{loss_in}
 use Rattle.mencius_cluster.specs.State.{ClusterState}
 use Rattle.mencius_cluster.specs.Tables.{Tables, IsCluster, journal_of}
-
--- one message and one server
-abbrev pub same_loss : ℕ × ℕ → ℕ × ℕ → Bool
-same_loss x y = x.0 == y.0 && x.1 == y.1
 
 -- the tables among the fields
 abbrev pub tables_in : Inside → Tables
@@ -17,7 +12,7 @@ tables_in c = record {
   done = c.done.items;
   messages = c.messages;
   rows = c.submissions.entries;
-  is_lost = λ k d. contains same_loss c.lost (k, d);
+  is_lost = loss_in c.lost;
   entries = c.journal.items;
 }
 

@@ -1,5 +1,6 @@
 pub mod Answers
 pub mod State
 pub mod Tables
+pub mod Losses
 pub mod Inside
 pub mod Performed

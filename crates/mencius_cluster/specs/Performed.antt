@@ -2,6 +2,7 @@
 use Rattle.std.specs.Prelude.{◌≡◌, ℕ, List, Some, slice_get, ◌==◌, ◌<◌}
 use Rattle.std.specs.FinMap as finite
 use Rattle.indexmap.specs.IndexMap.{set_value_at}
+use Rattle.mencius_base.specs.Numbers.{ServerId, TicketNo}
 use Rattle.mencius_base.specs.declared.message.Value.{Value}
 use Rattle.mencius_base.specs.declared.message.Value.TheVariants.{Noop, Ticket}
 use Rattle.map_exec.specs.State.{ExecutorState, after_execution}
@@ -11,8 +12,8 @@ use Rattle.mencius_cluster.specs.Answers.{bytes_in}
 use Rattle.mencius_cluster.specs.Tables.{Row}
 use Rattle.mencius_model.specs.Replying.{first_reply}
 
--- server s executed the command of ticket t: x became y, and the command's row has the reply if s is its home
-pub record IsExecution (s t : ℕ) (x y : ExecutorState) (old new : List Row) : Type 0 where
+-- server p executed the command of ticket t: x became y, and the command's row has the reply if p is its home
+pub record IsExecution (p : ServerId) (t : TicketNo) (x y : ExecutorState) (old new : List Row) : Type 0 where
   pub row : Row
   pub there : slice_get old t ≡ Some row
   pub executor : y ≡ after_execution x row.1.command t
@@ -21,12 +22,12 @@ pub record IsExecution (s t : ℕ) (x y : ExecutorState) (old new : List Row) : 
   pub command : submission.command ≡ row.1.command
   pub home : submission.home ≡ row.1.home
   pub answer : bytes_in submission.answer
-      ≡ first_reply (row.1.home == s) (bytes_in row.1.answer) (finite.get x.store (key_of row.1.command.op))
+      ≡ first_reply (row.1.home == p) (bytes_in row.1.answer) (finite.get x.store (key_of row.1.command.op))
 
--- server s executed a value
-abbrev pub IsPerformed : ℕ → Value → ExecutorState → ExecutorState → List Row → List Row → Type 0
-IsPerformed s Noop x y old new = (y ≡ x) × (new ≡ old)
-IsPerformed s (Ticket t) x y old new = IsExecution s t x y old new
+-- server p executed a value
+abbrev pub IsPerformed : ServerId → Value → ExecutorState → ExecutorState → List Row → List Row → Type 0
+IsPerformed p Noop x y old new = (y ≡ x) × (new ≡ old)
+IsPerformed p (Ticket t) x y old new = IsExecution p t x y old new
 
 -- the ticket of a value, if it has one, is below n
 abbrev pub IsTicketBelow : ℕ → Value → Type 0

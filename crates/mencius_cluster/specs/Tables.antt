@@ -8,17 +8,19 @@ use Rattle.mencius_base.specs.declared.event.Entry.{Entry}
 use Rattle.mencius_base.specs.declared.event.Entry.TheVariants.{Submit as Submit_entry, Deliver as Deliver_entry, Lose as Lose_entry, Suspect as Suspect_entry, Retry as Retry_entry, Execute as Execute_entry}
 use Rattle.mencius_base.specs.declared.event.Event.{Event}
 use Rattle.mencius_base.specs.declared.event.Event.TheVariants.{Submit, Deliver, Lose, Suspect, Retry, Execute}
+use Rattle.mencius_base.specs.Limits.{most_servers}
 use Rattle.mencius_base.specs.Members.{Membership, below, most_events, most_messages}
+use Rattle.mencius_base.specs.Numbers.{ServerId, TicketNo, MessageNo}
 use Rattle.mencius_base.specs.Outbox.{Outgoing}
-use Rattle.mencius_model.specs.History.{History, events, sent, submitted}
+use Rattle.mencius_model.specs.Trace.{Trace, events, sent, submitted}
 use Rattle.mencius_model.specs.Server.{done}
-use Rattle.mencius_model.specs.Next.{is_loss, replay, history_or_none}
+use Rattle.mencius_model.specs.Next.{is_loss, replay, trace_or_none}
 use Rattle.mencius_server.specs.State.{ServerState}
 use Rattle.mencius_server.specs.Reached.{server_at}
 use Rattle.map_exec.specs.State.{ExecutorState}
 use Rattle.mencius_cluster.specs.declared.submission.Submission.{Submission}
 use Rattle.mencius_cluster.specs.State.{entries_of}
-use Rattle.mencius_cluster.specs.Answers.{executor_at, bytes_in}
+use Rattle.mencius_cluster.specs.Answers.{executor_at, bytes_in, submitted_in}
 use Rattle.mencius_model.specs.Replying.{reply_at}
 
 -- an identity, with what is stored of its command
@@ -30,8 +32,8 @@ abbrev pub command_of : Row → Command
 command_of r = r.1.command
 
 -- the command and its home
-abbrev pub submission_of : Row → Command × ℕ
-submission_of r = (r.1.command, r.1.home)
+abbrev pub submission_of : Row → Command × ServerId
+submission_of r = submitted_in r.1
 
 -- the event of a stored entry, among these commands
 abbrev pub event_of : List Command → Entry → Option Event
@@ -53,28 +55,28 @@ pub record Tables : Type 0 where
   pub done : List ℕ
   pub messages : Outgoing
   pub rows : List Row
-  pub is_lost : ℕ → ℕ → Bool
+  pub is_lost : MessageNo → ServerId → Bool
   pub entries : List Entry
 
--- the tables are the definition's in a history of these members
-pub record AreTables (m : Membership) (w : History) (t : Tables) : Type 0 where
-  pub servers : t.servers ≡ map (server_at m w) (below m.count)
-  pub executors : t.executors ≡ map (executor_at w) (below m.count)
-  pub done : t.done ≡ map (done w) (below m.count)
-  pub messages : t.messages.messages ≡ sent w
-  pub limit : t.messages.limit ≡ most_messages
-  pub commands : map submission_of t.rows ≡ submitted w
-  pub ids : map (λ r. r.0) t.rows ≡ map (λ x. x.0.id) (submitted w)
-  pub replies : (k : ℕ) (r : Row) → slice_get t.rows k ≡ Some r
-      → bytes_in r.1.answer ≡ reply_at w k r.1.command r.1.home
-  pub lost : (k d : ℕ) → t.is_lost k d ≡ list_any (is_loss k d) w
-  pub events : length t.entries ≡ events w
+-- the tables are the definition's in a trace of these members
+pub record AreTables (m : Membership) (w : Trace) (x : Tables) : Type 0 where
+  pub servers : x.servers ≡ map (server_at m w) (below m.count)
+  pub executors : x.executors ≡ map (executor_at w) (below m.count)
+  pub done : x.done ≡ map (done w) (below m.count)
+  pub messages : x.messages.messages ≡ sent w
+  pub limit : x.messages.limit ≡ most_messages
+  pub commands : map submission_of x.rows ≡ submitted w
+  pub ids : map (λ row. row.0) x.rows ≡ map (λ x. x.0.id) (submitted w)
+  pub replies : (t : TicketNo) (row : Row) → slice_get x.rows t ≡ Some row
+      → bytes_in row.1.answer ≡ reply_at w t row.1.command row.1.home
+  pub lost : (k : MessageNo) (p : ServerId) → x.is_lost k p ≡ list_any (is_loss k p) w
+  pub events : length x.entries ≡ events w
 
--- the stored journal replays, and the tables are those of the history that it makes
-pub record IsCluster (m : Membership) (journal : List Event) (t : Tables) : Type 0 where
+-- the stored journal replays, and the tables are those of the trace that it makes
+pub record IsCluster (m : Membership) (journal : List Event) (x : Tables) : Type 0 where
   pub some : 1 ≤ m.count
-  pub few : m.count ≤ 7
-  pub room : length t.entries ≤ most_events
-  pub replays : replay m journal ≡ Ok (history_or_none (replay m journal))
-  pub stored : t.entries ≡ entries_of journal
-  pub tables : AreTables m (history_or_none (replay m journal)) t
+  pub few : m.count ≤ most_servers
+  pub room : length x.entries ≤ most_events
+  pub replays : replay m journal ≡ Ok (trace_or_none (replay m journal))
+  pub stored : x.entries ≡ entries_of journal
+  pub tables : AreTables m (trace_or_none (replay m journal)) x

@@ -5,8 +5,10 @@
 #![tactic(auto)]
 
 mod cluster;
+mod losses;
 mod submission;
 
 pub use cluster::{Cluster, Effect};
 pub use mencius_model::laws;
-pub use submission::Answered;
+pub use mencius_server::Glance;
+pub use submission::{Answered, Submission};

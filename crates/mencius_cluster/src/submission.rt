@@ -1,10 +1,9 @@
-ghost use Rattle.std.specs.Prelude.{◌≡◌, ◌<◌, ◌==◌, [], ◌∷◌, ◌++◌, None, OnOk, OnErr, IfErr};
+ghost use Rattle.std.specs.Prelude.{◌≡◌, ◌<◌, ◌==◌, [], ◌∷◌, ◌++◌, None, OnOk, OnErr};
 ghost use Rattle.std.specs.Map.{lookup};
 ghost use Rattle.indexmap.specs.IndexMap.{index_map_len, spare};
 ghost use Rattle.mencius_base.specs.Command.{is_same_id};
 ghost use Rattle.mencius_cluster.specs.declared.submission.Answered.TheVariants.{Pending};
 ghost use Rattle.std.specs.FinMap as finite;
-ghost use Rattle.mencius_base.specs.declared.refusal.Refusal.TheVariants.{NoMemory};
 ghost use Rattle.map_exec.specs.State.{after_execution};
 ghost use Rattle.mencius_model.specs.Store.{key_of};
 ghost use Rattle.mencius_cluster.specs.Answers.{bytes_in};
@@ -13,7 +12,7 @@ ghost use Rattle.mencius_model.specs.Replying.{first_reply};
 
 use indexmap::IndexMap;
 use map_exec::{Executor, Reply};
-use mencius_base::{Command, CommandId, Refusal, Value};
+use mencius_base::{Command, CommandId, NoMemory, Value};
 
 /// Whether a submitted command has its reply.
 #[derive(Debug, Drop)]
@@ -24,11 +23,14 @@ pub enum Answered {
     Given(Reply),
 }
 
-// A submitted command, the server that it was submitted at, and whether it has its reply.
-#[derive(Drop)]
+/// A command that was submitted, as a cluster keeps it.
+#[derive(Debug, Drop)]
 pub struct Submission {
+    /// The command.
     pub command: Command,
+    /// The server that it was submitted at.
     pub home: u8,
+    /// Whether it has its reply, and which.
     pub answer: Answered,
 }
 
@@ -36,7 +38,8 @@ pub struct Submission {
 pub fn enroll(submissions: &mut IndexMap<CommandId, Submission>, command: Command, home: u8)
     requires room { 0 < spare submissions.old }
     requires new { lookup (is_same_id command.id) submissions.old.entries ≡ None }
-    ensures { submissions.new.entries ≡ submissions.old.entries ++ (command.id, record { command = command; home = home; answer = Pending }) ∷ [] }
+    ensures { submissions.new.entries ≡ submissions.old.entries
+        ++ (command.id, record { command = command; home = home; answer = Pending }) ∷ [] }
 {
     let id = command.id();
     let submission = Submission {
@@ -55,12 +58,12 @@ pub fn perform(
     submissions: &mut IndexMap<CommandId, Submission>,
     server: u8,
     value: Value,
-) -> Result<(), Refusal>
+) -> Result<(), NoMemory>
     requires { IsTicketBelow (index_map_len submissions.old) value }
-    ensures done { OnOk result (IsPerformed server value executor.old executor.new submissions.old.entries submissions.new.entries) }
+    ensures done { OnOk result (IsPerformed server value executor.old executor.new
+        submissions.old.entries submissions.new.entries) }
     ensures executor { OnErr result (executor.new ≡ executor.old) }
     ensures rows { OnErr result (submissions.new.entries ≡ submissions.old.entries) }
-    ensures memory { IfErr result (λ r. r ≡ NoMemory) }
 {
     match value {
         Value::Noop => Ok(()),
@@ -77,14 +80,16 @@ fn run(
     submission: &mut Submission,
     server: u8,
     ticket: u32,
-) -> Result<(), Refusal>
-    ensures executed { OnOk result (executor.new ≡ after_execution executor.old submission.old.command ticket) }
+) -> Result<(), NoMemory>
+    ensures executed { OnOk result (executor.new
+        ≡ after_execution executor.old submission.old.command ticket) }
     ensures command { submission.new.command ≡ submission.old.command }
     ensures home { submission.new.home ≡ submission.old.home }
-    ensures answer { OnOk result (bytes_in submission.new.answer ≡ first_reply (submission.old.home == server) (bytes_in submission.old.answer) (finite.get executor.old.store (key_of submission.old.command.op))) }
+    ensures answer { OnOk result (bytes_in submission.new.answer
+        ≡ first_reply (submission.old.home == server) (bytes_in submission.old.answer)
+        (finite.get executor.old.store (key_of submission.old.command.op))) }
     ensures executor { OnErr result (executor.new ≡ executor.old) }
     ensures submission { OnErr result (submission.new ≡ submission.old) }
-    ensures memory { IfErr result (λ r. r ≡ NoMemory) }
 {
     let reply = executor.execute(&submission.command, ticket)?;
     if submission.home == server

@@ -71,9 +71,17 @@ replay-taken : fault_at (codes "replay" ∷ []) ≡ []
 unfolding clap_on_literals
 replay-taken = refl
 
-replay-asked : asked_at (codes "replay" ∷ []) ≡ asked_replay
+replay-asked : asked_at (codes "replay" ∷ []) ≡ asked_replay false
 unfolding clap_on_literals
 replay-asked = refl
+
+strict-asked : asked_at (codes "replay" ∷ codes "--strict" ∷ []) ≡ asked_replay true
+unfolding clap_on_literals
+strict-asked = refl
+
+strict-taken : fault_at (codes "replay" ∷ codes "--strict" ∷ []) ≡ []
+unfolding clap_on_literals
+strict-taken = refl
 
 task-missing : fault_at [] ≡ kind.MissingSubcommand ∷ []
 unfolding clap_on_literals
@@ -98,6 +106,15 @@ help-asked = refl
 help-of-replay-asked : fault_at (codes "replay" ∷ codes "-h" ∷ []) ≡ kind.DisplayHelp ∷ []
 unfolding clap_on_literals
 help-of-replay-asked = refl
+
+version-asked : fault_at (codes "--version" ∷ []) ≡ kind.DisplayVersion ∷ []
+unfolding clap_on_literals
+version-asked = refl
+
+-- a name that looks like an option is no word
+name-left-out : faults (codes "--lookup" ∷ codes "replay" ∷ []) ≡ []
+unfolding clap_on_literals
+name-left-out = refl
 
 run-taken : fault_at (codes "run" ∷ []) ≡ []
 unfolding clap_on_literals

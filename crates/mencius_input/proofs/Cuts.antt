@@ -1,9 +1,13 @@
 -- The words of a text that is cut at its first space.
-use Rattle.std.proofs.Common.{◌≡◌, ◌⊎◌, inl, inr, ℕ, ◌<◌, ◌==◌, List, [], ◌∷◌, length, Option, Some, None, Bool, true, false, cond, refl, ap, sym, ◌∙◌, arith, suc, get_or, ◌+◌, ◌≤◌, ltb, take, drop}
+use Rattle.std.proofs.Common.{◌≡◌, ◌⊎◌, inl, inr, ℕ, ◌<◌, ◌==◌, List, [], ◌∷◌, length, Option, Some, None, Bool, true, false, cond, refl, ap, sym, ◌∙◌, arith, suc, get_or, ◌+◌, ◌-◌, ◌++◌, ◌≤◌, ltb, take, drop}
 use Rattle.std.specs.Option.{unwrap_or}
 use Rattle.std.specs.List.{slice_split, onto_first, list_all, position, position_or_len}
+use Rattle.std.specs.Str.{bytes_eq}
 use Rattle.std.specs.Char.{is_ascii_digit}
 use Rattle.std.proofs.lemmas.Bool.{eqb-true, and_left, and_right, cases_Bool, both_ways, ltb-true, ltb-false}
+use Rattle.std.proofs.Math.Seq.{get_or-append_seam, take-append_seam}
+use Rattle.std.proofs.lemmas.List.{drop_more, length-append, take-append-drop}
+use Rattle.std.proofs.lemmas.Slice.Eq.{bytes_eq-Decides}
 use Rattle.std.proofs.lemmas.List.Quantifiers.{position-Some}
 use Rattle.std.proofs.lemmas.List.Sums.{fails_before_first}
 use Rattle.std.proofs.lemmas.List.Splits.{slice_split_first, slice_split-cons_no}
@@ -114,3 +118,41 @@ only_number = only_rest is_ascii_digit number_of number_none
 
 pub only_name : (text : List ℕ) → only name_of (parts 32 text) ≡ name_of text
 only_name = only_rest is_name_byte name_of name_none 32 refl
+
+-- ---- a word at the start
+
+pub begins_with : (text word front : List ℕ) (r : Bool) → front ≡ take (length word - 0) text
+    → r ≡ bytes_eq front word
+    → (r ≡ true → text ≡ word ++ drop (length word) text) × ((rest : List ℕ) → text ≡ word ++ rest → r ≡ true)
+begins_with text word front r cut same =
+    let whole : length word - 0 ≡ length word = omega arith in
+    let is : front ≡ take (length word) text = cut ∙ ap (λ (n : ℕ). take n text) whole in
+    let decides = bytes_eq-Decides front word in (
+      λ e. sym (take-append-drop (length word) text)
+          ∙ ap (λ (l : List ℕ). l ++ drop (length word) text) (sym is ∙ decides.0 (sym same ∙ e)),
+      λ rest e. same ∙ decides.1 (is ∙ rw e (take-append_seam word rest)),
+    )
+
+pub text_behind : (word text : List ℕ) → text ≡ word ++ drop (length word) text → length word < length text
+    → get_or text (length word) 0 ≡ 32 → text ≡ word ++ 32 ∷ drop (length word + 1) text
+text_behind word text starts less space =
+    starts
+    ∙ ap (λ (l : List ℕ). word ++ l)
+    (drop_more text (length word) 0 less ∙ ap (λ (b : ℕ). b ∷ drop (length word + 1) text) space)
+
+pub word_below : (word rest text : List ℕ) → text ≡ word ++ 32 ∷ rest → length word < length text
+word_below word rest text e = rw (e, length-append word (32 ∷ rest)) (omega arith)
+
+pub space_behind : (word rest text : List ℕ) → text ≡ word ++ 32 ∷ rest → get_or text (length word) 0 ≡ 32
+space_behind word rest text e = rw e (get_or-append_seam word 32 rest 0)
+
+-- what a text does not begin with is not its first word
+pub not_first : (word text : List ℕ) (i : ℕ) → position (λ b. b == 32) text ≡ Some i
+    → ((rest : List ℕ) → text ≡ word ++ 32 ∷ rest → ⊥) → take i text ≡ word → ⊥
+not_first word text i e none is =
+    let f = found_byte 32 text i e in
+    none (drop (i + 1) text)
+    (sym (take-append-drop i text)
+    ∙ ap (λ (l : List ℕ). l ++ drop i text) is
+    ∙ ap (λ (l : List ℕ). word ++ l)
+    (drop_more text i 0 f.0 ∙ ap (λ (b : ℕ). b ∷ drop (i + 1) text) f.1))

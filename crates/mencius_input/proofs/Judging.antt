@@ -110,11 +110,6 @@ pub passed_on : {X : Type 0} (result answer : Result X AppFault) (fault : AppFau
     → IsErrAnd result (λ e. e ≡ fault) → FailsBy fault answer → Gives result answer
 passed_on result answer fault h i = let p = err_from_is_err_and result h in rw (p.1, p.2) i
 
-pub passed_on_seen : {X Y : Type 0} (view : X
-    → Y) (result : Result X AppFault) (answer : Result Y AppFault) (fault : AppFault)
-    → IsErrAnd result (λ e. e ≡ fault) → FailsBy fault answer → Gives (seen view result) answer
-passed_on_seen view result answer fault h i = let p = err_from_is_err_and result h in rw (p.1, p.2) i
-
 pub passed_on_as : {X : Type 0} (result answer : Result X AppFault) (fault : AppFault)
     → IsErrAnd result (λ e. e ≡ fault) → answer ≡ Err fault → result ≡ answer
 passed_on_as result answer fault h i = let p = err_from_is_err_and result h in rw (p.1, p.2) (sym i)
@@ -154,36 +149,3 @@ judged_ok {X} f (Some y) x e = by_test (f y) refl e
         → (◌≡◌ {A = Option X} (Some y) (Some x)) × (f x ≡ true)
     by_test true is e = let same : y ≡ x = cc in (ap Some same, ap f (sym same) ∙ is)
     by_test false is e = absurd (cc)
-
--- what is past a limit has a shape
-pub judged_limit : {X : Type 0} (f : X → Bool) (o : Option X) → judged f o ≡ Err BadLimit
-    → (x : X) × (o ≡ Some x) × (f x ≡ false)
-judged_limit f None e = absurd (cc)
-judged_limit {X} f (Some x) e = by_test (f x) refl e
-  where
-    by_test : (a : Bool) → f x ≡ a → ◌≡◌ {A = Result X AppFault} (cond a (Ok x) (Err BadLimit)) (Err BadLimit)
-        → (y : X) × (◌≡◌ {A = Option X} (Some x) (Some y)) × (f y ≡ false)
-    by_test true is e = absurd (cc)
-    by_test false is e = (x, refl, is)
-
--- another fault than a limit is that of a bad shape, and a part without a shape takes it from the whole
-shape_fault : {X Y : Type 0} (f : X → Bool) (g : Y → Bool) (part : Option X) (whole : Option Y) (fault : AppFault)
-    → (fault ≡ BadLimit → ⊥) → (part ≡ None → whole ≡ None) → judged f part ≡ Err fault → judged g whole ≡ Err fault
-shape_fault f g None whole fault other none e = let is : BadShape ≡ fault = cc in rw (none refl) (ap Err is)
-shape_fault {X} {Y} f g (Some x) whole fault other none e = by_test (f x) e
-  where
-    by_test : (a : Bool) → ◌≡◌ {A = Result X AppFault} (cond a (Ok x) (Err BadLimit)) (Err fault)
-        → judged g whole ≡ Err fault
-    by_test true e = absurd (cc)
-    by_test false e = absurd (other (let is : BadLimit ≡ fault = cc in sym is))
-
-pub shape_faults : {X Y : Type 0} (f : X → Bool) (g : Y
-    → Bool) (part : Option X) (whole : Option Y) (fault : AppFault) → (fault ≡ BadLimit → ⊥)
-    → (part ≡ None → whole ≡ None) → FailsBy fault (judged f part) → FailsBy fault (judged g whole)
-shape_faults f g part whole NoMemory other none h = tt
-shape_faults f g part whole NotJson other none h = shape_fault f g part whole NotJson other none h
-shape_faults f g part whole BadShape other none h = shape_fault f g part whole BadShape other none h
-shape_faults f g part whole BadLimit other none h = shape_fault f g part whole BadLimit other none h
-shape_faults f g part whole ReadFailed other none h = shape_fault f g part whole ReadFailed other none h
-shape_faults f g part whole WriteFailed other none h = shape_fault f g part whole WriteFailed other none h
-shape_faults f g part whole BoardFailed other none h = shape_fault f g part whole BoardFailed other none h

@@ -1,9 +1,16 @@
 pub mod Known
 pub mod CommandLines
+pub mod Texts
 pub mod Numbers
 pub mod Judging
 pub mod Cuts
 pub mod Reading
 pub mod Json
-pub mod Listed
+pub mod Conversions
+pub mod Next
+pub mod Begins
+pub mod Noted
+pub mod Named
+pub mod Fields
 pub mod Plans
+pub mod Paired

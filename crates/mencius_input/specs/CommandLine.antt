@@ -1,7 +1,9 @@
 -- The command line: the program, its tasks and their options, in the terms of `clap`.
-use Rattle.std.specs.Prelude.{◌&&◌, Bool, true, false, List, [], ◌∷◌, ◌++◌, Option, Some, None, codes, option_map, string_bytes, if◌then◌else◌}
+use Rattle.std.specs.Prelude.{◌&&◌, ℕ, Bool, true, false, List, [], ◌∷◌, ◌++◌, Option, Some, None, Vec, codes, map, option_map, string_bytes, if◌then◌else◌}
+use Rattle.std.specs.List.{list_all}
 use Rattle.std.specs.Option.{option_map_or}
-use Rattle.std.specs.Str.{bytes_eq}
+use Rattle.std.specs.Str.{bytes_eq, is_utf8}
+use Rattle.std.specs.Str.Lossy.{utf8_lossy}
 use Rattle.clap.specs.Kinds.{or_else}
 use Rattle.clap.specs.Words.{App, Kinds, Row, Rule, Text, fault_of, first_of, new_app, new_rule, subcommand_of, with_rule, with_subcommand}
 use Rattle.clap.specs.declared.builder.action.ArgAction.TheVariants.{Set, SetTrue}
@@ -12,11 +14,15 @@ use Rattle.mencius_input.specs.declared.command_line.Task.TheVariants as task
 
 -- ---- the program
 
--- the program's name and settings: without a task it is refused
+-- the program's name and settings: it has a version, and without a task it is refused
 abbrev pub without_tasks : App
 without_tasks =
     let named = new_app (codes "mencius") in
-    record named { top = record named.top { subcommand_required = true } }
+    record named { top = record named.top { subcommand_required = true; has_version = true } }
+
+-- `--strict`
+abbrev pub strict_option : Rule
+strict_option = record (new_rule (codes "strict")) { long = Some (codes "strict"); action = Some SetTrue }
 
 -- `--journal`
 abbrev pub journal_option : Rule
@@ -26,17 +32,20 @@ journal_option = record (new_rule (codes "journal")) { long = Some (codes "journ
 abbrev pub lookup_option : Rule
 lookup_option = record (new_rule (codes "lookup")) { long = Some (codes "lookup"); action = Some Set; value_names = 1 }
 
+abbrev pub replay_task : App
+replay_task = with_rule (new_app (codes "replay")) strict_option
+
 abbrev pub run_task : App
 run_task = with_rule (with_rule (new_app (codes "run")) journal_option) lookup_option
 
 abbrev pub program : App
-program = with_subcommand (with_subcommand without_tasks (new_app (codes "replay")).top) run_task.top
+program = with_subcommand (with_subcommand without_tasks replay_task.top) run_task.top
 
 -- ---- what is asked for
 
--- a replay; or a run, with its journal or not, and with a key to look up or none
+-- a replay, strict or not; or a run, with its journal or not, and with a key to look up or none
 pub data Asked : Type 0 where
-  asked_replay : Asked
+  asked_replay : (is_strict : Bool) → Asked
   asked_run : (with_journal : Bool) (key : Option Text) → Asked
 
 -- whether a flag was given: its text is then "true"
@@ -45,24 +54,29 @@ has_flag id rows = option_map_or (λ text. bytes_eq text (codes "true")) (first_
 
 -- the task of this name, with what was found of its options
 abbrev pub asked_by : Option (Text × List Row) → Asked
-asked_by None = asked_replay
+asked_by None = asked_replay false
 asked_by (Some (name, rows)) =
     if bytes_eq name (codes "run") then asked_run (has_flag (codes "journal") rows) (first_of (codes "lookup") rows)
-    else asked_replay
+    else asked_replay (has_flag (codes "strict") rows)
 
--- the words as they are read: `--lookup` and its KEY make one word, `--lookup=KEY`, since a KEY may begin with a hyphen
+-- `--lookup` and its KEY make one word, `--lookup=KEY`, since a KEY may begin with a hyphen
 abbrev pub with_joined_key : List Text → List Text
 with_joined_key (word ∷ key ∷ words) =
     if bytes_eq word (codes "--lookup") then (word ++ 61 ∷ key) ∷ with_joined_key words
     else word ∷ with_joined_key (key ∷ words)
 with_joined_key words = words
 
+-- the words as they are read: the first, the program's name, is none of them, whatever it is
+abbrev pub words_read : List Text → List Text
+words_read [] = []
+words_read (name ∷ words) = name ∷ with_joined_key words
+
 abbrev pub asked : List Text → Asked
-asked words = asked_by (subcommand_of program (with_joined_key words))
+asked words = asked_by (subcommand_of program (words_read words))
 
 -- the same, of a task
 abbrev pub asked_in : Task → Asked
-asked_in task.Replay = asked_replay
+asked_in (task.Replay is_strict) = asked_replay is_strict
 asked_in (task.Run with_journal key) = asked_run with_journal (option_map string_bytes key)
 
 -- ---- what is wrong with it
@@ -78,10 +92,28 @@ bad_key_faults (Some key) = kind.ValueValidation ∷ []
 
 -- what is wrong with the key
 abbrev pub key_faults : Asked → Kinds
-key_faults asked_replay = []
+key_faults (asked_replay is_strict) = []
 key_faults (asked_run with_journal None) = []
 key_faults (asked_run with_journal (Some key)) = bad_key_faults (if is_key key then None else Some key)
 
 -- what `clap` has against the words, and else what is wrong with the key
 abbrev pub faults : List Text → Kinds
-faults words = or_else (fault_of program (with_joined_key words)) (key_faults (asked words))
+faults words = or_else (fault_of program (words_read words)) (key_faults (asked words))
+
+-- ---- arguments, which are bytes
+
+-- the bytes of each
+abbrev pub bytes_of : {Z : Type 0} → List (Vec ℕ Z) → List Text
+bytes_of arguments = map (λ a. a.items) arguments
+
+-- the text of each, which is its bytes where these are a text
+abbrev pub lossy_of : {Z : Type 0} → List (Vec ℕ Z) → List Text
+lossy_of arguments = map (λ a. utf8_lossy a.items) arguments
+
+-- whether all are texts
+abbrev pub are_texts : List Text → Bool
+are_texts arguments = list_all is_utf8 arguments
+
+-- the command line that they make, under the name that usage shows
+abbrev pub line_of : List Text → List Text
+line_of arguments = codes "mencius" ∷ arguments

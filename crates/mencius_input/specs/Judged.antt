@@ -1,5 +1,5 @@
 -- Shape before limits: what is judged of something that was read.
-use Rattle.std.specs.Prelude.{◌≡◌, Bool, true, false, List, [], ◌∷◌, ◌++◌, Option, Some, None, Result, Ok, Err, if◌then◌else◌}
+use Rattle.std.specs.Prelude.{◌≡◌, Bool, true, Option, Some, None, Result, Ok, Err, if◌then◌else◌}
 use Rattle.mencius_input.specs.declared.fault.AppFault.{AppFault}
 use Rattle.mencius_input.specs.declared.fault.AppFault.TheVariants.{BadShape, BadLimit, NoMemory}
 
@@ -19,7 +19,7 @@ joined (Ok x) (Err f) = Err f
 joined (Err BadLimit) (Err f) = Err f
 joined (Err f) y = Err f
 
--- an answer of this fault; for want of memory there may be any answer
+-- an answer of this fault; when out of memory there may be any answer
 abbrev pub FailsBy : {X : Type 0} → AppFault → Result X AppFault → Type 0
 FailsBy NoMemory answer = Unit {0}
 FailsBy f answer = answer ≡ Err f
@@ -33,8 +33,3 @@ Gives (Err f) answer = FailsBy f answer
 abbrev pub seen : {X Y : Type 0} → (X → Y) → Result X AppFault → Result Y AppFault
 seen view (Ok x) = Ok (view x)
 seen view (Err f) = Err f
-
--- what is noted of one more item: it is kept, or that it is past a limit
-abbrev pub Notes : {X : Type 0} → Result X AppFault → List X → List X → Bool → Bool → Type 0
-Notes (Ok x) old new before after = (new ≡ old ++ x ∷ []) × (after ≡ before)
-Notes (Err f) old new before after = (f ≡ BadLimit) × (new ≡ old) × (after ≡ false)

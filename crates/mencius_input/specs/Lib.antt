@@ -7,3 +7,9 @@ pub mod Words
 pub mod Grammar
 pub mod Scenario
 pub mod Plan
+pub mod Next
+pub mod Noted
+pub mod Named
+pub mod Fields
+pub mod PlanFields
+pub mod Events

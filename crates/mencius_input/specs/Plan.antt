@@ -4,6 +4,7 @@ use Rattle.std.specs.List.{list_all}
 use Rattle.serde_json.specs.Data.{Data}
 use Rattle.serde_json.specs.Find.{as_object, as_array, get}
 use Rattle.serde_json.specs.Events.{members_len}
+use Rattle.mencius_base.specs.Limits.{greatest_loss, most_servers, most_turns, most_workers}
 use Rattle.mencius_base.specs.Request.{Request}
 use Rattle.mencius_input.specs.declared.fault.AppFault.{AppFault}
 use Rattle.mencius_input.specs.declared.plan.Numbers.{Numbers}
@@ -46,8 +47,8 @@ plan_of d = do
 
 abbrev pub numbers_within : Numbers → Bool
 numbers_within n =
-    (n.version == 1) && (nat_le 1 n.servers && nat_le n.servers 7) && (nat_le 1 n.workers && nat_le n.workers 8)
-    && nat_le n.turns 100000 && nat_le n.loss 32
+    (n.version == 1) && (nat_le 1 n.servers && nat_le n.servers most_servers)
+    && (nat_le 1 n.workers && nat_le n.workers most_workers) && nat_le n.turns most_turns && nat_le n.loss greatest_loss
 
 -- as many lists as there are servers
 abbrev pub plan_within : WrittenPlan → Bool

@@ -6,6 +6,7 @@ use Rattle.serde_json.specs.Data.{Data, Items, no_items, item}
 use Rattle.serde_json.specs.Find.{as_object, as_array, as_str, as_number, as_u64, get}
 use Rattle.serde_json.specs.Events.{members_len}
 use Rattle.serde_json.specs.Read.{read}
+use Rattle.mencius_base.specs.Limits.{most_servers}
 use Rattle.mencius_base.specs.declared.event.Event.{Event}
 use Rattle.mencius_input.specs.declared.fault.AppFault.{AppFault}
 use Rattle.mencius_input.specs.declared.fault.AppFault.TheVariants.{NotJson}
@@ -59,7 +60,7 @@ written_of d = do
 -- ---- the limits
 
 abbrev pub within : Written → Bool
-within w = (w.version == 1) && (nat_le 1 w.servers && nat_le w.servers 7) && list_all event_within w.events
+within w = (w.version == 1) && (nat_le 1 w.servers && nat_le w.servers most_servers) && list_all event_within w.events
 
 -- ---- the bytes
 
@@ -82,4 +83,4 @@ scenario bytes = read_there (λ d. judged within (written_of d)) (or_not_json (j
 
 -- what a scenario that was read says
 abbrev pub written_in : code.Scenario → Written
-written_in s = record { version = 1; servers = s.members.count; events = s.events.items }
+written_in s = record { version = 1; servers = s.members.count; events = s.events }

@@ -1,22 +1,25 @@
 //! The words after the program's name.
 
-ghost use Rattle.std.specs.Prelude.{◌≡◌, ◌≤◌, ◌∷◌, false, IfOk, codes, length, map, option_copied, option_map, string_bytes};
+ghost use Rattle.std.specs.Prelude.{◌≡◌, ◌≤◌, ◌∷◌, false, IfOk, Some, codes, length, map, option_copied, option_map, string_bytes};
 ghost use Rattle.clap.specs.declared.builder.command.Command.TheViews.{out-Command as fields_of};
 ghost use Rattle.clap.specs.Words.{FailsBy, app_of, first_of, found_of, kind_of, rows_of, subcommand_rows_of};
-ghost use Rattle.mencius_input.specs.CommandLine.{asked, asked_by, asked_in, bad_key_faults, faults, has_flag, is_key, key_faults, program, run_task, with_joined_key};
+ghost use Rattle.mencius_input.specs.CommandLine.{asked, asked_by, asked_in, bad_key_faults, faults, has_flag, is_key, key_faults, program, replay_task, run_task, with_joined_key, words_read};
 ghost use Rattle.mencius_input.specs.Status.{status_of};
 
 use crate::fault::AppFault;
 use clap::error::ErrorKind;
 use clap::{Arg, ArgAction, ArgMatches, Command, Error};
-use mencius_base::is_name;
+use mencius_base::{MOST_KEY_BYTES, is_name};
 use std::alloc::{AllocError, Global};
 
 /// What a command line asks for.
 #[derive(Debug, Drop, PartialEq, Eq)]
 pub enum Task {
     /// A replay of the scenario on standard input.
-    Replay,
+    Replay {
+        /// Whether a refused event makes it end with another status.
+        is_strict: bool,
+    },
     /// A run of the workers of the scenario on standard input.
     Run {
         /// Whether the journal is printed before the report.
@@ -25,6 +28,9 @@ pub enum Task {
         key: Option<String>,
     },
 }
+
+// What `--version` prints behind the program's name.
+const VERSION: &str = "0.1.0";
 
 const ABOUT: &str =
     "An executable reference of Mencius, the replicated state machine for wide area networks";
@@ -64,7 +70,7 @@ in order of sending. A command's ID is CLIENT.NUMBER, two numbers that the clien
   submit S ID del KEY       .. to remove KEY
   deliver K D               message K reaches server D, for the first time or again
   lose K D                  message K can no longer reach server D
-  suspect P Q               server P takes Q for stopped, and revokes its open instances
+  suspect P Q               server P suspects that Q has stopped, and revokes what Q left open
   retry P                   server P suggests a command again that lost its instance
   execute S                 server S executes its next instance
 
@@ -80,9 +86,14 @@ What is printed, in this order:
   reply ID =TEXT            .. or this text,
   reply ID pending          .. or no answer yet";
 
+const REPLAY_USAGE: &str = "mencius replay [OPTIONS] < SCENARIO";
+
+const STRICT_HELP: &str = "Ends with status 1 if any event was refused";
+
 const REPLAY_NOTES: &str = "\
 Exit status:
   0  done
+  1  done, but with --strict an event was refused
   2  a bad command line
   3  a bad scenario: 21 NotJson, 22 BadShape, 23 BadLimit
   4  reading or writing failed: 24 ReadFailed, 25 WriteFailed
@@ -129,6 +140,8 @@ What is printed, in this order:
 With one worker a scenario always prints the same, byte for byte. With more, it is the
 machine that decides whose turn comes next, and the journal says what came of it.";
 
+const RUN_USAGE: &str = "mencius run [OPTIONS] < SCENARIO";
+
 const RUN_NOTES: &str = "\
 Exit status:
   0  done
@@ -167,24 +180,39 @@ fn run_command<'a>(alloc: Global) -> Result<Command<'a>, AllocError>
         .about(RUN_ABOUT)
         .long_about(RUN_LONG_ABOUT)
         .after_help(RUN_NOTES)
+        .override_usage(RUN_USAGE)
         .arg(journal)?
         .arg(lookup)
+}
+
+// The task `replay`, with its option.
+fn replay_command<'a>(alloc: Global) -> Result<Command<'a>, AllocError>
+    ensures replay { IfOk result (λ command. app_of command ≡ replay_task) }
+    ensures local { IfOk result (λ command. (fields_of command).has_globals ≡ false) }
+{
+    let strict = Arg::new(alloc, "strict")
+        .long("strict")
+        .action(ArgAction::SetTrue)
+        .help(STRICT_HELP);
+    Command::new(alloc, "replay")
+        .about(REPLAY_ABOUT)
+        .long_about(REPLAY_LONG_ABOUT)
+        .after_help(REPLAY_NOTES)
+        .override_usage(REPLAY_USAGE)
+        .arg(strict)
 }
 
 // The command line that is read.
 fn command_line<'a>(alloc: Global) -> Result<Command<'a>, AllocError>
     ensures { IfOk result (λ command. app_of command ≡ program) }
 {
-    let replay = Command::new(alloc, "replay")
-        .about(REPLAY_ABOUT)
-        .long_about(REPLAY_LONG_ABOUT)
-        .after_help(REPLAY_NOTES);
     Command::new(alloc, "mencius")
+        .version(VERSION)
         .about(ABOUT)
         .long_about(LONG_ABOUT)
         .after_help(TOP_NOTES)
         .subcommand_required(true)
-        .subcommand(replay)?
+        .subcommand(replay_command(alloc)?)?
         .subcommand(run_command(alloc)?)
 }
 
@@ -204,7 +232,8 @@ fn next_word<'a>(
     word: &String,
     after: &'a [String],
 ) -> Result<(String, &'a [String]), AllocError>
-    ensures read { IfOk result (λ r. with_joined_key (string_bytes word.now ∷ map string_bytes after.now)
+    ensures read { IfOk result (λ r.
+        with_joined_key (string_bytes word.now ∷ map string_bytes after.now)
         ≡ string_bytes r.0 ∷ with_joined_key (map string_bytes r.1.now)) }
     ensures shorter { IfOk result (λ r. length r.1.now ≤ length after.now) }
 {
@@ -216,12 +245,17 @@ fn next_word<'a>(
     }
 }
 
-// The words as they are read: `clap` takes a KEY that begins with a hyphen only behind `=`.
-fn with_joined_key(alloc: Global, words: &[String]) -> Result<Vec<String>, AllocError>
-    ensures { IfOk result (λ v. map string_bytes v.items ≡ with_joined_key (map string_bytes words.now)) }
+// The words behind the name as they are read: `clap` takes a KEY that begins with a hyphen only
+// behind `=`.
+fn words_read(alloc: Global, words: &[String]) -> Result<Vec<String>, AllocError>
+    ensures { IfOk result (λ v. map string_bytes v.items
+        ≡ words_read (map string_bytes words.now)) }
 {
     let mut joined = Vec::new(alloc);
-    let mut rest = words;
+    let Some((name, mut rest)) = words.split_first() else {
+        return Ok(joined);
+    };
+    joined.push(name.clone()?)?;
     while let Some((word, after)) = rest.split_first() {
         let (word, left) = next_word(alloc, word, after)?;
         joined.push(word)?;
@@ -241,16 +275,27 @@ fn key_of(alloc: Global, options: &ArgMatches) -> Result<Option<String>, AllocEr
     }
 }
 
+// The task of this name, with its options.
+fn task_named(alloc: Global, name: &str, options: &ArgMatches) -> Result<Task, AllocError>
+    ensures { IfOk result (λ task. asked_in task
+        ≡ asked_by (Some (name.now, rows_of (found_of options.now)))) }
+{
+    if name == "run" {
+        let with_journal = has_flag(options, "journal");
+        let key = key_of(alloc, options)?;
+        return Ok(Task::Run { with_journal, key });
+    }
+    let is_strict = has_flag(options, "strict");
+    Ok(Task::Replay { is_strict })
+}
+
 // The task that was asked for.
 fn task_of(alloc: Global, matches: &ArgMatches) -> Result<Task, AllocError>
     ensures { IfOk result (λ task. asked_in task ≡ asked_by (subcommand_rows_of matches.now)) }
 {
     match matches.subcommand() {
-        Some(("run", options)) => Ok(Task::Run {
-            with_journal: has_flag(options, "journal"),
-            key: key_of(alloc, options)?,
-        }),
-        _ => Ok(Task::Replay),
+        Some((name, options)) => task_named(alloc, name, options),
+        None => Ok(Task::Replay { is_strict: false }),
     }
 }
 
@@ -258,7 +303,7 @@ fn task_of(alloc: Global, matches: &ArgMatches) -> Result<Task, AllocError>
 fn is_key(word: &str) -> bool
     ensures { result ≡ is_key word.now }
 {
-    is_name(word) && !word.is_empty() && word.len() <= 64
+    is_name(word) && !word.is_empty() && word.len() <= MOST_KEY_BYTES
 }
 
 // The key that is to be looked up, where it is none.
@@ -290,22 +335,22 @@ fn key_error(alloc: Global, command: &mut Command, key: &str) -> Result<Error, A
     command.error(ErrorKind::ValueValidation, message.as_str())
 }
 
-/// What the words ask for, of which the first is the program's name. Which words are taken, which
-/// task and which options they ask for, and the kind of the error where they are not taken, is what
-/// `clap` says of a program with the two subcommands `replay` and `run [--journal] [--lookup KEY]`,
-/// once `--lookup` and the word behind it are joined to `--lookup=KEY`; and a KEY that is no key of a
-/// command is refused.
+/// What the words ask for, of which the first is the program's name, which may be anything. Which
+/// words are taken, which task and which options they ask for, and the kind of the error where they
+/// are not taken, is what `clap` says of a program with a version and the two subcommands
+/// `replay [--strict]` and `run [--journal] [--lookup KEY]`, once `--lookup` and the word behind it
+/// are joined to `--lookup=KEY`; and a KEY that is no key of a command is refused.
 ///
 /// # Errors
 ///
 /// The error has the text to print, says whether it goes to standard error, and has the exit status:
-/// 0 where help was asked for, and 2 for a bad command line. Its kind is `ValueValidation` for a KEY
+/// 0 where help or the version was asked for, and 2 for a bad command line. Its kind is `ValueValidation` for a KEY
 /// that is none, and `OutOfMemory` where memory ran out, whatever the words.
 pub fn read_command_line(alloc: Global, words: &[String]) -> Result<Task, Error>
     ensures task { IfOk result (λ task. asked_in task ≡ asked (map string_bytes words.now)) }
     ensures faults { FailsBy (faults (map string_bytes words.now)) result }
 {
-    let words = with_joined_key(alloc, words)?;
+    let words = words_read(alloc, words)?;
     let mut command = command_line(alloc)?;
     let matches = command.try_get_matches_from_mut(words.as_slice())?;
     let task = task_of(alloc, &matches)?;

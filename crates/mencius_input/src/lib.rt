@@ -2,19 +2,26 @@
 //! over readers and writers that count their failures; and the faults that end a run.
 #![tactic(auto)]
 
+mod arguments;
 mod command_line;
+mod commands;
 mod event;
+mod events;
 mod fault;
 mod judged;
 mod plan;
 mod read;
 mod scenario;
+mod schedule;
 mod sink;
 mod source;
+mod value;
 mod words;
 mod write;
 
+pub use arguments::{are_texts, read_arguments};
 pub use command_line::{Task, exit_status, read_command_line};
+pub use events::{Events, EventsLeft};
 pub use fault::AppFault;
 pub use plan::{RunInput, read_run_input};
 pub use read::read_all;

@@ -26,7 +26,8 @@ pub fn read_all<R: Source>(alloc: Global, source: &mut R) -> Result<Vec<u8>, App
         → IfSome (R.remaining source.old) (λ bytes. most_bytes < length bytes) }
     ensures failed { IsErrOf result AppFault.ReadFailed
         → HasFailed (R.failed source.old) (R.failed source.new) }
-    ensures faults { IfErr result (λ f. (f ≡ AppFault.BadLimit) ⊎ (f ≡ AppFault.ReadFailed) ⊎ (f ≡ AppFault.NoMemory)) }
+    ensures faults { IfErr result (λ f. (f ≡ AppFault.BadLimit) ⊎ (f ≡ AppFault.ReadFailed)
+        ⊎ (f ≡ AppFault.NoMemory)) }
 
     // How much was asked of the source, whatever the answer.
     ensures taken { TakesAtMost (most_bytes + 1) (R.remaining source.old) (R.remaining source.new) }

@@ -1,4 +1,4 @@
-ghost use Rattle.std.specs.Prelude.{◌≡◌, ◌∷◌, [], ◌<◌, ◌==◌, MatchResult};
+ghost use Rattle.std.specs.Prelude.{ℕ, List, ◌≡◌, ◌≢◌, ◌∷◌, ◌++◌, [], ◌<◌, ◌==◌, IfSome, MatchOption, MatchResult, Some};
 ghost use Rattle.std.specs.List.{list_all, position};
 ghost use Rattle.std.specs.Char.{is_ascii_digit};
 ghost use Rattle.mencius_input.specs.Judged.{judged};
@@ -17,6 +17,19 @@ pub(crate) fn cut(text: &str, at: u8) -> Result<(&str, &str), AppFault>
         Some(place) => Ok((&text[..place], &text[place + 1..])),
         None => Err(AppFault::BadShape),
     }
+}
+
+/// What stands behind a word and one space, where the text begins with both.
+pub(crate) fn behind<'a>(text: &'a str, word: &str) -> Option<&'a str>
+    ensures { MatchOption result ((rest : List ℕ) → text.now ≢ word.now ++ 32 ∷ rest)
+        (λ rest. text.now ≡ word.now ++ 32 ∷ rest.now) }
+{
+    let bytes = text.as_bytes();
+    let place = word.len();
+    if place < bytes.len() && bytes[place] == b' ' && &text[..place] == word {
+        return Some(&text[place + 1..]);
+    }
+    None
 }
 
 // Where a byte stands first.
@@ -43,11 +56,25 @@ fn is_number(word: &str) -> bool
     }
 }
 
+// The number that a word of one digit is, as most of a schedule's are.
+#[tactic(auto, unfolding(crate::specs::Words::number_of))]
+fn one_digit(word: &str) -> Option<u8>
+    ensures { IfSome result (λ n. (number_of word.now ≡ Some n) × (n < 10)) }
+{
+    match word.as_bytes() {
+        [digit] if digit.is_ascii_digit() => Some(*digit - b'0'),
+        _ => None,
+    }
+}
+
 /// The number that a word is, 0 to 255. Another word is a bad shape.
 #[tactic(auto, using(crate::proofs::Numbers::parsed), unfolding(crate::specs::Words::number_of))]
 pub(crate) fn parse_u8(word: &str) -> Result<u8, AppFault>
     ensures { result ≡ judged is_u8 (number_of word.now) }
 {
+    if let Some(digit) = one_digit(word) {
+        return Ok(digit);
+    }
     if !is_number(word) {
         return Err(AppFault::BadShape);
     }
@@ -62,6 +89,9 @@ pub(crate) fn parse_u8(word: &str) -> Result<u8, AppFault>
 pub(crate) fn parse_u32(word: &str) -> Result<u32, AppFault>
     ensures { result ≡ judged is_u32 (number_of word.now) }
 {
+    if let Some(digit) = one_digit(word) {
+        return Ok(digit as u32);
+    }
     if !is_number(word) {
         return Err(AppFault::BadShape);
     }

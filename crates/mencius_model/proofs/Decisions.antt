@@ -6,17 +6,18 @@ use Rattle.mencius_base.specs.declared.message.Message.TheVariants.{Skip, Learn}
 use Rattle.mencius_base.specs.declared.message.Value.{Value}
 use Rattle.mencius_base.specs.declared.message.Value.TheVariants.{Noop}
 use Rattle.mencius_base.specs.Members.{Membership, owner}
-use Rattle.mencius_model.specs.History.{Line, Sent, Learned, History, sent}
+use Rattle.mencius_model.specs.Trace.{Line, Sent, Learned, Trace, sent}
 use Rattle.mencius_model.specs.Instance.{proposed, learned, has_accepted}
-use Rattle.mencius_model.specs.Decided.{IsSkipped, IsDecided, gives_up}
+use Rattle.mencius_model.specs.Decided.{IsSkipped, IsDecided}
+use Rattle.mencius_model.specs.Rules.{gives_up}
 use Rattle.mencius_model.proofs.Lists.{IsIn, any_in, in_any, majority_more}
-use Rattle.mencius_model.proofs.Grown.{IsGrown, MayLearn}
-use Rattle.mencius_model.proofs.State.{proposed_more, acceptance_more, sent_in, in_sent, start_in, learned_in}
+use Rattle.mencius_model.proofs.LineRights.{IsGrown, MayLearn}
+use Rattle.mencius_model.proofs.AnswersLast.{proposed_more, acceptance_more, sent_in, in_sent, start_in, learned_in}
 use Rattle.mencius_model.proofs.Paxos.{chosen_above, origin}
-use Rattle.mencius_model.proofs.Owners.{skip_free}
+use Rattle.mencius_model.proofs.Suggesters.{skip_free}
 
 -- a Skip of i's owner that covers i
-pub record SkipOf (m : Membership) (w : History) (i : ℕ) : Type 0 where
+pub record SkipOf (m : Membership) (w : Trace) (i : ℕ) : Type 0 where
   pub first : ℕ
   pub stop : ℕ
   pub skip : IsIn (Sent (Skip (owner m i) first stop)) w
@@ -24,7 +25,7 @@ pub record SkipOf (m : Membership) (w : History) (i : ℕ) : Type 0 where
   pub to : i < stop
 
 -- a message that gives i up is such a Skip
-skip_message : (m : Membership) (w : History) (i : ℕ) (x : Message) → IsIn (Sent x) w → gives_up m i x ≡ true
+skip_message : (m : Membership) (w : Trace) (i : ℕ) (x : Message) → IsIn (Sent x) w → gives_up m i x ≡ true
     → SkipOf m w i
 skip_message m w i (Skip from first stop) h e =
     let r = and_parts (eqb from (owner m i) && leb first i) (ltb i stop) e in
@@ -34,19 +35,19 @@ skip_message m w i (Skip from first stop) h e =
 skip_message m w i _ h e = absurd (cc)
 
 -- where i is skipped, there is one
-skip_of : (m : Membership) (w : History) (i : ℕ) → IsSkipped m w i → SkipOf m w i
+skip_of : (m : Membership) (w : Trace) (i : ℕ) → IsSkipped m w i → SkipOf m w i
 skip_of m w i h =
     let r = any_in (gives_up m i) (sent w) h in
     skip_message m w i r.0 (sent_in r.0 w r.1) r.2
 
 -- a later line leaves what is skipped
-skipped_more : (m : Membership) (l : Line) (w : History) (i : ℕ) → IsSkipped m w i → IsSkipped m (l ∷ w) i
+skipped_more : (m : Membership) (l : Line) (w : Trace) (i : ℕ) → IsSkipped m w i → IsSkipped m (l ∷ w) i
 skipped_more m l w i h =
     let r = any_in (gives_up m i) (sent w) h in
     in_any (gives_up m i) r.0 (sent (l ∷ w)) (in_sent r.0 (l ∷ w) (inr (sent_in r.0 w r.1))) r.2
 
 -- a later line leaves what is decided
-pub decided_more : (m : Membership) (l : Line) (w : History) (i : ℕ) (v : Value) → IsDecided m w i v
+pub decided_more : (m : Membership) (l : Line) (w : Trace) (i : ℕ) (v : Value) → IsDecided m w i v
     → IsDecided m (l ∷ w) i v
 decided_more m l w i v (inl c) =
     inl (
@@ -57,13 +58,13 @@ decided_more m l w i v (inl c) =
 decided_more m l w i v (inr s) = inr (skipped_more m l w i s.0, s.1)
 
 -- and so do all later lines
-pub decided_past : (m : Membership) (ls : List Line) (w : History) (i : ℕ) (v : Value) → IsDecided m w i v
+pub decided_past : (m : Membership) (ls : List Line) (w : Trace) (i : ℕ) (v : Value) → IsDecided m w i v
     → IsDecided m (ls ++ w) i v
 decided_past m [] w i v h = h
 decided_past m (l ∷ ls) w i v h = decided_more m l (ls ++ w) i v (decided_past m ls w i v h)
 
 -- where a Skip covers i, every proposal at i is no-op
-pub skipped_noop : (m : Membership) (w : History) → 1 ≤ m.count → IsGrown m w → (i b : ℕ) (x : Value)
+pub skipped_noop : (m : Membership) (w : Trace) → 1 ≤ m.count → IsGrown m w → (i b : ℕ) (x : Value)
     → IsSkipped m w i → proposed w i b ≡ Some x → x ≡ Noop
 skipped_noop m w few g i b x h e =
     elim (origin m w g i b x e) [
@@ -74,8 +75,8 @@ skipped_noop m w few g i b x h e =
           absurd (skip_free m w few g (owner m i) k.first k.stop r.0 i r.1 refl k.from k.to k.skip r.2)
     ]
 
--- decided values agree, in one history
-pub agreement : (m : Membership) (w : History) → 1 ≤ m.count → IsGrown m w → (i : ℕ) (v x : Value)
+-- decided values agree, in one trace
+pub agreement : (m : Membership) (w : Trace) → 1 ≤ m.count → IsGrown m w → (i : ℕ) (v x : Value)
     → IsDecided m w i v → IsDecided m w i x → v ≡ x
 agreement m w few g i v x (inl c) (inl d) =
     elim (cases_order c.0 d.0) [
@@ -90,11 +91,11 @@ agreement m w few g i v x (inr s) (inl c) = s.1 ∙ sym (skipped_noop m w few g 
 agreement m w few g i v x (inr s) (inr t) = s.1 ∙ sym t.1
 
 -- what was learned, and what a Learn message tells, is decided
-pub record AreDecided (m : Membership) (w : History) : Type 0 where
+pub record AreDecided (m : Membership) (w : Trace) : Type 0 where
   pub lines : (p i : ℕ) (v : Value) → IsIn (Learned p i v) w → IsDecided m w i v
   pub messages : (p i : ℕ) (v : Value) → IsIn (Sent (Learn p i v)) w → IsDecided m w i v
 
-pub all_decided : (m : Membership) (w : History) → IsGrown m w → AreDecided m w
+pub all_decided : (m : Membership) (w : Trace) → IsGrown m w → AreDecided m w
 all_decided m [] g = record { lines = λ p i v h. absurd h; messages = λ p i v h. absurd h }
 all_decided m (l ∷ w) g =
     let before = all_decided m w g.0 in
@@ -116,6 +117,6 @@ all_decided m (l ∷ w) g =
     }
 
 -- every learned value is decided
-pub learned_decided : (m : Membership) (w : History) → IsGrown m w → (p i : ℕ) (v : Value) → learned w p i ≡ Some v
+pub learned_decided : (m : Membership) (w : Trace) → IsGrown m w → (p i : ℕ) (v : Value) → learned w p i ≡ Some v
     → IsDecided m w i v
 learned_decided m w g p i v h = (all_decided m w g).lines p i v (learned_in w p i v h)

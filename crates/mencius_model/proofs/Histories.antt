@@ -1,4 +1,4 @@
--- Histories: of any two one begins the other, each command stands once, and later commands stand later.
+-- Histories: of any two one is a prefix of the other, each command stands once, and later commands stand later.
 use Rattle.std.proofs.Common.{◌≡◌, ℕ, zero, suc, ◌+◌, ◌<◌, ◌≤◌, eqb, List, [], ◌∷◌, ◌++◌, length, ◌⊎◌, inl, inr, refl, sym, ap, ◌∙◌, arith, Option, Some, None, slice_get, append-nil, append_assoc, eqb-true, filter_map}
 use Rattle.std.specs.List.{cons_option}
 use Rattle.std.proofs.lemmas.Bool.{cases_lt, cases_Bool}
@@ -6,43 +6,43 @@ use Rattle.std.proofs.lemmas.List.Elements.{filter_map-append}
 use Rattle.mencius_base.specs.declared.message.Value.{Value}
 use Rattle.mencius_base.specs.declared.message.Value.TheVariants.{Noop, Ticket}
 use Rattle.mencius_base.specs.Members.{Membership, below}
-use Rattle.mencius_model.specs.History.{Line, Done, History, submitted}
+use Rattle.mencius_model.specs.Trace.{Line, Executed, Trace, submitted}
 use Rattle.mencius_model.specs.Instance.{learned}
 use Rattle.mencius_model.specs.Server.{done, is_done, ticket_of}
 use Rattle.mencius_model.specs.Decided.{IsDecided}
 use Rattle.mencius_model.specs.Executed.{executed, IsPrefix, IsComparable}
 use Rattle.mencius_model.proofs.Lists.{IsIn, get_in, in_append}
-use Rattle.mencius_model.proofs.Below.{below-more}
-use Rattle.mencius_model.proofs.Grown.{IsGrown, IsPast, past_grown}
-use Rattle.mencius_model.proofs.State.{learned_more}
+use Rattle.mencius_model.proofs.NumberLists.{below-more}
+use Rattle.mencius_model.proofs.LineRights.{IsGrown, IsPast, past_grown}
+use Rattle.mencius_model.proofs.AnswersLast.{learned_more}
 use Rattle.mencius_model.proofs.Decisions.{learned_decided, decided_past, agreement}
 use Rattle.mencius_model.proofs.Tickets.{decided_once, decided_submitted, get_push}
 
 -- ---- what was executed was learned
 
 -- a line is an execution by s, or leaves its count
-done_line : (s : ℕ) (l : Line) → (is_done s l ≡ 0) ⊎ ((is_done s l ≡ 1) × (l ≡ Done s))
-done_line s (Done server) =
-    elim (cases_Bool (eqb server s)) [
-      | inl e ↦ inr (rw e, ap Done (eqb-true server s e))
+executed_line : (p : ℕ) (l : Line) → (is_done p l ≡ 0) ⊎ ((is_done p l ≡ 1) × (l ≡ Executed p))
+executed_line p (Executed server) =
+    elim (cases_Bool (eqb server p)) [
+      | inl e ↦ inr (rw e, ap Executed (eqb-true server p e))
       | inr e ↦ inl (rw e)
     ]
-done_line s _ = inl refl
+executed_line p _ = inl refl
 
 -- an instance that s executed it had learned
-pub executed_learned : (m : Membership) (w : History) → IsGrown m w → (s i : ℕ) → i < done w s
-    → (v : Value) × (learned w s i ≡ Some v)
-executed_learned m [] g s i lt = absurd (omega arith)
-executed_learned m (l ∷ w) g s i lt =
-    elim (cases_lt i (done w s)) [
-      | inl below ↦ let r = executed_learned m w g.0 s i below in (r.0, learned_more l w s i r.0 r.1)
+pub executed_learned : (m : Membership) (w : Trace) → IsGrown m w → (p i : ℕ) → i < done w p
+    → (v : Value) × (learned w p i ≡ Some v)
+executed_learned m [] g p i lt = absurd (omega arith)
+executed_learned m (l ∷ w) g p i lt =
+    elim (cases_lt i (done w p)) [
+      | inl below ↦ let r = executed_learned m w g.0 p i below in (r.0, learned_more l w p i r.0 r.1)
       | inr ge ↦
-          elim (done_line s l) [
+          elim (executed_line p l) [
             | inl z ↦ absurd (omega (arith, z, ge, lt))
             | inr d ↦
-                let may : (v : Value) × (learned w s (done w s) ≡ Some v) = rw d.1 at g.1 in
-                let here : done w s ≡ i = omega (arith, d.0, ge, lt) in
-                (may.0, learned_more l w s i may.0 (rw here at may.1))
+                let may : (v : Value) × (learned w p (done w p) ≡ Some v) = rw d.1 at g.1 in
+                let here : done w p ≡ i = omega (arith, d.0, ge, lt) in
+                (may.0, learned_more l w p i may.0 (rw here at may.1))
           ]
     ]
 
@@ -68,7 +68,7 @@ tickets_same f g (suc n) h =
     let last = h n (omega arith) in
     rw (tickets_more f n, tickets_more g n, tickets_same f g n (λ i lt. h i (omega arith)), last)
 
--- who executes fewer instances is at a beginning
+-- who executes fewer instances has a prefix
 pub tickets_prefix : (f : ℕ → Option Value) (n k : ℕ) → n ≤ k → IsPrefix (tickets f n) (tickets f k)
 unfolding below
 tickets_prefix f n zero le = let e : n ≡ 0 = omega arith in rw e ([], refl)
@@ -140,14 +140,14 @@ tickets_once f (suc n) h =
     (once_more (tickets f n) (f n) (tickets_once f n h)
     (λ t e a. let r = in_tickets f n t a in let same = h r.0 n t r.2 e in omega (arith, r.1, same)))
 
--- ---- a list that lacks t begins what stands before t
+-- ---- a list that lacks t is a prefix of what stands before t
 
 -- comparable lists that have a first item have the same one
 heads : (x y : ℕ) (xs ys : List ℕ) → IsComparable (x ∷ xs) (y ∷ ys) → (x ≡ y) × IsComparable xs ys
 heads x y xs ys (inl p) = let e = p.1 in (cc, inl (p.0, cc))
 heads x y xs ys (inr p) = let e = p.1 in (cc, inr (p.0, cc))
 
--- of comparable lists the one without t is the part before t, or begins it
+-- of comparable lists the one without t is a prefix of the part before t
 pub begins_before : (xs front back : List ℕ) (t : ℕ) → IsComparable xs (front ++ t ∷ back) → (IsIn t xs → ⊥)
     → IsPrefix xs front
 begins_before [] front back t c new = (front, refl)
@@ -159,49 +159,49 @@ begins_before (x ∷ xs) (a ∷ front) back t c new =
 
 -- ---- the theorems, over histories of one course
 
-module _ (m : Membership) (few : 1 ≤ m.count) (end : History) (g : IsGrown m end) where
+module _ (m : Membership) (few : 1 ≤ m.count) (end : Trace) (g : IsGrown m end) where
   -- what was learned at a moment is decided in the end
-  learned_end : (w : History) → IsPast w end → (s i : ℕ) (v : Value) → learned w s i ≡ Some v → IsDecided m end i v
-  learned_end w past s i v h =
-      let d = learned_decided m w (past_grown m w end past g) s i v h in
-      rw past.is (decided_past m past.since w i v d)
+  learned_end : (w : Trace) → IsPast w end → (p i : ℕ) (z : Value) → learned w p i ≡ Some z → IsDecided m end i z
+  learned_end w past p i z h =
+      let d = learned_decided m w (past_grown m w end past g) p i z h in
+      rw past.is (decided_past m past.since w i z d)
 
   -- two values decided at two moments are decided in the end, and there they agree
-  pub one_value : (w u : History) → IsPast w end → IsPast u end → (i : ℕ) (v x : Value) → IsDecided m w i v
-      → IsDecided m u i x → v ≡ x
-  one_value w u a b i v x h k =
-      agreement m end few g i v x (rw a.is (decided_past m a.since w i v h)) (rw b.is (decided_past m b.since u i x k))
+  pub one_value : (w v : Trace) → IsPast w end → IsPast v end → (i : ℕ) (z x : Value) → IsDecided m w i z
+      → IsDecided m v i x → z ≡ x
+  one_value w v a b i z x h k =
+      agreement m end few g i z x (rw a.is (decided_past m a.since w i z h)) (rw b.is (decided_past m b.since v i x k))
 
   -- two servers that executed an instance learned the same there
-  pub histories_comparable : (w u : History) → IsPast w end → IsPast u end → (s r : ℕ)
-      → IsComparable (executed w s) (executed u r)
-  histories_comparable w u a b s r =
-      comparable (learned w s) (learned u r) (done w s) (done u r)
+  pub histories_comparable : (w v : Trace) → IsPast w end → IsPast v end → (p q : ℕ)
+      → IsComparable (executed w p) (executed v q)
+  histories_comparable w v a b p q =
+      comparable (learned w p) (learned v q) (done w p) (done v q)
       (λ i lt below.
-      let x = executed_learned m w (past_grown m w end a g) s i lt in
-      let y = executed_learned m u (past_grown m u end b g) r i below in
-      let e = agreement m end few g i x.0 y.0 (learned_end w a s i x.0 x.1) (learned_end u b r i y.0 y.1) in
+      let x = executed_learned m w (past_grown m w end a g) p i lt in
+      let y = executed_learned m v (past_grown m v end b g) q i below in
+      let e = agreement m end few g i x.0 y.0 (learned_end w a p i x.0 x.1) (learned_end v b q i y.0 y.1) in
       x.1 ∙ (ap Some e ∙ sym y.1))
 
-module _ (m : Membership) (few : 1 ≤ m.count) (w : History) (g : IsGrown m w) where
+module _ (m : Membership) (few : 1 ≤ m.count) (w : Trace) (g : IsGrown m w) where
   -- each ticket was submitted
-  pub history_submitted : (s t : ℕ) → IsIn t (executed w s) → t < length (submitted w)
-  history_submitted s t h =
-      let r = in_tickets (learned w s) (done w s) t h in
-      decided_submitted m w g r.0 t (learned_decided m w g s r.0 (Ticket t) r.2)
+  pub history_submitted : (p t : ℕ) → IsIn t (executed w p) → t < length (submitted w)
+  history_submitted p t h =
+      let r = in_tickets (learned w p) (done w p) t h in
+      decided_submitted m w g r.0 t (learned_decided m w g p r.0 (Ticket t) r.2)
 
   -- and stands once, since it is decided at one instance
-  pub history_once : (s : ℕ) → IsOnce (executed w s)
-  history_once s =
-      tickets_once (learned w s) (done w s)
-      (λ i j t h k. decided_once m w few g i j t (learned_decided m w g s i (Ticket t) h)
-      (learned_decided m w g s j (Ticket t) k))
+  pub history_once : (p : ℕ) → IsOnce (executed w p)
+  history_once p =
+      tickets_once (learned w p) (done w p)
+      (λ i j t h k. decided_once m w few g i j t (learned_decided m w g p i (Ticket t) h)
+      (learned_decided m w g p j (Ticket t) k))
 
 -- what is submitted after a history was executed stands behind all of it
-pub order : (m : Membership) → 1 ≤ m.count → (w end : History) → IsPast w end → IsGrown m end
-    → (s r t : ℕ) (front back : List ℕ)
-    → length (submitted w) ≤ t → executed end r ≡ front ++ t ∷ back → IsPrefix (executed w s) front
-order m few w end past g s r t front back late is =
-    begins_before (executed w s) front back t
-    (rw is at (histories_comparable m few end g w end past (record { since = []; is = refl }) s r))
-    (λ h. omega (arith, history_submitted m few w (past_grown m w end past g) s t h, late))
+pub order : (m : Membership) → 1 ≤ m.count → (w end : Trace) → IsPast w end → IsGrown m end
+    → (p q t : ℕ) (front back : List ℕ)
+    → length (submitted w) ≤ t → executed end q ≡ front ++ t ∷ back → IsPrefix (executed w p) front
+order m few w end past g p q t front back late is =
+    begins_before (executed w p) front back t
+    (rw is at (histories_comparable m few end g w end past (record { since = []; is = refl }) p q))
+    (λ h. omega (arith, history_submitted m few w (past_grown m w end past g) p t h, late))

@@ -1,4 +1,4 @@
--- One instance of Paxos, in any history that grew line by line: what a promise rules out, why a proposal is
+-- One instance of Paxos, in any trace that grew line by line: what a promise rules out, why a proposal is
 -- safe, and that a chosen value is proposed at every greater ballot.
 use Rattle.std.proofs.Common.{◌≡◌, ℕ, zero, suc, ◌<◌, ◌≤◌, Bool, true, [], ◌∷◌, ◌⊎◌, inl, inr, refl, ◌∙◌, arith, Option, Some, None}
 use Rattle.std.proofs.lemmas.Bool.{cases_lt}
@@ -7,25 +7,25 @@ use Rattle.mencius_base.specs.declared.message.Value.{Value}
 use Rattle.mencius_base.specs.declared.message.Value.TheVariants.{Noop}
 use Rattle.mencius_base.specs.declared.message.Vote.{Vote}
 use Rattle.mencius_base.specs.Members.{Membership}
-use Rattle.mencius_model.specs.History.{Line, Sent, History}
+use Rattle.mencius_model.specs.Trace.{Line, Sent, Trace}
 use Rattle.mencius_model.specs.Instance.{promised, proposed, accepted, vote, are_majority, value_or_noop, has_accepted}
 use Rattle.mencius_model.proofs.Lists.{IsIn, majorities_meet}
-use Rattle.mencius_model.proofs.Grown.{May, IsGrown, MayAccept, MayPromise, MayPropose, Reaches}
-use Rattle.mencius_model.proofs.State.{promise_within, acceptance_within, promised_more, accepted_above, accepted_in, proposed_more, proposal_in, acceptance_in}
+use Rattle.mencius_model.proofs.LineRights.{May, IsGrown, MayAccept, MayPromise, MayPropose, Reaches}
+use Rattle.mencius_model.proofs.AnswersLast.{promise_within, acceptance_within, promised_more, accepted_above, accepted_in, proposed_more, proposal_in, acceptance_in}
 
 -- the vote was proposed, below the ballot
-abbrev pub Backed : History → ℕ → ℕ → Option Vote → Type 0
+abbrev pub Backed : Trace → ℕ → ℕ → Option Vote → Type 0
 Backed w i b None = Unit {0}
 Backed w i b (Some u) = (u.ballot < b) × (proposed w i u.ballot ≡ Some u.value)
 
 -- a promise by q at (i, b) with this vote: whatever q accepted below b, the vote's ballot is none of the lesser
-pub record IsKept (w : History) (q i b : ℕ) (v : Option Vote) : Type 0 where
+pub record IsKept (w : Trace) (q i b : ℕ) (v : Option Vote) : Type 0 where
   pub covers : (to c : ℕ) → IsIn (Sent (Accepted q to i c)) w → c < b → Reaches v c
   pub backed : Backed w i b v
 
 -- a proposal of v at (i, b): a majority accepts nothing below b any more, and v is the value of the greatest
 -- vote of theirs, or no-op where they have none
-pub record IsSafe (m : Membership) (w : History) (i b : ℕ) (v : Value) : Type 0 where
+pub record IsSafe (m : Membership) (w : Trace) (i b : ℕ) (v : Value) : Type 0 where
   pub among : ℕ → Bool
   pub majority : are_majority m among ≡ true
   pub highest : Option Vote
@@ -34,24 +34,24 @@ pub record IsSafe (m : Membership) (w : History) (i b : ℕ) (v : Value) : Type 
   pub backed : Backed w i b highest
   pub is : v ≡ value_or_noop highest
 
-backed_more : (l : Line) (w : History) (i b : ℕ) (v : Option Vote) → Backed w i b v → Backed (l ∷ w) i b v
+backed_more : (l : Line) (w : Trace) (i b : ℕ) (v : Option Vote) → Backed w i b v → Backed (l ∷ w) i b v
 backed_more l w i b None h = h
 backed_more l w i b (Some u) h = (h.0, proposed_more l w i u.ballot u.value h.1)
 
-backed_from : (w : History) (i b : ℕ) (h : Option Vote) → ((u : Vote) → h ≡ Some u → Backed w i b (Some u))
+backed_from : (w : Trace) (i b : ℕ) (h : Option Vote) → ((v : Vote) → h ≡ Some v → Backed w i b (Some v))
     → Backed w i b h
 backed_from w i b None f = tt
-backed_from w i b (Some u) f = f u refl
+backed_from w i b (Some v) f = f v refl
 
 -- a vote that covers a ballot is covered by each vote that is not less
-reaches_through : (v h : Option Vote) (c : ℕ) → Reaches v c → ((u : Vote) → v ≡ Some u → Reaches h u.ballot)
+reaches_through : (v h : Option Vote) (c : ℕ) → Reaches v c → ((y : Vote) → v ≡ Some y → Reaches h y.ballot)
     → Reaches h c
 reaches_through None h c r f = absurd r
-reaches_through (Some u) None c r f = f u refl
-reaches_through (Some u) (Some x) c r f = let k : u.ballot ≤ x.ballot = f u refl in omega (arith, r)
+reaches_through (Some y) None c r f = f y refl
+reaches_through (Some y) (Some x) c r f = let k : y.ballot ≤ x.ballot = f y refl in omega (arith, r)
 
 -- what is accepted was proposed
-pub accepted_proposed : (m : Membership) (w : History) → IsGrown m w → (q to i b : ℕ)
+pub accepted_proposed : (m : Membership) (w : Trace) → IsGrown m w → (q to i b : ℕ)
     → IsIn (Sent (Accepted q to i b)) w → (v : Value) × (proposed w i b ≡ Some v)
 accepted_proposed m [] g q to i b h = absurd h
 accepted_proposed m (l ∷ w) g q to i b (inl e) =
@@ -62,7 +62,7 @@ accepted_proposed m (l ∷ w) g q to i b (inr h) =
     (r.0, proposed_more l w i b r.0 r.1)
 
 -- the vote of a new promise
-vote_kept : (m : Membership) (w : History) → IsGrown m w → (q i b : ℕ) (o : Option ℕ) → accepted w q i ≡ o
+vote_kept : (m : Membership) (w : Trace) → IsGrown m w → (q i b : ℕ) (o : Option ℕ) → accepted w q i ≡ o
     → promised w q i < b → IsKept w q i b (vote w q i)
 vote_kept m w g q i b None e a =
     record {
@@ -83,7 +83,7 @@ vote_kept m w g q i b (Some x) e a =
     }
 
 -- nothing is accepted below a promise, but what its vote covers
-pub promise_covers : (m : Membership) (w : History) → IsGrown m w → (q to i b : ℕ) (v : Option Vote)
+pub promise_covers : (m : Membership) (w : Trace) → IsGrown m w → (q to i b : ℕ) (v : Option Vote)
     → IsIn (Sent (Promise q to i b v)) w → IsKept w q i b v
 promise_covers m [] g q to i b v h = absurd h
 promise_covers m (l ∷ w) g q to i b v (inl e) =
@@ -106,7 +106,7 @@ promise_covers m (l ∷ w) g q to i b v (inr h) =
     }
 
 -- and stays safe
-safe_more : (m : Membership) (l : Line) (w : History) (i b : ℕ) (v : Value) → May m w l → IsSafe m w i b v
+safe_more : (m : Membership) (l : Line) (w : Trace) (i b : ℕ) (v : Value) → May m w l → IsSafe m w i b v
     → IsSafe m (l ∷ w) i b v
 safe_more m l w i b v may s =
     record {
@@ -125,7 +125,7 @@ safe_more m l w i b v may s =
     }
 
 -- a proposal is safe when it is made
-safe_at : (m : Membership) (w : History) (p i b : ℕ) (v : Value) → IsGrown m w → MayPropose m w p i b v
+safe_at : (m : Membership) (w : Trace) (p i b : ℕ) (v : Value) → IsGrown m w → MayPropose m w p i b v
     → IsSafe m w i b v
 safe_at m w p i b v g may =
     record {
@@ -145,7 +145,7 @@ safe_at m w p i b v g may =
     }
 
 -- every proposal is safe by a majority
-pub propose_safe : (m : Membership) (w : History) → IsGrown m w → (p i b : ℕ) (v : Value)
+pub propose_safe : (m : Membership) (w : Trace) → IsGrown m w → (p i b : ℕ) (v : Value)
     → IsIn (Sent (Propose p i b v)) w → IsSafe m w i b v
 propose_safe m [] g p i b v h = absurd h
 propose_safe m (l ∷ w) g p i b v (inl e) =
@@ -153,15 +153,15 @@ propose_safe m (l ∷ w) g p i b v (inl e) =
     safe_more m l w i b v g.1 (safe_at m w p i b v g.0 may)
 propose_safe m (l ∷ w) g p i b v (inr h) = safe_more m l w i b v g.1 (propose_safe m w g.0 p i b v h)
 
-proposal_safe : (m : Membership) (w : History) → IsGrown m w → (i b : ℕ) (v : Value) → 0 < b
+proposal_safe : (m : Membership) (w : Trace) → IsGrown m w → (i b : ℕ) (v : Value) → 0 < b
     → proposed w i b ≡ Some v → IsSafe m w i b v
 proposal_safe m w g i b v pos h = let r = proposal_in w i b v pos h in propose_safe m w g r.0 i b v r.1
 
 -- where v was chosen at ballot c: every proposal at a greater ballot has v
-module _ (m : Membership) (w : History) (g : IsGrown m w) (i c : ℕ) (v : Value) (start : proposed w i c ≡ Some v)
+module _ (m : Membership) (w : Trace) (g : IsGrown m w) (i c : ℕ) (v : Value) (start : proposed w i c ≡ Some v)
     (chosen : are_majority m (has_accepted w i c) ≡ true) where
   above : (b : ℕ) (x : Value) (h : Option Vote) → Reaches h c → Backed w i b h → x ≡ value_or_noop h
-      → ((d : ℕ) (y : Value) → d < b → c < d → proposed w i d ≡ Some y → y ≡ v) → x ≡ v
+      → ((above : ℕ) (y : Value) → above < b → c < above → proposed w i above ≡ Some y → y ≡ v) → x ≡ v
   above b x None r k is rest = absurd r
   above b x (Some u) r k is rest =
       elim (cases_lt c u.ballot) [
@@ -181,9 +181,9 @@ module _ (m : Membership) (w : History) (g : IsGrown m w) (i c : ℕ) (v : Value
   pub chosen_above : (b : ℕ) (x : Value) → c < b → proposed w i b ≡ Some x → x ≡ v
   chosen_above b x lt h = chosen_above_to b b x (omega arith) lt h
 
-module _ (m : Membership) (w : History) (g : IsGrown m w) (i : ℕ) where
+module _ (m : Membership) (w : Trace) (g : IsGrown m w) (i : ℕ) where
   under : (b : ℕ) (x : Value) (h : Option Vote) → Backed w i b h → x ≡ value_or_noop h
-      → ((d : ℕ) (y : Value) → d < b → proposed w i d ≡ Some y → (y ≡ Noop) ⊎ (proposed w i 0 ≡ Some y))
+      → ((c : ℕ) (y : Value) → c < b → proposed w i c ≡ Some y → (y ≡ Noop) ⊎ (proposed w i 0 ≡ Some y))
       → (x ≡ Noop) ⊎ (proposed w i 0 ≡ Some x)
   under b x None k is rest = inl is
   under b x (Some u) k is rest = rw is (rest u.ballot u.value k.0 k.1)
@@ -194,7 +194,7 @@ module _ (m : Membership) (w : History) (g : IsGrown m w) (i : ℕ) where
       elim (cases_lt 0 b) [
         | inl pos ↦
             let s = proposal_safe m w g i b x pos h in
-            under b x s.highest s.backed s.is (λ d y below. origin_below n d y (omega (arith, below, le)))
+            under b x s.highest s.backed s.is (λ c y below. origin_below n c y (omega (arith, below, le)))
         | inr z ↦ origin_below n b x (omega arith) h
       ]
 

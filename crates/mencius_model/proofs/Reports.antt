@@ -9,7 +9,7 @@ use Rattle.mencius_base.specs.declared.message.Message.{Message}
 use Rattle.mencius_base.specs.declared.message.Message.TheVariants.{Suggest, Skip, Accepted, Prepare, Promise, Propose, Learn}
 use Rattle.mencius_base.specs.declared.message.Vote.{Vote}
 use Rattle.mencius_model.specs.Instance.{higher_vote, highest_vote, vote_reported}
-use Rattle.mencius_model.proofs.Tally.{any_more}
+use Rattle.mencius_model.proofs.Tallies.{any_more}
 
 contains_here : {X : Type 0} (x : X) (xs : List X) → Contains (x ∷ xs) x
 contains_here x xs = Contains-append_left (x ∷ []) xs x (Contains-push [] x)
@@ -111,7 +111,7 @@ promise_reported : (i b : ℕ) (x : Message) (v : Vote) → vote_reported i b x 
 promise_reported i b (Promise from to inst ballot vote) v e = either (eqb inst i) (eqb ballot b) refl refl e
   where
     either : (c d : Bool) → eqb inst i ≡ c → eqb ballot b ≡ d → cond (c && d) vote None ≡ Some v
-        → (f : ℕ) × (t : ℕ) × (Promise from to inst ballot vote ≡ Promise f t i b (Some v))
+        → (p : ℕ) × (t : ℕ) × (Promise from to inst ballot vote ≡ Promise p t i b (Some v))
     either true true here at e =
         let inst_is : inst ≡ i = eqb-true inst i here in
         let ballot_is : ballot ≡ b = eqb-true ballot b at in

@@ -9,29 +9,29 @@ use Rattle.mencius_base.specs.declared.command.CommandId.{CommandId}
 use Rattle.mencius_base.specs.declared.message.Message.TheVariants.{Suggest}
 use Rattle.mencius_base.specs.declared.message.Value.TheVariants.{Noop, Ticket}
 use Rattle.mencius_base.specs.Members.{Membership}
-use Rattle.mencius_model.specs.History.{Line, Submitted, Sent, History, submitted, command_in, option_to_list}
+use Rattle.mencius_model.specs.Trace.{Line, Submitted, Sent, Trace, submitted, command_in, option_to_list}
 use Rattle.mencius_base.specs.Command.{is_same_id}
 use Rattle.mencius_model.specs.Decided.{IsDecided}
 use Rattle.mencius_model.proofs.Lists.{IsIn, none_in, get_in}
-use Rattle.mencius_model.proofs.Grown.{May, IsGrown, MaySuggest, IsFresh}
-use Rattle.mencius_model.proofs.State.{start_in}
-use Rattle.mencius_model.proofs.Owners.{suggest_front}
+use Rattle.mencius_model.proofs.LineRights.{May, IsGrown, MaySuggest, IsFresh}
+use Rattle.mencius_model.proofs.AnswersLast.{start_in}
+use Rattle.mencius_model.proofs.Suggesters.{suggest_front}
 use Rattle.mencius_model.proofs.Paxos.{origin}
 use Rattle.mencius_model.proofs.Decisions.{decided_more, all_decided, agreement}
 
 -- no line takes a submission back
-submitted_more : (l : Line) (w : History) → length (submitted w) ≤ length (submitted (l ∷ w))
+submitted_more : (l : Line) (w : Trace) → length (submitted w) ≤ length (submitted (l ∷ w))
 submitted_more l w = omega (arith, length-append (submitted w) (option_to_list (command_in l)))
 
 -- the ticket of the command that was just submitted is the last
-fresh_last : (w : History) (t : ℕ) → IsFresh w t → t < length (submitted w)
+fresh_last : (w : Trace) (t : ℕ) → IsFresh w t → t < length (submitted w)
 fresh_last [] t h = absurd h
-fresh_last (Submitted c s ∷ w) t h = omega (arith, h, length_push (submitted w) (c, s))
+fresh_last (Submitted command p ∷ w) t h = omega (arith, h, length_push (submitted w) (command, p))
 fresh_last (_ ∷ w) t h = absurd h
 
 module _ (m : Membership) where
   -- a suggested ticket was submitted
-  ticket_submitted : (w : History) → IsGrown m w → (p i t : ℕ) → IsIn (Sent (Suggest p i t)) w
+  pub ticket_submitted : (w : Trace) → IsGrown m w → (p i t : ℕ) → IsIn (Sent (Suggest p i t)) w
       → t < length (submitted w)
   ticket_submitted [] g p i t h = absurd h
   ticket_submitted (l ∷ w) g p i t (inl e) =
@@ -44,14 +44,14 @@ module _ (m : Membership) where
   ticket_submitted (l ∷ w) g p i t (inr h) = omega (arith, ticket_submitted w g.0 p i t h, submitted_more l w)
 
   -- it was not suggested before
-  fresh_new : (w : History) → IsGrown m w → (p i t : ℕ) → IsFresh w t → IsIn (Sent (Suggest p i t)) w → ⊥
+  fresh_new : (w : Trace) → IsGrown m w → (p i t : ℕ) → IsFresh w t → IsIn (Sent (Suggest p i t)) w → ⊥
   fresh_new [] g p i t f h = f
-  fresh_new (Submitted c s ∷ w) g p i t f (inl e) = absurd (cc)
-  fresh_new (Submitted c s ∷ w) g p i t f (inr h) = absurd (omega (arith, f, ticket_submitted w g.0 p i t h))
+  fresh_new (Submitted command q ∷ w) g p i t f (inl e) = absurd (cc)
+  fresh_new (Submitted command q ∷ w) g p i t f (inr h) = absurd (omega (arith, f, ticket_submitted w g.0 p i t h))
   fresh_new (_ ∷ w) g p i t f h = f
 
   -- only one server suggests a ticket
-  same_home : (w : History) → IsGrown m w → (p q i j t : ℕ) → IsIn (Sent (Suggest p i t)) w
+  same_home : (w : Trace) → IsGrown m w → (p q i j t : ℕ) → IsIn (Sent (Suggest p i t)) w
       → IsIn (Sent (Suggest q j t)) w → p ≡ q
   same_home [] g p q i j t h k = absurd h
   same_home (l ∷ w) g p q i j t (inl e) (inl f) = cc
@@ -70,7 +70,7 @@ module _ (m : Membership) where
   same_home (l ∷ w) g p q i j t (inr h) (inr k) = same_home w g.0 p q i j t h k
 
   -- a ticket that was suggested twice lost the first time
-  pub suggested_twice : (w : History) → 1 ≤ m.count → IsGrown m w → (p q i j t : ℕ) → i < j
+  pub suggested_twice : (w : Trace) → 1 ≤ m.count → IsGrown m w → (p q i j t : ℕ) → i < j
       → IsIn (Sent (Suggest p i t)) w → IsIn (Sent (Suggest q j t)) w → IsDecided m w i Noop
   suggested_twice [] few g p q i j t lt h k = absurd h
   suggested_twice (l ∷ w) few g p q i j t lt (inl e) (inl f) = let s : i ≡ j = cc in absurd (omega arith)
@@ -102,10 +102,10 @@ module _ (m : Membership) where
       decided_more m l w i Noop (suggested_twice w few g.0 p q i j t lt h k)
 
   -- a decided ticket was suggested there
-  decided_suggested : (w : History) → IsGrown m w → (i t : ℕ) → IsDecided m w i (Ticket t)
+  decided_suggested : (w : Trace) → IsGrown m w → (i t : ℕ) → IsDecided m w i (Ticket t)
       → (p : ℕ) × IsIn (Sent (Suggest p i t)) w
-  decided_suggested w g i t (inl c) =
-      elim (origin m w g i c.0 (Ticket t) c.1) [
+  decided_suggested w g i t (inl command) =
+      elim (origin m w g i command.0 (Ticket t) command.1) [
         | inl n ↦ absurd (cc)
         | inr s ↦
             let r = start_in w i (Ticket t) s in
@@ -115,12 +115,12 @@ module _ (m : Membership) where
   decided_suggested w g i t (inr s) = let e = s.1 in absurd (cc)
 
   -- and so it was submitted
-  pub decided_submitted : (w : History) → IsGrown m w → (i t : ℕ) → IsDecided m w i (Ticket t)
+  pub decided_submitted : (w : Trace) → IsGrown m w → (i t : ℕ) → IsDecided m w i (Ticket t)
       → t < length (submitted w)
   decided_submitted w g i t h = let r = decided_suggested w g i t h in ticket_submitted w g r.0 i t r.1
 
   -- it is decided at no lower instance, for there no-op is
-  decided_not_before : (w : History) → 1 ≤ m.count → IsGrown m w → (i j t : ℕ) → i < j → IsDecided m w i (Ticket t)
+  decided_not_before : (w : Trace) → 1 ≤ m.count → IsGrown m w → (i j t : ℕ) → i < j → IsDecided m w i (Ticket t)
       → IsDecided m w j (Ticket t) → ⊥
   decided_not_before w few g i j t lt h k =
       let r = decided_suggested w g i t h in
@@ -130,7 +130,7 @@ module _ (m : Membership) where
       absurd (cc)
 
   -- a ticket is decided at one instance
-  pub decided_once : (w : History) → 1 ≤ m.count → IsGrown m w → (i j t : ℕ) → IsDecided m w i (Ticket t)
+  pub decided_once : (w : Trace) → 1 ≤ m.count → IsGrown m w → (i j t : ℕ) → IsDecided m w i (Ticket t)
       → IsDecided m w j (Ticket t) → i ≡ j
   decided_once w few g i j t h k =
       elim (cases_order i j) [
@@ -161,7 +161,7 @@ get_push (z ∷ xs) x y (suc k) h = elim (get_push xs x y k h) [ inl a ↦ inl a
 abbrev pub Submission : Type 0
 Submission = Command × ℕ
 
-module _ (w : History) (t u : ℕ) (x y : Submission) (e : is_same_id x.0.id y.0.id ≡ true) where
+module _ (w : Trace) (t u : ℕ) (x y : Submission) (e : is_same_id x.0.id y.0.id ≡ true) where
   -- the same, where a line may have brought the submission o
   identity_at : (o : Option Submission)
       → ((z : Submission) → o ≡ Some z → list_any (λ (a : Submission). is_same_id a.0.id z.0.id) (submitted w) ≡ false)
@@ -186,17 +186,17 @@ module _ (w : History) (t u : ℕ) (x y : Submission) (e : is_same_id x.0.id y.0
       ]
 
 -- a submission had a new identity
-command_new : (m : Membership) (w : History) (l : Line) → May m w l → (z : Submission) → command_in l ≡ Some z
+command_new : (m : Membership) (w : Trace) (l : Line) → May m w l → (z : Submission) → command_in l ≡ Some z
     → list_any (λ (a : Submission). is_same_id a.0.id z.0.id) (submitted w) ≡ false
-command_new m w (Submitted c s) may z e =
-    let k : c ≡ z.0 = ap (λ (o : Option Submission). first_or c o) e in rw (← k) may where
+command_new m w (Submitted command p) may z e =
+    let k : command ≡ z.0 = ap (λ (o : Option Submission). first_or command o) e in rw (← k) may where
       first_or : Command → Option Submission → Command
-      first_or c None = c
-      first_or c (Some z) = z.0
+      first_or command None = command
+      first_or command (Some z) = z.0
 command_new m w _ may z e = absurd (cc)
 
 -- each identity is submitted once
-pub identity_once : (m : Membership) (w : History) → IsGrown m w → (t u : ℕ) (x y : Submission)
+pub identity_once : (m : Membership) (w : Trace) → IsGrown m w → (t u : ℕ) (x y : Submission)
     → slice_get (submitted w) t ≡ Some x → slice_get (submitted w) u ≡ Some y
     → is_same_id x.0.id y.0.id ≡ true → t ≡ u
 identity_once m [] g t u x y h k e = absurd (cc)

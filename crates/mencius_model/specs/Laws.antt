@@ -1,12 +1,13 @@
 -- What holds of every journal that replays, for every number of servers.
 use Rattle.std.specs.Prelude.{◌≡◌, ℕ, ◌<◌, ◌≤◌, List, ◌∷◌, ◌++◌, take, length, Option, Some, None, Ok, slice_get, IsTrue, ◌↔◌, Bool, false, ◌==◌, ◌&&◌, ◌≢◌, Contains}
 use Rattle.std.specs.List.{list_any, count_by}
+use Rattle.mencius_base.specs.Numbers.{ServerId, Inst, BallotNo, TicketNo}
 use Rattle.mencius_base.specs.declared.event.Event.{Event}
 use Rattle.mencius_base.specs.declared.command.Command.{Command}
 use Rattle.mencius_base.specs.declared.command.CommandId.{CommandId}
 use Rattle.mencius_base.specs.declared.message.Value.{Value}
 use Rattle.mencius_base.specs.Members.{Membership}
-use Rattle.mencius_model.specs.History.{History, submitted, sent, heard}
+use Rattle.mencius_model.specs.Trace.{Trace, submitted, sent, heard}
 use Rattle.mencius_model.specs.Instance.{learned, reported}
 use Rattle.mencius_model.specs.Store.{out}
 use Rattle.mencius_model.specs.Next.{replay, IsReached}
@@ -18,13 +19,13 @@ use Rattle.mencius_base.specs.declared.message.Message.{Message}
 use Rattle.mencius_base.specs.declared.message.Message.TheVariants.{Suggest, Propose, Promise}
 use Rattle.mencius_base.specs.declared.message.Vote.{Vote}
 
--- the journal of these servers makes the history `end`
-pub record IsCourse (m : Membership) (journal : List Event) (end : History) : Type 0 where
+-- the journal of these servers makes the trace `end`
+pub record IsCourse (m : Membership) (journal : List Event) (end : Trace) : Type 0 where
   pub some_server : 1 ≤ m.count
   pub replays : replay m journal ≡ Ok end
 
--- w is the history when the journal had come some way
-pub record IsMoment (m : Membership) (journal : List Event) (w : History) : Type 0 where
+-- w is the trace when the journal had come some way
+pub record IsMoment (m : Membership) (journal : List Event) (w : Trace) : Type 0 where
   pub before : List Event
   pub after : List Event
   pub splits : journal ≡ before ++ after
@@ -33,157 +34,163 @@ pub record IsMoment (m : Membership) (journal : List Event) (w : History) : Type
 -- ---- agreement
 
 -- two decided values of one instance are equal, also at two different moments
-abbrev pub Agreement : Type 0
-Agreement =
-    (m : Membership) (journal : List Event) (end w u : History) → IsCourse m journal end → IsMoment m journal w
-    → IsMoment m journal u
-    → (i : ℕ) (v x : Value) → IsDecided m w i v → IsDecided m u i x → v ≡ x
+abbrev pub DecidedValuesAgree : Type 0
+DecidedValuesAgree =
+    (m : Membership) (journal : List Event) (end w v : Trace) → IsCourse m journal end → IsMoment m journal w
+    → IsMoment m journal v
+    → (i : Inst) (x y : Value) → IsDecided m w i x → IsDecided m v i y → x ≡ y
 
 -- every learned value is decided
-abbrev pub Learning : Type 0
-Learning =
-    (m : Membership) (journal : List Event) (w : History) → IsCourse m journal w
-    → (s i : ℕ) (v : Value) → learned w s i ≡ Some v → IsDecided m w i v
+abbrev pub LearnedIsDecided : Type 0
+LearnedIsDecided =
+    (m : Membership) (journal : List Event) (w : Trace) → IsCourse m journal w
+    → (p : ServerId) (i : Inst) (v : Value) → learned w p i ≡ Some v → IsDecided m w i v
 
--- of the histories of any two servers, at any two moments, one begins the other
-abbrev pub Comparing : Type 0
-Comparing =
-    (m : Membership) (journal : List Event) (end w u : History) → IsCourse m journal end → IsMoment m journal w
-    → IsMoment m journal u
-    → (s r : ℕ) → IsComparable (executed w s) (executed u r)
+-- of the histories of any two servers, at any two moments, one is a prefix of the other
+abbrev pub HistoriesComparable : Type 0
+HistoriesComparable =
+    (m : Membership) (journal : List Event) (end w v : Trace) → IsCourse m journal end → IsMoment m journal w
+    → IsMoment m journal v
+    → (p q : ServerId) → IsComparable (executed w p) (executed v q)
 
 -- ---- once
 
 -- each ticket in a history was submitted by then
-abbrev pub Submitting : Type 0
-Submitting =
-    (m : Membership) (journal : List Event) (w : History) → IsCourse m journal w
-    → (s k t : ℕ) → slice_get (executed w s) k ≡ Some t → t < length (submitted w)
+abbrev pub ExecutedWasSubmitted : Type 0
+ExecutedWasSubmitted =
+    (m : Membership) (journal : List Event) (w : Trace) → IsCourse m journal w
+    → (p : ServerId) (place : ℕ) (t : TicketNo) → slice_get (executed w p) place ≡ Some t → t < length (submitted w)
 
 -- no identity stands twice in a history
-abbrev pub Once : Type 0
-Once =
-    (m : Membership) (journal : List Event) (w : History) → IsCourse m journal w
-    → (s j k t r : ℕ) (x y : Command × ℕ) → slice_get (executed w s) j ≡ Some t → slice_get (executed w s) k ≡ Some r
-    → slice_get (submitted w) t ≡ Some x → slice_get (submitted w) r ≡ Some y → IsTrue (is_same_id x.0.id y.0.id)
-    → j ≡ k
+abbrev pub ExecutedOnce : Type 0
+ExecutedOnce =
+    (m : Membership) (journal : List Event) (w : Trace) → IsCourse m journal w
+    → (p : ServerId) (place other : ℕ) (t u : TicketNo) (x y : Command × ServerId)
+    → slice_get (executed w p) place ≡ Some t → slice_get (executed w p) other ≡ Some u
+    → slice_get (submitted w) t ≡ Some x → slice_get (submitted w) u ≡ Some y → IsTrue (is_same_id x.0.id y.0.id)
+    → place ≡ other
 
 -- ---- order
 
 -- where a command is submitted after some server had a history, and a later history of any server holds
--- the command, the former begins what stands before the command in the latter
-abbrev pub Order : Type 0
-Order =
-    (m : Membership) (journal : List Event) (end w : History) → IsCourse m journal end → IsMoment m journal w
-    → (s r t : ℕ) (front back : List ℕ) → length (submitted w) ≤ t → executed end r ≡ front ++ t ∷ back
-    → IsPrefix (executed w s) front
+-- the command, the former is a prefix of what stands before the command in the latter
+abbrev pub LaterCommandsStandBehind : Type 0
+LaterCommandsStandBehind =
+    (m : Membership) (journal : List Event) (end w : Trace) → IsCourse m journal end → IsMoment m journal w
+    → (p q : ServerId) (t : TicketNo) (front back : List ℕ) → length (submitted w) ≤ t
+    → executed end q ≡ front ++ t ∷ back
+    → IsPrefix (executed w p) front
 
 -- ---- replies
 
 -- the command of this identity stands first at this place of its home's history, and the reply is what a
 -- map that only executes the commands before it holds at its key
-pub record IsReply (w : History) (id : CommandId) (reply : Option (List ℕ)) : Type 0 where
-  pub ticket : ℕ
+pub record IsReply (w : Trace) (id : CommandId) (reply : Option (List ℕ)) : Type 0 where
+  pub ticket : TicketNo
   pub command : Command
-  pub home : ℕ
+  pub home : ServerId
   pub place : ℕ
   pub given : slice_get (submitted w) ticket ≡ Some (command, home)
   pub same : IsTrue (is_same_id command.id id)
   pub there : slice_get (executed w home) place ≡ Some ticket
-  pub first : (j : ℕ) → slice_get (executed w home) j ≡ Some ticket → place ≤ j
+  pub first : (other : ℕ) → slice_get (executed w home) other ≡ Some ticket → place ≤ other
   pub is : reply ≡ out (commands_of w (take place (executed w home))) command
 
 -- the command of this identity stands nowhere in its home's history
-pub record IsPending (w : History) (id : CommandId) : Type 0 where
-  pub ticket : ℕ
+pub record IsPending (w : Trace) (id : CommandId) : Type 0 where
+  pub ticket : TicketNo
   pub command : Command
-  pub home : ℕ
+  pub home : ServerId
   pub given : slice_get (submitted w) ticket ≡ Some (command, home)
   pub same : IsTrue (is_same_id command.id id)
-  pub absent : (k : ℕ) → slice_get (executed w home) k ≡ Some ticket → ⊥
+  pub absent : (place : ℕ) → slice_get (executed w home) place ≡ Some ticket → ⊥
 
 -- a command of this identity was submitted
-abbrev pub IsSubmitted : History → CommandId → Type 0
-IsSubmitted w id = IsTrue (list_any (λ (x : Command × ℕ). is_same_id x.0.id id) (submitted w))
+abbrev pub IsSubmitted : Trace → CommandId → Type 0
+IsSubmitted w id = IsTrue (list_any (λ (x : Command × ServerId). is_same_id x.0.id id) (submitted w))
 
 -- there is no reply exactly for an identity that was never submitted
-abbrev pub Unknown : Type 0
-Unknown =
-    (m : Membership) (journal : List Event) (w : History) → IsCourse m journal w
+abbrev pub NoReplyWhereNotSubmitted : Type 0
+NoReplyWhereNotSubmitted =
+    (m : Membership) (journal : List Event) (w : Trace) → IsCourse m journal w
     → (id : CommandId) → (reply_of w id ≡ None) ↔ (IsSubmitted w id → ⊥)
 
 -- a reply is given exactly where the home's history has the command
-abbrev pub Replied : Type 0
-Replied =
-    (m : Membership) (journal : List Event) (w : History) → IsCourse m journal w
-    → (id : CommandId) (r : Option (List ℕ)) → (reply_of w id ≡ Some (Is r)) ↔ IsReply w id r
+abbrev pub ReplyWhereExecuted : Type 0
+ReplyWhereExecuted =
+    (m : Membership) (journal : List Event) (w : Trace) → IsCourse m journal w
+    → (id : CommandId) (reply : Option (List ℕ)) → (reply_of w id ≡ Some (Is reply)) ↔ IsReply w id reply
 
 -- and is pending exactly where the command was submitted, and its home has not executed it
-abbrev pub Awaited : Type 0
-Awaited =
-    (m : Membership) (journal : List Event) (w : History) → IsCourse m journal w
+abbrev pub PendingWhereNotExecuted : Type 0
+PendingWhereNotExecuted =
+    (m : Membership) (journal : List Event) (w : Trace) → IsCourse m journal w
     → (id : CommandId) → (reply_of w id ≡ Some NotYet) ↔ IsPending w id
 
 -- a command has at most one reply
-abbrev pub OneReply : Type 0
-OneReply =
-    (m : Membership) (journal : List Event) (w : History) → IsCourse m journal w
-    → (id : CommandId) (r x : Option (List ℕ)) → IsReply w id r → IsReply w id x → r ≡ x
+abbrev pub AtMostOneReply : Type 0
+AtMostOneReply =
+    (m : Membership) (journal : List Event) (w : Trace) → IsCourse m journal w
+    → (id : CommandId) (x y : Option (List ℕ)) → IsReply w id x → IsReply w id y → x ≡ y
 
 -- ---- growth
 
--- a server's history begins each of its later ones
-abbrev pub Growing : Type 0
-Growing =
-    (m : Membership) (journal : List Event) (end w : History) → IsCourse m journal end → IsMoment m journal w
-    → (s : ℕ) → IsPrefix (executed w s) (executed end s)
+-- a server's history is a prefix of each of its later ones
+abbrev pub HistoriesGrow : Type 0
+HistoriesGrow =
+    (m : Membership) (journal : List Event) (end w : Trace) → IsCourse m journal end → IsMoment m journal w
+    → (p : ServerId) → IsPrefix (executed w p) (executed end p)
 
--- the longest history begins each later longest one
-abbrev pub LongestGrowing : Type 0
-LongestGrowing =
-    (m : Membership) (journal : List Event) (end w : History) → IsCourse m journal end → IsMoment m journal w
+-- the longest history is a prefix of each later longest one
+abbrev pub LongestHistoryGrows : Type 0
+LongestHistoryGrows =
+    (m : Membership) (journal : List Event) (end w : Trace) → IsCourse m journal end → IsMoment m journal w
     → IsPrefix (executed w (longest_at m w)) (executed end (longest_at m end))
 
 -- and so do its commands
-abbrev pub LongestCommandsGrowing : Type 0
-LongestCommandsGrowing =
-    (m : Membership) (journal : List Event) (end w : History) → IsCourse m journal end → IsMoment m journal w
+abbrev pub LongestCommandsGrow : Type 0
+LongestCommandsGrow =
+    (m : Membership) (journal : List Event) (end w : Trace) → IsCourse m journal end → IsMoment m journal w
     → IsPrefix (longest_commands m w) (longest_commands m end)
 
 -- ---- suggestions and proposals
 
-abbrev pub is_suggestion_at : ℕ → Message → Bool
+abbrev pub is_suggestion_at : Inst → Message → Bool
 is_suggestion_at i (Suggest from inst ticket) = inst == i
 is_suggestion_at i _ = false
 
-abbrev pub is_proposal_at : ℕ → ℕ → Message → Bool
+abbrev pub is_proposal_at : Inst → BallotNo → Message → Bool
 is_proposal_at i b (Propose from inst ballot value) = inst == i && ballot == b
 is_proposal_at i b _ = false
 
 -- an instance has at most one Suggest
-abbrev pub OneSuggestion : Type 0
-OneSuggestion = (m : Membership) (w : History) → IsReached m w → (i : ℕ) → count_by (is_suggestion_at i) (sent w) ≤ 1
+abbrev pub AtMostOneSuggest : Type 0
+AtMostOneSuggest = (m : Membership) (w : Trace) → IsReached m w → (i : Inst)
+    → count_by (is_suggestion_at i) (sent w) ≤ 1
 
 -- an instance has at most one Propose at a ballot
-abbrev pub OneProposal : Type 0
-OneProposal = (m : Membership) (w : History) → IsReached m w → (i b : ℕ) → count_by (is_proposal_at i b) (sent w) ≤ 1
+abbrev pub AtMostOnePropose : Type 0
+AtMostOnePropose = (m : Membership) (w : Trace) → IsReached m w → (i : Inst) (b : BallotNo)
+    → count_by (is_proposal_at i b) (sent w) ≤ 1
 
--- ---- the vote reported, in every history whatever
+-- ---- the vote reported, in every trace whatever
 
 -- p heard a promise of ballot b of i that reports the vote v
-abbrev pub HearsReport : History → ℕ → ℕ → ℕ → Vote → Type 0
-HearsReport w p i b v = (from : ℕ) × (to : ℕ) × Contains (heard w p) (Promise from to i b (Some v))
+abbrev pub HearsReport : Trace → ServerId → Inst → BallotNo → Vote → Type 0
+HearsReport w p i b v = (from : ServerId) × (to : ServerId) × Contains (heard w p) (Promise from to i b (Some v))
 
 -- the vote reported is one of those in the promises heard, and none of them has a greater ballot
-abbrev pub ReportsHeard : Type 0
-ReportsHeard =
-    (w : History) (p i b : ℕ) (v : Vote) → reported w p i b ≡ Some v → HearsReport w p i b v
+abbrev pub ReportedWasHeard : Type 0
+ReportedWasHeard =
+    (w : Trace) (p : ServerId) (i : Inst) (b : BallotNo) (v : Vote) → reported w p i b ≡ Some v
+    → HearsReport w p i b v
 
-abbrev pub ReportsGreatest : Type 0
-ReportsGreatest =
-    (w : History) (p i b : ℕ) (u v : Vote) → reported w p i b ≡ Some v → HearsReport w p i b u → u.ballot ≤ v.ballot
+abbrev pub ReportedIsGreatest : Type 0
+ReportedIsGreatest =
+    (w : Trace) (p : ServerId) (i : Inst) (b : BallotNo) (v x : Vote) → reported w p i b ≡ Some v
+    → HearsReport w p i b x → x.ballot ≤ v.ballot
 
 -- where a vote was heard, one is reported
-abbrev pub ReportsSome : Type 0
-ReportsSome =
-    (w : History) (p i b : ℕ) (u : Vote) → HearsReport w p i b u → reported w p i b ≢ None
+abbrev pub ReportedWhereHeard : Type 0
+ReportedWhereHeard =
+    (w : Trace) (p : ServerId) (i : Inst) (b : BallotNo) (v : Vote) → HearsReport w p i b v → reported w p i b ≢ None

@@ -1,5 +1,6 @@
-pub mod History
+pub mod Trace
 pub mod Instance
+pub mod Rules
 pub mod Server
 pub mod Next
 pub mod Decided
@@ -9,3 +10,4 @@ pub mod Held
 pub mod Replying
 pub mod Laws
 pub mod Outcomes
+pub mod WithinLimits

@@ -7,6 +7,7 @@ use Rattle.mencius_base.specs.declared.message.Message.TheVariants.{Accepted, Sk
 use Rattle.mencius_base.specs.declared.message.Vote.{Vote}
 use Rattle.mencius_base.specs.declared.message.Value.TheVariants.{Ticket}
 use Rattle.mencius_base.specs.Members.{first_owned}
+use Rattle.mencius_model.specs.Trace.{Sent, messages_of}
 use Rattle.coord_paxos.specs.SlotState.{SlotState}
 use Rattle.coord_paxos.specs.Fresh.{new_slot}
 use Rattle.coord_paxos.specs.Slot.{after_accept}
@@ -35,15 +36,15 @@ module _ (s : ServerState) (i t : ℕ) where
 
   pub front_moves : (mid : ServerState) → mid ≡ with_slot s i accepted
       → record mid { front = next_front mid i } ≡ after_suggest s i t
-  front_moves mid is = ap (λ (v : ServerState). record v { front = next_front v i }) is
+  front_moves mid is = ap (λ (x : ServerState). record x { front = next_front x i }) is
 
   pub nothing_skipped : (xs : List Message) → ltb s.front i ≡ false → xs ≡ xs ++ skip_sent s i
   nothing_skipped xs fails =
-      sym (ap (λ (b : Bool). xs ++ cond b (Skip s.id s.front (first_owned s.members s.id (i + 1)) ∷ []) []) fails
-      ∙ append-nil xs)
+      let skip = Skip s.id s.front (first_owned s.members s.id (i + 1)) in
+      sym (ap (λ (b : Bool). xs ++ messages_of (cond b (Sent skip ∷ []) [])) fails ∙ append-nil xs)
 
   pub skip_says : (mid : ServerState) → mid ≡ with_slot s i accepted → skip_sent mid i ≡ skip_sent s i
-  skip_says mid is = ap (λ (v : ServerState). skip_sent v i) is
+  skip_says mid is = ap (λ (x : ServerState). skip_sent x i) is
 
   -- the acceptance stands behind the Skip
   pub acceptance_sent : (xs : List Message) (q p : ℕ) → p ≡ s.id → leb (slot s i).promised 0 ≡ true
@@ -51,10 +52,12 @@ module _ (s : ServerState) (i t : ℕ) where
   acceptance_sent xs q p own holds =
       append_assoc xs (skip_sent s i) (Accepted p q i 0 ∷ [])
       ∙ ap (λ (n : ℕ). xs ++ (skip_sent s i ++ (Accepted n q i 0 ∷ []))) own
-      ∙ ap (λ (b : Bool). xs ++ (skip_sent s i ++ cond b (Accepted s.id q i 0 ∷ []) [])) (sym holds)
+      ∙ ap (λ (b : Bool). xs ++ (skip_sent s i ++ messages_of (cond b (Sent (Accepted s.id q i 0) ∷ []) [])))
+      (sym holds)
 
   pub no_acceptance : (xs : List Message) (q : ℕ) → leb (slot s i).promised 0 ≡ false
       → xs ++ skip_sent s i ≡ xs ++ suggest_sent s q i
   no_acceptance xs q fails =
       ap (λ (ys : List Message). xs ++ ys) (sym (append-nil (skip_sent s i)))
-      ∙ ap (λ (b : Bool). xs ++ (skip_sent s i ++ cond b (Accepted s.id q i 0 ∷ []) [])) (sym fails)
+      ∙ ap (λ (b : Bool). xs ++ (skip_sent s i ++ messages_of (cond b (Sent (Accepted s.id q i 0) ∷ []) [])))
+      (sym fails)

@@ -1,18 +1,16 @@
 -- A loop over the slots that starts first phases at some.
-use Rattle.std.proofs.Common.{◌≡◌, ℕ, ◌+◌, ◌*◌, ◌/◌, ◌<◌, ◌≤◌, Some, Result, Ok, Err, IfErr, Bool, true, false, cond, eqb, List, [], ◌∷◌, ◌++◌, None, filter, length, map, max, refl, sym, ◌∙◌, ap, subst, arith, append-nil, append_assoc, ⊎_elim}
+use Rattle.std.proofs.Common.{◌≡◌, ℕ, ◌+◌, ◌*◌, ◌/◌, ◌<◌, ◌≤◌, Some, Bool, true, false, cond, eqb, List, [], ◌∷◌, ◌++◌, filter, length, map, max, refl, sym, ◌∙◌, ap, subst, arith, append-nil, append_assoc, ⊎_elim}
 use Rattle.std.specs.List.{count_by, list_any}
 use Rattle.std.specs.Prelude.{is_none, ◌&&◌}
 use Rattle.std.proofs.Math.Nat.{mul-le-mul_right}
 use Rattle.std.proofs.lemmas.List.{get_or_past, length-map, map-append}
 use Rattle.std.proofs.lemmas.List.Sums.{length-filter}
 use Rattle.std.proofs.lemmas.Bool.{and_parts, cases_Bool, cases_lt, eqb-true, ltb-false, ne_eqb}
-use Rattle.mencius_base.specs.declared.refusal.Refusal.{Refusal}
-use Rattle.mencius_base.specs.declared.refusal.Refusal.TheVariants.{NoMemory, NothingToRevoke, RoundsFull}
+use Rattle.mencius_base.specs.declared.refusal.Refusal.TheVariants.{NothingToRevoke, RoundsFull}
 use Rattle.mencius_base.specs.Outbox.{Outgoing, outbox_full}
-use Rattle.mencius_base.specs.Refusal.{IsRefusedFor}
 use Rattle.mencius_base.specs.Members.{first_item, Membership, below, instances, owner}
 use Rattle.mencius_base.specs.declared.message.Message.{Message}
-use Rattle.mencius_model.proofs.Below.{any-filter, any-instances, count_by-below_le, count_by-below_more, filter-below_more, filter-below_zero, get_or-map-instances, length-map-instances}
+use Rattle.mencius_model.proofs.NumberLists.{any-filter, any-instances, count_by-below_le, count_by-below_more, filter-below_more, filter-below_zero, get_or-map-instances, length-map-instances}
 use Rattle.coord_paxos.specs.SlotState.{SlotState}
 use Rattle.coord_paxos.specs.Fresh.{new_slot}
 use Rattle.coord_paxos.specs.Slot.{after_begin}
@@ -67,8 +65,8 @@ pub room_more : (test : ℕ → Bool) (n room new i : ℕ) → new + cond (test 
 room_more test n room new i used has = record { enough = omega (arith, count_by-below_more test i, used, has.enough) }
 
 -- the new ballot is above the one that was tried
-pub tried_below : (m : Membership) (p : ℕ) (t : SlotState) → 1 ≤ m.count → t.trying < ballot_after m p t
-tried_below m p t some = above t.trying (t.promised / m.count) m.count p some where
+pub tried_below : (m : Membership) (p : ℕ) (s : SlotState) → 1 ≤ m.count → s.trying < ballot_after m p s
+tried_below m p s some = above s.trying (s.promised / m.count) m.count p some where
   above : (a c n p : ℕ) → 1 ≤ n → a < (max (a / n) c + 1) * n + p
   above a c n p some =
       let d : ℕ = a / n in
@@ -147,7 +145,3 @@ rounds_small s q none j small covered =
     absurd (cc))
     (λ (room : is_round_full s j ≡ false). ltb-false greatest_round (round_after s.members (slot s j)) room)
     (cases_Bool (is_round_full s j))
-
-pub refused_memory : (r : Result (Unit {0}) Refusal) → IfErr r (λ e. e ≡ NoMemory) → IsRefusedFor None r
-refused_memory (Ok x) h = refl
-refused_memory (Err e) h = h

@@ -5,7 +5,7 @@ use Rattle.std.proofs.Math.Nat.{div-add-mod, mul-le-mul_left, mod-eq_of_lt, add-
 use Rattle.std.proofs.lemmas.Bool.{cases_eq, cases_lt, eq-eqb, ne_eqb, and_right}
 use Rattle.mencius_base.proofs.Owned.{first_owned_least, first_owned_owner}
 use Rattle.mencius_base.specs.Members.{Membership, below, first_owned, owner}
-use Rattle.mencius_model.proofs.Below.{count_by-below_more, count_by-below_zero}
+use Rattle.mencius_model.proofs.NumberLists.{count_by-below_more, count_by-below_zero}
 use Rattle.mencius_server.specs.declared.ranges.Span.{Span}
 use Rattle.mencius_server.specs.Ranges.{IsOwned, IsRising, covers, is_within, reach_of}
 use Rattle.mencius_server.proofs.Spans.{within_before, within_past, within_yes}
@@ -34,50 +34,54 @@ count_same f g (suc n) e =
     rw next (omega (arith, count_by-below_more f n, count_by-below_more g n, before, here))
 
 -- what passes and lies in a range
-pub count_within : (p : ℕ → Bool) (a b n : ℕ) → a ≤ b
-    → count_by (λ j. p j && is_within a b j) (below n) + count_by p (below (min n a)) ≡ count_by p (below (min n b))
-count_within p a b zero h =
-    let low : min 0 a ≡ 0 = omega arith in
-    let high : min 0 b ≡ 0 = omega arith in
-    rw (low, high) (omega (arith, count_by-below_zero (λ j. p j && is_within a b j)))
-count_within p a b (suc n) h =
+pub count_within : (test : ℕ → Bool) (first stop n : ℕ) → first ≤ stop
+    → count_by (λ j. test j && is_within first stop j) (below n) + count_by test (below (min n first))
+    ≡ count_by test (below (min n stop))
+count_within test first stop zero h =
+    let low : min 0 first ≡ 0 = omega arith in
+    let high : min 0 stop ≡ 0 = omega arith in
+    rw (low, high) (omega (arith, count_by-below_zero (λ j. test j && is_within first stop j)))
+count_within test first stop (suc n) h =
     let next : suc n ≡ n + 1 = omega arith in
-    let before = count_within p a b n h in
-    let more = count_by-below_more (λ j. p j && is_within a b j) n in
+    let before = count_within test first stop n h in
+    let more = count_by-below_more (λ j. test j && is_within first stop j) n in
     rw next (⊎_elim
-    (λ (less : n < a).
-    let out : (p n && is_within a b n) ≡ false = and_right _ _ (within_before a b n less) in
-    let none : bit (p n && is_within a b n) ≡ 0 = ap bit out in
-    let a_now : min n a ≡ n = omega arith in
-    let b_now : min n b ≡ n = omega arith in
-    let a_next : min (n + 1) a ≡ n + 1 = omega arith in
-    let b_next : min (n + 1) b ≡ n + 1 = omega arith in
-    let old : count_by (λ j. p j && is_within a b j) (below n) + count_by p (below n) ≡ count_by p (below n) =
+    (λ (less : n < first).
+    let out : (test n && is_within first stop n) ≡ false = and_right _ _ (within_before first stop n less) in
+    let none : bit (test n && is_within first stop n) ≡ 0 = ap bit out in
+    let a_now : min n first ≡ n = omega arith in
+    let b_now : min n stop ≡ n = omega arith in
+    let a_next : min (n + 1) first ≡ n + 1 = omega arith in
+    let b_next : min (n + 1) stop ≡ n + 1 = omega arith in
+    let old : count_by (λ j. test j && is_within first stop j) (below n) + count_by test (below n)
+    ≡ count_by test (below n) =
     rw (a_now, b_now) at before in
     rw (a_next, b_next) (omega (arith, more, none, old)))
-    (λ (from : a ≤ n).
-    let a_now : min n a ≡ a = omega arith in
-    let a_next : min (n + 1) a ≡ a = omega arith in
+    (λ (from : first ≤ n).
+    let a_now : min n first ≡ first = omega arith in
+    let a_next : min (n + 1) first ≡ first = omega arith in
     ⊎_elim
-    (λ (within : n < b).
-    let here : (p n && is_within a b n) ≡ p n =
-    ap (λ (c : Bool). p n && c) (within_yes a b n from within) ∙ and-true (p n) in
-    let one : bit (p n && is_within a b n) ≡ bit (p n) = ap bit here in
-    let b_now : min n b ≡ n = omega arith in
-    let b_next : min (n + 1) b ≡ n + 1 = omega arith in
-    let old : count_by (λ j. p j && is_within a b j) (below n) + count_by p (below a) ≡ count_by p (below n) =
+    (λ (within : n < stop).
+    let here : (test n && is_within first stop n) ≡ test n =
+    ap (λ (c : Bool). test n && c) (within_yes first stop n from within) ∙ and-true (test n) in
+    let one : bit (test n && is_within first stop n) ≡ bit (test n) = ap bit here in
+    let b_now : min n stop ≡ n = omega arith in
+    let b_next : min (n + 1) stop ≡ n + 1 = omega arith in
+    let old : count_by (λ j. test j && is_within first stop j) (below n) + count_by test (below first)
+    ≡ count_by test (below n) =
     rw (a_now, b_now) at before in
-    rw (a_next, b_next) (omega (arith, more, one, old, count_by-below_more p n)))
-    (λ (past : b ≤ n).
-    let out : (p n && is_within a b n) ≡ false = and_right _ _ (within_past a b n past) in
-    let none : bit (p n && is_within a b n) ≡ 0 = ap bit out in
-    let b_now : min n b ≡ b = omega arith in
-    let b_next : min (n + 1) b ≡ b = omega arith in
-    let old : count_by (λ j. p j && is_within a b j) (below n) + count_by p (below a) ≡ count_by p (below b) =
+    rw (a_next, b_next) (omega (arith, more, one, old, count_by-below_more test n)))
+    (λ (past : stop ≤ n).
+    let out : (test n && is_within first stop n) ≡ false = and_right _ _ (within_past first stop n past) in
+    let none : bit (test n && is_within first stop n) ≡ 0 = ap bit out in
+    let b_now : min n stop ≡ stop = omega arith in
+    let b_next : min (n + 1) stop ≡ stop = omega arith in
+    let old : count_by (λ j. test j && is_within first stop j) (below n) + count_by test (below first)
+    ≡ count_by test (below stop) =
     rw (a_now, b_now) at before in
     rw (a_next, b_next) (omega (arith, more, none, old)))
-    (cases_lt n b))
-    (cases_lt n a))
+    (cases_lt n stop))
+    (cases_lt n first))
   where
     and-true : (c : Bool) → (c && true) ≡ c
     and-true true = refl
@@ -105,8 +109,8 @@ apart n q x j here there less =
     (λ (upper : x / n ≤ j / n). absurd (omega (arith, x_is, j_is, mul-le-mul_left n upper)))
     (cases_lt (j / n) (x / n))
   where
-    one_round : (n k : ℕ) → n * (k + 1) ≡ n * k + n
-    one_round n k = grind arith
+    one_round : (n x : ℕ) → n * (x + 1) ≡ n * x + n
+    one_round n x = grind arith
 
 -- how many instances of q there are below a place, by its first one from there on
 pub owned_place : (m : Membership) (q : ℕ) → q < m.count → (j : ℕ) → m.count * owned_below m q j + q ≡ first_owned m q j
@@ -116,7 +120,7 @@ owned_place m q member zero =
     let own = first_owned_owner m q 0 member in
     let small : first_owned m q 0 < m.count = omega (arith, least, member) in
     let is : first_owned m q 0 ≡ q = sym (mod-eq_of_lt small) ∙ own in
-    let nothing : m.count * owned_below m q 0 ≡ 0 = ap (λ k. m.count * k) none ∙ mul-zero m.count in
+    let nothing : m.count * owned_below m q 0 ≡ 0 = ap (λ x. m.count * x) none ∙ mul-zero m.count in
     omega (arith, nothing, is)
   where
     mul-zero : (n : ℕ) → n * 0 ≡ 0
@@ -136,7 +140,7 @@ owned_place m q member (suc j) =
     let far = apart m.count q (first_owned m q (j + 1)) j own mine (omega (arith, above)) in
     let least = first_owned_least m q (j + 1) (j + m.count) member (omega arith) (add-mod_right j m.count ∙ mine) in
     let count : m.count * owned_below m q (j + 1) ≡ m.count * owned_below m q j + m.count =
-    ap (λ k. m.count * k) (more ∙ ap (λ k. owned_below m q j + k) one) ∙ one_round m.count (owned_below m q j) in
+    ap (λ x. m.count * x) (more ∙ ap (λ x. owned_below m q j + x) one) ∙ one_round m.count (owned_below m q j) in
     omega (arith, count, before, here, far, least))
     (λ (other : owner m j ≡ q → ⊥).
     let none : bit (eqb (owner m j) q) ≡ 0 = ap bit (ne_eqb (owner m j) q other) in
@@ -147,49 +151,52 @@ owned_place m q member (suc j) =
     let up = first_owned_least m q (j + 1) (first_owned m q j) member past own_now in
     let down = first_owned_least m q j (first_owned m q (j + 1)) member (omega (arith, above)) own in
     let count : m.count * owned_below m q (j + 1) ≡ m.count * owned_below m q j =
-    ap (λ k. m.count * k) (more ∙ ap (λ k. owned_below m q j + k) none ∙ add-zero (owned_below m q j)) in
+    ap (λ x. m.count * x) (more ∙ ap (λ x. owned_below m q j + x) none ∙ add-zero (owned_below m q j)) in
     omega (arith, count, before, up, down))
     (cases_eq (owner m j) q))
   where
-    one_round : (n k : ℕ) → n * (k + 1) ≡ n * k + n
-    one_round n k = grind arith
+    one_round : (n x : ℕ) → n * (x + 1) ≡ n * x + n
+    one_round n x = grind arith
 
 -- ---- ranges
 
 -- a place at which a range of q may end, as far as there are instances below a place
-end_place : (m : Membership) (q n b : ℕ) → q < m.count → owner m b ≡ q → b ≤ first_owned m q n
-    → m.count * owned_below m q (min n b) + q ≡ b
-end_place m q n b member own low =
+end_place : (m : Membership) (q n stop : ℕ) → q < m.count → owner m stop ≡ q → stop ≤ first_owned m q n
+    → m.count * owned_below m q (min n stop) + q ≡ stop
+end_place m q n stop member own low =
     ⊎_elim
-    (λ (less : n < b).
-    let e : min n b ≡ n = omega arith in
-    let least = first_owned_least m q n b member (omega arith) own in
+    (λ (less : n < stop).
+    let e : min n stop ≡ n = omega arith in
+    let least = first_owned_least m q n stop member (omega arith) own in
     rw e (omega (arith, owned_place m q member n, least)))
-    (λ (more : b ≤ n).
-    let e : min n b ≡ b = omega arith in
-    rw e (owned_place m q member b ∙ first_owned_here m q b member own))
-    (cases_lt n b)
+    (λ (more : stop ≤ n).
+    let e : min n stop ≡ stop = omega arith in
+    rw e (owned_place m q member stop ∙ first_owned_here m q stop member own))
+    (cases_lt n stop)
 
 -- a range has an instance for each round from its first to its stop
-pub count_range : (m : Membership) (q n a b : ℕ) → q < m.count → owner m a ≡ q → owner m b ≡ q → a ≤ b
-    → b ≤ first_owned m q n
-    → m.count * count_by (λ j. eqb (owner m j) q && is_within a b j) (below n) + a ≡ b
-count_range m q n a b member own_a own_b h low =
-    let both = count_within (λ j. eqb (owner m j) q) a b n h in
-    let all : m.count * (count_by (λ j. eqb (owner m j) q && is_within a b j) (below n) + owned_below m q (min n a))
-    ≡ m.count * owned_below m q (min n b) = ap (λ k. m.count * k) both in
-    let a_is = end_place m q n a member own_a (omega (arith, low)) in
-    let b_is = end_place m q n b member own_b low in
+pub count_range : (m : Membership) (q n first stop : ℕ) → q < m.count → owner m first ≡ q → owner m stop ≡ q
+    → first ≤ stop
+    → stop ≤ first_owned m q n
+    → m.count * count_by (λ j. eqb (owner m j) q && is_within first stop j) (below n) + first ≡ stop
+count_range m q n first stop member own_a own_b h low =
+    let both = count_within (λ j. eqb (owner m j) q) first stop n h in
+    let all : m.count * (count_by (λ j. eqb (owner m j) q && is_within first stop j) (below n) + owned_below m q
+    (min n first))
+    ≡ m.count * owned_below m q (min n stop) = ap (λ x. m.count * x) both in
+    let a_is = end_place m q n first member own_a (omega (arith, low)) in
+    let b_is = end_place m q n stop member own_b low in
     omega (
       arith,
       all,
       a_is,
       b_is,
-      distribute m.count (count_by (λ j. eqb (owner m j) q && is_within a b j) (below n)) (owned_below m q (min n a)),
+      distribute m.count (count_by (λ j. eqb (owner m j) q && is_within first stop j) (below n))
+          (owned_below m q (min n first)),
     )
   where
-    distribute : (n a b : ℕ) → n * (a + b) ≡ n * a + n * b
-    distribute n a b = grind arith
+    distribute : (n x y : ℕ) → n * (x + y) ≡ n * x + n * y
+    distribute n x y = grind arith
 
 -- below a list of ranges, none has an instance
 covers_before : (low : ℕ) (rs : List Span) (j : ℕ) → IsRising low rs → j < low → covers rs j ≡ false
@@ -211,7 +218,7 @@ pub count_covered : (m : Membership) (q n low : ℕ) (rs : List Span) → q < m.
 count_covered m q n low [] member h own =
     let none : count_by (λ j. eqb (owner m j) q && false) (below n) ≡ 0 =
     count_same (λ j. eqb (owner m j) q && false) (λ j. false) n (λ j l. and_right _ _ refl) ∙ count_none n in
-    ap (λ k. m.count * k) none ∙ mul-zero m.count
+    ap (λ x. m.count * x) none ∙ mul-zero m.count
   where
     mul-zero : (n : ℕ) → n * 0 ≡ 0
     mul-zero n = grind arith
@@ -227,7 +234,7 @@ count_covered m q n low (r ∷ rs) member h own =
     (λ j l. one_of_two (eqb (owner m j) q) (is_within r.first r.stop j) (covers rs j) (apart_from j)) in
     let head = count_range m q n r.first r.stop member own.0 own.1 (omega (arith, h.1)) own.2 in
     let tail = count_covered m q n (r.stop + 1) rs member h.2 own.3 in
-    let all = ap (λ k. m.count * k) split in
+    let all = ap (λ x. m.count * x) split in
     omega (
       arith,
       all,
@@ -238,8 +245,8 @@ count_covered m q n low (r ∷ rs) member h own =
           (count_by (λ j. eqb (owner m j) q && covers rs j) (below n)),
     )
   where
-    distribute : (n a b : ℕ) → n * (a + b) ≡ n * a + n * b
-    distribute n a b = grind arith
+    distribute : (n x y : ℕ) → n * (x + y) ≡ n * x + n * y
+    distribute n x y = grind arith
 
     apart_from : (j : ℕ) → is_within r.first r.stop j ≡ true → covers rs j ≡ false
     apart_from j e =

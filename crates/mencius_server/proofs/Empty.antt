@@ -1,10 +1,10 @@
--- The server that has heard nothing is that of the empty history, and keeps what every server keeps.
+-- The server that has heard nothing is that of the empty trace, and keeps what every server keeps.
 use Rattle.std.proofs.Common.{◌≡◌, ℕ, ◌<◌, ◌≤◌, List, [], map, refl, sym, ◌∙◌, ap, arith}
 use Rattle.std.specs.Prelude.{replicate}
 use Rattle.std.proofs.lemmas.List.{length-replicate}
 use Rattle.mencius_base.specs.Members.{Membership, instances}
 use Rattle.mencius_model.specs.Server.{front}
-use Rattle.mencius_model.proofs.Below.{instances-below, map-below_constant}
+use Rattle.mencius_model.proofs.NumberLists.{instances-below, map-below_constant}
 use Rattle.coord_paxos.proofs.SlotLaws.{slot_at-empty}
 use Rattle.coord_paxos.specs.Fresh.{new_slot}
 use Rattle.coord_paxos.specs.Reached.{slot_at}
@@ -22,14 +22,16 @@ new_slots m = map-below_constant (λ (j : ℕ). new_slot m) instance_count (new_
     ∙ ap (map (λ (j : ℕ). new_slot m)) (sym instances-below)
 
 -- what callers see of a server that knows nothing
-pub new_shown : (m : Membership) (p : ℕ) (k : KnownState) → k ≡ new_known m
-    → record { members = m; id = p; front = p; slots = k.slots } ≡ new_server m p
-new_shown m p k made =
+pub new_shown : (m : Membership) (p : ℕ) (s : KnownState) → s ≡ new_known m
+    → record { members = m; id = p; front = p; slots = s.slots } ≡ new_server m p
+new_shown m p s made =
     ap (λ (xs : List SlotState). record { members = m; id = p; front = p; slots = xs })
     (ap (λ (x : KnownState). x.slots) made ∙ sym (new_slots m))
 
 pub IsKept-new : (m : Membership) (p : ℕ) → p < m.count → m.count ≤ 7 → IsKept (new_server m p) m nothing_noted
 IsKept-new m p member few = record {
+  bound = omega arith;
+  free = λ j low. absurd (omega arith);
   full = length-replicate instance_count (new_slot m);
   members = refl;
   server = IsServer-new m p member few;

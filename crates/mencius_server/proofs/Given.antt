@@ -12,9 +12,9 @@ use Rattle.mencius_server.proofs.Gaps.{slot_kept}
 pub given_kept : (m : Membership) (q first stop j : ℕ) (o : Option SlotState) → is_skipped m q first stop j ≡ false
     → option_map (slot_given m q first stop j) o ≡ o
 given_kept m q first stop j None e = refl
-given_kept m q first stop j (Some t) e = ap (λ u. Some u) (slot_kept m q first stop j t e)
+given_kept m q first stop j (Some s) e = ap (λ x. Some x) (slot_kept m q first stop j s e)
 
 pub given_at : (m : Membership) (q first stop j : ℕ) (o : Option SlotState) → is_skipped m q first stop j ≡ true
-    → option_map (slot_given m q first stop j) o ≡ option_map (λ t. after_learn t Noop) o
+    → option_map (slot_given m q first stop j) o ≡ option_map (λ s. after_learn s Noop) o
 given_at m q first stop j None e = refl
-given_at m q first stop j (Some t) e = ap (λ (b : Bool). Some (cond b (after_learn t Noop) t)) e
+given_at m q first stop j (Some s) e = ap (λ (b : Bool). Some (cond b (after_learn s Noop) s)) e

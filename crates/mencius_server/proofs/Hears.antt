@@ -1,42 +1,36 @@
 -- What a server does on a message is what the model says.
-use Rattle.std.proofs.Common.{◌≡◌, ℕ, List, ◌∷◌, ◌++◌, Some, Result, Ok, Err, OnOk, IfOk, length, ap, subst, sym, ◌∙◌, true}
+use Rattle.std.proofs.Common.{◌≡◌, ℕ, List, ◌∷◌, Some, length, ap, subst, sym, ◌∙◌, true}
 use Rattle.std.specs.Prelude.{slice_get, IsTrue}
-use Rattle.mencius_base.specs.declared.refusal.Refusal.{Refusal}
-use Rattle.mencius_base.specs.Outbox.{Outgoing, outbox_full}
-use Rattle.mencius_base.specs.Refusal.{IsRefusedFor}
+use Rattle.mencius_base.specs.Outbox.{outbox_full}
 use Rattle.mencius_base.specs.declared.message.Message.{Message}
 use Rattle.mencius_base.specs.declared.event.Event.TheVariants.{Deliver}
-use Rattle.mencius_model.specs.History.{History, sent, messages_of, Heard, Line, followed_by}
-use Rattle.mencius_model.specs.Next.{lines, learnings, with_event, delivery, on_accepted, on_message, on_promise}
+use Rattle.mencius_model.specs.Trace.{Trace, sent, messages_of, Heard, Line, followed_by}
+use Rattle.mencius_model.specs.Next.{lines, learnings, delivery, on_accepted, on_message, on_promise}
 use Rattle.mencius_server.specs.State.{ServerState}
 use Rattle.mencius_server.specs.Machine.{sent_on, after_hearing, learned_on}
-use Rattle.mencius_server.specs.Reached.{IsAt, IsStep, refusal_of, server_at}
+use Rattle.mencius_server.specs.Laws.{HearIsEvent, HearLearnsAsEvent}
+use Rattle.mencius_server.specs.Reached.{server_at}
 use Rattle.std.proofs.lemmas.Bool.{and_parts, eqb-true, ltb-true}
 use Rattle.mencius_base.specs.declared.message.Message.TheVariants.{Suggest, Skip, Accepted, Prepare, Promise, Propose, Learn}
 use Rattle.mencius_base.specs.Members.{Membership}
 use Rattle.mencius_base.specs.Message.{goes_to, is_addressed, is_within}
 use Rattle.mencius_model.specs.Instance.{IsVoted}
-use Rattle.mencius_model.proofs.Sound.{IsSound, sound}
-use Rattle.mencius_server.proofs.ServerHistory.{Meets, meets_propose}
+use Rattle.mencius_model.proofs.ServerFacts.{IsSound, sound}
+use Rattle.mencius_server.proofs.ServerTrace.{Meets, meets_propose}
 use Rattle.mencius_server.proofs.HearsSkip.{meets_skip}
 use Rattle.mencius_server.proofs.HearsMore.{meets_accepted, meets_learn, meets_prepare, meets_promise, meets_suggest}
 
-pub record HearsAsModel (w : History) (k : ℕ) (x : Message) (s : ServerState) : Type 0 where
-  pub sends : sent_on s x ≡ messages_of (lines s.members w (Deliver k s.id))
-  pub learns : learned_on s x ≡ learnings (lines s.members w (Deliver k s.id))
-  pub state : after_hearing s x ≡ server_at s.members (with_event s.members w (Deliver k s.id)) s.id
-
-voted_at : (m : Membership) (w : History) (p i : ℕ) → IsSound m w → IsVoted w p i
+voted_at : (m : Membership) (w : Trace) (p i : ℕ) → IsSound m w → IsVoted w p i
 voted_at m w p i facts = record { proposal = λ b e. facts.voted p i b e }
 
 -- what is addressed to a server goes to it, within all bounds
-within_of : (m : Membership) (p : ℕ) (x : Message) → IsTrue (is_addressed m p x) → is_within m x ≡ true
+pub within_of : (m : Membership) (p : ℕ) (x : Message) → IsTrue (is_addressed m p x) → is_within m x ≡ true
 within_of m p x addressed = (and_parts _ _ (and_parts _ _ addressed).1).1
 
 goes_of : (m : Membership) (p : ℕ) (x : Message) → IsTrue (is_addressed m p x) → goes_to p x ≡ true
 goes_of m p x addressed = (and_parts _ _ (and_parts _ _ addressed).1).0
 
-meets_any : (m : Membership) (w : History) (k p : ℕ) (x : Message) → IsSound m w → IsTrue (is_addressed m p x)
+meets_any : (m : Membership) (w : Trace) (k p : ℕ) (x : Message) → IsSound m w → IsTrue (is_addressed m p x)
     → slice_get (sent w) k ≡ Some x
     → Meets m w k p x (on_message m w (Heard k p ∷ w) p x)
 meets_any m w k p (Suggest from inst ticket) facts addressed e =
@@ -76,42 +70,25 @@ meets_any m w k p (Learn from inst value) facts addressed e =
     let known = and_parts _ _ (within_of m p (Learn from inst value) addressed) in
     meets_learn m w k p from inst value (ltb-true _ _ known.1) e
 
-pub hears_as_model : (w : History) (k : ℕ) (x : Message) (s : ServerState) → IsTrue (is_addressed s.members s.id x)
-    → IsAt w s → slice_get (sent w) k ≡ Some x → HearsAsModel w k x s
-hears_as_model w k x s addressed at heard =
+-- the row of the event has the message's lines
+delivery_row : (w : Trace) (s : ServerState) (k : ℕ) (x : Message) → slice_get (sent w) k ≡ Some x
+    → on_message s.members w (Heard k s.id ∷ w) s.id x ≡ lines s.members w (Deliver k s.id)
+delivery_row w s k x heard = ap (delivery s.members w (Heard k s.id ∷ w) s.id) (sym heard)
+
+pub hear_is_event : HearIsEvent
+hear_is_event w s k x at addressed heard =
     let meets = meets_any s.members w k s.id x (sound s.members w at.reached) addressed heard in
-    let row : on_message s.members w (Heard k s.id ∷ w) s.id x ≡ lines s.members w (Deliver k s.id) =
-    ap (delivery s.members w (Heard k s.id ∷ w) s.id) (sym heard) in
+    let row = delivery_row w s k x heard in
+    let sends : sent_on s x ≡ messages_of (lines s.members w (Deliver k s.id)) =
+    ap (λ (y : ServerState). sent_on y x) at.state ∙ meets.sends ∙ ap messages_of row in
     record {
-      sends = ap (λ (u : ServerState). sent_on u x) at.state ∙ meets.sends ∙ ap messages_of row;
-      learns = ap (λ (u : ServerState). learned_on u x) at.state ∙ meets.learns ∙ ap learnings row;
-      state = ap (λ (u : ServerState). after_hearing u x) at.state ∙ meets.state
+      sent = sends;
+      state = ap (λ (y : ServerState). after_hearing y x) at.state ∙ meets.state
           ∙ ap (λ (ls : List Line). server_at s.members (followed_by (Heard k s.id ∷ w) ls) s.id) row;
+      refusal = λ o. ap (λ (ms : List Message). outbox_full o (length ms)) sends;
     }
 
-pub hear_step : (r : Result ℕ Refusal) (x : Message) (old new : ServerState) (before after : Outgoing)
-    → IsTrue (is_addressed old.members old.id x)
-    → OnOk r (after.messages ≡ before.messages ++ sent_on old x) → OnOk r (new ≡ after_hearing old x)
-    → IfOk r (λ n. (w : History) (k : ℕ) → IsAt w old → slice_get (sent w) k ≡ Some x
-    → IsStep w (Deliver k old.id) old new before after)
-hear_step (Ok n) x old new before after addressed sends becomes = λ w k at heard.
-    let law = hears_as_model w k x old addressed at heard in
-    record { sent = sends ∙ ap (λ (ms : List Message). before.messages ++ ms) law.sends; state = becomes ∙ law.state }
-hear_step (Err e) x old new before after addressed sends becomes = tt
-
-pub hear_learned : (r : Result ℕ Refusal) (x : Message) (old : ServerState)
-    → IsTrue (is_addressed old.members old.id x) → IfOk r (λ n. n ≡ learned_on old x)
-    → IfOk r (λ n. (w : History) (k : ℕ) → IsAt w old → slice_get (sent w) k ≡ Some x
-    → n ≡ learnings (lines old.members w (Deliver k old.id)))
-hear_learned (Ok n) x old addressed learned =
-    λ w k at heard. let law = hears_as_model w k x old addressed at heard in learned ∙ law.learns
-hear_learned (Err e) x old addressed learned = tt
-
-pub hear_refusal : (r : Result ℕ Refusal) (x : Message) (old : ServerState) (before : Outgoing)
-    → IsTrue (is_addressed old.members old.id x)
-    → IsRefusedFor (outbox_full before (length (sent_on old x))) r
-    → (w : History) (k : ℕ) → IsAt w old → slice_get (sent w) k ≡ Some x
-    → IsRefusedFor (refusal_of w (Deliver k old.id) old before) r
-hear_refusal r x old before addressed refused w k at heard =
-    let law = hears_as_model w k x old addressed at heard in
-    subst (λ (ms : List Message). IsRefusedFor (outbox_full before (length ms)) r) law.sends refused
+pub hear_learns : HearLearnsAsEvent
+hear_learns w s k x at addressed heard =
+    let meets = meets_any s.members w k s.id x (sound s.members w at.reached) addressed heard in
+    ap (λ (y : ServerState). learned_on y x) at.state ∙ meets.learns ∙ ap learnings (delivery_row w s k x heard)

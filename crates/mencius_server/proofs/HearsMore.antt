@@ -1,28 +1,30 @@
 -- The other messages.
-use Rattle.std.proofs.Common.{◌≡◌, ℕ, ◌+◌, ◌<◌, ◌≤◌, Bool, true, false, List, [], ◌∷◌, ◌++◌, Option, Some, None, zero, suc, refl, sym, ◌∙◌, ap, subst, arith, cond, leb, ltb, eqb, ◌&&◌, ⊎_elim}
+use Rattle.std.proofs.Common.{◌≡◌, ℕ, ◌+◌, ◌<◌, ◌≤◌, Bool, true, false, List, [], ◌∷◌, ◌++◌, Option, Some, None, refl, sym, ◌∙◌, ap, subst, arith, cond, leb, ltb, eqb, ◌&&◌, ⊎_elim}
 use Rattle.std.specs.Prelude.{slice_get, is_none}
-use Rattle.std.proofs.lemmas.Bool.{ltb-true, eqb-true, eq-eqb, ne_eqb, lt-ltb, lt-leb, cases_lt}
+use Rattle.std.proofs.lemmas.Bool.{ltb-true, leb-true, eqb-true, eq-eqb, ne_eqb, lt-ltb, cases_lt}
+use Rattle.mencius_base.specs.declared.message.Answer.TheVariants.{Promise as Promised, Silent}
 use Rattle.mencius_base.specs.declared.message.Message.TheVariants.{Suggest, Skip, Accepted, Prepare, Promise, Propose, Learn}
 use Rattle.mencius_base.specs.declared.message.Value.{Value}
 use Rattle.mencius_base.specs.declared.message.Value.TheVariants.{Ticket}
 use Rattle.mencius_base.specs.declared.message.Vote.{Vote}
-use Rattle.mencius_base.specs.Members.{Membership, below, first_owned, majority, owner}
-use Rattle.mencius_model.specs.History.{Line, Heard, Sent, Learned, History, followed_by, sent, messages_of}
-use Rattle.mencius_model.specs.Instance.{promised, proposed, trying, learned, accepted, accepters, promisers, reported, vote, are_majority, value_or_noop, IsVoted}
+use Rattle.mencius_base.specs.Members.{Membership, first_owned, owner}
+use Rattle.mencius_model.specs.Trace.{Line, Heard, Sent, Learned, Trace, followed_by, sent, messages_of}
+use Rattle.mencius_model.specs.Instance.{promised, proposed, trying, learned, accepted, accepters, promisers, reported, vote, are_majority, IsVoted}
 use Rattle.mencius_model.specs.Server.{front}
-use Rattle.mencius_model.specs.Next.{learnings, on_suggest, on_prepare, on_accepted, on_promise, on_learn, decision, promise}
-use Rattle.mencius_model.proofs.Lines.{greater-none}
-use Rattle.mencius_model.proofs.Below.{count_by-map}
+use Rattle.mencius_model.specs.Next.{learnings, on_suggest, on_prepare, on_accepted, on_promise, on_learn}
+use Rattle.mencius_model.specs.Rules.{acceptor_answer, answer_lines, decision_due, decision_lines, proposal_due, proposal_lines}
+use Rattle.mencius_model.proofs.OneMoreLine.{greater-none}
 use Rattle.coord_paxos.specs.SlotState.{SlotState}
-use Rattle.coord_paxos.specs.Slot.{accept_answer, promise_answer, after_promise, proposing, to_propose, with_promise, after_accept, after_prepare, after_learn, after_acceptance, is_majority, learning, to_learn, with_accept}
+use Rattle.coord_paxos.specs.Slot.{accept_answer, promise_answer, after_promise, proposing, to_propose, with_promise, after_accept, after_prepare, after_learn, after_acceptance, learning, to_learn, with_accept}
 use Rattle.coord_paxos.specs.Reached.{if_own, slot_at}
-use Rattle.coord_paxos.proofs.SlotHistory.{slot_at-quiet, slot_at-heard, slot_at-heard_acceptance, slot_at-heard_promise, slot_at-proposed, slot_at-accepted, slot_at-promised, slot_at-learned}
-use Rattle.mencius_model.proofs.Quiet.{quiet_propose, quiet_accepted, quiet_promise, quiet_learned, quiet_learn, quiet_skip, IsUncounted}
-use Rattle.mencius_model.proofs.Tally.{or-true}
+use Rattle.coord_paxos.proofs.SlotTrace.{slot_at-quiet, slot_at-heard, slot_at-heard_acceptance, slot_at-heard_promise, slot_at-proposed, slot_at-accepted, slot_at-promised, slot_at-learned}
+use Rattle.coord_paxos.proofs.SlotLaws.{acceptance_answered, promise_answered}
+use Rattle.mencius_model.proofs.QuietLines.{quiet_propose, quiet_accepted, quiet_promise, quiet_learned, quiet_learn, quiet_skip, IsUncounted}
+use Rattle.mencius_model.proofs.Tallies.{or-true}
 use Rattle.mencius_server.specs.State.{slot, with_slot, with_slot_and_front}
-use Rattle.mencius_server.specs.Machine.{next_front, decision_sent, one_if_some, proposal_sent}
+use Rattle.mencius_server.specs.Machine.{after_prepare_at, next_front}
 use Rattle.mencius_server.specs.Reached.{server_at}
-use Rattle.mencius_server.proofs.ServerHistory.{Meets, server_written, slot-server_at}
+use Rattle.mencius_server.proofs.ServerTrace.{Meets, server_written, slot-server_at}
 use Rattle.mencius_base.specs.Limits.{instance_count}
 
 -- ---- Learn
@@ -30,19 +32,19 @@ use Rattle.mencius_base.specs.Limits.{instance_count}
 uncounted_learn : (q i : ℕ) (v : Value) (j c : ℕ) → IsUncounted j c (Learn q i v)
 uncounted_learn q i v j c = record { promise = λ r. refl; acceptance = λ r. refl; report = refl }
 
-learn_cases : (m : Membership) (w : History) (k p q i : ℕ) (v : Value) → i < instance_count
+learn_cases : (m : Membership) (w : Trace) (k p q i : ℕ) (v : Value) → i < instance_count
     → slice_get (sent w) k ≡ Some (Learn q i v)
     → (o : Option Value) → learned w p i ≡ o → Meets m w k p (Learn q i v) (cond (is_none o) (Learned p i v ∷ []) [])
 learn_cases m w k p q i v small e None un = record {
   sends = refl;
   learns = rw (slot-server_at m w p i small, un);
   state =
-      ap (λ (t : SlotState). with_slot (server_at m w p) i (after_learn t v)) (slot-server_at m w p i small)
+      ap (λ (s : SlotState). with_slot (server_at m w p) i (after_learn s v)) (slot-server_at m w p i small)
       ∙ ap (λ (o : Option Value). with_slot (server_at m w p) i
       (cond (is_none o) (record (slot_at m w p i) { learned = Some v }) (slot_at m w p i))) un
       ∙ server_written m w (Learned p i v ∷ Heard k p ∷ w) p i (front m w p) _ (omega arith)
       (slot_at-learned m (Heard k p ∷ w) p i v (rw un)
-      ∙ ap (λ (t : SlotState). record t { learned = Some v })
+      ∙ ap (λ (s : SlotState). record s { learned = Some v })
       (slot_at-heard m w k p i _ e (uncounted_learn q i v i (trying w p i))))
       (λ j ne. slot_at-quiet m (Heard k p ∷ w) (Learned p i v) p j (quiet_learned p i j v ne) refl
       ∙ slot_at-heard m w k p j _ e (uncounted_learn q i v j (trying w p j)));
@@ -51,7 +53,7 @@ learn_cases m w k p q i v small e (Some u) un = record {
   sends = refl;
   learns = rw (slot-server_at m w p i small, un);
   state =
-      ap (λ (t : SlotState). with_slot (server_at m w p) i (after_learn t v)) (slot-server_at m w p i small)
+      ap (λ (s : SlotState). with_slot (server_at m w p) i (after_learn s v)) (slot-server_at m w p i small)
       ∙ ap (λ (o : Option Value). with_slot (server_at m w p) i
       (cond (is_none o) (record (slot_at m w p i) { learned = Some v }) (slot_at m w p i))) un
       ∙ server_written m w (Heard k p ∷ w) p i (front m w p) _ (omega arith)
@@ -59,7 +61,7 @@ learn_cases m w k p q i v small e (Some u) un = record {
       (λ j ne. slot_at-heard m w k p j _ e (uncounted_learn q i v j (trying w p j)));
 }
 
-pub meets_learn : (m : Membership) (w : History) (k p q i : ℕ) (v : Value) → i < instance_count
+pub meets_learn : (m : Membership) (w : Trace) (k p q i : ℕ) (v : Value) → i < instance_count
     → slice_get (sent w) k ≡ Some (Learn q i v)
     → Meets m w k p (Learn q i v) (on_learn w p i v)
 meets_learn m w k p q i v small e = learn_cases m w k p q i v small e (learned w p i) refl
@@ -69,26 +71,32 @@ meets_learn m w k p q i v small e = learn_cases m w k p q i v small e (learned w
 uncounted_prepare : (q i b : ℕ) (j c : ℕ) → IsUncounted j c (Prepare q i b)
 uncounted_prepare q i b j c = record { promise = λ r. refl; acceptance = λ r. refl; report = refl }
 
--- whether p promises
-prepares : (w : History) (p i b : ℕ) (o : Option Value) (c : Bool) → learned w p i ≡ o → ltb (promised w p i) b ≡ c
-    → (is_none (learned w p i) && ltb (promised w p i) b) ≡ (is_none o && c)
-prepares w p i b o c un high = rw (un, high)
+-- the state by what p learned and whether the ballot is above the promised one
+prepare_state : (m : Membership) (w : Trace) (p i b : ℕ) (o : Option Value) (c : Bool) → i < instance_count
+    → learned w p i ≡ o → ltb (promised w p i) b ≡ c
+    → after_prepare_at (server_at m w p) i b ≡ with_slot (server_at m w p) i
+    (cond (is_none o && c) (record (slot_at m w p i) { promised = b }) (slot_at m w p i))
+prepare_state m w p i b o c small known above =
+    ap (λ (s : SlotState). with_slot (server_at m w p) i (after_prepare s b)) (slot-server_at m w p i small)
+    ∙ ap (λ (c : Bool). with_slot (server_at m w p) i
+    (cond c (record (slot_at m w p i) { promised = b }) (slot_at m w p i))) tests
+  where
+    tests : (is_none (learned w p i) && ltb (promised w p i) b) ≡ (is_none o && c)
+    tests = rw (known, above)
 
-unlearned_cases : (m : Membership) (w : History) (k p q i b : ℕ) → i < instance_count
+unlearned_cases : (m : Membership) (w : Trace) (k p q i b : ℕ) → i < instance_count
     → slice_get (sent w) k ≡ Some (Prepare q i b)
     → learned w p i ≡ None → (c : Bool) → ltb (promised w p i) b ≡ c
-    → Meets m w k p (Prepare q i b) (cond c (Sent (Promise p q i b (vote w p i)) ∷ []) [])
+    → Meets m w k p (Prepare q i b) (answer_lines p q i b (cond c (Promised (vote w p i)) Silent))
 unlearned_cases m w k p q i b small e un true high = record {
   sends = rw (slot-server_at m w p i small, un, high);
   learns = refl;
   state =
-      ap (λ (t : SlotState). with_slot (server_at m w p) i (after_prepare t b)) (slot-server_at m w p i small)
-      ∙ ap (λ (c : Bool). with_slot (server_at m w p) i
-      (cond c (record (slot_at m w p i) { promised = b }) (slot_at m w p i))) (prepares w p i b None true un high)
+      prepare_state m w p i b None true small un high
       ∙ (server_written m w (Sent (Promise p q i b (vote w p i)) ∷ Heard k p ∷ w) p i (front m w p) _ (omega arith)
       (slot_at-promised m (Heard k p ∷ w) p q i b (vote w p i) (let above : promised w p i < b = ltb-true _ _ high in
       omega arith)
-      ∙ ap (λ (t : SlotState). record t { promised = b })
+      ∙ ap (λ (s : SlotState). record s { promised = b })
       (slot_at-heard m w k p i _ e (uncounted_prepare q i b i (trying w p i))))
       (λ j ne. slot_at-quiet m (Heard k p ∷ w) (Sent (Promise p q i b (vote w p i))) p j
       (quiet_promise p q i b j (vote w p i) ne) refl
@@ -98,26 +106,22 @@ unlearned_cases m w k p q i b small e un false low = record {
   sends = rw (slot-server_at m w p i small, un, low);
   learns = refl;
   state =
-      ap (λ (t : SlotState). with_slot (server_at m w p) i (after_prepare t b)) (slot-server_at m w p i small)
-      ∙ ap (λ (c : Bool). with_slot (server_at m w p) i
-      (cond c (record (slot_at m w p i) { promised = b }) (slot_at m w p i))) (prepares w p i b None false un low)
+      prepare_state m w p i b None false small un low
       ∙ (server_written m w (Heard k p ∷ w) p i (front m w p) _ (omega arith)
       (slot_at-heard m w k p i _ e (uncounted_prepare q i b i (trying w p i)))
       (λ j ne. slot_at-heard m w k p j _ e (uncounted_prepare q i b j (trying w p j))));
 }
 
-prepare_cases : (m : Membership) (w : History) (k p q i b : ℕ) → i < instance_count
+prepare_cases : (m : Membership) (w : Trace) (k p q i b : ℕ) → i < instance_count
     → slice_get (sent w) k ≡ Some (Prepare q i b)
-    → (o : Option Value) → learned w p i ≡ o → Meets m w k p (Prepare q i b) (promise w p q i b o)
+    → (o : Option Value) → learned w p i ≡ o
+    → Meets m w k p (Prepare q i b) (answer_lines p q i b (acceptor_answer (promised w p i) (vote w p i) b o))
 prepare_cases m w k p q i b small e None un = unlearned_cases m w k p q i b small e un (ltb (promised w p i) b) refl
 prepare_cases m w k p q i b small e (Some v) known = record {
   sends = rw (slot-server_at m w p i small, known);
   learns = refl;
   state =
-      ap (λ (t : SlotState). with_slot (server_at m w p) i (after_prepare t b)) (slot-server_at m w p i small)
-      ∙ ap (λ (c : Bool). with_slot (server_at m w p) i
-      (cond c (record (slot_at m w p i) { promised = b }) (slot_at m w p i)))
-      (prepares w p i b (Some v) _ known refl)
+      prepare_state m w p i b (Some v) _ small known refl
       ∙ (server_written m w (Sent (Learn p i v) ∷ Heard k p ∷ w) p i (front m w p) _ (omega arith)
       (slot_at-quiet m (Heard k p ∷ w) (Sent (Learn p i v)) p i (quiet_learn p p i i v) refl
       ∙ slot_at-heard m w k p i _ e (uncounted_prepare q i b i (trying w p i)))
@@ -125,7 +129,7 @@ prepare_cases m w k p q i b small e (Some v) known = record {
       ∙ slot_at-heard m w k p j _ e (uncounted_prepare q i b j (trying w p j))));
 }
 
-pub meets_prepare : (m : Membership) (w : History) (k p q i b : ℕ) → i < instance_count
+pub meets_prepare : (m : Membership) (w : Trace) (k p q i b : ℕ) → i < instance_count
     → slice_get (sent w) k ≡ Some (Prepare q i b)
     → Meets m w k p (Prepare q i b) (on_prepare w p q i b)
 meets_prepare m w k p q i b small e = prepare_cases m w k p q i b small e (learned w p i) refl
@@ -135,39 +139,34 @@ meets_prepare m w k p q i b small e = prepare_cases m w k p q i b small e (learn
 uncounted_suggest : (q i t : ℕ) (j c : ℕ) → IsUncounted j c (Suggest q i t)
 uncounted_suggest q i t j c = record { promise = λ r. refl; acceptance = λ r. refl; report = refl }
 
-leb-zero : (n : ℕ) → leb n 0 ≡ eqb n 0
-leb-zero zero = refl
-leb-zero (suc n) =
-    let over : 0 < suc n = omega arith in lt-leb (suc n) 0 over ∙ sym (ne_eqb (suc n) 0 (λ e. absurd (omega arith)))
-
 -- after a Skip or none: an acceptance or none
-pub record IsSkipping (m : Membership) (w u : History) (p f : ℕ) : Type 0 where
-  pub slots : (j : ℕ) → slot_at m u p j ≡ slot_at m w p j
-  pub front : front m u p ≡ f
+pub record IsSkipping (m : Membership) (w v : Trace) (p f : ℕ) : Type 0 where
+  pub slots : (j : ℕ) → slot_at m v p j ≡ slot_at m w p j
+  pub front : front m v p ≡ f
 
-suggest_accepts : (m : Membership) (w u : History) (p q i f : ℕ) (t : ℕ) → IsSkipping m w u p f
-    → proposed u i 0 ≡ Some (Ticket t)
-    → (c : Bool) → eqb (promised w p i) 0 ≡ c
+suggest_accepts : (m : Membership) (w v : Trace) (p q i f : ℕ) (t : ℕ) → IsSkipping m w v p f
+    → proposed v i 0 ≡ Some (Ticket t)
+    → (c : Bool) → leb (promised w p i) 0 ≡ c
     → with_slot_and_front (server_at m w p) i
     (cond c (record (slot_at m w p i) {
       promised = 0;
       vote = Some (record { ballot = 0; value = Ticket t });
     }) (slot_at m w p i)) f
-    ≡ server_at m (followed_by u (cond c (Sent (Accepted p q i 0) ∷ []) [])) p
-suggest_accepts m w u p q i f t skips said true free =
-    let none : promised u p i ≡ promised w p i = ap (λ (s : SlotState). s.promised) (skips.slots i) in
-    let zero : promised w p i ≡ 0 = eqb-true _ _ free in
-    server_written m w (Sent (Accepted p q i 0) ∷ u) p i f _ (rw (← skips.front) (omega arith))
-    (slot_at-accepted m u p q i 0 (Ticket t) (omega arith) said
+    ≡ server_at m (followed_by v (cond c (Sent (Accepted p q i 0) ∷ []) [])) p
+suggest_accepts m w v p q i f t skips said true free =
+    let none : promised v p i ≡ promised w p i = ap (λ (s : SlotState). s.promised) (skips.slots i) in
+    let zero : promised w p i ≤ 0 = leb-true _ _ free in
+    server_written m w (Sent (Accepted p q i 0) ∷ v) p i f _ (rw (← skips.front) (omega arith))
+    (slot_at-accepted m v p q i 0 (Ticket t) (omega arith) said
     ∙ ap (λ (s : SlotState). record s {
       promised = 0;
       vote = Some (record { ballot = 0; value = Ticket t });
     }) (skips.slots i))
-    (λ j ne. slot_at-quiet m u (Sent (Accepted p q i 0)) p j (quiet_accepted p q i 0 j ne) refl ∙ skips.slots j)
-suggest_accepts m w u p q i f t skips said false taken =
-    server_written m w u p i f _ skips.front (skips.slots i) (λ j ne. skips.slots j)
+    (λ j ne. slot_at-quiet m v (Sent (Accepted p q i 0)) p j (quiet_accepted p q i 0 j ne) refl ∙ skips.slots j)
+suggest_accepts m w v p q i f t skips said false taken =
+    server_written m w v p i f _ skips.front (skips.slots i) (λ j ne. skips.slots j)
 
-suggest_skips : (m : Membership) (w : History) (k p q i t : ℕ) → i < instance_count
+suggest_skips : (m : Membership) (w : Trace) (k p q i t : ℕ) → i < instance_count
     → slice_get (sent w) k ≡ Some (Suggest q i t)
     → (c : Bool) → ltb (front m w p) i ≡ c
     → IsSkipping m w
@@ -184,23 +183,23 @@ suggest_skips m w k p q i t small e false behind = record {
   front = omega arith;
 }
 
-suggest_cases : (m : Membership) (w : History) (k p q i t : ℕ) → i < instance_count
+suggest_cases : (m : Membership) (w : Trace) (k p q i t : ℕ) → i < instance_count
     → slice_get (sent w) k ≡ Some (Suggest q i t) → proposed w i 0 ≡ Some (Ticket t)
-    → (c d : Bool) → ltb (front m w p) i ≡ c → eqb (promised w p i) 0 ≡ d
+    → (c d : Bool) → ltb (front m w p) i ≡ c → leb (promised w p i) 0 ≡ d
     → Meets m w k p (Suggest q i t)
     (cond c (Sent (Skip p (front m w p) (first_owned m p (i + 1))) ∷ []) [] ++ cond d (Sent (Accepted p q i 0) ∷ []) [])
 suggest_cases m w k p q i t small e said c d ahead free = record {
-  sends = rw (slot-server_at m w p i small, leb-zero (promised w p i), ahead, free) (suggest_messages c d);
+  sends = rw (slot-server_at m w p i small, ahead, free) (suggest_messages c d);
   learns = suggest_learnings c d;
   state =
-      ap (λ (u : SlotState). with_slot_and_front (server_at m w p) i (after_accept u 0 (Ticket t))
+      ap (λ (s : SlotState). with_slot_and_front (server_at m w p) i (after_accept s 0 (Ticket t))
       (next_front (server_at m w p) i)) (slot-server_at m w p i small)
       ∙ ap (λ (b : Bool). with_slot_and_front (server_at m w p) i
       (cond b (record (slot_at m w p i) {
         promised = 0;
         vote = Some (record { ballot = 0; value = Ticket t });
       }) (slot_at m w p i))
-      (next_front (server_at m w p) i)) (leb-zero (promised w p i) ∙ free)
+      (next_front (server_at m w p) i)) free
       ∙ ap (λ (b : Bool). with_slot_and_front (server_at m w p) i
       (cond d (record (slot_at m w p i) {
         promised = 0;
@@ -211,7 +210,8 @@ suggest_cases m w k p q i t small e said c d ahead free = record {
 }
   where
     suggest_messages : (c d : Bool)
-        → (cond c (Skip p (front m w p) (first_owned m p (i + 1)) ∷ []) [] ++ cond d (Accepted p q i 0 ∷ []) [])
+        → (messages_of (cond c (Sent (Skip p (front m w p) (first_owned m p (i + 1))) ∷ []) [])
+        ++ messages_of (cond d (Sent (Accepted p q i 0) ∷ []) []))
         ≡ messages_of
         (cond c (Sent (Skip p (front m w p) (first_owned m p (i + 1))) ∷ []) []
         ++ cond d (Sent (Accepted p q i 0) ∷ []) [])
@@ -229,7 +229,7 @@ suggest_cases m w k p q i t small e said c d ahead free = record {
     suggest_learnings false true = refl
     suggest_learnings false false = refl
 
-    suggest_world : (c d : Bool) → ltb (front m w p) i ≡ c → eqb (promised w p i) 0 ≡ d
+    suggest_world : (c d : Bool) → ltb (front m w p) i ≡ c → leb (promised w p i) 0 ≡ d
         → with_slot_and_front (server_at m w p) i
         (cond d (record (slot_at m w p i) {
           promised = 0;
@@ -245,11 +245,11 @@ suggest_cases m w k p q i t small e said c d ahead free = record {
     suggest_world false d ahead free =
         suggest_accepts m w _ p q i _ t (suggest_skips m w k p q i t small e false ahead) (rw said) d free
 
-pub meets_suggest : (m : Membership) (w : History) (k p q i t : ℕ) → i < instance_count
+pub meets_suggest : (m : Membership) (w : Trace) (k p q i t : ℕ) → i < instance_count
     → slice_get (sent w) k ≡ Some (Suggest q i t) → proposed w i 0 ≡ Some (Ticket t)
     → Meets m w k p (Suggest q i t) (on_suggest m w p q i)
 meets_suggest m w k p q i t small e said =
-    suggest_cases m w k p q i t small e said (ltb (front m w p) i) (eqb (promised w p i) 0) refl refl
+    suggest_cases m w k p q i t small e said (ltb (front m w p) i) (leb (promised w p i) 0) refl refl
 
 -- ---- Accepted
 
@@ -267,21 +267,17 @@ own_said m p i b o mine =
     (λ (untried : b ≤ 0). let zero : b ≡ 0 = omega arith in rw (eq-eqb (owner m i) p (mine zero)))
     (cases_lt 0 b)
 
-cond-decision : (p i : ℕ) (c : Bool) (o : Option Value) → decision p i (cond c o None) ≡ cond c (decision p i o) []
-cond-decision p i true o = refl
-cond-decision p i false o = refl
-
 -- only the unlearned learn
 unlearned_learns : (o : Option Value) (c : Bool) (x : Option Value) (v : Value)
     → cond (is_none o && c) x None ≡ Some v → o ≡ None
 unlearned_learns None c x v e = refl
-unlearned_learns (Some u) c x v e = absurd (cc)
+unlearned_learns (Some y) c x v e = absurd (cc)
 
-learn_decided : (m : Membership) (w : History) (k p from i : ℕ) → i < instance_count
+learn_decided : (m : Membership) (w : Trace) (k p from i : ℕ) → i < instance_count
     → slice_get (sent w) k ≡ Some (Accepted from p i (trying w p i))
     → (o : Option Value) → to_learn (with_accept (slot_at m w p i) from) ≡ o
     → with_slot (server_at m w p) i (learning (with_accept (slot_at m w p i) from) o)
-    ≡ server_at m (followed_by (Heard k p ∷ w) (decision p i o)) p
+    ≡ server_at m (followed_by (Heard k p ∷ w) (decision_lines p i o)) p
 learn_decided m w k p from i small e None un =
     server_written m w (Heard k p ∷ w) p i (front m w p) _ (omega arith)
     (slot_at-heard_acceptance m w k p i from e)
@@ -292,46 +288,27 @@ learn_decided m w k p from i small e (Some v) decided =
     server_written m w (Sent (Learn p i v) ∷ Learned p i v ∷ Heard k p ∷ w) p i (front m w p) _ (omega arith)
     (slot_at-quiet m (Learned p i v ∷ Heard k p ∷ w) (Sent (Learn p i v)) p i (quiet_learn p p i i v) refl
     ∙ slot_at-learned m (Heard k p ∷ w) p i v (rw un)
-    ∙ ap (λ (t : SlotState). record t { learned = Some v }) (slot_at-heard_acceptance m w k p i from e))
+    ∙ ap (λ (s : SlotState). record s { learned = Some v }) (slot_at-heard_acceptance m w k p i from e))
     (λ j ne. slot_at-quiet m (Learned p i v ∷ Heard k p ∷ w) (Sent (Learn p i v)) p j (quiet_learn p p i j v) refl
     ∙ slot_at-quiet m (Heard k p ∷ w) (Learned p i v) p j (quiet_learned p i j v ne) refl
     ∙ slot_at-heard m w k p j _ e
     (uncounted_accepted from p i (trying w p i) j (trying w p j) (elsewhere i j (trying w p i) (trying w p j) ne)))
 
--- the tally's majority is the history's
-accepters_majority : (m : Membership) (w : History) (k p from i : ℕ)
+accepted_tried : (m : Membership) (w : Trace) (k p from i : ℕ) → i < instance_count
     → slice_get (sent w) k ≡ Some (Accepted from p i (trying w p i))
-    → is_majority m (with_accept (slot_at m w p i) from).accepters
-    ≡ are_majority m (accepters (Heard k p ∷ w) p i (trying w p i))
-accepters_majority m w k p from i e =
-    let tried : trying (Heard k p ∷ w) p i ≡ trying w p i = omega arith in
-    sym (ap (λ (t : SlotState). is_majority m t.accepters) (slot_at-heard_acceptance m w k p i from e))
-    ∙ ap (λ (n : ℕ). leb (majority m) n)
-    (count_by-map (accepters (Heard k p ∷ w) p i (trying (Heard k p ∷ w) p i)) (below m.count))
-    ∙ ap (λ (b : ℕ). are_majority m (accepters (Heard k p ∷ w) p i b)) tried
-
-sends_decision : (p i : ℕ) (o : Option Value) → decision_sent p i o ≡ messages_of (decision p i o)
-sends_decision p i None = refl
-sends_decision p i (Some v) = refl
-
-counts_decision : (p i : ℕ) (o : Option Value) → one_if_some o ≡ learnings (decision p i o)
-counts_decision p i None = refl
-counts_decision p i (Some v) = refl
-
-accepted_tried : (m : Membership) (w : History) (k p from i : ℕ) → i < instance_count
-    → slice_get (sent w) k ≡ Some (Accepted from p i (trying w p i))
-    → Meets m w k p (Accepted from p i (trying w p i)) (decision p i (to_learn (with_accept (slot_at m w p i) from)))
+    → Meets m w k p (Accepted from p i (trying w p i))
+    (decision_lines p i (to_learn (with_accept (slot_at m w p i) from)))
 accepted_tried m w k p from i small e =
     let answer : accept_answer (slot (server_at m w p) i) from (trying w p i)
     ≡ to_learn (with_accept (slot_at m w p i) from) =
-    ap (λ (t : SlotState). accept_answer t from (trying w p i)) (slot-server_at m w p i small)
+    ap (λ (s : SlotState). accept_answer s from (trying w p i)) (slot-server_at m w p i small)
     ∙ ap (λ (c : Bool). cond c (to_learn (with_accept (slot_at m w p i) from)) None)
     (eq-eqb (trying w p i) (trying w p i) refl) in
     record {
-      sends = ap (decision_sent p i) answer ∙ sends_decision p i (to_learn (with_accept (slot_at m w p i) from));
-      learns = ap one_if_some answer ∙ counts_decision p i (to_learn (with_accept (slot_at m w p i) from));
+      sends = ap (λ (o : Option Value). messages_of (decision_lines p i o)) answer;
+      learns = ap (λ (o : Option Value). learnings (decision_lines p i o)) answer;
       state =
-          ap (λ (t : SlotState). with_slot (server_at m w p) i (after_acceptance t from (trying w p i)))
+          ap (λ (s : SlotState). with_slot (server_at m w p) i (after_acceptance s from (trying w p i)))
           (slot-server_at m w p i small)
           ∙ ap (λ (c : Bool). with_slot (server_at m w p) i
           (cond c (learning (with_accept (slot_at m w p i) from)
@@ -341,24 +318,17 @@ accepted_tried m w k p from i small e =
     }
 
 -- the row of the table is the slot's answer
-accepted_lines : (m : Membership) (w : History) (k p from i : ℕ) → (trying w p i ≡ 0 → owner m i ≡ p)
+accepted_lines : (m : Membership) (w : Trace) (k p from i : ℕ) → (trying w p i ≡ 0 → owner m i ≡ p)
     → slice_get (sent w) k ≡ Some (Accepted from p i (trying w p i))
-    → decision p i (to_learn (with_accept (slot_at m w p i) from)) ≡ on_accepted m w (Heard k p ∷ w) p i (trying w p i)
+    → decision_lines p i (to_learn (with_accept (slot_at m w p i) from))
+    ≡ on_accepted m w (Heard k p ∷ w) p i (trying w p i)
 accepted_lines m w k p from i mine e =
-    ap (λ (c : Bool). decision p i
-    (cond (is_none (learned w p i) && c) (if_own m p i (trying w p i) (proposed w i (trying w p i))) None))
-    (accepters_majority m w k p from i e)
-    ∙ ap (λ (o : Option Value). decision p i
-    (cond (is_none (learned w p i) && are_majority m (accepters (Heard k p ∷ w) p i (trying w p i))) o None))
-    (own_said m p i (trying w p i) (proposed w i (trying w p i)) mine)
-    ∙ cond-decision p i (is_none (learned w p i) && are_majority m (accepters (Heard k p ∷ w) p i (trying w p i)))
-    (proposed w i (trying w p i))
-    ∙ ap (λ (c : Bool). cond
-    ((c && is_none (learned w p i)) && are_majority m (accepters (Heard k p ∷ w) p i (trying w p i)))
-    (decision p i (proposed w i (trying w p i))) [])
+    ap (decision_lines p i)
+    (ap (λ (c : Bool). cond c (to_learn (with_accept (slot_at m w p i) from)) None)
     (sym (eq-eqb (trying w p i) (trying w p i) refl))
+    ∙ acceptance_answered m w k p i from (trying w p i) e mine)
 
-accepted_cases : (m : Membership) (w : History) (k p from i b : ℕ) → i < instance_count → (b ≡ 0 → owner m i ≡ p)
+accepted_cases : (m : Membership) (w : Trace) (k p from i b : ℕ) → i < instance_count → (b ≡ 0 → owner m i ≡ p)
     → slice_get (sent w) k ≡ Some (Accepted from p i b)
     → (c : Bool) → eqb b (trying w p i) ≡ c
     → Meets m w k p (Accepted from p i b) (on_accepted m w (Heard k p ∷ w) p i b)
@@ -372,10 +342,10 @@ accepted_cases m w k p from i b small mine e true same =
     (accepted_lines m w k p from i own said) (accepted_tried m w k p from i small said))
     mine e
 accepted_cases m w k p from i b small mine e false other = record {
-  sends = ap (decision_sent p i) (stale from) ∙ ap messages_of no_lines;
-  learns = ap one_if_some (stale from) ∙ ap learnings no_lines;
+  sends = ap (λ (o : Option Value). messages_of (decision_lines p i o)) (stale from) ∙ ap messages_of no_lines;
+  learns = ap (λ (o : Option Value). learnings (decision_lines p i o)) (stale from) ∙ ap learnings no_lines;
   state =
-      ap (λ (t : SlotState). with_slot (server_at m w p) i (after_acceptance t from b)) (slot-server_at m w p i small)
+      ap (λ (s : SlotState). with_slot (server_at m w p) i (after_acceptance s from b)) (slot-server_at m w p i small)
       ∙ ap (λ (c : Bool). with_slot (server_at m w p) i
       (cond c (learning (with_accept (slot_at m w p i) from)
       (to_learn (with_accept (slot_at m w p i) from))) (slot_at m w p i))) other
@@ -388,15 +358,17 @@ accepted_cases m w k p from i b small mine e false other = record {
   where
     no_lines : [] ≡ on_accepted m w (Heard k p ∷ w) p i b
     no_lines = ap
-        (λ (c : Bool). cond ((c && is_none (learned w p i)) && are_majority m (accepters (Heard k p ∷ w) p i b))
-        (decision p i (proposed w i b)) []) (sym other)
+        (λ (c : Bool). decision_lines p i
+        (cond c (decision_due (learned w p i) (proposed w i b)
+        (are_majority m (accepters (Heard k p ∷ w) p i b))) None))
+        (sym other)
 
     stale : (from : ℕ) → accept_answer (slot (server_at m w p) i) from b ≡ None
     stale from =
-        ap (λ (t : SlotState). accept_answer t from b) (slot-server_at m w p i small)
+        ap (λ (s : SlotState). accept_answer s from b) (slot-server_at m w p i small)
         ∙ ap (λ (c : Bool). cond c (to_learn (with_accept (slot_at m w p i) from)) None) other
 
-pub meets_accepted : (m : Membership) (w : History) (k p from i b : ℕ) → i < instance_count → (b ≡ 0 → owner m i ≡ p)
+pub meets_accepted : (m : Membership) (w : Trace) (k p from i b : ℕ) → i < instance_count → (b ≡ 0 → owner m i ≡ p)
     → slice_get (sent w) k ≡ Some (Accepted from p i b)
     → Meets m w k p (Accepted from p i b) (on_accepted m w (Heard k p ∷ w) p i b)
 meets_accepted m w k p from i b small mine e = accepted_cases m w k p from i b small mine e (eqb b (trying w p i)) refl
@@ -408,15 +380,7 @@ uncounted_promise : (from to i b : ℕ) (v : Option Vote) (j c : ℕ) → (eqb i
 uncounted_promise from to i b v j c other =
     record { promise = λ r. rw other; acceptance = λ r. refl; report = rw other }
 
-abbrev proposal : ℕ → ℕ → ℕ → Option Value → List Line
-proposal p i b None = []
-proposal p i b (Some v) = Sent (Propose p i b v) ∷ []
-
-sends_proposal : (p i b : ℕ) (o : Option Value) → proposal_sent p i b o ≡ messages_of (proposal p i b o)
-sends_proposal p i b None = refl
-sends_proposal p i b (Some v) = refl
-
-counts_proposal : (p i b : ℕ) (o : Option Value) → 0 ≡ learnings (proposal p i b o)
+counts_proposal : (p i b : ℕ) (o : Option Value) → 0 ≡ learnings (proposal_lines p i b o)
 counts_proposal p i b None = refl
 counts_proposal p i b (Some v) = refl
 
@@ -424,114 +388,66 @@ counts_proposal p i b (Some v) = refl
 unsaid_proposes : (c d : Bool) (o x : Option Value) (v : Value) → cond ((c && is_none o) && d) x None ≡ Some v
     → o ≡ None
 unsaid_proposes true d None x v e = refl
-unsaid_proposes true d (Some u) x v e = absurd (cc)
+unsaid_proposes true d (Some y) x v e = absurd (cc)
 unsaid_proposes false d o x v e = absurd (cc)
 
-propose_decided : (m : Membership) (w : History) (k p from i : ℕ) (v : Option Vote) → i < instance_count
+propose_decided : (m : Membership) (w : Trace) (k p from i : ℕ) (v : Option Vote) → i < instance_count
     → 0 < trying w p i → IsVoted w p i
     → slice_get (sent w) k ≡ Some (Promise from p i (trying w p i) v)
     → (o : Option Value) → to_propose (with_promise (slot_at m w p i) from v) ≡ o
     → with_slot (server_at m w p) i (proposing (with_promise (slot_at m w p i) from v) o)
-    ≡ server_at m (followed_by (Heard k p ∷ w) (proposal p i (trying w p i) o)) p
+    ≡ server_at m (followed_by (Heard k p ∷ w) (proposal_lines p i (trying w p i) o)) p
 propose_decided m w k p from i v small high voted e None un =
     server_written m w (Heard k p ∷ w) p i (front m w p) _ (omega arith)
     (slot_at-heard_promise m w k p i from v e)
     (λ j ne. slot_at-heard m w k p j _ e
     (uncounted_promise from p i (trying w p i) v j (trying w p j) (elsewhere i j (trying w p i) (trying w p j) ne)))
-propose_decided m w k p from i v small high voted e (Some u) decided =
-    let ahead : front m (Sent (Propose p i (trying w p i) u) ∷ Heard k p ∷ w) p ≡ front m w p = omega arith in
+propose_decided m w k p from i v small high voted e (Some x) decided =
+    let ahead : front m (Sent (Propose p i (trying w p i) x) ∷ Heard k p ∷ w) p ≡ front m w p = omega arith in
     let tried : trying w p i ≡ trying (Heard k p ∷ w) p i = omega arith in
     let unsaid : proposed w i (trying w p i) ≡ None =
     sym (own_said m p i (trying w p i) (proposed w i (trying w p i)) (λ z. absurd (omega arith)))
-    ∙ unsaid_proposes _ _ _ _ u decided in
-    server_written m w (Sent (Propose p i (trying w p i) u) ∷ Heard k p ∷ w) p i (front m w p) _ ahead
-    (slot_at-proposed m (Heard k p ∷ w) p i (trying w p i) u (voted_after m w k p i voted) high tried (rw unsaid)
-    ∙ ap (λ (t : SlotState). record t { proposal = Some u }) (slot_at-heard_promise m w k p i from v e))
-    (λ j ne. slot_at-quiet m (Heard k p ∷ w) (Sent (Propose p i (trying w p i) u)) p j
-    (quiet_propose p i (trying w p i) j u ne) refl
+    ∙ unsaid_proposes _ _ _ _ x decided in
+    server_written m w (Sent (Propose p i (trying w p i) x) ∷ Heard k p ∷ w) p i (front m w p) _ ahead
+    (slot_at-proposed m (Heard k p ∷ w) p i (trying w p i) x (voted_after m w k p i voted) high tried (rw unsaid)
+    ∙ ap (λ (s : SlotState). record s { proposal = Some x }) (slot_at-heard_promise m w k p i from v e))
+    (λ j ne. slot_at-quiet m (Heard k p ∷ w) (Sent (Propose p i (trying w p i) x)) p j
+    (quiet_propose p i (trying w p i) j x ne) refl
     ∙ slot_at-heard m w k p j _ e
     (uncounted_promise from p i (trying w p i) v j (trying w p j) (elsewhere i j (trying w p i) (trying w p j) ne)))
   where
-    voted_after : (m : Membership) (w : History) (k p i : ℕ) → IsVoted w p i → IsVoted (Heard k p ∷ w) p i
+    voted_after : (m : Membership) (w : Trace) (k p i : ℕ) → IsVoted w p i → IsVoted (Heard k p ∷ w) p i
     voted_after m w k p i voted = record {
       proposal = λ b e. let said = voted.proposal b (sym (greater-none (accepted w p i)) ∙ e) in (said.0, rw said.1);
     }
 
-promisers_majority : (m : Membership) (w : History) (k p from i : ℕ) (v : Option Vote)
+-- the row of the table is the slot's answer
+promise_lines : (m : Membership) (w : Trace) (k p from i : ℕ) (v : Option Vote) → 0 < trying w p i
     → slice_get (sent w) k ≡ Some (Promise from p i (trying w p i) v)
-    → is_majority m (with_promise (slot_at m w p i) from v).promisers
-    ≡ are_majority m (promisers (Heard k p ∷ w) p i (trying w p i))
-promisers_majority m w k p from i v e =
-    let tried : trying (Heard k p ∷ w) p i ≡ trying w p i = omega arith in
-    sym (ap (λ (t : SlotState). is_majority m t.promisers) (slot_at-heard_promise m w k p i from v e))
-    ∙ ap (λ (n : ℕ). leb (majority m) n)
-    (count_by-map (promisers (Heard k p ∷ w) p i (trying (Heard k p ∷ w) p i)) (below m.count))
-    ∙ ap (λ (b : ℕ). are_majority m (promisers (Heard k p ∷ w) p i b)) tried
-
-reported_after : (m : Membership) (w : History) (k p from i : ℕ) (v : Option Vote)
-    → slice_get (sent w) k ≡ Some (Promise from p i (trying w p i) v)
-    → (with_promise (slot_at m w p i) from v).reported ≡ reported (Heard k p ∷ w) p i (trying w p i)
-reported_after m w k p from i v e =
-    let tried : trying (Heard k p ∷ w) p i ≡ trying w p i = omega arith in
-    sym (ap (λ (t : SlotState). t.reported) (slot_at-heard_promise m w k p i from v e))
-    ∙ ap (reported (Heard k p ∷ w) p i) tried
-
--- the row's test, and the slot's
-regroup : (a b c : Bool) → ((a && b) && c) ≡ ((true && a) && (b && c))
-regroup true b c = refl
-regroup false b c = refl
-
-proposal-cond : (p i b : ℕ) (c : Bool) (u : Value)
-    → proposal p i b (cond c (Some u) None) ≡ cond c (Sent (Propose p i b u) ∷ []) []
-proposal-cond p i b true u = refl
-proposal-cond p i b false u = refl
-
-promise_lines : (m : Membership) (w : History) (k p from i : ℕ) (v : Option Vote) → 0 < trying w p i
-    → slice_get (sent w) k ≡ Some (Promise from p i (trying w p i) v)
-    → proposal p i (trying w p i) (to_propose (with_promise (slot_at m w p i) from v))
+    → proposal_lines p i (trying w p i) (to_propose (with_promise (slot_at m w p i) from v))
     ≡ on_promise m w (Heard k p ∷ w) p i (trying w p i)
 promise_lines m w k p from i v high e =
-    proposal-cond p i (trying w p i) _ _
-    ∙ ap (λ (u : Value). cond
-    ((is_none (learned w p i) && is_none (if_own m p i (trying w p i) (proposed w i (trying w p i))))
-    && is_majority m (with_promise (slot_at m w p i) from v).promisers)
-    (Sent (Propose p i (trying w p i) u) ∷ []) []) (ap value_or_noop (reported_after m w k p from i v e))
-    ∙ ap (λ (c : Bool). cond c
-    (Sent (Propose p i (trying w p i) (value_or_noop (reported (Heard k p ∷ w) p i (trying w p i)))) ∷ []) []) test
-  where
-    test : ((is_none (learned w p i) && is_none (if_own m p i (trying w p i) (proposed w i (trying w p i))))
-        && is_majority m (with_promise (slot_at m w p i) from v).promisers)
-        ≡ ((eqb (trying w p i) (trying w p i) && is_none (learned w p i))
-        && (is_none (proposed w i (trying w p i)) && are_majority m (promisers (Heard k p ∷ w) p i (trying w p i))))
-    test =
-        ap (λ (o : Option Value). (is_none (learned w p i) && is_none o)
-        && is_majority m (with_promise (slot_at m w p i) from v).promisers)
-        (own_said m p i (trying w p i) (proposed w i (trying w p i)) (λ z. absurd (omega arith)))
-        ∙ ap (λ (c : Bool). (is_none (learned w p i) && is_none (proposed w i (trying w p i))) && c)
-        (promisers_majority m w k p from i v e)
-        ∙ regroup (is_none (learned w p i)) (is_none (proposed w i (trying w p i)))
-        (are_majority m (promisers (Heard k p ∷ w) p i (trying w p i)))
-        ∙ ap (λ (c : Bool). (c && is_none (learned w p i))
-        && (is_none (proposed w i (trying w p i)) && are_majority m (promisers (Heard k p ∷ w) p i (trying w p i))))
-        (sym (eq-eqb (trying w p i) (trying w p i) refl))
+    ap (proposal_lines p i (trying w p i))
+    (ap (λ (c : Bool). cond c (to_propose (with_promise (slot_at m w p i) from v)) None)
+    (sym (eq-eqb (trying w p i) (trying w p i) refl))
+    ∙ promise_answered m w k p i from (trying w p i) v e high)
 
-promise_tried : (m : Membership) (w : History) (k p from i : ℕ) (v : Option Vote) → i < instance_count
+promise_tried : (m : Membership) (w : Trace) (k p from i : ℕ) (v : Option Vote) → i < instance_count
     → 0 < trying w p i → IsVoted w p i
     → slice_get (sent w) k ≡ Some (Promise from p i (trying w p i) v)
     → Meets m w k p (Promise from p i (trying w p i) v)
-    (proposal p i (trying w p i) (to_propose (with_promise (slot_at m w p i) from v)))
+    (proposal_lines p i (trying w p i) (to_propose (with_promise (slot_at m w p i) from v)))
 promise_tried m w k p from i v small high voted e =
     let answer : promise_answer (slot (server_at m w p) i) from (trying w p i) v
     ≡ to_propose (with_promise (slot_at m w p i) from v) =
-    ap (λ (t : SlotState). promise_answer t from (trying w p i) v) (slot-server_at m w p i small)
+    ap (λ (s : SlotState). promise_answer s from (trying w p i) v) (slot-server_at m w p i small)
     ∙ ap (λ (c : Bool). cond c (to_propose (with_promise (slot_at m w p i) from v)) None)
     (eq-eqb (trying w p i) (trying w p i) refl) in
     record {
-      sends = ap (proposal_sent p i (trying w p i)) answer
-          ∙ sends_proposal p i (trying w p i) (to_propose (with_promise (slot_at m w p i) from v));
+      sends = ap (λ (o : Option Value). messages_of (proposal_lines p i (trying w p i) o)) answer;
       learns = counts_proposal p i (trying w p i) (to_propose (with_promise (slot_at m w p i) from v));
       state =
-          ap (λ (t : SlotState). with_slot (server_at m w p) i (after_promise t from (trying w p i) v))
+          ap (λ (s : SlotState). with_slot (server_at m w p) i (after_promise s from (trying w p i) v))
           (slot-server_at m w p i small)
           ∙ ap (λ (c : Bool). with_slot (server_at m w p) i
           (cond c (proposing (with_promise (slot_at m w p i) from v)
@@ -541,7 +457,7 @@ promise_tried m w k p from i v small high voted e =
           (to_propose (with_promise (slot_at m w p i) from v)) refl;
     }
 
-promise_cases : (m : Membership) (w : History) (k p from i b : ℕ) (v : Option Vote) → i < instance_count → 0 < b
+promise_cases : (m : Membership) (w : Trace) (k p from i b : ℕ) (v : Option Vote) → i < instance_count → 0 < b
     → IsVoted w p i → slice_get (sent w) k ≡ Some (Promise from p i b v)
     → (c : Bool) → eqb b (trying w p i) ≡ c
     → Meets m w k p (Promise from p i b v) (on_promise m w (Heard k p ∷ w) p i b)
@@ -555,10 +471,10 @@ promise_cases m w k p from i b v small high voted e true same =
     (promise_lines m w k p from i v above said) (promise_tried m w k p from i v small above voted said))
     high e
 promise_cases m w k p from i b v small high voted e false other = record {
-  sends = ap (proposal_sent p i b) stale ∙ ap messages_of no_lines;
+  sends = ap (λ (o : Option Value). messages_of (proposal_lines p i b o)) stale ∙ ap messages_of no_lines;
   learns = ap learnings no_lines;
   state =
-      ap (λ (t : SlotState). with_slot (server_at m w p) i (after_promise t from b v)) (slot-server_at m w p i small)
+      ap (λ (s : SlotState). with_slot (server_at m w p) i (after_promise s from b v)) (slot-server_at m w p i small)
       ∙ ap (λ (c : Bool). with_slot (server_at m w p) i
       (cond c (proposing (with_promise (slot_at m w p i) from v)
       (to_propose (with_promise (slot_at m w p i) from v))) (slot_at m w p i))) other
@@ -571,17 +487,16 @@ promise_cases m w k p from i b v small high voted e false other = record {
   where
     no_lines : [] ≡ on_promise m w (Heard k p ∷ w) p i b
     no_lines = ap
-        (λ (c : Bool). cond
-        ((c && is_none (learned w p i))
-        && (is_none (proposed w i b) && are_majority m (promisers (Heard k p ∷ w) p i b)))
-        (Sent (Propose p i b (value_or_noop (reported (Heard k p ∷ w) p i b))) ∷ []) []) (sym other)
+        (λ (c : Bool). proposal_lines p i b
+        (cond c (proposal_due (learned w p i) (proposed w i b) (are_majority m (promisers (Heard k p ∷ w) p i b))
+        (reported (Heard k p ∷ w) p i b)) None)) (sym other)
 
     stale : promise_answer (slot (server_at m w p) i) from b v ≡ None
     stale =
-        ap (λ (t : SlotState). promise_answer t from b v) (slot-server_at m w p i small)
+        ap (λ (s : SlotState). promise_answer s from b v) (slot-server_at m w p i small)
         ∙ ap (λ (c : Bool). cond c (to_propose (with_promise (slot_at m w p i) from v)) None) other
 
-pub meets_promise : (m : Membership) (w : History) (k p from i b : ℕ) (v : Option Vote) → i < instance_count → 0 < b
+pub meets_promise : (m : Membership) (w : Trace) (k p from i b : ℕ) (v : Option Vote) → i < instance_count → 0 < b
     → IsVoted w p i → slice_get (sent w) k ≡ Some (Promise from p i b v)
     → Meets m w k p (Promise from p i b v) (on_promise m w (Heard k p ∷ w) p i b)
 meets_promise m w k p from i b v small high voted e =

@@ -1,13 +1,9 @@
 -- What a server keeps, and how its list of slots is filled up.
-use Rattle.std.proofs.Common.{◌≡◌, ℕ, ◌+◌, ◌<◌, ◌≤◌, List, None, length, replicate, get_or, set, refl, ap, sym, ◌∙◌, subst, arith, ⊎_elim, Result, Ok, Err, IfErr, Option, Bool, true, false, Some, cond, eqb}
+use Rattle.std.proofs.Common.{◌≡◌, ℕ, ◌<◌, ◌≤◌, List, None, length, replicate, get_or, set, refl, ap, sym, ◌∙◌, subst, arith, ⊎_elim, Option, Bool, true, false, Some, cond, eqb}
 use Rattle.std.proofs.lemmas.List.{length-replicate, get_or-replicate, get_or-set_other, get_or_past, set_past}
 use Rattle.std.proofs.lemmas.Grind.{get_or-set_at}
-use Rattle.std.proofs.lemmas.Bool.{cases_eq, cases_lt, le-ltb}
+use Rattle.std.proofs.lemmas.Bool.{cases_eq, cases_lt}
 use Rattle.mencius_base.specs.declared.message.Value.{Value}
-use Rattle.mencius_base.specs.declared.refusal.Refusal.{Refusal}
-use Rattle.mencius_base.specs.declared.refusal.Refusal.TheVariants.{NoMemory}
-use Rattle.mencius_base.specs.Outbox.{Outgoing, outbox_full}
-use Rattle.mencius_base.specs.Refusal.{IsRefusedFor}
 use Rattle.mencius_base.specs.Members.{Membership, owner}
 use Rattle.coord_paxos.specs.SlotState.{SlotState}
 use Rattle.coord_paxos.specs.Fresh.{new_slot}
@@ -17,12 +13,12 @@ use Rattle.mencius_server.specs.State.{ServerState, FitsAt, IsServer, new_server
 use Rattle.mencius_base.specs.Limits.{greatest_front, instance_count}
 
 -- past the last slot there are new ones
-pub past-replicate : (n i : ℕ) (t : SlotState) → get_or (replicate n t) i t ≡ t
-past-replicate n i t =
+pub past-replicate : (n i : ℕ) (s : SlotState) → get_or (replicate n s) i s ≡ s
+past-replicate n i s =
     ⊎_elim
-    (λ (within : i < n). get_or-replicate n i t t within)
-    (λ (past : n ≤ i). let none : length (replicate n t) ≤ i = simp length-replicate (omega arith) in
-    get_or_past (replicate n t) i t none)
+    (λ (within : i < n). get_or-replicate n i s s within)
+    (λ (past : n ≤ i). let none : length (replicate n s) ≤ i = simp length-replicate (omega arith) in
+    get_or_past (replicate n s) i s none)
     (cases_lt i n)
 
 -- a new server keeps all this
@@ -38,7 +34,7 @@ IsServer-new m p member few = record {
 -- a new server suggested nothing, and no ticket waits there
 none_said : (m : Membership) (p j : ℕ) (c : Bool)
     → cond c (ticket_of (get_or (replicate instance_count (new_slot m)) j (new_slot m)).proposal) None ≡ None
-none_said m p j true = ap (λ (t : SlotState). ticket_of t.proposal) (past-replicate instance_count j (new_slot m))
+none_said m p j true = ap (λ (s : SlotState). ticket_of s.proposal) (past-replicate instance_count j (new_slot m))
 none_said m p j false = refl
 
 pub new_unsaid : (m : Membership) (p j t : ℕ) → suggested_at (new_server m p) j ≡ Some t → ⊥
@@ -48,25 +44,25 @@ pub new_waits : (m : Membership) (p j : ℕ) → waits_at (new_server m p) j ≡
 new_waits m p j = ap (waits_with (new_server m p) j) (none_said m p j (eqb (owner m j) p))
 
 -- what holds of the new slot and of the old ones holds after a write
-pub set_keeps : (P : SlotState → Type 0) (given : List SlotState) (i j : ℕ) (t d : SlotState) → (j ≡ i → P t)
-    → P (get_or given j d) → P (get_or (set given i t) j d)
-set_keeps P given i j t d new old =
+pub set_keeps : (P : SlotState → Type 0) (given : List SlotState) (i j : ℕ) (s x : SlotState) → (j ≡ i → P s)
+    → P (get_or given j x) → P (get_or (set given i s) j x)
+set_keeps P given i j s x new old =
     ⊎_elim
     (λ (e : j ≡ i). ⊎_elim
-    (λ (within : i < length given). rw (get_or-set_at given i j t d e within) (new e))
-    (λ (past : length given ≤ i). rw (set_past given i t past) old)
+    (λ (within : i < length given). rw (get_or-set_at given i j s x e within) (new e))
+    (λ (past : length given ≤ i). rw (set_past given i s past) old)
     (cases_lt i (length given)))
-    (λ (ne : j ≡ i → ⊥). rw (get_or-set_other given i j t d ne) old)
+    (λ (ne : j ≡ i → ⊥). rw (get_or-set_other given i j s x ne) old)
     (cases_eq j i)
 
 -- what a server with that front keeps of one slot
-pub record KeepsAt (s : ServerState) (f i : ℕ) (t : SlotState) : Type 0 where
-  pub same : t.members ≡ s.members
-  pub own : owner s.members i ≡ s.id → t.trying ≡ 0
-  pub unsaid : owner s.members i ≡ s.id → f ≤ i → t.proposal ≡ None
+pub record KeepsAt (s : ServerState) (f i : ℕ) (x : SlotState) : Type 0 where
+  pub same : x.members ≡ s.members
+  pub own : owner s.members i ≡ s.id → x.trying ≡ 0
+  pub unsaid : owner s.members i ≡ s.id → f ≤ i → x.proposal ≡ None
 
-pub KeepsAt-fits : (s : ServerState) (f i : ℕ) (t : SlotState) → FitsAt s f i t → KeepsAt s f i t
-KeepsAt-fits s f i t fits = record { same = fits.same; own = fits.own; unsaid = fits.unsaid }
+pub KeepsAt-fits : (s : ServerState) (f i : ℕ) (x : SlotState) → FitsAt s f i x → KeepsAt s f i x
+KeepsAt-fits s f i x fits = record { same = fits.same; own = fits.own; unsaid = fits.unsaid }
 
 pub KeepsAt-new : (s : ServerState) (f i : ℕ) → KeepsAt s f i (new_slot s.members)
 KeepsAt-new s f i = record { same = refl; own = λ mine. refl; unsaid = λ mine ahead. refl }
@@ -77,18 +73,18 @@ pub KeepsAt-suggested : (s : ServerState) (g i : ℕ) (o : Option Value) → i <
 KeepsAt-suggested s g i o before kept =
     record { same = kept.same i; own = kept.own i; unsaid = λ mine past. absurd (omega arith) }
 
-pub IsServer-with_slot : (s : ServerState) (i : ℕ) (t : SlotState) (f : ℕ) → IsServer s → KeepsAt s f i t
+pub IsServer-with_slot : (s : ServerState) (i : ℕ) (x : SlotState) (f : ℕ) → IsServer s → KeepsAt s f i x
     → s.front ≤ f → f ≤ greatest_front
-    → IsServer (with_slot_and_front s i t f)
-IsServer-with_slot s i t f kept fits ahead near = record {
+    → IsServer (with_slot_and_front s i x f)
+IsServer-with_slot s i x f kept fits ahead near = record {
   member = kept.member;
   near = near;
   same = λ j. set_keeps
-      (λ (u : SlotState). u.members ≡ s.members) s.slots i j t (new_slot s.members) (λ e. fits.same) (kept.same j);
-  own = λ j mine. set_keeps (λ (u : SlotState). u.trying ≡ 0) s.slots i j t (new_slot s.members)
+      (λ (y : SlotState). y.members ≡ s.members) s.slots i j x (new_slot s.members) (λ e. fits.same) (kept.same j);
+  own = λ j mine. set_keeps (λ (y : SlotState). y.trying ≡ 0) s.slots i j x (new_slot s.members)
       (λ e. fits.own (ap (owner s.members) (sym e) ∙ mine)) (kept.own j mine);
-  unsaid = λ j mine past. set_keeps (λ (u : SlotState). u.proposal ≡ None) s.slots i j t (new_slot s.members)
-      (λ e. fits.unsaid (ap (owner s.members) (sym e) ∙ mine) (subst (λ (k : ℕ). f ≤ k) e past))
+  unsaid = λ j mine past. set_keeps (λ (y : SlotState). y.proposal ≡ None) s.slots i j x (new_slot s.members)
+      (λ e. fits.unsaid (ap (owner s.members) (sym e) ∙ mine) (subst (λ (x : ℕ). f ≤ x) e past))
       (kept.unsaid j mine (omega arith));
 }
 
@@ -96,9 +92,3 @@ IsServer-with_slot s i t f kept fits ahead near = record {
 pub FitsAt-slot : (s : ServerState) (i : ℕ) → IsServer s → FitsAt s s.front i (slot s i)
 FitsAt-slot s i kept =
     record { stays = λ known. known; said = λ mine. refl; same = kept.same i; own = kept.own i; unsaid = kept.unsaid i }
-
--- where nothing is sent, only memory may be wanting
-pub refused_for_memory : (o : Outgoing) (r : Result ℕ Refusal) → length o.messages ≤ o.limit
-    → IfErr r (λ e. e ≡ NoMemory) → IsRefusedFor (outbox_full o 0) r
-refused_for_memory o (Ok n) few memory = rw (le-ltb o.limit (length o.messages + 0) (omega arith))
-refused_for_memory o (Err e) few memory = rw (le-ltb o.limit (length o.messages + 0) (omega arith)) memory

@@ -7,7 +7,7 @@ use Rattle.std.proofs.lemmas.List.{get_or-set_other}
 use Rattle.std.proofs.lemmas.Grind.{get_or-set_at}
 use Rattle.std.proofs.lemmas.Bool.{cases_eq, cases_lt, eq-eqb, ne_eqb}
 use Rattle.mencius_base.specs.Members.{Membership, below, instances, owner}
-use Rattle.mencius_model.proofs.Below.{get_or-map-instances, instances-below, map-below_by, map-instances_same, map-instances_set}
+use Rattle.mencius_model.proofs.NumberLists.{get_or-map-instances, instances-below, map-below_by, map-instances_same, map-instances_set}
 use Rattle.coord_paxos.specs.SlotState.{SlotState}
 use Rattle.coord_paxos.specs.Fresh.{new_slot}
 use Rattle.coord_paxos.specs.Slot.{learning, proposing, to_learn, to_propose, with_accept, with_promise}
@@ -26,11 +26,11 @@ module _ (m : Membership) (slots : List (Option SlotState)) (rs : List (List Spa
     (shown : known_of m slots rs ≡ now) where
   pub seen : (j : ℕ) → j < instance_count → known_slot now j ≡ known_at m slots rs j
   seen j small =
-      subst (λ (k : KnownState). known_slot k j ≡ known_at m slots rs j) shown
+      subst (λ (s : KnownState). known_slot s j ≡ known_at m slots rs j) shown
       (get_or-map-instances (known_at m slots rs) j (new_slot m) small)
 
-  pub seen_some : (j : ℕ) (t : SlotState) → j < instance_count → stand_at slots j ≡ Some t → known_slot now j ≡ t
-  seen_some j t small e = seen j small ∙ ap (λ o. unwrap_or o (unheard m (is_passed m rs j))) e
+  pub seen_some : (j : ℕ) (x : SlotState) → j < instance_count → stand_at slots j ≡ Some x → known_slot now j ≡ x
+  seen_some j x small e = seen j small ∙ ap (λ o. unwrap_or o (unheard m (is_passed m rs j))) e
 
   pub seen_none : (j : ℕ) → j < instance_count → stand_at slots j ≡ None
       → known_slot now j ≡ unheard m (is_passed m rs j)
@@ -38,8 +38,13 @@ module _ (m : Membership) (slots : List (Option SlotState)) (rs : List (List Spa
 
   pub seen_stands : (j : ℕ) → j < instance_count → has_slot now j ≡ is_some (stand_at slots j)
   seen_stands j small =
-      subst (λ (k : KnownState). has_slot k j ≡ is_some (stand_at slots j)) shown
+      subst (λ (s : KnownState). has_slot s j ≡ is_some (stand_at slots j)) shown
       (get_or-map-instances (λ i. is_some (stand_at slots i)) j false small)
+
+-- what is known of an instance is what its slot says
+pub known_there : (m : Membership) (slots : List (Option SlotState)) (rs : List (List Span)) (j : ℕ) (s : SlotState)
+    → stand_at slots j ≡ Some s → known_at m slots rs j ≡ s
+known_there m slots rs j s e = ap (λ o. unwrap_or o (unheard m (is_passed m rs j))) e
 
 -- of an instance at which no slot stands, nothing was promised, accepted, tried or proposed
 pub unheard_quiet : (m : Membership) (b : Bool)
@@ -102,18 +107,18 @@ module _ (m : Membership) (slots new : List (Option SlotState)) (rs : List (List
       ⊎_elim
       (λ (at : j ≡ i).
       ap (λ o. unwrap_or o (unheard m (is_passed m rs j))) (stood_here j at)
-      ∙ ap (λ k. unheard m (is_passed m rs k)) (sym at)
+      ∙ ap (λ s. unheard m (is_passed m rs s)) (sym at)
       ∙ sym (ap (λ o. unwrap_or o (unheard m (is_passed m rs j))) (ap (stand_at slots) at ∙ empty)))
       (λ (off : j ≡ i → ⊥). ap (λ o. unwrap_or o (unheard m (is_passed m rs j))) (stood_off j off))
       (cases_eq j i)
 
   pub stood_shows : (now : KnownState) → known_of m slots rs ≡ now → known_of m new rs ≡ known_standing now i
   stood_shows now shown =
-      subst (λ (k : KnownState). known_of m new rs ≡ known_standing k i) shown
+      subst (λ (s : KnownState). known_of m new rs ≡ known_standing s i) shown
       (rw (map-instances_same (known_at m new rs) (known_at m slots rs) (new_slot m) (λ j small. stood_at_same j))
       (ap (λ (xs : List Bool). with_stands xs)
       (sym (map-instances_set (λ j. is_some (stand_at slots j)) (λ j. is_some (stand_at new j)) i true false
-      (ap is_some (stood_here i refl)) (λ k small off. ap is_some (sym (stood_off k off)))))))
+      (ap is_some (stood_here i refl)) (λ j small off. ap is_some (sym (stood_off j off)))))))
     where
       with_stands : List Bool → KnownState
       with_stands xs = record { members = m; slots = map (known_at m slots rs) instances; stands = xs }
@@ -134,67 +139,67 @@ module _ (m : Membership) (slots new : List (Option SlotState)) (rs : List (List
   }
 
 pub stood_has : (m : Membership) (slots new : List (Option SlotState)) (rs : List (List Span)) (i : ℕ)
-    → i < instance_count → (t : SlotState)
-    → ((j : ℕ) → stand_at new j ≡ cond (eqb j i) (Some t) (stand_at slots j)) → has_slot (known_of m new rs) i ≡ true
-stood_has m slots new rs i small t stands =
+    → i < instance_count → (s : SlotState)
+    → ((j : ℕ) → stand_at new j ≡ cond (eqb j i) (Some s) (stand_at slots j)) → has_slot (known_of m new rs) i ≡ true
+stood_has m slots new rs i small s stands =
     get_or-map-instances (λ j. is_some (stand_at new j)) i false small
-    ∙ ap is_some (stands i ∙ ap (λ b. cond b (Some t) (stand_at slots i)) (eq-eqb i i refl))
+    ∙ ap is_some (stands i ∙ ap (λ b. cond b (Some s) (stand_at slots i)) (eq-eqb i i refl))
 
 -- what was known of an instance is what its slot says, once it stands
 pub stood_slot : (m : Membership) (slots : List (Option SlotState)) (rs : List (List Span))
-    (now stood : KnownState) (i : ℕ) (t : SlotState) → known_of m slots rs ≡ stood → stood ≡ known_standing now i
-    → i < instance_count → stand_at slots i ≡ Some t → known_slot now i ≡ t
-stood_slot m slots rs now stood i t shown ok small there =
-    sym (ap (λ (k : KnownState). known_slot k i) ok) ∙ seen_some m slots rs stood shown i t small there
+    (now stood : KnownState) (i : ℕ) (x : SlotState) → known_of m slots rs ≡ stood → stood ≡ known_standing now i
+    → i < instance_count → stand_at slots i ≡ Some x → known_slot now i ≡ x
+stood_slot m slots rs now stood i x shown ok small there =
+    sym (ap (λ (s : KnownState). known_slot s i) ok) ∙ seen_some m slots rs stood shown i x small there
 
 -- a slot that stands already
 pub stood_already : (m : Membership) (slots : List (Option SlotState))
     (rs : List (List Span)) (now : KnownState) (i : ℕ) → known_of m slots rs ≡ now → is_some (stand_at slots i) ≡ true
     → now ≡ known_standing now i
 stood_already m slots rs now i shown there =
-    subst (λ (k : KnownState). k ≡ known_standing k i) shown
+    subst (λ (s : KnownState). s ≡ known_standing s i) shown
     (ap with_stands
     (sym (map-instances_set (λ j. is_some (stand_at slots j))
-    (λ j. is_some (stand_at slots j)) i true false there (λ k small off. refl))))
+    (λ j. is_some (stand_at slots j)) i true false there (λ j small off. refl))))
   where
     with_stands : List Bool → KnownState
     with_stands xs = record { members = m; slots = map (known_at m slots rs) instances; stands = xs }
 
 -- ---- a slot is changed where it stands
 
-module _ (m : Membership) (slots new : List (Option SlotState)) (rs : List (List Span)) (i : ℕ) (old t : SlotState)
-    (there : stand_at slots i ≡ Some old) (written : new ≡ set slots i (Some t)) where
+module _ (m : Membership) (slots new : List (Option SlotState)) (rs : List (List Span)) (i : ℕ) (old y : SlotState)
+    (there : stand_at slots i ≡ Some old) (written : new ≡ set slots i (Some y)) where
   within : i < length slots
   within = past slots i there
     where
-      past : (xs : List (Option SlotState)) (k : ℕ) → stand_at xs k ≡ Some old → k < length xs
-      past [] k e = absurd (cc)
+      past : (xs : List (Option SlotState)) (n : ℕ) → stand_at xs n ≡ Some old → n < length xs
+      past [] n e = absurd (cc)
       past (x ∷ xs) zero e = omega arith
-      past (x ∷ xs) (suc k) e = let l = past xs k e in omega (arith, l)
+      past (x ∷ xs) (suc n) e = let l = past xs n e in omega (arith, l)
 
-  written_here : (j : ℕ) → j ≡ i → stand_at new j ≡ Some t
-  written_here j at = ap (λ xs. stand_at xs j) written ∙ get_or-set_at slots i j (Some t) None at within
+  written_here : (j : ℕ) → j ≡ i → stand_at new j ≡ Some y
+  written_here j at = ap (λ xs. stand_at xs j) written ∙ get_or-set_at slots i j (Some y) None at within
 
   written_off : (j : ℕ) → (j ≡ i → ⊥) → stand_at new j ≡ stand_at slots j
-  written_off j off = ap (λ xs. stand_at xs j) written ∙ get_or-set_other slots i j (Some t) None off
+  written_off j off = ap (λ xs. stand_at xs j) written ∙ get_or-set_other slots i j (Some y) None off
 
-  at_here : (j : ℕ) → j ≡ i → known_at m new rs j ≡ t
+  pub at_here : (j : ℕ) → j ≡ i → known_at m new rs j ≡ y
   at_here j at = ap (λ o. unwrap_or o (unheard m (is_passed m rs j))) (written_here j at)
 
-  at_off : (j : ℕ) → (j ≡ i → ⊥) → known_at m new rs j ≡ known_at m slots rs j
+  pub at_off : (j : ℕ) → (j ≡ i → ⊥) → known_at m new rs j ≡ known_at m slots rs j
   at_off j off = ap (λ o. unwrap_or o (unheard m (is_passed m rs j))) (written_off j off)
 
   was_here : (j : ℕ) → j ≡ i → known_at m slots rs j ≡ old
   was_here j at = ap (λ o. unwrap_or o (unheard m (is_passed m rs j))) (ap (stand_at slots) at ∙ there)
 
   pub written_shows : (now : KnownState) → known_of m slots rs ≡ now
-      → known_of m new rs ≡ record now { slots = set now.slots i t }
+      → known_of m new rs ≡ record now { slots = set now.slots i y }
   written_shows now shown =
-      subst (λ (k : KnownState). known_of m new rs ≡ record k { slots = set k.slots i t }) shown
+      subst (λ (s : KnownState). known_of m new rs ≡ record s { slots = set s.slots i y }) shown
       (rw (map-instances_same (λ j. is_some (stand_at new j)) (λ j. is_some (stand_at slots j)) false stands_same)
       (ap with_slots
-      (sym (map-instances_set (known_at m slots rs) (known_at m new rs) i t (new_slot m) (at_here i refl)
-      (λ k small off. sym (at_off k off))))))
+      (sym (map-instances_set (known_at m slots rs) (known_at m new rs) i y (new_slot m) (at_here i refl)
+      (λ j small off. sym (at_off j off))))))
     where
       with_slots : List SlotState → KnownState
       with_slots xs = record { members = m; slots = xs; stands = map (λ j. is_some (stand_at slots j)) instances }
@@ -206,20 +211,20 @@ module _ (m : Membership) (slots new : List (Option SlotState)) (rs : List (List
           (λ (off : j ≡ i → ⊥). ap is_some (written_off j off))
           (cases_eq j i)
 
-  pub written_told : (low : ℕ) → i < instance_count → (is_none old.learned ≡ false → is_none t.learned ≡ false)
+  pub written_told : (low : ℕ) → i < instance_count → (is_none old.learned ≡ false → is_none y.learned ≡ false)
       → IsSound m slots rs low
-      → (j : ℕ) (u : SlotState) → j < instance_count → is_passed m rs j ≡ true → stand_at new j ≡ Some u
-      → is_none u.learned ≡ false
-  written_told low inside stays h j u small passed stands =
+      → (j : ℕ) (s : SlotState) → j < instance_count → is_passed m rs j ≡ true → stand_at new j ≡ Some s
+      → is_none s.learned ≡ false
+  written_told low inside stays h j s small passed stands =
       ⊎_elim
       (λ (at : j ≡ i).
-      let is : Some u ≡ Some t = sym stands ∙ written_here j at in
-      let same : u ≡ t = cc in
+      let is : Some s ≡ Some y = sym stands ∙ written_here j at in
+      let same : s ≡ y = cc in
       rw same (stays (h.told i old inside (sym (ap (is_passed m rs) at) ∙ passed) there)))
-      (λ (off : j ≡ i → ⊥). h.told j u small passed (sym (written_off j off) ∙ stands))
+      (λ (off : j ≡ i → ⊥). h.told j s small passed (sym (written_off j off) ∙ stands))
       (cases_eq j i)
 
-  pub written_known : (j : ℕ) → (is_none old.learned ≡ false → is_none t.learned ≡ false)
+  pub written_known : (j : ℕ) → (is_none old.learned ≡ false → is_none y.learned ≡ false)
       → is_none (known_at m slots rs j).learned ≡ false → is_none (known_at m new rs j).learned ≡ false
   written_known j stays e =
       ⊎_elim
@@ -228,7 +233,7 @@ module _ (m : Membership) (slots new : List (Option SlotState)) (rs : List (List
       (cases_eq j i)
 
   -- where the instance is not the least unlearned one, that stays
-  pub written_sound : (low : ℕ) → i < instance_count → (is_none old.learned ≡ false → is_none t.learned ≡ false)
+  pub written_sound : (low : ℕ) → i < instance_count → (is_none old.learned ≡ false → is_none y.learned ≡ false)
       → (low ≡ i → ⊥) → IsSound m slots rs low → IsSound m new rs low
   written_sound low inside stays off h = record {
     sorted = h.sorted;
@@ -240,7 +245,7 @@ module _ (m : Membership) (slots new : List (Option SlotState)) (rs : List (List
 
   -- where it is, the least one is found anew
   pub written_sound_from : (low next : ℕ) → i < instance_count
-      → (is_none old.learned ≡ false → is_none t.learned ≡ false) → next ≤ instance_count
+      → (is_none old.learned ≡ false → is_none y.learned ≡ false) → next ≤ instance_count
       → ((j : ℕ) → low ≤ j → j < next → is_none (known_at m new rs j).learned ≡ false)
       → (next < instance_count → is_none (known_at m new rs next).learned ≡ true) → IsSound m slots rs low
       → IsSound m new rs next
@@ -254,7 +259,7 @@ module _ (m : Membership) (slots new : List (Option SlotState)) (rs : List (List
   }
 
   -- where what was learned is as before, so is the least unlearned instance
-  pub written_quiet : (low : ℕ) → i < instance_count → t.learned ≡ old.learned → IsSound m slots rs low
+  pub written_quiet : (low : ℕ) → i < instance_count → y.learned ≡ old.learned → IsSound m slots rs low
       → IsSound m new rs low
   written_quiet low inside same h = record {
     sorted = h.sorted;
@@ -267,38 +272,38 @@ module _ (m : Membership) (slots new : List (Option SlotState)) (rs : List (List
         (cases_eq low i);
   }
     where
-      stays : is_none old.learned ≡ false → is_none t.learned ≡ false
+      stays : is_none old.learned ≡ false → is_none y.learned ≡ false
       stays e = ap is_none same ∙ e
 
 -- a change leaves what was learned
-pub changed_learned : (t : SlotState) (c : Change) → is_none t.learned ≡ false → is_none (changed t c).learned ≡ false
-changed_learned t (Promise b) h = rw h h
-changed_learned t (Accept b v) h = either (nat_le t.promised b)
+pub changed_learned : (s : SlotState) (c : Change) → is_none s.learned ≡ false → is_none (changed s c).learned ≡ false
+changed_learned s (Promise b) h = rw h h
+changed_learned s (Accept b v) h = either (nat_le s.promised b)
   where
     either : (x : Bool)
-        → is_none (cond x (record t { promised = b; vote = Some (record { ballot = b; value = v }) }) t).learned ≡ false
+        → is_none (cond x (record s { promised = b; vote = Some (record { ballot = b; value = v }) }) s).learned ≡ false
     either true = h
     either false = h
-changed_learned t (CountPromise q b v) h = counted (eqb b t.trying)
+changed_learned s (CountPromise q b v) h = counted (eqb b s.trying)
   where
-    noted : (o : Option Value) → is_none (proposing (with_promise t q v) o).learned ≡ false
+    noted : (o : Option Value) → is_none (proposing (with_promise s q v) o).learned ≡ false
     noted None = h
     noted (Some x) = h
 
     counted : (x : Bool)
-        → is_none (cond x (proposing (with_promise t q v) (to_propose (with_promise t q v))) t).learned ≡ false
-    counted true = noted (to_propose (with_promise t q v))
+        → is_none (cond x (proposing (with_promise s q v) (to_propose (with_promise s q v))) s).learned ≡ false
+    counted true = noted (to_propose (with_promise s q v))
     counted false = h
-changed_learned t (CountAccept q b) h = counted (eqb b t.trying)
+changed_learned s (CountAccept q b) h = counted (eqb b s.trying)
   where
-    noted : (o : Option Value) → is_none (learning (with_accept t q) o).learned ≡ false
+    noted : (o : Option Value) → is_none (learning (with_accept s q) o).learned ≡ false
     noted None = h
     noted (Some x) = refl
 
-    counted : (x : Bool) → is_none (cond x (learning (with_accept t q) (to_learn (with_accept t q))) t).learned ≡ false
-    counted true = noted (to_learn (with_accept t q))
+    counted : (x : Bool) → is_none (cond x (learning (with_accept s q) (to_learn (with_accept s q))) s).learned ≡ false
+    counted true = noted (to_learn (with_accept s q))
     counted false = h
-changed_learned t (Learn v) h = rw h h
+changed_learned s (Learn v) h = rw h h
 
 pub none_there : {A : Type 0} (o : Option A) (b : Bool) → b ≡ is_some o → b ≡ false → o ≡ None
 none_there None b e f = refl
@@ -312,10 +317,10 @@ pub stand_count : (m : Membership) (slots : List (Option SlotState)) (rs : List 
     → known_of m slots rs ≡ now → length slots ≡ instance_count
     → count_by is_some slots ≡ count_by (λ b. b) now.stands
 stand_count m slots rs now shown all =
-    ap (count_by is_some) (map-below_by (stand_at slots) slots instance_count None all (λ k l. refl))
+    ap (count_by is_some) (map-below_by (stand_at slots) slots instance_count None all (λ j l. refl))
     ∙ counts (below instance_count)
     ∙ ap (λ xs. count_by (λ b. b) (map (λ j. is_some (stand_at slots j)) xs)) (sym instances-below)
-    ∙ ap (λ (k : KnownState). count_by (λ b. b) k.stands) shown
+    ∙ ap (λ (s : KnownState). count_by (λ b. b) s.stands) shown
   where
     counts : (xs : List ℕ)
         → count_by is_some (map (stand_at slots) xs) ≡ count_by (λ b. b) (map (λ j. is_some (stand_at slots j)) xs)

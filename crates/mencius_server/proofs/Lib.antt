@@ -5,7 +5,7 @@ pub mod Knows
 pub mod Keeps
 pub mod SlotLaws
 pub mod Hears
-pub mod ServerHistory
+pub mod ServerTrace
 pub mod HearsMore
 pub mod Skips
 pub mod SkipShows
@@ -20,6 +20,7 @@ pub mod Marks
 pub mod Invariant
 pub mod Suspects
 pub mod Others
+pub mod Isolation
 pub mod Opens
 pub mod Places
 pub mod Walks
@@ -29,3 +30,6 @@ pub mod Begun
 pub mod News
 pub mod SkipKnown
 pub mod Accepting
+pub mod Addresses
+pub mod Tallying
+pub mod TallyLess

@@ -8,7 +8,7 @@ use Rattle.std.proofs.lemmas.Grind.{get_or-set_at}
 use Rattle.mencius_base.specs.declared.message.Value.{Value}
 use Rattle.mencius_base.specs.declared.message.Value.TheVariants.{Ticket}
 use Rattle.mencius_base.specs.Members.{instances, owner}
-use Rattle.mencius_model.proofs.Below.{any-instances, any-instances_found}
+use Rattle.mencius_model.proofs.NumberLists.{any-instances, any-instances_found}
 use Rattle.coord_paxos.specs.SlotState.{SlotState}
 use Rattle.coord_paxos.specs.Fresh.{new_slot}
 use Rattle.mencius_server.specs.Machine.{after_submit, is_suggested_past, is_ticket, suggested_at, waits_at, waits_with}
@@ -23,18 +23,18 @@ both_ways false true f g = g refl
 both_ways false false f g = refl
 
 -- the same own suggestions
-pub record SaysSame (s v : ServerState) : Type 0 where
-  pub same : (j : ℕ) → j < instance_count → suggested_at v j ≡ suggested_at s j
+pub record SaysSame (s x : ServerState) : Type 0 where
+  pub same : (j : ℕ) → j < instance_count → suggested_at x j ≡ suggested_at s j
 
-pub past_same : (s v : ServerState) → SaysSame s v → (t i : ℕ)
-    → list_any (is_suggested_past v t i) instances ≡ list_any (is_suggested_past s t i) instances
-past_same s v said t i =
+pub past_same : (s x : ServerState) → SaysSame s x → (t i : ℕ)
+    → list_any (is_suggested_past x t i) instances ≡ list_any (is_suggested_past s t i) instances
+past_same s x said t i =
     both_ways _ _
-    (λ h. let f = any-instances_found (is_suggested_past v t i) h in
+    (λ h. let f = any-instances_found (is_suggested_past x t i) h in
     any-instances (is_suggested_past s t i) f.0 f.1
     (ap (λ (o : Option ℕ). ltb i f.0 && is_ticket t o) (sym (said.same f.0 f.1)) ∙ f.2))
     (λ h. let f = any-instances_found (is_suggested_past s t i) h in
-    any-instances (is_suggested_past v t i) f.0 f.1
+    any-instances (is_suggested_past x t i) f.0 f.1
     (ap (λ (o : Option ℕ). ltb i f.0 && is_ticket t o) (said.same f.0 f.1) ∙ f.2))
 
 unless_none : (b : Bool) (t : ℕ) → unless b (Some t) ≡ None → b ≡ true
@@ -42,27 +42,27 @@ unless_none true t h = refl
 unless_none false t h = absurd (cc)
 
 -- a ticket waits where it waited, unless no-op was learned there since
-waits_cases : (s v : ServerState) → SaysSame s v → (j : ℕ) → waits_at s j ≡ None
-    → (is_noop (slot v j).learned ≡ true → (is_noop (slot s j).learned ≡ true) ⊎ (suggested_at s j ≡ None))
-    → (o : Option ℕ) → suggested_at s j ≡ o → waits_with v j o ≡ None
-waits_cases s v said j none since None e = refl
-waits_cases s v said j none since (Some t) e =
-    elim (cases_Bool (is_noop (slot v j).learned)) [
+waits_cases : (s x : ServerState) → SaysSame s x → (j : ℕ) → waits_at s j ≡ None
+    → (is_noop (slot x j).learned ≡ true → (is_noop (slot s j).learned ≡ true) ⊎ (suggested_at s j ≡ None))
+    → (o : Option ℕ) → suggested_at s j ≡ o → waits_with x j o ≡ None
+waits_cases s x said j none since None e = refl
+waits_cases s x said j none since (Some t) e =
+    elim (cases_Bool (is_noop (slot x j).learned)) [
       | inl lost ↦ elim (since lost) [
         | inl before ↦
             let past : list_any (is_suggested_past s t j) instances ≡ true =
             unless_none _ t (rw before at (rw e at none)) in
-            rw (lost, past_same s v said t j, past) refl
+            rw (lost, past_same s x said t j, past) refl
         | inr nothing ↦ let k = sym e ∙ nothing in absurd (cc)
       ]
       | inr kept ↦ rw kept refl
     ]
 
-pub waits_none : (s v : ServerState) → SaysSame s v → (j : ℕ) → j < instance_count → waits_at s j ≡ None
-    → (is_noop (slot v j).learned ≡ true → (is_noop (slot s j).learned ≡ true) ⊎ (suggested_at s j ≡ None))
-    → waits_at v j ≡ None
-waits_none s v said j small none since =
-    ap (waits_with v j) (said.same j small) ∙ waits_cases s v said j none since (suggested_at s j) refl
+pub waits_none : (s x : ServerState) → SaysSame s x → (j : ℕ) → j < instance_count → waits_at s j ≡ None
+    → (is_noop (slot x j).learned ≡ true → (is_noop (slot s j).learned ≡ true) ⊎ (suggested_at s j ≡ None))
+    → waits_at x j ≡ None
+waits_none s x said j small none since =
+    ap (waits_with x j) (said.same j small) ∙ waits_cases s x said j none since (suggested_at s j) refl
 
 -- ---- one more suggestion
 
@@ -84,7 +84,7 @@ said_before s kept j t e =
         let k = rw (mine, none) at e in cc
     unsaid past false other = let k = rw other at e in cc
 
-eqb_swap : (a b : ℕ) → eqb a b ≡ eqb b a
+pub eqb_swap : (a b : ℕ) → eqb a b ≡ eqb b a
 eqb_swap a b =
     both_ways (eqb a b) (eqb b a) (λ h. eq-eqb b a (sym (eqb-true a b h))) (λ h. eq-eqb a b (sym (eqb-true b a h)))
 
@@ -97,93 +97,93 @@ and-true : (b : Bool) → (b && true) ≡ b
 and-true true = refl
 and-true false = refl
 
-module _ (s : ServerState) (k t : ℕ) (kept : IsServer s) (mine : owner s.members k ≡ s.id) (ahead : s.front ≤ k)
-    (within : k < length s.slots) (small : k < instance_count) where
+module _ (s : ServerState) (i t : ℕ) (kept : IsServer s) (mine : owner s.members i ≡ s.id) (ahead : s.front ≤ i)
+    (within : i < length s.slots) (small : i < instance_count) where
   abbrev later : ServerState
-  later = after_submit s k t
+  later = after_submit s i t
 
-  here : slot later k ≡ record (slot s k) { proposal = Some (Ticket t) }
-  here = get_or-set_at s.slots k k _ (new_slot s.members) refl within
+  here : slot later i ≡ record (slot s i) { proposal = Some (Ticket t) }
+  here = get_or-set_at s.slots i i _ (new_slot s.members) refl within
 
-  there : (j : ℕ) → (j ≡ k → ⊥) → slot later j ≡ slot s j
-  there j off = get_or-set_other s.slots k j _ (new_slot s.members) off
+  there : (j : ℕ) → (j ≡ i → ⊥) → slot later j ≡ slot s j
+  there j off = get_or-set_other s.slots i j _ (new_slot s.members) off
 
-  said_here : suggested_at later k ≡ Some t
-  said_here = rw (eq-eqb (owner s.members k) s.id mine) (ap (λ (u : SlotState). ticket_of u.proposal) here)
+  said_here : suggested_at later i ≡ Some t
+  said_here = rw (eq-eqb (owner s.members i) s.id mine) (ap (λ (y : SlotState). ticket_of y.proposal) here)
 
-  pub said_there : (j : ℕ) → (j ≡ k → ⊥) → suggested_at later j ≡ suggested_at s j
+  pub said_there : (j : ℕ) → (j ≡ i → ⊥) → suggested_at later j ≡ suggested_at s j
   said_there j off =
-      ap (λ (u : SlotState). cond (eqb (owner s.members j) s.id) (ticket_of u.proposal) None) (there j off)
+      ap (λ (y : SlotState). cond (eqb (owner s.members j) s.id) (ticket_of y.proposal) None) (there j off)
 
-  unsaid_here : (u : ℕ) → suggested_at s k ≡ Some u → ⊥
-  unsaid_here u e = let low : k < s.front = said_before s kept k u e in omega arith
+  unsaid_here : (u : ℕ) → suggested_at s i ≡ Some u → ⊥
+  unsaid_here u e = let low : i < s.front = said_before s kept i u e in omega arith
 
   past_more : (u j : ℕ)
       → list_any (is_suggested_past later u j) instances
-      ≡ (list_any (is_suggested_past s u j) instances || (eqb t u && ltb j k))
+      ≡ (list_any (is_suggested_past s u j) instances || (eqb t u && ltb j i))
   past_more u j = both_ways _ _ more fewer
     where
-      found : (i : ℕ) → (ltb j i && is_ticket u (suggested_at later i)) ≡ true → i < instance_count
-          → (list_any (is_suggested_past s u j) instances || (eqb t u && ltb j k)) ≡ true
-      found i e small =
-          let parts = and_parts (ltb j i) (is_ticket u (suggested_at later i)) e in
+      found : (x : ℕ) → (ltb j x && is_ticket u (suggested_at later x)) ≡ true → x < instance_count
+          → (list_any (is_suggested_past s u j) instances || (eqb t u && ltb j i)) ≡ true
+      found x e small =
+          let parts = and_parts (ltb j x) (is_ticket u (suggested_at later x)) e in
           ⊎_elim
-          (λ (at : i ≡ k).
+          (λ (at : x ≡ i).
           let ticket : Some t ≡ Some u = sym said_here ∙ ap (suggested_at later) (sym at) ∙ ticket_is u _ parts.1 in
           let same : t ≡ u = cc in
           or_right (list_any (is_suggested_past s u j) instances) _ (rw (eq-eqb t u same) (rw (← at) parts.0)))
-          (λ (off : i ≡ k → ⊥).
-          or_left _ (eqb t u && ltb j k)
-          (any-instances (is_suggested_past s u j) i small
-          (ap (λ (o : Option ℕ). ltb j i && is_ticket u o) (sym (said_there i off)) ∙ e)))
-          (cases_eq i k)
+          (λ (off : x ≡ i → ⊥).
+          or_left _ (eqb t u && ltb j i)
+          (any-instances (is_suggested_past s u j) x small
+          (ap (λ (o : Option ℕ). ltb j x && is_ticket u o) (sym (said_there x off)) ∙ e)))
+          (cases_eq x i)
 
       more : list_any (is_suggested_past later u j) instances ≡ true
-          → (list_any (is_suggested_past s u j) instances || (eqb t u && ltb j k)) ≡ true
+          → (list_any (is_suggested_past s u j) instances || (eqb t u && ltb j i)) ≡ true
       more h = let f = any-instances_found (is_suggested_past later u j) h in found f.0 f.2 f.1
 
-      fewer : (list_any (is_suggested_past s u j) instances || (eqb t u && ltb j k)) ≡ true
+      fewer : (list_any (is_suggested_past s u j) instances || (eqb t u && ltb j i)) ≡ true
           → list_any (is_suggested_past later u j) instances ≡ true
       fewer h =
           ⊎_elim
           (λ (e : list_any (is_suggested_past s u j) instances ≡ true).
           let f = any-instances_found (is_suggested_past s u j) e in
           let parts = and_parts (ltb j f.0) (is_ticket u (suggested_at s f.0)) f.2 in
-          let off : f.0 ≡ k → ⊥ = λ at. unsaid_here u (ap (suggested_at s) (sym at) ∙ ticket_is u _ parts.1) in
+          let off : f.0 ≡ i → ⊥ = λ at. unsaid_here u (ap (suggested_at s) (sym at) ∙ ticket_is u _ parts.1) in
           any-instances (is_suggested_past later u j) f.0 f.1
           (ap (λ (o : Option ℕ). ltb j f.0 && is_ticket u o) (said_there f.0 off) ∙ f.2))
-          (λ (e : (eqb t u && ltb j k) ≡ true).
-          let parts = and_parts (eqb t u) (ltb j k) e in
+          (λ (e : (eqb t u && ltb j i) ≡ true).
+          let parts = and_parts (eqb t u) (ltb j i) e in
           let same : t ≡ u = eqb-true t u parts.0 in
-          any-instances (is_suggested_past later u j) k small
-          (ap (λ (o : Option ℕ). ltb j k && is_ticket u o) said_here ∙ rw (parts.1, parts.0) refl))
+          any-instances (is_suggested_past later u j) i small
+          (ap (λ (o : Option ℕ). ltb j i && is_ticket u o) said_here ∙ rw (parts.1, parts.0) refl))
           (or_cases _ _ h)
 
   -- a ticket that waits later waited before
-  pub waits_later : (j : ℕ) → is_none (slot s k).learned ≡ true → waits_at s j ≡ None → waits_at later j ≡ None
+  pub waits_later : (j : ℕ) → is_none (slot s i).learned ≡ true → waits_at s j ≡ None → waits_at later j ≡ None
   waits_later j blank none =
       ⊎_elim
-      (λ (at : j ≡ k). rw at (ap (waits_with later k) said_here ∙ free (slot s k).learned refl))
-      (λ (off : j ≡ k → ⊥). ap (waits_with later j) (said_there j off) ∙ kept_waiting off (suggested_at s j) refl)
-      (cases_eq j k)
+      (λ (at : j ≡ i). rw at (ap (waits_with later i) said_here ∙ free (slot s i).learned refl))
+      (λ (off : j ≡ i → ⊥). ap (waits_with later j) (said_there j off) ∙ kept_waiting off (suggested_at s j) refl)
+      (cases_eq j i)
     where
-      free : (o : Option Value) → (slot s k).learned ≡ o → waits_with later k (Some t) ≡ None
+      free : (o : Option Value) → (slot s i).learned ≡ o → waits_with later i (Some t) ≡ None
       free None e =
-          let known : (slot later k).learned ≡ None = ap (λ (u : SlotState). u.learned) here ∙ e in rw known refl
-      free (Some v) e = let k = rw e at blank in absurd (cc)
+          let known : (slot later i).learned ≡ None = ap (λ (y : SlotState). y.learned) here ∙ e in rw known refl
+      free (Some v) e = let i = rw e at blank in absurd (cc)
 
       longer : (a b c : Bool) (u : ℕ) → (a || b) ≡ true → unless (a || (b || c)) (Some u) ≡ None
       longer true b c u h = refl
       longer false true c u h = refl
       longer false false c u h = absurd (cc)
 
-      kept_waiting : (j ≡ k → ⊥) → (o : Option ℕ) → suggested_at s j ≡ o → waits_with later j o ≡ None
+      kept_waiting : (j ≡ i → ⊥) → (o : Option ℕ) → suggested_at s j ≡ o → waits_with later j o ≡ None
       kept_waiting off None e = refl
       kept_waiting off (Some u) e =
           let before = unless_none _ u (rw e at none) in
           rw (there j off, past_more u j)
           (longer (not (is_noop (slot s j).learned))
-          (list_any (is_suggested_past s u j) instances) (eqb t u && ltb j k) u before)
+          (list_any (is_suggested_past s u j) instances) (eqb t u && ltb j i) u before)
 
   -- the marks after it
   pub moved_later : (old new : List Bool) → length old ≤ s.front
@@ -192,9 +192,9 @@ module _ (s : ServerState) (k t : ℕ) (kept : IsServer s) (mine : owner s.membe
       → ((j : ℕ) → get_or new j false ≡ (get_or old j false || is_ticket t (suggested_at s j)))
       → (j u : ℕ) → j < instance_count → suggested_at later j ≡ Some u
       → list_any (is_suggested_past later u j) instances ≡ get_or new j false
-  moved_later old new short marks marked j u inside e = past_more u j ∙ ⊎_elim at_place elsewhere (cases_eq j k)
+  moved_later old new short marks marked j u inside e = past_more u j ∙ ⊎_elim at_place elsewhere (cases_eq j i)
     where
-      at_place : j ≡ k → (list_any (is_suggested_past s u j) instances || (eqb t u && ltb j k)) ≡ get_or new j false
+      at_place : j ≡ i → (list_any (is_suggested_past s u j) instances || (eqb t u && ltb j i)) ≡ get_or new j false
       at_place at =
           let none : length old ≤ j = omega arith in
           either_no _ _
@@ -204,28 +204,28 @@ module _ (s : ServerState) (k t : ℕ) (kept : IsServer s) (mine : owner s.membe
           let low : f.0 < s.front = said_before s kept f.0 u (ticket_is u _ parts.1) in
           let high : j < f.0 = ltb-true j f.0 parts.0 in
           absurd (omega arith))
-          (λ h. let high : j < k = ltb-true j k (and_parts (eqb t u) (ltb j k) h).1 in absurd (omega arith))
+          (λ h. let high : j < i = ltb-true j i (and_parts (eqb t u) (ltb j i) h).1 in absurd (omega arith))
           ∙ sym (marked j
           ∙ either_no _ _ (λ h. let p = get_or_past old j false none in
           absurd (cc)) (λ h. absurd (unsaid_here t (ap (suggested_at s) (sym at) ∙ ticket_is t _ h))))
 
-      elsewhere : (j ≡ k → ⊥)
-          → (list_any (is_suggested_past s u j) instances || (eqb t u && ltb j k)) ≡ get_or new j false
+      elsewhere : (j ≡ i → ⊥)
+          → (list_any (is_suggested_past s u j) instances || (eqb t u && ltb j i)) ≡ get_or new j false
       elsewhere off =
           let said : suggested_at s j ≡ Some u = sym (said_there j off) ∙ e in
           let low : j < s.front = said_before s kept j u said in
-          let before : j < k = omega arith in
-          ap (λ (b : Bool). list_any (is_suggested_past s u j) instances || (eqb t u && b)) (lt-ltb j k before)
+          let before : j < i = omega arith in
+          ap (λ (b : Bool). list_any (is_suggested_past s u j) instances || (eqb t u && b)) (lt-ltb j i before)
           ∙ ap (λ (b : Bool). b || (eqb t u && true)) (marks j u inside said)
           ∙ ap (λ (b : Bool). get_or old j false || b) (and-true (eqb t u) ∙ eqb_swap t u)
           ∙ sym (marked j ∙ ap (λ (o : Option ℕ). get_or old j false || is_ticket t o) said)
 
-  pub tickets_later : (n v : ℕ) → n ≤ v → t < v
+  pub tickets_later : (n next : ℕ) → n ≤ next → t < next
       → ((j u : ℕ) → j < instance_count → suggested_at s j ≡ Some u → u < n) → (j u : ℕ) → j < instance_count
-      → suggested_at later j ≡ Some u → u < v
-  tickets_later n v more new below j u inside e =
+      → suggested_at later j ≡ Some u → u < next
+  tickets_later n next more new below j u inside e =
       ⊎_elim
-      (λ (at : j ≡ k). let same : Some t ≡ Some u = sym said_here ∙ ap (suggested_at later) (sym at) ∙ e in
+      (λ (at : j ≡ i). let same : Some t ≡ Some u = sym said_here ∙ ap (suggested_at later) (sym at) ∙ e in
       let same' : t ≡ u = cc in omega arith)
-      (λ (off : j ≡ k → ⊥). let low : u < n = below j u inside (sym (said_there j off) ∙ e) in omega arith)
-      (cases_eq j k)
+      (λ (off : j ≡ i → ⊥). let low : u < n = below j u inside (sym (said_there j off) ∙ e) in omega arith)
+      (cases_eq j i)

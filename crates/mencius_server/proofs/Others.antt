@@ -9,23 +9,23 @@ use Rattle.mencius_base.specs.declared.message.Message.TheVariants.{Suggest, Ski
 use Rattle.mencius_base.specs.declared.message.Value.{Value}
 use Rattle.mencius_base.specs.declared.message.Vote.{Vote}
 use Rattle.mencius_base.specs.Members.{Membership, most_events, owner}
-use Rattle.mencius_model.specs.History.{Line, Submitted, Heard, Lost, Suspected, Retried, Done, Sent, Learned, History, events, followed_by}
+use Rattle.mencius_model.specs.Trace.{Line, Submitted, Heard, Lost, Suspected, Retried, Executed, Sent, Learned, Trace, events, followed_by}
 use Rattle.mencius_model.specs.Instance.{proposed, proposed_by, trying, IsVoted}
 use Rattle.mencius_model.specs.Server.{front_by}
 use Rattle.mencius_model.specs.Next.{IsReached, causes, head, lines, refused, with_event}
-use Rattle.mencius_model.proofs.Lines.{greatest_quiet, oldest_quiet}
-use Rattle.mencius_model.proofs.Grown.{IsGrown, MaySuggest}
-use Rattle.mencius_model.proofs.State.{accepted_in}
+use Rattle.mencius_model.proofs.OneMoreLine.{greatest_quiet, oldest_quiet}
+use Rattle.mencius_model.proofs.LineRights.{IsGrown, MaySuggest}
+use Rattle.mencius_model.proofs.AnswersLast.{accepted_in}
 use Rattle.mencius_model.proofs.Paxos.{accepted_proposed}
 use Rattle.mencius_model.proofs.Journals.{reached_grown}
-use Rattle.mencius_model.proofs.Sources.{propose_ballot, tried_owner}
-use Rattle.mencius_model.proofs.Steps.{AllMay, none_holds, step_may}
+use Rattle.mencius_model.proofs.Senders.{propose_ballot, tried_owner}
+use Rattle.mencius_model.proofs.EventRights.{AllMay, none_holds, step_may}
 use Rattle.coord_paxos.specs.Reached.{if_own, slot_at}
-use Rattle.mencius_model.proofs.Quiet.{IsQuiet}
-use Rattle.coord_paxos.proofs.SlotHistory.{slot_at-proposing, slot_at-quiet}
+use Rattle.mencius_model.proofs.QuietLines.{IsQuiet}
+use Rattle.coord_paxos.proofs.SlotTrace.{slot_at-proposing, slot_at-quiet}
 use Rattle.mencius_server.specs.Reached.{server_at}
-use Rattle.mencius_server.proofs.ServerHistory.{server_unchanged}
-use Rattle.mencius_model.proofs.Actors.{IsBy, AreBy, server_of, lines_by, head_by}
+use Rattle.mencius_server.proofs.ServerTrace.{server_unchanged}
+use Rattle.mencius_model.proofs.LineServers.{IsBy, AreBy, server_of, lines_by, head_by}
 
 -- ---- one line of another server
 
@@ -34,9 +34,9 @@ module _ (p q : ℕ) (ne : p ≡ q → ⊥) where
   not_q from e = ne_eqb from q (λ h. ne (sym e ∙ h))
 
   -- all but a proposal is quiet
-  module _ (m : Membership) (w : History) (i : ℕ) where
-    skip_quiet : (from f s : ℕ) → IsQuiet q i (Sent (Skip from f s))
-    skip_quiet from f s =
+  module _ (m : Membership) (w : Trace) (i : ℕ) where
+    skip_quiet : (from first stop : ℕ) → IsQuiet q i (Sent (Skip from first stop))
+    skip_quiet from first stop =
         record { promised = refl; proposed = λ b. refl; accepted = refl; learned = refl; tried = refl }
 
     accepted_quiet : (from to j b : ℕ) → from ≡ p → IsQuiet q i (Sent (Accepted from to j b))
@@ -57,9 +57,9 @@ module _ (p q : ℕ) (ne : p ≡ q → ⊥) where
     promise_quiet from to j b v e =
         record { promised = rw (not_q from e); proposed = λ c. refl; accepted = refl; learned = refl; tried = refl }
 
-    learned_quiet : (s j : ℕ) (v : Value) → s ≡ p → IsQuiet q i (Learned s j v)
-    learned_quiet s j v e =
-        record { promised = refl; proposed = λ c. refl; accepted = refl; learned = rw (not_q s e); tried = refl }
+    learned_quiet : (from j : ℕ) (v : Value) → from ≡ p → IsQuiet q i (Learned from j v)
+    learned_quiet from j v e =
+        record { promised = refl; proposed = λ c. refl; accepted = refl; learned = rw (not_q from e); tried = refl }
 
     voted : IsGrown m w → IsVoted w q i
     voted g = record { proposal = λ b e. let r = accepted_in w q i b e in accepted_proposed m w g q r.0 i b r.1 }
@@ -76,15 +76,15 @@ module _ (p q : ℕ) (ne : p ≡ q → ⊥) where
     suggest_other from j t b own false e =
         ap (if_own m q i b) (oldest_quiet (proposed_by i b) (Sent (Suggest from j t)) w (rw e))
 
-    propose_other : (from j b : ℕ) (v : Value) (t : ℕ) → owner m b ≡ p → (0 < t → owner m t ≡ q) → (c : Bool)
-        → ((eqb j i && eqb b t) && ltb 0 t) ≡ c
-        → if_own m q i t (proposed (Sent (Propose from j b v) ∷ w) i t) ≡ if_own m q i t (proposed w i t)
-    propose_other from j b v t own tried true e =
-        let r = and_parts (eqb j i && eqb b t) (ltb 0 t) e in
-        let here = eqb-true b t (and_parts (eqb j i) (eqb b t) r.0).1 in
-        absurd (ne (sym own ∙ ap (owner m) here ∙ tried (ltb-true 0 t r.1)))
-    propose_other from j b v t own tried false e =
-        ap (if_own m q i t) (oldest_quiet (proposed_by i t) (Sent (Propose from j b v)) w (rw e))
+    propose_other : (from j b : ℕ) (v : Value) (c : ℕ) → owner m b ≡ p → (0 < c → owner m c ≡ q) → (d : Bool)
+        → ((eqb j i && eqb b c) && ltb 0 c) ≡ d
+        → if_own m q i c (proposed (Sent (Propose from j b v) ∷ w) i c) ≡ if_own m q i c (proposed w i c)
+    propose_other from j b v c own tried true e =
+        let r = and_parts (eqb j i && eqb b c) (ltb 0 c) e in
+        let here = eqb-true b c (and_parts (eqb j i) (eqb b c) r.0).1 in
+        absurd (ne (sym own ∙ ap (owner m) here ∙ tried (ltb-true 0 c r.1)))
+    propose_other from j b v c own tried false e =
+        ap (if_own m q i c) (oldest_quiet (proposed_by i c) (Sent (Propose from j b v)) w (rw e))
 
     slot_other : (l : Line) → IsGrown m (l ∷ w) → IsBy p l → slot_at m (l ∷ w) q i ≡ slot_at m w q i
     slot_other (Sent (Suggest from j t)) g by =
@@ -131,8 +131,8 @@ module _ (p q : ℕ) (ne : p ≡ q → ⊥) where
     slot_other (Retried a) g by =
         slot_at-quiet m w (Retried a) q i
         (record { promised = refl; proposed = λ b. refl; accepted = refl; learned = refl; tried = refl }) refl
-    slot_other (Done s) g by =
-        slot_at-quiet m w (Done s) q i
+    slot_other (Executed s) g by =
+        slot_at-quiet m w (Executed s) q i
         (record { promised = refl; proposed = λ b. refl; accepted = refl; learned = refl; tried = refl }) refl
 
   front_other : (m : Membership) (l : Line) → IsBy p l → front_by m q l ≡ 0
@@ -149,22 +149,22 @@ module _ (p q : ℕ) (ne : p ≡ q → ⊥) where
   front_other m (Lost k d) by = refl
   front_other m (Suspected a b) by = refl
   front_other m (Retried a) by = refl
-  front_other m (Done s) by = refl
+  front_other m (Executed s) by = refl
 
-  server_other : (m : Membership) (w : History) (l : Line) → IsGrown m (l ∷ w) → IsBy p l
+  server_other : (m : Membership) (w : Trace) (l : Line) → IsGrown m (l ∷ w) → IsBy p l
       → server_at m w q ≡ server_at m (l ∷ w) q
   server_other m w l g by =
       server_unchanged m w (l ∷ w) q (ap (max q) (greatest_quiet (front_by m q) l w (front_other m l by)))
       (λ j. slot_other m w j l g by)
 
-  servers_other : (m : Membership) (ls : List Line) (w : History) → IsGrown m w → AllMay m w ls → AreBy p ls
+  servers_other : (m : Membership) (ls : List Line) (w : Trace) → IsGrown m w → AllMay m w ls → AreBy p ls
       → server_at m w q ≡ server_at m (followed_by w ls) q
   servers_other m [] w g may by = refl
   servers_other m (l ∷ ls) w g may by =
       server_other m w l (g, may.0) by.0 ∙ servers_other m ls (l ∷ w) (g, may.0) may.1 by.1
 
 -- an event that is not refused leaves every server but its own as it was
-pub others_stay : (m : Membership) (w : History) (e : Event) → IsReached m w → refused m w e ≡ None → (q : ℕ)
+pub others_stay : (m : Membership) (w : Trace) (e : Event) → IsReached m w → refused m w e ≡ None → (q : ℕ)
     → (server_of e ≡ q → ⊥)
     → server_at m (with_event m w e) q ≡ server_at m w q
 others_stay m w e r allowed q ne =
@@ -174,16 +174,16 @@ others_stay m w e r allowed q ne =
     sym (servers_other (server_of e) q ne m (head e ∷ lines m w e) w g may (head_by e, lines_by m w e))
 
 -- a loss or an execution leaves every server as it was
-pub loss_stays : (m : Membership) (w : History) (k d q : ℕ)
-    → server_at m (with_event m w (Lose k d)) q ≡ server_at m w q
-loss_stays m w k d q =
-    sym (server_unchanged m w (Lost k d ∷ w) q (ap (max q) (greatest_quiet (front_by m q) (Lost k d) w refl))
-    (λ j. slot_at-quiet m w (Lost k d) q j
+pub loss_stays : (m : Membership) (w : Trace) (k p q : ℕ)
+    → server_at m (with_event m w (Lose k p)) q ≡ server_at m w q
+loss_stays m w k p q =
+    sym (server_unchanged m w (Lost k p ∷ w) q (ap (max q) (greatest_quiet (front_by m q) (Lost k p) w refl))
+    (λ j. slot_at-quiet m w (Lost k p) q j
     (record { promised = refl; proposed = λ b. refl; accepted = refl; learned = refl; tried = refl }) refl))
 
-pub execution_stays : (m : Membership) (w : History) (s q : ℕ)
-    → server_at m (with_event m w (Execute s)) q ≡ server_at m w q
-execution_stays m w s q =
-    sym (server_unchanged m w (Done s ∷ w) q (ap (max q) (greatest_quiet (front_by m q) (Done s) w refl))
-    (λ j. slot_at-quiet m w (Done s) q j
+pub execution_stays : (m : Membership) (w : Trace) (p q : ℕ)
+    → server_at m (with_event m w (Execute p)) q ≡ server_at m w q
+execution_stays m w p q =
+    sym (server_unchanged m w (Executed p ∷ w) q (ap (max q) (greatest_quiet (front_by m q) (Executed p) w refl))
+    (λ j. slot_at-quiet m w (Executed p) q j
     (record { promised = refl; proposed = λ b. refl; accepted = refl; learned = refl; tried = refl }) refl))

@@ -7,7 +7,7 @@ use Rattle.std.proofs.lemmas.List.Sums.{sum_by-cons, sum_by-set}
 use Rattle.std.proofs.lemmas.Option.{slice_get-get_or}
 use Rattle.std.proofs.lemmas.Grind.{get_or-set_at}
 use Rattle.std.proofs.lemmas.Bool.{cases_eq, cases_lt, eq-eqb, ne_eqb}
-use Rattle.mencius_model.proofs.Below.{get_or-map-instances, length-map-instances, map-instances_set}
+use Rattle.mencius_model.proofs.NumberLists.{get_or-map-instances, length-map-instances, map-instances_set}
 use Rattle.coord_paxos.specs.SlotState.{SlotState}
 use Rattle.mencius_server.specs.Places.{IsPlaced, slot_in, standing, standing_at}
 use Rattle.mencius_server.specs.Slots.{stand_at}
@@ -28,10 +28,10 @@ stand_is places slots few j =
     ∙ sym (ap (slot_in slots) (get_or_past places j None (omega arith))))
     (cases_lt j instance_count)
 
-slice_get_some : {A : Type 0} (xs : List A) (k : ℕ) → k < length xs → is_some (slice_get xs k) ≡ true
-slice_get_some [] k l = absurd (omega arith)
+slice_get_some : {A : Type 0} (xs : List A) (n : ℕ) → n < length xs → is_some (slice_get xs n) ≡ true
+slice_get_some [] n l = absurd (omega arith)
 slice_get_some (x ∷ xs) zero l = refl
-slice_get_some (x ∷ xs) (suc k) l = slice_get_some xs k (omega arith)
+slice_get_some (x ∷ xs) (suc n) l = slice_get_some xs n (omega arith)
 
 -- a slot stands where the table has a place
 pub somewhere : (places : List (Option ℕ)) (slots : List SlotState) (n : ℕ) → n ≡ length slots → IsPlaced places n
@@ -41,15 +41,15 @@ somewhere places slots n e h j = ap is_some (stand_is places slots h.few j) ∙ 
   where
     go : (o : Option ℕ) → get_or places j None ≡ o → is_some (slot_in slots o) ≡ is_some o
     go None p = refl
-    go (Some k) p = slice_get_some slots k (let l = h.within j k p in omega (arith, l))
+    go (Some place) p = slice_get_some slots place (let l = h.within j place p in omega (arith, l))
 
 pub stands_there : (places : List (Option ℕ)) (slots : List SlotState) (n : ℕ) → n ≡ length slots
-    → IsPlaced places n → (j k : ℕ) (t : SlotState)
-    → get_or places j None ≡ Some k → t ≡ get_or slots k t → stand_at (standing places slots) j ≡ Some t
-stands_there places slots n e h j k t at is =
-    let within : k < length slots = (let l = h.within j k at in omega (arith, l)) in
-    stand_is places slots h.few j ∙ ap (slot_in slots) at ∙ slice_get-get_or slots k t within
-    ∙ ap (λ u. Some u) (sym is)
+    → IsPlaced places n → (j place : ℕ) (s : SlotState)
+    → get_or places j None ≡ Some place → s ≡ get_or slots place s → stand_at (standing places slots) j ≡ Some s
+stands_there places slots n e h j place s at is =
+    let within : place < length slots = (let l = h.within j place at in omega (arith, l)) in
+    stand_is places slots h.few j ∙ ap (slot_in slots) at ∙ slice_get-get_or slots place s within
+    ∙ ap (λ x. Some x) (sym is)
 
 pub stands_nowhere : (places : List (Option ℕ)) (slots : List SlotState) → length places ≤ instance_count → (j : ℕ)
     → get_or places j None ≡ None → stand_at (standing places slots) j ≡ None
@@ -57,10 +57,10 @@ stands_nowhere places slots few j at = stand_is places slots few j ∙ ap (slot_
 
 -- the place of a slot that stands, as the code reads it
 pub place_of : (places ys : List (Option ℕ)) (slots : List SlotState) (n : ℕ) (now : List (Option SlotState))
-    (i k : ℕ) (o : Option ℕ)
+    (i place : ℕ) (o : Option ℕ)
     → n ≡ length slots → IsPlaced places n → standing places slots ≡ now → IsSome (stand_at now i)
-    → ys ≡ places → o ≡ get_or ys i None → k ≡ unwrap_or o 0 → get_or places i None ≡ Some k
-place_of places ys slots n now i k o e h view there same read is =
+    → ys ≡ places → o ≡ get_or ys i None → place ≡ unwrap_or o 0 → get_or places i None ≡ Some place
+place_of places ys slots n now i place o e h view there same read is =
     let here : o ≡ get_or places i None = read ∙ ap (λ xs. get_or xs i None) same in
     let some : is_some o ≡ true = ap is_some here ∙ sym (somewhere places slots n e h i)
     ∙ ap (λ ss. is_some (stand_at ss i)) view ∙ there in
@@ -124,20 +124,23 @@ stand_wider places wider slots all few fewer same e j =
 
 -- the slot at a place is one instance's
 pub lends_place : (places : List (Option ℕ)) (slots : List SlotState) (n : ℕ) → n ≡ length slots → IsPlaced places n
-    → (i k : ℕ) → get_or places i None ≡ Some k
-    → (w : SlotState) → standing places (slice_set slots k w) ≡ slice_set (standing places slots) i (Some w)
-lends_place places slots n e h i k at w =
-    sym (map-instances_set (standing_at places slots) (standing_at places (slice_set slots k w)) i (Some w) None
+    → (i place : ℕ) → get_or places i None ≡ Some place
+    → (left : SlotState) → standing places (slice_set slots place left)
+    ≡ slice_set (standing places slots) i (Some left)
+lends_place places slots n e h i place at left =
+    sym (map-instances_set (standing_at places slots) (standing_at places (slice_set slots place left)) i (Some left)
+    None
     here (λ j small off. others j off (get_or places j None) refl))
   where
-    within : k < length slots
-    within = let l = h.within i k at in omega (arith, l)
+    within : place < length slots
+    within = let l = h.within i place at in omega (arith, l)
 
-    here : standing_at places (slice_set slots k w) i ≡ Some w
+    here : standing_at places (slice_set slots place left) i ≡ Some left
     here =
-        ap (slot_in (slice_set slots k w)) at
-        ∙ slice_get-get_or (slice_set slots k w) k w (let l = length-set slots k w in omega (arith, within, l))
-        ∙ ap (λ u. Some u) (get_or-set_at slots k k w w refl within)
+        ap (slot_in (slice_set slots place left)) at
+        ∙ slice_get-get_or (slice_set slots place left) place left
+        (let l = length-set slots place left in omega (arith, within, l))
+        ∙ ap (λ x. Some x) (get_or-set_at slots place place left left refl within)
 
     apart_get : {A : Type 0} (xs : List A) (a b : ℕ) (x : A) → (b ≡ a → ⊥) → slice_get xs b ≡ slice_get (set xs a x) b
     apart_get [] a b x ne = refl
@@ -147,12 +150,12 @@ lends_place places slots n e h i k at w =
     apart_get (y ∷ ys) (suc a) (suc b) x ne = apart_get ys a b x (λ same. ne (ap suc same))
 
     others : (j : ℕ) → (j ≡ i → ⊥) → (o : Option ℕ) → get_or places j None ≡ o
-        → standing_at places slots j ≡ standing_at places (slice_set slots k w) j
-    others j off None is = ap (slot_in slots) is ∙ sym (ap (slot_in (slice_set slots k w)) is)
+        → standing_at places slots j ≡ standing_at places (slice_set slots place left) j
+    others j off None is = ap (slot_in slots) is ∙ sym (ap (slot_in (slice_set slots place left)) is)
     others j off (Some x) is =
         ap (slot_in slots) is
-        ∙ apart_get slots k x w (λ same. off (h.apart j i k (is ∙ ap (λ y. Some y) same) at))
-        ∙ sym (ap (slot_in (slice_set slots k w)) is)
+        ∙ apart_get slots place x left (λ same. off (h.apart j i place (is ∙ ap (λ y. Some y) same) at))
+        ∙ sym (ap (slot_in (slice_set slots place left)) is)
 
 -- ---- a slot more
 
@@ -189,46 +192,46 @@ module _ (places : List (Option ℕ)) (slots : List SlotState) (n : ℕ) (e : n 
   }
     where
       -- the new place is no other instance's
-      fresh : (a b k : ℕ) → a ≡ i → (b ≡ i → ⊥) → get_or (set places i (Some n)) a None ≡ Some k
-          → get_or (set places i (Some n)) b None ≡ Some k → ⊥
-      fresh a b k at off is_a is_b =
-          let same : Some n ≡ Some k = sym (here_now a at) ∙ is_a in
-          let is_n : n ≡ k = cc in
-          let l = h.within b k (sym (away b off) ∙ is_b) in
+      fresh : (a b place : ℕ) → a ≡ i → (b ≡ i → ⊥) → get_or (set places i (Some n)) a None ≡ Some place
+          → get_or (set places i (Some n)) b None ≡ Some place → ⊥
+      fresh a b place at off is_a is_b =
+          let same : Some n ≡ Some place = sym (here_now a at) ∙ is_a in
+          let is_n : n ≡ place = cc in
+          let l = h.within b place (sym (away b off) ∙ is_b) in
           absurd (omega (arith, l, is_n))
 
-  pub stand_push : (t : SlotState) (j : ℕ)
-      → stand_at (standing (set places i (Some n)) (slots ++ t ∷ [])) j ≡ cond (eqb j i) (Some t)
+  pub stand_push : (x : SlotState) (j : ℕ)
+      → stand_at (standing (set places i (Some n)) (slots ++ x ∷ [])) j ≡ cond (eqb j i) (Some x)
       (stand_at (standing places slots) j)
-  stand_push t j =
-      stand_is (set places i (Some n)) (slots ++ t ∷ [])
+  stand_push x j =
+      stand_is (set places i (Some n)) (slots ++ x ∷ [])
       (let l = length-set places i (Some n) in omega (arith, l, h.few)) j
       ∙ ⊎_elim
       (λ (at : j ≡ i).
-      ap (slot_in (slots ++ t ∷ [])) (here_now j at) ∙ last slots n e
-      ∙ sym (ap (λ b. cond b (Some t) (stand_at (standing places slots) j)) (eq-eqb j i at)))
+      ap (slot_in (slots ++ x ∷ [])) (here_now j at) ∙ last slots n e
+      ∙ sym (ap (λ b. cond b (Some x) (stand_at (standing places slots) j)) (eq-eqb j i at)))
       (λ (off : j ≡ i → ⊥).
-      ap (slot_in (slots ++ t ∷ [])) (away j off) ∙ kept j (get_or places j None) refl
-      ∙ sym (ap (λ b. cond b (Some t) (stand_at (standing places slots) j)) (ne_eqb j i off)
+      ap (slot_in (slots ++ x ∷ [])) (away j off) ∙ kept j (get_or places j None) refl
+      ∙ sym (ap (λ b. cond b (Some x) (stand_at (standing places slots) j)) (ne_eqb j i off)
       ∙ stand_is places slots h.few j))
       (cases_eq j i)
     where
-      last : (ss : List SlotState) (k : ℕ) → k ≡ length ss → slice_get (ss ++ t ∷ []) k ≡ Some t
+      last : (ss : List SlotState) (n : ℕ) → n ≡ length ss → slice_get (ss ++ x ∷ []) n ≡ Some x
       last [] zero is = refl
-      last [] (suc k) is = absurd (omega arith)
+      last [] (suc n) is = absurd (omega arith)
       last (s ∷ ss) zero is = absurd (omega arith)
-      last (s ∷ ss) (suc k) is = last ss k (omega arith)
+      last (s ∷ ss) (suc n) is = last ss n (omega arith)
 
-      front : (ss : List SlotState) (k : ℕ) → k < length ss → slice_get (ss ++ t ∷ []) k ≡ slice_get ss k
-      front [] k l = absurd (omega arith)
+      front : (ss : List SlotState) (n : ℕ) → n < length ss → slice_get (ss ++ x ∷ []) n ≡ slice_get ss n
+      front [] n l = absurd (omega arith)
       front (s ∷ ss) zero l = refl
-      front (s ∷ ss) (suc k) l = front ss k (omega arith)
+      front (s ∷ ss) (suc n) l = front ss n (omega arith)
 
       kept : (j : ℕ) (o : Option ℕ) → get_or places j None ≡ o
-          → slot_in (slots ++ t ∷ []) (get_or places j None) ≡ standing_at places slots j
-      kept j None is = ap (slot_in (slots ++ t ∷ [])) is ∙ sym (ap (slot_in slots) is)
+          → slot_in (slots ++ x ∷ []) (get_or places j None) ≡ standing_at places slots j
+      kept j None is = ap (slot_in (slots ++ x ∷ [])) is ∙ sym (ap (slot_in slots) is)
       kept j (Some k) is =
-          ap (slot_in (slots ++ t ∷ [])) is ∙ front slots k (let l = h.within j k is in omega (arith, l))
+          ap (slot_in (slots ++ x ∷ [])) is ∙ front slots k (let l = h.within j k is in omega (arith, l))
           ∙ sym (ap (slot_in slots) is)
 
 -- ---- a slot more, in a table that was lengthened
@@ -244,18 +247,18 @@ module _ (places wide : List (Option ℕ)) (slots : List SlotState) (now : List 
     where
       go : (o : Option ℕ) → is_some o ≡ false → o ≡ None
       go None f = refl
-      go (Some k) f = absurd (cc)
+      go (Some place) f = absurd (cc)
 
   pub placed_stand : (more : ℕ) → more ≡ m + 1 → IsPlaced (set wide i (Some m)) more
   placed_stand more is = rw len (placed_push wide slots n e (placed_wider places wide n few same h) i within
       no_place more (omega arith))
 
-  pub stand_stand : (t : SlotState) (all : List SlotState) → all ≡ slots ++ t ∷ [] → (j : ℕ)
-      → stand_at (standing (set wide i (Some m)) all) j ≡ cond (eqb j i) (Some t) (stand_at now j)
-  stand_stand t all is j =
+  pub stand_stand : (s : SlotState) (all : List SlotState) → all ≡ slots ++ s ∷ [] → (j : ℕ)
+      → stand_at (standing (set wide i (Some m)) all) j ≡ cond (eqb j i) (Some s) (stand_at now j)
+  stand_stand s all is j =
       rw (len, is)
-      (stand_push wide slots n e (placed_wider places wide n few same h) i within no_place t j
-      ∙ ap (λ o. cond (eqb j i) (Some t) o)
+      (stand_push wide slots n e (placed_wider places wide n few same h) i within no_place s j
+      ∙ ap (λ o. cond (eqb j i) (Some s) o)
       (stand_is wide slots few j ∙ ap (slot_in slots) (same j) ∙ sym (stand_is places slots h.few j)
       ∙ ap (λ ss. stand_at ss j) view))
 
@@ -269,7 +272,7 @@ none_read places slots i o b few within read tells true_is =
   where
     go : (o : Option ℕ) → is_some o ≡ false → o ≡ None
     go None f = refl
-    go (Some k) f = absurd (cc)
+    go (Some place) f = absurd (cc)
 
 pub some_read : (places : List (Option ℕ)) (slots : List SlotState) (n i : ℕ) (o : Option ℕ) (b : Bool)
     → n ≡ length slots → IsPlaced places n → i < length places → o ≡ get_or places i o
@@ -281,4 +284,4 @@ some_read places slots n i o b e h within read tells false_is =
   where
     turn : (o : Option SlotState) → is_some o ≡ true → is_none o ≡ false
     turn None f = absurd (cc)
-    turn (Some k) f = refl
+    turn (Some place) f = refl

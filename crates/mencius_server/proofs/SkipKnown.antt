@@ -5,10 +5,10 @@ use Rattle.std.specs.List.{count_by}
 use Rattle.std.specs.Option.{option_map}
 use Rattle.std.proofs.lemmas.List.{get_or-set_other, length-set}
 use Rattle.std.proofs.lemmas.Grind.{get_or-set_at}
-use Rattle.std.proofs.lemmas.Bool.{cases_eq, cases_lt, eq-eqb, ne_eqb, and_left}
+use Rattle.std.proofs.lemmas.Bool.{cases_Bool, cases_eq, cases_lt, eq-eqb, eqb-true, leb-true, ltb-true, ne_eqb, and_left, and_parts, and_right}
 use Rattle.mencius_base.specs.declared.message.Value.TheVariants.{Noop}
 use Rattle.mencius_base.specs.Members.{Membership, first_owned, instances, owner}
-use Rattle.mencius_model.proofs.Below.{instances-below, map-instances_same}
+use Rattle.mencius_model.proofs.NumberLists.{instances-below, map-instances_same}
 use Rattle.coord_paxos.specs.SlotState.{SlotState}
 use Rattle.coord_paxos.specs.Slot.{after_learn}
 use Rattle.coord_paxos.specs.Fresh.{new_slot}
@@ -16,6 +16,7 @@ use Rattle.mencius_server.specs.Machine.{is_given, is_skipped, slot_given}
 use Rattle.mencius_server.specs.Ranges.{IsOwned, IsRising, covers, is_within}
 use Rattle.mencius_server.specs.Slots.{given, is_in, is_learned, stand_at}
 use Rattle.mencius_server.specs.Known.{IsSorted, IsSound, KnownState, is_given_in, is_passed, known_after_skip, known_at, known_given, known_of, known_slot, unheard}
+use Rattle.mencius_server.specs.Tallies.{IsTold}
 use Rattle.mencius_server.specs.declared.ranges.Span.{Span}
 use Rattle.mencius_server.specs.declared.stretch.Stretch.{Stretch}
 use Rattle.mencius_server.proofs.Counts.{count_same}
@@ -48,12 +49,21 @@ stays_learned t j u h = go (is_in t j)
     go false = h
     go true = rw h h
 
-learned_noop : (u : SlotState) → is_none (after_learn u Noop).learned ≡ false
+pub learned_noop : (u : SlotState) → is_none (after_learn u Noop).learned ≡ false
 learned_noop u = go (is_none u.learned) refl
   where
     go : (d : Bool) → is_none u.learned ≡ d → is_none (after_learn u Noop).learned ≡ false
     go true e = rw e refl
     go false e = rw (e, e) refl
+
+-- a slot at which nothing is given up
+given_none : (t : Stretch) (j : ℕ) (u : SlotState) → (is_in t j && is_none u.learned) ≡ false → given t j u ≡ u
+given_none t j u e = go (is_in t j) (is_none u.learned) refl e
+  where
+    go : (a b : Bool) → is_none u.learned ≡ b → (a && b) ≡ false → cond a (after_learn u Noop) u ≡ u
+    go false b k h = refl
+    go true false k h = rw k refl
+    go true true k h = absurd (cc)
 
 module _ (m : Membership) (t : Stretch) (members : t.members ≡ m) (slots new : List (Option SlotState))
     (rs : List (List Span)) (member : t.server < length rs)
@@ -71,7 +81,7 @@ module _ (m : Membership) (t : Stretch) (members : t.members ≡ m) (slots new :
       ∙ ap (λ x. covers (get_or rs x []) j || is_within t.first t.stop j) (sym own)
 
   in_own : (j : ℕ) → owner m j ≡ t.server → is_in t j ≡ is_within t.first t.stop j
-  in_own j own = rw (eq-eqb (owner t.members j) t.server (ap (λ n. owner n j) members ∙ own)) refl
+  in_own j own = rw (eq-eqb t.server (owner t.members j) (sym (ap (λ n. owner n j) members ∙ own))) refl
 
   in_theirs : (j : ℕ) → (owner m j ≡ t.server → ⊥) → is_in t j ≡ false
   in_theirs j other =
@@ -97,6 +107,20 @@ module _ (m : Membership) (t : Stretch) (members : t.members ≡ m) (slots new :
       (unheard m (is_passed m rs j))) (in_theirs j other)))
       (cases_eq (owner m j) t.server)
       ∙ sym (ap (λ o. given t j (unwrap_or o (unheard m (is_passed m rs j)))) e)
+
+  -- no-op is learned at each instance that is given up
+  pub skip_given : (j : ℕ) → j < instance_count
+      → known_at m new (set rs t.server ys) j ≡ given t j (known_at m slots rs j)
+  skip_given j small = skip_at j small (stand_at slots j) refl
+
+  -- where nothing is given up, all that is known is as before
+  pub skip_kept : (j : ℕ) → j < instance_count → (is_in t j && is_none (known_at m slots rs j).learned) ≡ false
+      → known_at m new (set rs t.server ys) j ≡ known_at m slots rs j
+  skip_kept j small e = skip_at j small (stand_at slots j) refl ∙ given_none t j (known_at m slots rs j) e
+
+  pub skip_theirs : (j : ℕ) → j < instance_count → (owner m j ≡ t.server → ⊥)
+      → known_at m new (set rs t.server ys) j ≡ known_at m slots rs j
+  skip_theirs j small other = skip_kept j small (and_left _ _ (in_theirs j other))
 
   stands_same : (j : ℕ) → j < instance_count → is_some (stand_at new j) ≡ is_some (stand_at slots j)
   stands_same j small = ap is_some (gives j small) ∙ kept (stand_at slots j)
@@ -171,6 +195,33 @@ module _ (m : Membership) (t : Stretch) (members : t.members ≡ m) (slots new :
           by_range false true p s k old = rw s (learned_noop v)
           by_range false false p s k old = absurd (cc)
 
+-- where the whole range was skipped before, all is as it was
+pub skip_again : (m : Membership) (t : Stretch) (slots : List (Option SlotState)) (rs : List (List Span))
+    (now : KnownState) → t.members ≡ m → known_of m slots rs ≡ now → IsTold m slots rs
+    → ((j : ℕ) → t.first ≤ j → j < t.stop → covers (get_or rs t.server []) j ≡ true)
+    → now ≡ record now { slots = map (λ j. given t j (known_slot now j)) instances }
+skip_again m t slots rs now members shown told covered =
+    sym shown
+    ∙ same_known m (known_at m slots rs) (λ j. given t j (known_slot now j)) (λ j. is_some (stand_at slots j))
+    (λ j. is_some (stand_at slots j))
+    (λ j small. sym (given_none t j (known_at m slots rs j) (closed j small))
+    ∙ ap (given t j) (sym (seen m slots rs now shown j small))) (λ j small. refl)
+    ∙ ap (λ (k : KnownState). record k { slots = map (λ j. given t j (known_slot now j)) instances }) shown
+  where
+    closed : (j : ℕ) → j < instance_count → (is_in t j && is_none (known_at m slots rs j).learned) ≡ false
+    closed j small =
+        ⊎_elim
+        (λ (inside : is_in t j ≡ true).
+        let parts = and_parts _ _ inside in
+        let mine = and_parts _ _ parts.0 in
+        let own : owner m j ≡ t.server =
+        ap (λ n. owner n j) (sym members) ∙ sym (eqb-true t.server (owner t.members j) mine.0) in
+        and_right _ _ (told j small
+        (ap (λ k. covers (get_or rs k []) j) own
+        ∙ covered j (leb-true t.first j mine.1) (ltb-true j t.stop parts.1))))
+        (λ (out : is_in t j ≡ false). and_left _ _ out)
+        (cases_Bool (is_in t j))
+
 -- what a Skip gives up, by slots and ranges
 given_same : (m : Membership) (t : Stretch) (slots : List (Option SlotState)) (rs : List (List Span)) (low : ℕ)
     → t.members ≡ m → IsSound m slots rs low
@@ -212,10 +263,10 @@ pub aligned_in : (q first stop : ℕ) (t : Stretch) → IsAligned q first stop t
 aligned_in q first stop t al j small =
     ⊎_elim
     (λ (own : owner t.members j ≡ q).
-    regroup (eqb (owner t.members j) t.server) (nat_le t.first j) (nat_lt j t.stop)
-    ∙ ap (λ k. eqb (owner t.members j) k && is_within t.first t.stop j) al.server
-    ∙ ap (λ b. eqb (owner t.members j) q && b) (within own)
-    ∙ sym (regroup (eqb (owner t.members j) q) (nat_le first j) (nat_lt j stop)))
+    regroup (eqb t.server (owner t.members j)) (nat_le t.first j) (nat_lt j t.stop)
+    ∙ ap (λ k. eqb k (owner t.members j) && is_within t.first t.stop j) al.server
+    ∙ ap (λ b. eqb q (owner t.members j) && b) (within own)
+    ∙ sym (regroup (eqb q (owner t.members j)) (nat_le first j) (nat_lt j stop)))
     (λ (other : owner t.members j ≡ q → ⊥).
     unskipped_other t.members t.server t.first t.stop j
     (ne_eqb (owner t.members j) t.server (λ e. other (e ∙ al.server)))

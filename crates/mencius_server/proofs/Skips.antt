@@ -2,7 +2,7 @@
 use Rattle.std.proofs.Common.{◌≡◌, ℕ, ◌+◌, Bool, cond, sym}
 use Rattle.std.specs.List.{count_by}
 use Rattle.mencius_base.specs.Members.{below}
-use Rattle.mencius_model.proofs.Below.{count_by-below_more, count_by-below_zero}
+use Rattle.mencius_model.proofs.NumberLists.{count_by-below_more, count_by-below_zero}
 
 -- so many of the first i places pass
 pub record IsCountUpTo (test : ℕ → Bool) (i count : ℕ) : Type 0 where

@@ -325,12 +325,12 @@ past_more low f [] h k = tt
 past_more low f (r ∷ rs) h k = omega (arith, k.0, k.1)
 
 -- one range is absorbed
-pub joining_more : (old now new : List Span) (first stop at f s absorbed g t more : ℕ) (r : Span) → at < length now
+pub joining_more : (old now new : List Span) (first stop at f s absorbed g y more : ℕ) (r : Span) → at < length now
     → (get_or now at r) ≡ r → r.first ≤ s
-    → new ≡ take at now ++ drop (suc at) now → g ≡ min f r.first → t ≡ max s r.stop
+    → new ≡ take at now ++ drop (suc at) now → g ≡ min f r.first → y ≡ max s r.stop
     → more ≡ absorbed + (r.stop - r.first)
-    → IsJoining old now first stop at f s absorbed → IsJoining old new first stop at g t more
-joining_more old now new first stop at f s absorbed g t more r inside here meets removed g_is t_is more_is h =
+    → IsJoining old now first stop at f s absorbed → IsJoining old new first stop at g y more
+joining_more old now new first stop at f s absorbed g y more r inside here meets removed g_is t_is more_is h =
     let parts : drop at now ≡ r ∷ drop (suc at) now =
     drop_here at now r inside ∙ ap (λ x. x ∷ drop (suc at) now) here in
     let rising : IsRising h.low (r ∷ drop (suc at) now) = subst (IsRising h.low) parts h.rising in
@@ -363,13 +363,13 @@ joining_more old now new first stop at f s absorbed g t more r inside here meets
     }
 
 -- what is left begins past the union
-pub joining_ends : (old now new : List Span) (first stop at f s absorbed : ℕ) (u d : Span)
-    → u ≡ record { first = f; stop = s }
-    → (at < length now → s < (get_or now at d).first) → new ≡ take at now ++ u ∷ drop at now
+pub joining_ends : (old now new : List Span) (first stop at f s absorbed : ℕ) (union d : Span)
+    → union ≡ record { first = f; stop = s }
+    → (at < length now → s < (get_or now at d).first) → new ≡ take at now ++ union ∷ drop at now
     → IsJoining old now first stop at f s absorbed
     → (new ≡ joined old first stop) × (((s - f) - absorbed) + reach_of old ≡ reach_of new)
-joining_ends old now new first stop at f s absorbed u d u_is beyond inserted h =
-    let last : joined (drop at now) f s ≡ u ∷ drop at now = ⊎_elim
+joining_ends old now new first stop at f s absorbed union d u_is beyond inserted h =
+    let last : joined (drop at now) f s ≡ union ∷ drop at now = ⊎_elim
     (λ (inside : at < length now).
     let parts = drop_here at now d inside in
     let past : f ≤ (get_or now at d).stop = subst (HeadPast f) parts h.past in
@@ -379,10 +379,10 @@ joining_ends old now new first stop at f s absorbed u d u_is beyond inserted h =
     (cases_lt at (length now)) in
     let all : reach_of now ≡ reach_of (take at now) + reach_of (drop at now) =
     ap reach_of (sym (take_drop at now)) ∙ reach_append (take at now) (drop at now) in
-    let more : reach_of new ≡ reach_of (take at now) + ((u.stop - u.first) + reach_of (drop at now)) =
-    ap reach_of inserted ∙ reach_append (take at now) (u ∷ drop at now) in
-    let stop_is : u.stop ≡ s = ap (λ (x : Span). x.stop) u_is in
-    let first_is : u.first ≡ f = ap (λ (x : Span). x.first) u_is in
+    let more : reach_of new ≡ reach_of (take at now) + ((union.stop - union.first) + reach_of (drop at now)) =
+    ap reach_of inserted ∙ reach_append (take at now) (union ∷ drop at now) in
+    let stop_is : union.stop ≡ s = ap (λ (x : Span). x.stop) u_is in
+    let first_is : union.first ≡ f = ap (λ (x : Span). x.first) u_is in
     let fits = absorbed_fits old now first stop at f s absorbed h in (
       inserted ∙ sym (h.same ∙ ap (λ xs. take at now ++ xs) last),
       omega (arith, h.reach, all, more, stop_is, first_is, fits),

@@ -1,32 +1,32 @@
--- Which tickets wait is what the history says.
+-- Which tickets wait is what the trace says.
 use Rattle.std.proofs.Common.{◌≡◌, ℕ, ◌<◌, Bool, true, false, Option, Some, None, cond, eqb, ltb, ◌&&◌, ◌||◌, not, refl, sym, ◌∙◌, ap}
 use Rattle.std.specs.List.{list_any}
 use Rattle.std.proofs.lemmas.Bool.{and_parts, eq-eqb, eqb-true}
 use Rattle.mencius_base.specs.declared.message.Message.TheVariants.{Suggest}
 use Rattle.mencius_base.specs.declared.message.Value.{Value}
 use Rattle.mencius_base.specs.Members.{Membership, instances, owner, first_item}
-use Rattle.mencius_model.specs.History.{Line, Sent, History}
+use Rattle.mencius_model.specs.Trace.{Line, Sent, Trace}
 use Rattle.mencius_model.specs.Instance.{learned, proposed, trying}
 use Rattle.mencius_model.specs.Server.{is_noop, is_suggestion_past, suggested, suggested_by, unless, waiting, waiting_at, waits, ticket_of}
 use Rattle.mencius_model.specs.Next.{IsReached}
-use Rattle.mencius_model.proofs.Below.{any-instances, any-instances_found, filter_map-instances_same}
+use Rattle.mencius_model.proofs.NumberLists.{any-instances, any-instances_found, filter_map-instances_same}
 use Rattle.mencius_server.proofs.Lost.{both_ways, ticket_is}
 use Rattle.mencius_model.proofs.Lists.{IsIn, any_in, in_any}
-use Rattle.mencius_model.proofs.Grown.{IsGrown}
-use Rattle.mencius_model.proofs.State.{oldest_none, same, same_two, start_in, suggested_in}
-use Rattle.mencius_model.proofs.Steps.{suggest_proposed}
-use Rattle.mencius_model.proofs.Owners.{suggest_once, suggest_owner, suggest_small}
+use Rattle.mencius_model.proofs.LineRights.{IsGrown}
+use Rattle.mencius_model.proofs.AnswersLast.{oldest_none, same, same_two, start_in, suggested_in}
+use Rattle.mencius_model.proofs.EventRights.{suggest_proposed}
+use Rattle.mencius_model.proofs.Suggesters.{suggest_once, suggest_owner, suggest_small}
 use Rattle.mencius_model.proofs.Journals.{reached_grown, some_server_of}
-use Rattle.mencius_model.proofs.Sources.{own_untried}
+use Rattle.mencius_model.proofs.Senders.{own_untried}
 use Rattle.coord_paxos.specs.SlotState.{SlotState}
 use Rattle.coord_paxos.specs.Reached.{if_own}
 use Rattle.mencius_server.specs.Machine.{first_waiting, is_suggested_past, is_ticket, suggested_at, waits_at, waits_with}
 use Rattle.mencius_server.specs.Reached.{server_at}
-use Rattle.mencius_server.proofs.ServerHistory.{slot-server_at}
+use Rattle.mencius_server.proofs.ServerTrace.{slot-server_at}
 use Rattle.mencius_base.specs.Limits.{instance_count}
 
 past_line : (p t i : ℕ) (l : Line) → is_suggestion_past p t i l ≡ true
-    → (k : ℕ) × (ltb i k ≡ true) × (l ≡ Sent (Suggest p k t))
+    → (j : ℕ) × (ltb i j ≡ true) × (l ≡ Sent (Suggest p j t))
 past_line p t i (Sent (Suggest from inst ticket)) h =
     let r = and_parts (eqb from p && eqb ticket t) (ltb i inst) h in
     let s = and_parts (eqb from p) (eqb ticket t) r.0 in
@@ -35,7 +35,7 @@ past_line p t i (Sent (Suggest from inst ticket)) h =
     (inst, r.1, cc)
 past_line p t i _ h = absurd (cc)
 
-module _ (m : Membership) (w : History) (p : ℕ) (r : IsReached m w) where
+module _ (m : Membership) (w : Trace) (p : ℕ) (r : IsReached m w) where
   grown : IsGrown m w
   grown = reached_grown m w r
 
@@ -79,7 +79,7 @@ module _ (m : Membership) (w : History) (p : ℕ) (r : IsReached m w) where
 
   suggested_same : (i : ℕ) → i < instance_count → suggested_at (server_at m w p) i ≡ suggested w p i
   suggested_same i small =
-      ap (λ (t : SlotState). cond (eqb (owner m i) p) (ticket_of t.proposal) None) (slot-server_at m w p i small)
+      ap (λ (s : SlotState). cond (eqb (owner m i) p) (ticket_of s.proposal) None) (slot-server_at m w p i small)
       ∙ ticket_at i (eqb (owner m i) p) refl
 
   -- nowhere further on
@@ -108,8 +108,11 @@ module _ (m : Membership) (w : History) (p : ℕ) (r : IsReached m w) where
       (slot-server_at m w p i small)
       ∙ ap (λ (c : Bool). unless (not (is_noop (learned w p i)) || c) (Some t)) (past_same i t)
 
+  pub waiting_at_same : (i : ℕ) → i < instance_count → waits_at (server_at m w p) i ≡ waiting_at w p i
+  waiting_at_same i small =
+      ap (waits_with (server_at m w p) i) (suggested_same i small) ∙ waits_same i small (suggested w p i)
+
   pub first_waiting_same : first_waiting (server_at m w p) ≡ first_item (waiting w p)
   first_waiting_same =
       ap first_item
-      (filter_map-instances_same (waits_at (server_at m w p)) (waiting_at w p)
-      (λ i small. ap (waits_with (server_at m w p) i) (suggested_same i small) ∙ waits_same i small (suggested w p i)))
+      (filter_map-instances_same (waits_at (server_at m w p)) (waiting_at w p) waiting_at_same)

@@ -6,7 +6,7 @@ use Rattle.std.specs.Option.{option_map}
 use Rattle.std.proofs.lemmas.Bool.{cases_Bool, cases_eq, cases_lt, eq-eqb, ne_eqb, and_left, and_right}
 use Rattle.mencius_base.specs.declared.message.Value.TheVariants.{Noop}
 use Rattle.mencius_base.specs.Members.{below, owner}
-use Rattle.mencius_model.proofs.Below.{count_by-below_le, count_by-below_more}
+use Rattle.mencius_model.proofs.NumberLists.{count_by-below_le, count_by-below_more}
 use Rattle.coord_paxos.specs.SlotState.{SlotState}
 use Rattle.coord_paxos.specs.Slot.{after_learn}
 use Rattle.coord_paxos.specs.Fresh.{new_slot}
@@ -20,22 +20,22 @@ use Rattle.mencius_server.proofs.Given.{given_at, given_kept}
 
 -- ---- which instances are in a stretch
 
-pub in_here : (t : Stretch) (j : ℕ) → owner t.members j ≡ t.server → t.first ≤ j → j < t.stop → is_in t j ≡ true
-in_here t j own low high = skipped_here t.members t.server t.first t.stop j own low high
+pub in_here : (a : Stretch) (j : ℕ) → owner a.members j ≡ a.server → a.first ≤ j → j < a.stop → is_in a j ≡ true
+in_here a j own low high = skipped_here a.members a.server a.first a.stop j own low high
 
-pub out_before : (t : Stretch) (j : ℕ) → j < t.first → is_in t j ≡ false
-out_before t j low = unskipped_before t.members t.server t.first t.stop j low
+pub out_before : (a : Stretch) (j : ℕ) → j < a.first → is_in a j ≡ false
+out_before a j low = unskipped_before a.members a.server a.first a.stop j low
 
-pub out_past : (t : Stretch) (j : ℕ) → t.stop ≤ j → is_in t j ≡ false
-out_past t j past = unskipped_past t.members t.server t.first t.stop j past
+pub out_past : (a : Stretch) (j : ℕ) → a.stop ≤ j → is_in a j ≡ false
+out_past a j past = unskipped_past a.members a.server a.first a.stop j past
 
 -- between one of them and the next
-pub out_between : (t : Stretch) (i next : ℕ) → owner t.members i ≡ t.server
-    → ((k : ℕ) → i + 1 ≤ k → owner t.members k ≡ owner t.members i → next ≤ k)
-    → (j : ℕ) → i + 1 ≤ j → j < next → is_in t j ≡ false
-out_between t i next own least j low high =
-    unskipped_other t.members t.server t.first t.stop j
-    (unowned t.members t.server (i + 1) next (λ k l mine. least k l (mine ∙ sym own)) j low high)
+pub out_between : (a : Stretch) (i next : ℕ) → owner a.members i ≡ a.server
+    → ((j : ℕ) → i + 1 ≤ j → owner a.members j ≡ owner a.members i → next ≤ j)
+    → (j : ℕ) → i + 1 ≤ j → j < next → is_in a j ≡ false
+out_between a i next own least j low high =
+    unskipped_other a.members a.server a.first a.stop j
+    (unowned a.members a.server (i + 1) next (λ j l mine. least j l (mine ∙ sym own)) j low high)
 
 -- ---- what a loop makes of the slots
 
@@ -56,7 +56,7 @@ module _ (f : ℕ → Option SlotState → Option SlotState) (old : ℕ → Opti
     done = λ j less. ⊎_elim
         (λ (low : j < i). away j (λ at. absurd (omega arith)) ∙ h.done j low)
         (λ (from : i ≤ j). ⊎_elim
-        (λ (at : j ≡ i). ap new at ∙ here ∙ ap (f i) (h.rest i (omega arith)) ∙ ap (λ k. f k (old k)) (sym at))
+        (λ (at : j ≡ i). ap new at ∙ here ∙ ap (f i) (h.rest i (omega arith)) ∙ ap (λ x. f x (old x)) (sym at))
         (λ (off : j ≡ i → ⊥). away j off ∙ h.rest j from ∙ sym (none j (omega arith) less))
         (cases_eq j i))
         (cases_lt j i);
@@ -83,123 +83,114 @@ written_off g now new i written j off = written j ∙ ap (λ b. cond b (g (now j
 
 -- ---- no-op is learned
 
-pub given_out : (t : Stretch) (j : ℕ) (o : Option SlotState) → is_in t j ≡ false → option_map (given t j) o ≡ o
-given_out t j o e = given_kept t.members t.server t.first t.stop j o e
+pub given_out : (a : Stretch) (j : ℕ) (o : Option SlotState) → is_in a j ≡ false → option_map (given a j) o ≡ o
+given_out a j o e = given_kept a.members a.server a.first a.stop j o e
 
-pub given_in : (t : Stretch) (j : ℕ) (o : Option SlotState) → is_in t j ≡ true
-    → option_map (given t j) o ≡ option_map (λ u. after_learn u Noop) o
-given_in t j o e = given_at t.members t.server t.first t.stop j o e
+pub given_in : (a : Stretch) (j : ℕ) (o : Option SlotState) → is_in a j ≡ true
+    → option_map (given a j) o ≡ option_map (λ u. after_learn u Noop) o
+given_in a j o e = given_at a.members a.server a.first a.stop j o e
 
 -- past the last slot of the stretch
-pub given_past : (t : Stretch) (end j : ℕ) (old : ℕ → Option SlotState)
-    → ((k : ℕ) → end ≤ k → k < t.stop → old k ≡ None) → end ≤ j → option_map (given t j) (old j) ≡ old j
-given_past t end j old none past = ⊎_elim
-    (λ (less : j < t.stop). let gone = none j past less in ap (option_map (given t j)) gone ∙ sym gone)
-    (λ (over : t.stop ≤ j). given_out t j (old j) (out_past t j over))
-    (cases_lt j t.stop)
+pub given_past : (a : Stretch) (end j : ℕ) (old : ℕ → Option SlotState)
+    → ((j : ℕ) → end ≤ j → j < a.stop → old j ≡ None) → end ≤ j → option_map (given a j) (old j) ≡ old j
+given_past a end j old none past = ⊎_elim
+    (λ (less : j < a.stop). let gone = none j past less in ap (option_map (given a j)) gone ∙ sym gone)
+    (λ (over : a.stop ≤ j). given_out a j (old j) (out_past a j over))
+    (cases_lt j a.stop)
 
 -- ---- what was told
 
-pub told_out : (t : Stretch) (rs : List Span) (ss : List (Option SlotState)) (j : ℕ) → is_in t j ≡ false
-    → is_told t rs ss j ≡ false
-told_out t rs ss j e = and_left _ _ e
+pub told_out : (a : Stretch) (rs : List Span) (ss : List (Option SlotState)) (j : ℕ) → is_in a j ≡ false
+    → is_told a rs ss j ≡ false
+told_out a rs ss j e = and_left _ _ e
 
-pub told_in : (t : Stretch) (rs : List Span) (ss : List (Option SlotState)) (j : ℕ) → is_in t j ≡ true
-    → is_told t rs ss j ≡ (not (covers rs j) && is_learned (stand_at ss j))
-told_in t rs ss j e = rw e refl
+pub told_in : (a : Stretch) (rs : List Span) (ss : List (Option SlotState)) (j : ℕ) → is_in a j ≡ true
+    → is_told a rs ss j ≡ (not (covers rs j) && is_learned (stand_at ss j))
+told_in a rs ss j e = rw e refl
 
-pub told_past : (t : Stretch) (rs : List Span) (ss : List (Option SlotState)) (end : ℕ)
-    → ((k : ℕ) → end ≤ k → k < t.stop → stand_at ss k ≡ None)
-    → (j : ℕ) → end ≤ j → is_told t rs ss j ≡ false
-told_past t rs ss end none j past = ⊎_elim
-    (λ (less : j < t.stop). nowhere (is_in t j) (not (covers rs j)) (stand_at ss j) (none j past less))
-    (λ (over : t.stop ≤ j). told_out t rs ss j (out_past t j over))
-    (cases_lt j t.stop)
+pub told_past : (a : Stretch) (rs : List Span) (ss : List (Option SlotState)) (end : ℕ)
+    → ((j : ℕ) → end ≤ j → j < a.stop → stand_at ss j ≡ None)
+    → (j : ℕ) → end ≤ j → is_told a rs ss j ≡ false
+told_past a rs ss end none j past = ⊎_elim
+    (λ (less : j < a.stop). nowhere (is_in a j) (not (covers rs j)) (stand_at ss j) (none j past less))
+    (λ (over : a.stop ≤ j). told_out a rs ss j (out_past a j over))
+    (cases_lt j a.stop)
   where
-    nowhere : (a b : Bool) (o : Option SlotState) → o ≡ None → (a && (b && is_learned o)) ≡ false
+    nowhere : (c b : Bool) (o : Option SlotState) → o ≡ None → (c && (b && is_learned o)) ≡ false
     nowhere true true None e = refl
     nowhere true false o e = refl
     nowhere false b o e = refl
-    nowhere true true (Some t) e = absurd (cc)
+    nowhere true true (Some s) e = absurd (cc)
 
 -- ---- first phases
 
-pub begun_out : (t : Stretch) (p j : ℕ) (o : Option SlotState) → is_in t j ≡ false → begun_at t p j o ≡ o
-begun_out t p j o e = rw e refl
+pub begun_out : (a : Stretch) (p j : ℕ) (o : Option SlotState) → is_in a j ≡ false → begun_at a p j o ≡ o
+begun_out a p j o e = rw e refl
 
-pub begun_in : (t : Stretch) (p j : ℕ) (o : Option SlotState) → is_in t j ≡ true
-    → begun_at t p j o ≡ option_map (begun t.members p) o
-begun_in t p j None e = rw e refl
-begun_in t p j (Some u) e = rw e (go (is_none u.learned) refl)
+pub begun_in : (a : Stretch) (p j : ℕ) (o : Option SlotState) → is_in a j ≡ true
+    → begun_at a p j o ≡ option_map (begun a.members p) o
+begun_in a p j None e = rw e refl
+begun_in a p j (Some s) e = rw e (go (is_none s.learned) refl)
   where
-    go : (b : Bool) → is_none u.learned ≡ b
-        → cond (is_none u.learned) (Some (begun t.members p u)) (Some u) ≡ Some (begun t.members p u)
+    go : (b : Bool) → is_none s.learned ≡ b
+        → cond (is_none s.learned) (Some (begun a.members p s)) (Some s) ≡ Some (begun a.members p s)
     go true e = rw e refl
     go false e = rw e refl
 
-pub unbegun_out : (t : Stretch) (ss : List (Option SlotState)) (j : ℕ) → is_in t j ≡ false → is_begun t ss j ≡ false
-unbegun_out t ss j e = and_left _ _ e
+pub unbegun_out : (a : Stretch) (ss : List (Option SlotState)) (j : ℕ) → is_in a j ≡ false → is_begun a ss j ≡ false
+unbegun_out a ss j e = and_left _ _ e
 
-pub unlearned_in : (t : Stretch) (ss : List (Option SlotState)) (j : ℕ) → is_in t j ≡ true
-    → is_begun t ss j ≡ is_unlearned (stand_at ss j)
-unlearned_in t ss j e = rw e refl
+pub unlearned_in : (a : Stretch) (ss : List (Option SlotState)) (j : ℕ) → is_in a j ≡ true
+    → is_begun a ss j ≡ is_unlearned (stand_at ss j)
+unlearned_in a ss j e = rw e refl
 
 -- the message for one instance
-pub prepare_here : (t : Stretch) (p i : ℕ) (ss : List (Option SlotState)) (b : Bool) (o : Option SlotState)
+pub prepare_here : (a : Stretch) (p i : ℕ) (ss : List (Option SlotState)) (b : Bool) (o : Option SlotState)
     → stand_at ss i ≡ o → b ≡ is_unlearned o
-    → prepare_at t.members p i o ≡ cond b (prepare_of t p ss i ∷ []) []
-prepare_here t p i ss b None e h = rw h refl
-prepare_here t p i ss b (Some u) e h = rw (h, e) refl
+    → prepare_at a.members p i o ≡ cond b (prepare_of a p ss i ∷ []) []
+prepare_here a p i ss b None e h = rw h refl
+prepare_here a p i ss b (Some s) e h = rw (h, e) refl
 
 -- ---- slots that are made to stand
 
-pub stood_out : (t : Stretch) (rs : List Span) (j : ℕ) (o : Option SlotState) → is_in t j ≡ false
-    → stood_at t rs j o ≡ o
-stood_out t rs j None e = rw e refl
-stood_out t rs j (Some u) e = refl
-
-pub stood_covered : (t : Stretch) (rs : List Span) (j : ℕ) (o : Option SlotState) → covers rs j ≡ true
-    → stood_at t rs j o ≡ o
-stood_covered t rs j None e = rw e (go (is_in t j))
-  where
-    go : (b : Bool) → cond (b && false) (Some (new_slot t.members)) None ≡ None
-    go true = refl
-    go false = refl
-stood_covered t rs j (Some u) e = refl
+pub stood_out : (a : Stretch) (rs : List Span) (j : ℕ) (o : Option SlotState) → is_in a j ≡ false
+    → stood_at a rs j o ≡ o
+stood_out a rs j None e = rw e refl
+stood_out a rs j (Some s) e = refl
 
 -- where none is lacking
-pub stood_none : (t : Stretch) (rs : List Span) (ss : List (Option SlotState)) (j : ℕ)
-    → is_lacking t rs ss j ≡ false → stood_at t rs j (stand_at ss j) ≡ stand_at ss j
-stood_none t rs ss j e = go (stand_at ss j) refl
+pub stood_none : (a : Stretch) (rs : List Span) (ss : List (Option SlotState)) (j : ℕ)
+    → is_lacking a rs ss j ≡ false → stood_at a rs j (stand_at ss j) ≡ stand_at ss j
+stood_none a rs ss j e = go (stand_at ss j) refl
   where
-    go : (o : Option SlotState) → stand_at ss j ≡ o → stood_at t rs j o ≡ o
-    go (Some u) is = refl
-    go None is = let no : (is_in t j && not (covers rs j)) ≡ false =
-        plain (is_in t j) (not (covers rs j))
-        (sym (ap (λ o. is_in t j && (not (covers rs j) && is_none o)) is) ∙ e) in
-        ap (λ b. cond b (Some (new_slot t.members)) None) no
+    go : (o : Option SlotState) → stand_at ss j ≡ o → stood_at a rs j o ≡ o
+    go (Some s) is = refl
+    go None is = let no : (is_in a j && not (covers rs j)) ≡ false =
+        plain (is_in a j) (not (covers rs j))
+        (sym (ap (λ o. is_in a j && (not (covers rs j) && is_none o)) is) ∙ e) in
+        ap (λ b. cond b (Some (new_slot a.members)) None) no
       where
-        plain : (a b : Bool) → (a && (b && true)) ≡ false → (a && b) ≡ false
+        plain : (c b : Bool) → (c && (b && true)) ≡ false → (c && b) ≡ false
         plain true true e = e
         plain true false e = refl
         plain false b e = refl
 
-pub stood_in : (t : Stretch) (rs : List Span) (j : ℕ) (o : Option SlotState) → is_in t j ≡ true → covers rs j ≡ false
-    → cond (is_none o) (Some (new_slot t.members)) o ≡ stood_at t rs j o
-stood_in t rs j None e f = rw (e, f) refl
-stood_in t rs j (Some u) e f = refl
+pub stood_in : (a : Stretch) (rs : List Span) (j : ℕ) (o : Option SlotState) → is_in a j ≡ true → covers rs j ≡ false
+    → cond (is_none o) (Some (new_slot a.members)) o ≡ stood_at a rs j o
+stood_in a rs j None e f = rw (e, f) refl
+stood_in a rs j (Some s) e f = refl
 
-pub lacking_in : (t : Stretch) (rs : List Span) (ss : List (Option SlotState)) (j : ℕ) → is_in t j ≡ true
-    → covers rs j ≡ false → is_lacking t rs ss j ≡ is_none (stand_at ss j)
-lacking_in t rs ss j e f = rw (e, f) refl
+pub lacking_in : (a : Stretch) (rs : List Span) (ss : List (Option SlotState)) (j : ℕ) → is_in a j ≡ true
+    → covers rs j ≡ false → is_lacking a rs ss j ≡ is_none (stand_at ss j)
+lacking_in a rs ss j e f = rw (e, f) refl
 
-pub lacking_out : (t : Stretch) (rs : List Span) (ss : List (Option SlotState)) (j : ℕ) → is_in t j ≡ false
-    → is_lacking t rs ss j ≡ false
-lacking_out t rs ss j e = and_left _ _ e
+pub lacking_out : (a : Stretch) (rs : List Span) (ss : List (Option SlotState)) (j : ℕ) → is_in a j ≡ false
+    → is_lacking a rs ss j ≡ false
+lacking_out a rs ss j e = and_left _ _ e
 
-pub lacking_covered : (t : Stretch) (rs : List Span) (ss : List (Option SlotState)) (j : ℕ) → covers rs j ≡ true
-    → is_lacking t rs ss j ≡ false
-lacking_covered t rs ss j e = rw e (and_right (is_in t j) _ refl)
+pub lacking_covered : (a : Stretch) (rs : List Span) (ss : List (Option SlotState)) (j : ℕ) → covers rs j ≡ true
+    → is_lacking a rs ss j ≡ false
+lacking_covered a rs ss j e = rw e (and_right (is_in a j) _ refl)
 
 -- a slot that is made where none stands
 pub made_yes : {X : Type 0} (b d : Bool) (x y : X) → d ≡ true → cond b x y ≡ cond (b && d) x y
@@ -210,60 +201,64 @@ pub made_no : {X : Type 0} (b d : Bool) (x y : X) → d ≡ false → y ≡ cond
 made_no true d x y e = rw e refl
 made_no false d x y e = refl
 
-module _ (t : Stretch) (rs : List Span) (old : List (Option SlotState)) (now : List (Option SlotState)) (i next : ℕ)
-    (own : owner t.members i ≡ t.server) (low : t.first ≤ i) (high : i < t.stop) (ahead : i + 1 ≤ next)
-    (least : (k : ℕ) → i + 1 ≤ k → owner t.members k ≡ owner t.members i → next ≤ k)
-    (walked : IsWalked (stood_at t rs) (stand_at old) (stand_at now) i) (cap len : ℕ)
-    (room : HasRoomFrom (is_lacking t rs old) t.stop (cap - len) i) where
+module _ (a : Stretch) (rs : List Span) (old : List (Option SlotState)) (now : List (Option SlotState)) (i next : ℕ)
+    (own : owner a.members i ≡ a.server) (low : a.first ≤ i) (high : i < a.stop) (ahead : i + 1 ≤ next)
+    (least : (j : ℕ) → i + 1 ≤ j → owner a.members j ≡ owner a.members i → next ≤ j)
+    (walked : IsWalked (stood_at a rs) (stand_at old) (stand_at now) i) (cap len : ℕ)
+    (room : HasRoomFrom (is_lacking a rs old) a.stop (cap - len) i) where
   start : stand_at now i ≡ stand_at old i
   start = walked.rest i (omega arith)
 
-  between : (j : ℕ) → i + 1 ≤ j → j < next → stood_at t rs j (stand_at old j) ≡ stand_at old j
-  between j l h = stood_out t rs j (stand_at old j) (out_between t i next own least j l h)
+  between : (j : ℕ) → i + 1 ≤ j → j < next → stood_at a rs j (stand_at old j) ≡ stand_at old j
+  between j l h = stood_out a rs j (stand_at old j) (out_between a i next own least j l h)
 
-  gap : (j : ℕ) → i + 1 ≤ j → j < next → is_lacking t rs old j ≡ false
-  gap j l h = lacking_out t rs old j (out_between t i next own least j l h)
+  gap : (j : ℕ) → i + 1 ≤ j → j < next → is_lacking a rs old j ≡ false
+  gap j l h = lacking_out a rs old j (out_between a i next own least j l h)
 
   module _ (clear : covers rs i ≡ false) where
-    lacks : is_lacking t rs old i ≡ is_none (stand_at now i)
-    lacks = lacking_in t rs old i (in_here t i own low high) clear ∙ ap is_none (sym start)
+    lacks : is_lacking a rs old i ≡ is_none (stand_at now i)
+    lacks = lacking_in a rs old i (in_here a i own low high) clear ∙ ap is_none (sym start)
 
     pub filled_room : is_none (stand_at now i) ≡ true → len < cap
-    filled_room none = let some = room_here (is_lacking t rs old) t.stop (cap - len) i high (lacks ∙ none) room in
+    filled_room none = let some = room_here (is_lacking a rs old) a.stop (cap - len) i high (lacks ∙ none) room in
         omega (arith, some)
 
     module _ (new : List (Option SlotState))
-        (made : (j : ℕ) → stand_at new j ≡ cond (eqb j i && is_none (stand_at now i)) (Some (new_slot t.members))
+        (made : (j : ℕ) → stand_at new j ≡ cond (eqb j i && is_none (stand_at now i)) (Some (new_slot a.members))
         (stand_at now j)) where
-      pub filled_walked : IsWalked (stood_at t rs) (stand_at old) (stand_at new) next
-      filled_walked = walked_more (stood_at t rs) (stand_at old) (stand_at now) (stand_at new) i next ahead between
-          (made i ∙ ap (λ b. cond (b && is_none (stand_at now i)) (Some (new_slot t.members)) (stand_at now i))
+      pub filled_walked : IsWalked (stood_at a rs) (stand_at old) (stand_at new) next
+      filled_walked = walked_more (stood_at a rs) (stand_at old) (stand_at now) (stand_at new) i next ahead between
+          (made i ∙ ap (λ b. cond (b && is_none (stand_at now i)) (Some (new_slot a.members)) (stand_at now i))
           (eq-eqb i i refl)
-          ∙ stood_in t rs i (stand_at now i) (in_here t i own low high) clear)
-          (λ j off. made j ∙ ap (λ b. cond (b && is_none (stand_at now i)) (Some (new_slot t.members))
+          ∙ stood_in a rs i (stand_at now i) (in_here a i own low high) clear)
+          (λ j off. made j ∙ ap (λ b. cond (b && is_none (stand_at now i)) (Some (new_slot a.members))
           (stand_at now j)) (ne_eqb j i off))
           walked
 
     pub filled_more : (more : ℕ) → more ≡ len + cond (is_none (stand_at now i)) 1 0
-        → HasRoomFrom (is_lacking t rs old) t.stop (cap - more) next
-    filled_more more is = room_gap (is_lacking t rs old) t.stop (cap - more) (i + 1) next ahead gap
-        (room_more (is_lacking t rs old) t.stop (cap - len) (cap - more) i (go (is_none (stand_at now i)) refl) room)
+        → HasRoomFrom (is_lacking a rs old) a.stop (cap - more) next
+    filled_more more is = room_gap (is_lacking a rs old) a.stop (cap - more) (i + 1) next ahead gap
+        (room_more (is_lacking a rs old) a.stop (cap - len) (cap - more) i (go (is_none (stand_at now i)) refl) room)
       where
-        go : (b : Bool) → is_none (stand_at now i) ≡ b → (cap - more) + cond (is_lacking t rs old i) 1 0 ≡ cap - len
+        go : (b : Bool) → is_none (stand_at now i) ≡ b → (cap - more) + cond (is_lacking a rs old i) 1 0 ≡ cap - len
         go true e = let fits = filled_room e in let one : more ≡ len + 1 = is
             ∙ ap (λ b. len + cond b 1 0) e in rw (lacks ∙ e) (omega (arith, fits, one))
         go false e = let none : more ≡ len + 0 = is
             ∙ ap (λ b. len + cond b 1 0) e in rw (lacks ∙ e) (omega (arith, none))
 
-  module _ (covered : covers rs i ≡ true) where
-    pub passed_walked : IsWalked (stood_at t rs) (stand_at old) (stand_at now) next
-    passed_walked = walked_more (stood_at t rs) (stand_at old) (stand_at now) (stand_at now) i next ahead between
-        (sym (stood_covered t rs i (stand_at now i) covered)) (λ j off. refl) walked
+  -- where a slot stands
+  pub stands_whole : is_none (stand_at now i) ≡ false → is_lacking a rs old i ≡ false
+  stands_whole some = and_right (is_in a i) _ (and_right (not (covers rs i)) _ (ap is_none (sym start) ∙ some))
 
-    pub passed_room : HasRoomFrom (is_lacking t rs old) t.stop (cap - len) next
-    passed_room = room_gap (is_lacking t rs old) t.stop (cap - len) i next (omega arith)
+  module _ (whole : is_lacking a rs old i ≡ false) where
+    pub passed_walked : IsWalked (stood_at a rs) (stand_at old) (stand_at now) next
+    passed_walked = walked_more (stood_at a rs) (stand_at old) (stand_at now) (stand_at now) i next ahead between
+        (start ∙ sym (stood_none a rs old i whole) ∙ ap (stood_at a rs i) (sym start)) (λ j off. refl) walked
+
+    pub passed_room : HasRoomFrom (is_lacking a rs old) a.stop (cap - len) next
+    passed_room = room_gap (is_lacking a rs old) a.stop (cap - len) i next (omega arith)
         (λ j l h. ⊎_elim
-        (λ (at : j ≡ i). ap (is_lacking t rs old) at ∙ lacking_covered t rs old i covered)
+        (λ (at : j ≡ i). ap (is_lacking a rs old) at ∙ whole)
         (λ (off : j ≡ i → ⊥). gap j (omega arith) h)
         (cases_eq j i)) room
 

@@ -7,11 +7,11 @@ use Rattle.mencius_server.specs.declared.change.Change.{Change}
 use Rattle.mencius_server.specs.declared.change.Change.TheVariants.{Promise, Accept, CountPromise, CountAccept, Learn}
 
 abbrev pub changed : SlotState → Change → SlotState
-changed t (Promise ballot) = after_prepare t ballot
-changed t (Accept ballot value) = after_accept t ballot value
-changed t (CountPromise from ballot vote) = after_promise t from ballot vote
-changed t (CountAccept from ballot) = after_acceptance t from ballot
-changed t (Learn value) = after_learn t value
+changed s (Promise ballot) = after_prepare s ballot
+changed s (Accept ballot value) = after_accept s ballot value
+changed s (CountPromise from ballot vote) = after_promise s from ballot vote
+changed s (CountAccept from ballot) = after_acceptance s from ballot
+changed s (Learn value) = after_learn s value
 
 -- who promised or accepted is a member, and no promise is of ballot 0
 abbrev pub IsSaid : Membership → Change → Type 0

@@ -3,6 +3,7 @@ pub mod Notes
 pub mod Kept
 pub mod Machine
 pub mod Reached
+pub mod Glances
 pub mod Laws
 pub mod Ranges
 pub mod Stretches
@@ -11,4 +12,4 @@ pub mod Slots
 pub mod Lending
 pub mod Changes
 pub mod Known
-pub mod Surveys
+pub mod Tallies

@@ -4,14 +4,15 @@ use Rattle.std.specs.List.{count_by}
 use Rattle.mencius_base.specs.Members.{instances}
 use Rattle.coord_paxos.specs.SlotState.{SlotState}
 use Rattle.mencius_base.specs.Limits.{instance_count}
+use Rattle.mencius_base.specs.Numbers.{Inst}
 
 -- the slot at a place
 abbrev pub slot_in : List SlotState → Option ℕ → Option SlotState
 slot_in slots None = None
-slot_in slots (Some k) = slice_get slots k
+slot_in slots (Some place) = slice_get slots place
 
 -- the slot that stands at an instance
-abbrev pub standing_at : List (Option ℕ) → List SlotState → ℕ → Option SlotState
+abbrev pub standing_at : List (Option ℕ) → List SlotState → Inst → Option SlotState
 standing_at places slots j = slot_in slots (slice_index_or places j None)
 
 -- for each instance, the slot that stands there
@@ -21,6 +22,7 @@ standing places slots = map (standing_at places slots) instances
 -- each place is a slot's, each slot has one, and no two instances have the same
 pub record IsPlaced (places : List (Option ℕ)) (slots : ℕ) : Type 0 where
   pub few : length places ≤ instance_count
-  pub within : (j k : ℕ) → slice_index_or places j None ≡ Some k → k < slots
-  pub apart : (i j k : ℕ) → slice_index_or places i None ≡ Some k → slice_index_or places j None ≡ Some k → i ≡ j
+  pub within : (j : Inst) (place : ℕ) → slice_index_or places j None ≡ Some place → place < slots
+  pub apart : (i j : Inst) (place : ℕ) → slice_index_or places i None ≡ Some place
+      → slice_index_or places j None ≡ Some place → i ≡ j
   pub count : slots ≡ count_by is_some places

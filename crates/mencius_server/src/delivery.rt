@@ -2,18 +2,16 @@
 ghost use Rattle.mencius_base.specs.Limits.{instance_count};
 ghost use Rattle.coord_paxos.specs.Fresh.{new_slot};
 ghost use Rattle.coord_paxos.specs.Slot.{accept_answer};
-ghost use Rattle.mencius_model.specs.History.{History, sent};
 ghost use Rattle.mencius_base.specs.Members.{below, instances};
 ghost use Rattle.mencius_base.specs.Message.{is_addressed};
 ghost use Rattle.mencius_base.specs.Outbox.{outbox_full};
 ghost use Rattle.mencius_base.specs.Refusal.{IsRefusedFor};
-ghost use Rattle.mencius_base.specs.declared.event.Event.TheVariants.{Deliver};
 ghost use Rattle.mencius_base.specs.declared.message.Message.TheVariants.{Prepare};
 ghost use Rattle.mencius_base.specs.declared.message.Value.TheVariants.{Noop};
-ghost use Rattle.mencius_base.specs.declared.refusal.Refusal.TheVariants.{NoMemory};
-ghost use Rattle.mencius_server.specs.Machine.{IsUndone, accepted_sent, after_accepted, after_hearing, after_learn_at, after_skip, given_count, is_given, slot_given, after_prepare_at, after_promise_at, after_propose, after_suggest, learned_on, one_if_some, prepare_sent, promise_sent, propose_sent, sent_on, skip_sent, suggest_sent, next_front};
-ghost use Rattle.mencius_model.specs.Next.{learnings, lines};
-ghost use Rattle.mencius_server.specs.Reached.{IsAt, IsStep, refusal_of};
+ghost use Rattle.mencius_server.specs.Machine.{IsUndone, accepted_sent, after_accepted, after_hearing, after_learn_at, after_skip, given_count, is_given, slot_given, after_prepare_at, after_promise_at, after_propose, after_suggest, learned_on, decided_on, prepare_sent, promise_sent, propose_sent, sent_on, skip_sent, suggest_sent, next_front};
+ghost use Rattle.mencius_model.specs.Trace.{messages_of};
+ghost use Rattle.mencius_model.specs.Next.{learnings};
+ghost use Rattle.mencius_model.specs.Rules.{decision_lines};
 ghost use Rattle.mencius_server.specs.State.{slot};
 ghost use Rattle.std.specs.List.{count_by};
 ghost use Rattle.std.specs.Prelude.{◌≡◌, ◌⊎◌, ◌+◌, ◌<◌, ◌≤◌, ◌++◌, ◌==◌, length, is_none, OnOk, OnErr, IfOk, IfErr, if◌then◌else◌, IsTrue, Some, ℕ, slice_get, slice_index_or, vec_len};
@@ -21,7 +19,7 @@ ghost use Rattle.std.specs.Prelude.{◌≡◌, ◌⊎◌, ◌+◌, ◌<◌, ◌�
 use crate::Server;
 use crate::change::Change;
 use coord_paxos::Answer;
-use mencius_base::{Ballot, Message, Outbox, Refusal, Value, Vote};
+use mencius_base::{Ballot, Message, NoMemory, Outbox, Refusal, Value, Vote};
 
 impl Server {
     /// Hears a message, and answers how many instances were learned (Mao, Junqueira and Marzullo, OSDI
@@ -48,36 +46,24 @@ impl Server {
     /// `MessagesFull` where `out` can't take the messages that are sent, then `NoMemory`.
     pub fn hear(&mut self, message: &Message, out: &mut Outbox) -> Result<u32, Refusal>
         requires { IsTrue (is_addressed self.old.members self.old.id message.now) }
-
-        // In every reached history that this server and this message are of, the call is the delivery.
-        ensures step { IfOk result (λ n. (w : History) (k : ℕ) → IsAt w self.old → slice_get (sent w) k ≡ Some message.now
-            → IsStep w (Deliver k self.old.id) self.old self.new out.old out.new) }
-        ensures learned { IfOk result (λ n. (w : History) (k : ℕ) → IsAt w self.old → slice_get (sent w) k ≡ Some message.now
-            → n ≡ learnings (lines self.old.members w (Deliver k self.old.id))) }
-        ensures refusal { (w : History) (k : ℕ) → IsAt w self.old → slice_get (sent w) k ≡ Some message.now
-            → IsRefusedFor (refusal_of w (Deliver k self.old.id) self.old out.old) result }
+        // What it does by the server's own state, whatever was heard before; `laws::events` says
+        // that in every reached trace it is the delivery.
+        ensures sent { OnOk result (out.new.messages
+            ≡ out.old.messages ++ sent_on self.old message.now) }
+        ensures after { OnOk result (self.new ≡ after_hearing self.old message.now) }
+        ensures learned { IfOk result (λ n. n ≡ learned_on self.old message.now) }
+        ensures refusal { IsRefusedFor
+            (outbox_full out.old (length (sent_on self.old message.now))) result }
         ensures err { OnErr result (IsUndone self.old self.new out.old out.new) }
         ensures members { self.new.members ≡ self.old.members }
         ensures id { self.new.id ≡ self.old.id }
         ensures limit { out.new.limit ≡ out.old.limit }
     {
-        self.apply(message, out)
-    }
-
-    fn apply(&mut self, message: &Message, out: &mut Outbox) -> Result<u32, Refusal>
-        requires { IsTrue (is_addressed self.old.members self.old.id message.now) }
-        ensures sent { OnOk result (out.new.messages ≡ out.old.messages ++ sent_on self.old message.now) }
-        ensures after { OnOk result (self.new ≡ after_hearing self.old message.now) }
-        ensures learned { IfOk result (λ n. n ≡ learned_on self.old message.now) }
-        ensures limit { out.new.limit ≡ out.old.limit }
-        ensures err { OnErr result (IsUndone self.old self.new out.old out.new) }
-        ensures refusal { IsRefusedFor (outbox_full out.old (length (sent_on self.old message.now))) result }
-    {
         // The proof reads off the length that the outbox is within its limit.
         let _few = out.len();
         match *message {
             Message::Suggest { from, inst, ticket } => self.hear_suggest(from, inst, ticket, out),
-            Message::Skip { from, first, stop } => self.hear_skip(from, first, stop),
+            Message::Skip { from, first, stop } => Ok(self.hear_skip(from, first, stop)?),
             Message::Accepted {
                 from,
                 inst,
@@ -98,17 +84,16 @@ impl Server {
                 ballot,
                 value,
             } => self.hear_propose(from, inst, ballot, value, out),
-            Message::Learn { inst, value, .. } => self.hear_learn(inst, value),
+            Message::Learn { inst, value, .. } => Ok(self.hear_learn(inst, value)?),
         }
     }
 
-    fn hear_skip(&mut self, from: u8, first: u32, stop: u32) -> Result<u32, Refusal>
+    fn hear_skip(&mut self, from: u8, first: u32, stop: u32) -> Result<u32, NoMemory>
         requires member { from < self.old.members.count }
         requires small { first < instance_count }
         ensures after { OnOk result (self.new ≡ after_skip self.old from first stop) }
         ensures learned { IfOk result (λ n. n ≡ given_count self.old from first stop) }
         ensures err { OnErr result (self.new ≡ self.old) }
-        ensures memory { IfErr result (λ r. r ≡ NoMemory) }
     {
         let learned = self.known.skip(from, first, stop)?;
         if from == self.id {
@@ -125,12 +110,14 @@ impl Server {
         out: &mut Outbox,
     ) -> Result<u32, Refusal>
         requires small { inst < instance_count }
-        ensures sent { OnOk result (out.new.messages ≡ out.old.messages ++ suggest_sent self.old from inst) }
+        ensures sent { OnOk result (out.new.messages
+            ≡ out.old.messages ++ suggest_sent self.old from inst) }
         ensures after { OnOk result (self.new ≡ after_suggest self.old inst ticket) }
         ensures learned { IfOk result (λ n. n ≡ 0) }
         ensures limit { out.new.limit ≡ out.old.limit }
         ensures err { OnErr result (IsUndone self.old self.new out.old out.new) }
-        ensures refusal { IsRefusedFor (outbox_full out.old (length (suggest_sent self.old from inst))) result }
+        ensures refusal { IsRefusedFor
+            (outbox_full out.old (length (suggest_sent self.old from inst))) result }
     {
         let first = self.front;
         let is_ahead = first < inst;
@@ -161,12 +148,14 @@ impl Server {
         out: &mut Outbox,
     ) -> Result<u32, Refusal>
         requires small { inst < instance_count }
-        ensures sent { OnOk result (out.new.messages ≡ out.old.messages ++ prepare_sent self.old from inst ballot) }
+        ensures sent { OnOk result (out.new.messages
+            ≡ out.old.messages ++ prepare_sent self.old from inst ballot) }
         ensures after { OnOk result (self.new ≡ after_prepare_at self.old inst ballot) }
         ensures learned { IfOk result (λ n. n ≡ 0) }
         ensures limit { out.new.limit ≡ out.old.limit }
         ensures err { OnErr result (IsUndone self.old self.new out.old out.new) }
-        ensures refusal { IsRefusedFor (outbox_full out.old (length (prepare_sent self.old from inst ballot))) result }
+        ensures refusal { IsRefusedFor
+            (outbox_full out.old (length (prepare_sent self.old from inst ballot))) result }
     {
         // The proof reads off the length that the outbox is within its limit.
         let _few = out.len();
@@ -206,12 +195,14 @@ impl Server {
         requires member { from < self.old.members.count }
         requires small { inst < instance_count }
         requires tried { 0 < ballot }
-        ensures sent { OnOk result (out.new.messages ≡ out.old.messages ++ promise_sent self.old from inst ballot vote) }
+        ensures sent { OnOk result (out.new.messages
+            ≡ out.old.messages ++ promise_sent self.old from inst ballot vote) }
         ensures after { OnOk result (self.new ≡ after_promise_at self.old from inst ballot vote) }
         ensures learned { IfOk result (λ n. n ≡ 0) }
         ensures limit { out.new.limit ≡ out.old.limit }
         ensures err { OnErr result (IsUndone self.old self.new out.old out.new) }
-        ensures refusal { IsRefusedFor (outbox_full out.old (length (promise_sent self.old from inst ballot vote))) result }
+        ensures refusal { IsRefusedFor
+            (outbox_full out.old (length (promise_sent self.old from inst ballot vote))) result }
     {
         // The proof reads off the length that the outbox is within its limit.
         let _few = out.len();
@@ -243,12 +234,14 @@ impl Server {
         out: &mut Outbox,
     ) -> Result<u32, Refusal>
         requires small { inst < instance_count }
-        ensures sent { OnOk result (out.new.messages ≡ out.old.messages ++ propose_sent self.old from inst ballot) }
+        ensures sent { OnOk result (out.new.messages
+            ≡ out.old.messages ++ propose_sent self.old from inst ballot) }
         ensures after { OnOk result (self.new ≡ after_propose self.old inst ballot value) }
         ensures learned { IfOk result (λ n. n ≡ 0) }
         ensures limit { out.new.limit ≡ out.old.limit }
         ensures err { OnErr result (IsUndone self.old self.new out.old out.new) }
-        ensures refusal { IsRefusedFor (outbox_full out.old (length (propose_sent self.old from inst ballot))) result }
+        ensures refusal { IsRefusedFor
+            (outbox_full out.old (length (propose_sent self.old from inst ballot))) result }
     {
         // The proof reads off the length that the outbox is within its limit.
         let _few = out.len();
@@ -266,12 +259,12 @@ impl Server {
         Ok(0)
     }
 
-    fn hear_learn(&mut self, inst: u32, value: Value) -> Result<u32, Refusal>
+    fn hear_learn(&mut self, inst: u32, value: Value) -> Result<u32, NoMemory>
         requires small { inst < instance_count }
         ensures after { OnOk result (self.new ≡ after_learn_at self.old inst value) }
-        ensures learned { IfOk result (λ n. n ≡ (if is_none (slot self.old inst).learned then 1 else 0)) }
+        ensures learned { IfOk result
+            (λ n. n ≡ (if is_none (slot self.old inst).learned then 1 else 0)) }
         ensures err { OnErr result (self.new ≡ self.old) }
-        ensures memory { IfErr result (λ r. r ≡ NoMemory) }
     {
         if self.known.learned(inst).is_some() {
             return Ok(0);
@@ -289,12 +282,14 @@ impl Server {
     ) -> Result<u32, Refusal>
         requires member { from < self.old.members.count }
         requires small { inst < instance_count }
-        ensures sent { OnOk result (out.new.messages ≡ out.old.messages ++ accepted_sent self.old from inst ballot) }
+        ensures sent { OnOk result (out.new.messages
+            ≡ out.old.messages ++ accepted_sent self.old from inst ballot) }
         ensures after { OnOk result (self.new ≡ after_accepted self.old from inst ballot) }
-        ensures learned { IfOk result (λ n. n ≡ one_if_some (accept_answer (slot self.old inst) from ballot)) }
+        ensures learned { IfOk result (λ n. n ≡ learnings (decided_on self.old from inst ballot)) }
         ensures limit { out.new.limit ≡ out.old.limit }
         ensures err { OnErr result (IsUndone self.old self.new out.old out.new) }
-        ensures refusal { IsRefusedFor (outbox_full out.old (length (accepted_sent self.old from inst ballot))) result }
+        ensures refusal { IsRefusedFor
+            (outbox_full out.old (length (accepted_sent self.old from inst ballot))) result }
     {
         // The proof reads off the length that the outbox is within its limit.
         let _few = out.len();

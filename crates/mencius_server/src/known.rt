@@ -3,25 +3,27 @@ ghost use Rattle.mencius_base.specs.Limits.{greatest_front, greatest_round, inst
 ghost use Rattle.coord_paxos.specs.Slot.{accept_answer, prepare_answer, promise_answer};
 ghost use Rattle.coord_paxos.specs.SlotState.{SlotState};
 ghost use Rattle.mencius_base.specs.Members.{below, first_owned, instances, owner};
-ghost use Rattle.mencius_base.specs.declared.refusal.Refusal.TheVariants.{NoMemory};
 ghost use Rattle.mencius_server.specs.Changes.{IsSaid, changed};
-ghost use Rattle.mencius_server.specs.Known.{IsSorted, has_slot, is_bare, is_bare_in, is_given_in, is_open, is_open_in, is_passed, known_after_skip, known_after_suggest, known_after_suspect, known_at, known_begun, known_given, known_slot, known_standing, known_stood, new_known, prepares, prepares_in, unheard, with_known};
+ghost use Rattle.mencius_server.specs.Glances.{glance_of};
+ghost use Rattle.mencius_server.specs.Known.{IsSorted, has_slot, is_given_in, is_open, is_open_in, is_passed, known_after_skip, known_after_suggest, known_after_suspect, known_at, known_begun, known_given, known_slot, known_standing, known_stood, new_known, prepares, prepares_in, unheard, with_known};
 ghost use Rattle.mencius_server.specs.Machine.{round_after};
 ghost use Rattle.mencius_server.specs.Ranges.{IsOwned, IsRising, covers, is_within};
 ghost use Rattle.mencius_server.specs.Slots.{given, stand_at};
 ghost use Rattle.mencius_server.specs.Stretches.{IsStretch};
-ghost use Rattle.mencius_server.specs.Surveys.{IsOpenStretch, IsSurvey, surveyed};
+ghost use Rattle.mencius_server.specs.Tallies.{IsOpenStretch, IsSurvey, IsTally, IsTallyFrom, IsTold, known_by_slot, tallied, tally_of};
+ghost use Rattle.mencius_server.specs.declared.tally.Tally.{Tally};
 ghost use Rattle.std.specs.List.{count_by};
 ghost use Rattle.std.specs.Option.{option_map};
 ghost use Rattle.std.specs.Prelude.{◌≡◌, ℕ, ◌+◌, ◌<◌, ◌≤◌, ◌++◌, ◌||◌, [], false, true, None, Some, is_none, length, slice_index_or, IfErr, IfOk, OnErr, OnOk};
 
 use crate::change::Change;
+use crate::glance::{Glance, glance_at};
 use crate::ranges::Ranges;
-use crate::slots::Slots;
+use crate::slots::{Slots, blank};
 use crate::stretch::{Stretch, next_owned};
-use crate::survey::{Survey, Surveys};
+use crate::tally::{Tallies, Tally};
 use coord_paxos::{Answer, Slot};
-use mencius_base::{Ballot, INSTANCES, Members, Outbox, Refusal, Value, Vote};
+use mencius_base::{Ballot, INSTANCES, Members, NoMemory, Outbox, Value, Vote};
 use std::alloc::Global;
 use std::marker::Model;
 
@@ -37,26 +39,25 @@ pub(crate) struct Known {
     skipped: Vec<Ranges>,
     // The least instance that is not learned.
     learned_below: u32,
-    // What suspicions would begin, as far as it was looked up since the last change.
-    surveys: Surveys,
+    // What suspicions would revoke, as far as it was asked.
+    tallies: Tallies,
 }
 
 impl Model for Known {
     ghost use Rattle.mencius_server.specs.Known.{KnownState, known_of};
-    ghost use Rattle.mencius_server.specs.Surveys.{IsKnown};
+    ghost use Rattle.mencius_server.specs.Tallies.{IsKnown};
 
     ghost Value = { KnownState };
 
-    ghost view = { λ k. known_of k.members k.slots k.skipped.items };
+    ghost view = { λ s. known_of s.members s.slots s.skipped.items };
 
-    ghost invariant = { λ k. IsKnown k.members k.slots k.skipped.items k.learned_below k.surveys };
+    ghost invariant = { λ s. IsKnown s.members s.slots s.skipped.items s.learned_below s.tallies };
 }
 
 impl Known {
     /// Nothing is known of any instance.
-    pub(crate) fn new(alloc: Global, members: Members) -> Result<Known, Refusal>
-        ensures ok { IfOk result (λ k. k ≡ new_known members) }
-        ensures memory { IfErr result (λ r. r ≡ NoMemory) }
+    pub(crate) fn new(alloc: Global, members: Members) -> Result<Known, NoMemory>
+        ensures ok { IfOk result (λ s. s ≡ new_known members) }
     {
         let skipped = no_ranges(alloc, members)?;
         Ok(Known {
@@ -64,7 +65,7 @@ impl Known {
             slots: Slots::new(alloc),
             skipped,
             learned_below: 0,
-            surveys: Surveys::new(),
+            tallies: Tallies::new(),
         })
     }
 
@@ -106,6 +107,17 @@ impl Known {
         match self.slots.get(inst) {
             Some(slot) => slot.trying(),
             None => Ballot::OWNER,
+        }
+    }
+
+    /// What is known of an instance, in short.
+    pub(crate) fn glance(&self, inst: u32) -> Glance
+        requires { inst < instance_count }
+        ensures { result ≡ glance_of (known_slot self.now inst) }
+    {
+        match self.slots.get(inst) {
+            Some(slot) => glance_at(slot),
+            None => glance_at(&unheard(&self.skipped, self.members, inst)),
         }
     }
 
@@ -153,7 +165,8 @@ impl Known {
     /// Whether a server's acceptance at the ballot that is tried was counted at an instance.
     pub(crate) fn has_accepter(&self, inst: u32, from: u8) -> bool
         requires { inst < instance_count }
-        ensures { result ≡ true → slice_index_or (known_slot self.now inst).accepters from false ≡ true }
+        ensures { result ≡ true → slice_index_or (known_slot self.now inst).accepters from false
+            ≡ true }
     {
         match self.slots.get(inst) {
             Some(slot) => {
@@ -165,16 +178,16 @@ impl Known {
     }
 
     /// Changes an instance's slot where it stands. It comes to stand where none did, which alone takes memory.
-    pub(crate) fn change(&mut self, inst: u32, change: Change) -> Result<(), Refusal>
+    pub(crate) fn change(&mut self, inst: u32, change: Change) -> Result<(), NoMemory>
         requires small { inst < instance_count }
         requires said { IsSaid (known_slot self.old inst).members change }
-        ensures ok { OnOk result (self.new ≡ with_known self.old inst (changed (known_slot self.old inst) change)) }
+        ensures ok { OnOk result (self.new
+            ≡ with_known self.old inst (changed (known_slot self.old inst) change)) }
         ensures err { OnErr result (self.new ≡ self.old) }
-        ensures memory { IfErr result (λ r. r ≡ NoMemory) }
     {
         self.stand(inst)?;
-        change.make(self.slots.at(inst));
-        self.surveys.clear();
+        let slot = self.slots.at(inst);
+        self.tallies.change(self.members, inst, slot, change);
         if inst == self.learned_below {
             self.learned_below = learned_from(&self.slots, &self.skipped, self.members, inst);
         }
@@ -182,61 +195,63 @@ impl Known {
     }
 
     /// Notes the server's own suggestion at an instance where it made none.
-    pub(crate) fn suggest(&mut self, inst: u32, ticket: u32) -> Result<(), Refusal>
+    pub(crate) fn suggest(&mut self, inst: u32, ticket: u32) -> Result<(), NoMemory>
         requires small { inst < instance_count }
         requires unsaid { (known_slot self.old inst).proposal ≡ None }
         requires own { (known_slot self.old inst).trying ≡ 0 }
         ensures ok { OnOk result (self.new ≡ known_after_suggest self.old inst ticket) }
         ensures err { OnErr result (self.new ≡ self.old) }
-        ensures memory { IfErr result (λ r. r ≡ NoMemory) }
     {
         self.stand(inst)?;
         self.slots.at(inst).suggest(ticket);
-        self.surveys.clear();
         Ok(())
     }
 
     // Makes a slot stand at an instance, if none does.
-    fn stand(&mut self, inst: u32) -> Result<(), Refusal>
+    fn stand(&mut self, inst: u32) -> Result<(), NoMemory>
         requires { inst < instance_count }
         ensures ok { OnOk result (self.new ≡ known_standing self.old inst) }
         ensures there { OnOk result (has_slot self.new inst ≡ true) }
         ensures err { OnErr result (self.new ≡ self.old) }
-        ensures memory { IfErr result (λ r. r ≡ NoMemory) }
     {
         if self.slots.has(inst) {
             return Ok(());
         }
-        let slot = unheard(&self.skipped, self.members, inst);
-        self.slots.stand(inst, slot)?;
-        self.surveys.clear();
+        let was_skipped = is_passed(&self.skipped, self.members, inst);
+        self.slots.stand(self.members, inst, was_skipped)?;
         Ok(())
     }
 
     /// Learns no-op at a server's instances in a range, and answers at how many nothing was learned before.
     ///
     /// A range that was skipped before costs a search among the ranges. Else it takes about the time of the slots
-    /// that may stand in the range.
-    pub(crate) fn skip(&mut self, from: u8, first: u32, stop: u32) -> Result<u32, Refusal>
+    /// that may stand in the range, and, where the server was suspected, of those of its instances up to the front
+    /// then that were in no range.
+    pub(crate) fn skip(&mut self, from: u8, first: u32, stop: u32) -> Result<u32, NoMemory>
         requires member { from < self.old.members.count }
         requires small { first < instance_count }
         ensures after { OnOk result (self.new ≡ known_after_skip self.old from first stop) }
         ensures learned { IfOk result (λ n. n ≡ known_given self.old from first stop) }
         ensures err { OnErr result (self.new ≡ self.old) }
-        ensures memory { IfErr result (λ r. r ≡ NoMemory) }
     {
         let members = self.members;
         let first = members.first_owned(from, first);
         let stop = members.first_owned(from, stop.min(INSTANCES));
+        if self.skipped[from as usize].past(first) >= stop {
+            return Ok(0);
+        }
         let stretch = Stretch {
             members,
             server: from,
             first,
             stop,
         };
+        // The proof reads off the count that there are few members.
+        let _few = members.count();
+        let tally = tally_given(&self.slots, &self.skipped, &stretch, self.tallies.get(from));
         let ranges = &mut self.skipped[from as usize];
         let learned = skip_stretch(&mut self.slots, ranges, &stretch)?;
-        self.surveys.clear();
+        self.tallies.put(from, tally);
         self.learned_below = learned_from(
             &self.slots,
             &self.skipped,
@@ -246,92 +261,76 @@ impl Known {
         Ok(learned)
     }
 
-    /// What a suspicion of a server would begin, up to a front.
-    pub(crate) fn survey(&self, suspected: u8, front: u32) -> Survey
-        requires suspected { suspected < self.now.members.count }
-        requires near { front ≤ greatest_front }
-        ensures { IsSurvey self.now suspected front result }
-    {
-        // The proof reads off the count that there are few members.
-        let _few = self.members.count();
-        match self.surveys.find(suspected, front) {
-            Some(survey) => survey,
-            None => self.survey_all(suspected, front),
-        }
-    }
-
-    /// Keeps what was found until something changes: a suspicion that is refused again and again looks at each
-    /// instance once.
-    pub(crate) fn remember(&mut self, suspected: u8, front: u32, survey: Survey)
+    /// What a suspicion of a server would revoke, up to a front.
+    ///
+    /// It counts on from the front of the last call, since whatever changed below that was counted when it changed. So
+    /// all calls together look at each instance once, and at none that a range has.
+    pub(crate) fn tally(&mut self, suspected: u8, front: u32) -> Tally
         requires suspected { suspected < self.old.members.count }
-        requires survey { IsSurvey self.old suspected front survey }
-        ensures { self.new ≡ self.old }
-    {
-        self.surveys.keep(suspected, front, survey);
-    }
-
-    // Looks at each instance of a server up to a front.
-    fn survey_all(&self, suspected: u8, front: u32) -> Survey
-        requires suspected { suspected < self.now.members.count }
         requires near { front ≤ greatest_front }
-        ensures { IsSurvey self.now suspected front result }
+        ensures survey { IsSurvey self.old suspected front result }
+        ensures same { self.new ≡ self.old }
     {
-        let stretch = self.open_stretch(suspected, front);
-        let stop = stretch.stop;
-        let mut survey = Survey::nothing();
-        let mut inst = stretch.first;
-        while inst < stop {
-            let (seen, next) = self.survey_at(&stretch, inst, survey);
-            survey = seen;
-            inst = next;
+        let members = self.members;
+        // The proof reads off the count that there are few members.
+        let _few = members.count();
+        let stop = (front + 1).min(INSTANCES);
+        // A server's front never moves back, and then this is all that was counted.
+        let start = self.tallies.up_to(suspected, stop);
+        if start.stop == stop {
+            return start;
         }
-        survey
+        let first = start.stop.max(self.learned_below).min(stop);
+        let further = tally_from(&self.slots, &self.skipped, members, suspected, first, stop);
+        let tally = start.plus(further);
+        self.tallies.put(suspected, tally);
+        tally
     }
 
     /// Starts a first phase at each instance of a server, up to a front, where nothing was learned.
     ///
-    /// There is room for the Prepares. At most so many of the instances lack a slot.
+    /// There is room for the Prepares, and there are at most so many of these instances.
     pub(crate) fn begin_all(
         &mut self,
         id: u8,
         suspected: u8,
         front: u32,
-        bare: u32,
+        open_count: u32,
         out: &mut Outbox,
-    ) -> Result<(), Refusal>
+    ) -> Result<(), NoMemory>
         requires id { id < self.old.members.count }
         requires suspected { suspected < self.old.members.count }
         requires near { front ≤ greatest_front }
-        requires bare { count_by (is_bare self.old suspected front) instances ≤ bare }
-        requires rounds { (j : ℕ) → j < instance_count → is_open self.old suspected front j ≡ true → round_after self.old.members (known_slot self.old j) ≤ greatest_round }
+        requires few { count_by (is_open self.old suspected front) instances ≤ open_count }
+        requires rounds { (j : ℕ) → j < instance_count → is_open self.old suspected front j ≡ true
+            → round_after self.old.members (known_slot self.old j) ≤ greatest_round }
         requires room { count_by (is_open self.old suspected front) instances ≤ out.old.room }
-        ensures sent { OnOk result (out.new.messages ≡ out.old.messages ++ prepares self.old id suspected front) }
+        ensures sent { OnOk result (out.new.messages
+            ≡ out.old.messages ++ prepares self.old id suspected front) }
         ensures after { OnOk result (self.new ≡ known_after_suspect self.old id suspected front) }
         ensures limit { out.new.limit ≡ out.old.limit }
         ensures same { OnErr result (self.new ≡ self.old) }
-        ensures unsent { OnErr result (out.new.messages ≡ out.old.messages) }
-        ensures memory { IfErr result (λ r. r ≡ NoMemory) }
+        ensures unsent { OnErr result (out.new ≡ out.old) }
     {
         let stretch = self.open_stretch(suspected, front);
-        self.stand_open(&stretch, bare)?;
+        self.stand_open(&stretch, open_count)?;
         self.begin_open(&stretch, id, out);
         Ok(())
     }
 
-    // Makes slots stand at the instances of a stretch that are not learned, of which at most so many lack one.
-    fn stand_open(&mut self, stretch: &Stretch, bare: u32) -> Result<(), Refusal>
+    // Makes slots stand at the instances of a stretch that are not learned, of which there are at most so many.
+    fn stand_open(&mut self, stretch: &Stretch, open_count: u32) -> Result<(), NoMemory>
         requires stretch { IsStretch stretch.now }
         requires members { stretch.now.members ≡ self.old.members }
         requires small { stretch.now.stop ≤ instance_count }
-        requires bare { count_by (is_bare_in self.old stretch.now) (below stretch.now.stop) ≤ bare }
+        requires few { count_by (is_open_in self.old stretch.now) (below stretch.now.stop)
+            ≤ open_count }
         ensures ok { OnOk result (self.new ≡ known_stood self.old stretch.now) }
         ensures err { OnErr result (self.new ≡ self.old) }
-        ensures memory { IfErr result (λ r. r ≡ NoMemory) }
     {
         let server = stretch.server;
         let skipped = &self.skipped[server as usize];
-        self.slots.stand_all(*stretch, skipped, bare)?;
-        self.surveys.clear();
+        self.slots.stand_all(*stretch, skipped, open_count)?;
         Ok(())
     }
 
@@ -341,45 +340,27 @@ impl Known {
         requires members { stretch.now.members ≡ self.old.members }
         requires small { stretch.now.stop ≤ instance_count }
         requires id { id < self.old.members.count }
-        requires stand { (j : ℕ) → j < instance_count → is_open_in self.old stretch.now j ≡ true → has_slot self.old j ≡ true }
-        requires rounds { (j : ℕ) → j < instance_count → is_open_in self.old stretch.now j ≡ true → round_after self.old.members (known_slot self.old j) ≤ greatest_round }
-        requires room { count_by (is_open_in self.old stretch.now) (below stretch.now.stop) ≤ out.old.room }
+        requires stand { (j : ℕ) → j < instance_count → is_open_in self.old stretch.now j ≡ true
+            → has_slot self.old j ≡ true }
+        requires rounds { (j : ℕ) → j < instance_count → is_open_in self.old stretch.now j ≡ true
+            → round_after self.old.members (known_slot self.old j) ≤ greatest_round }
+        requires room { count_by (is_open_in self.old stretch.now) (below stretch.now.stop)
+            ≤ out.old.room }
         ensures after { self.new ≡ known_begun self.old id stretch.now }
         ensures sent { out.new.messages ≡ out.old.messages ++ prepares_in self.old id stretch.now }
         ensures limit { out.new.limit ≡ out.old.limit }
     {
-        self.slots.begin_all(*stretch, id, out);
-        self.surveys.clear();
-    }
-
-    // Adds one instance of a stretch to a survey, and answers the next one that may not be learned.
-    fn survey_at(&self, stretch: &Stretch, inst: u32, survey: Survey) -> (Survey, u32)
-        requires stretch { IsStretch stretch.now }
-        requires members { stretch.now.members ≡ self.now.members }
-        requires own { owner self.now.members inst ≡ stretch.now.server }
-        requires small { inst < instance_count }
-        requires few { survey.open_count ≤ instance_count }
-        requires fewer { survey.bare_count ≤ instance_count }
-        ensures survey { result.0 ≡ surveyed self.now.members survey (known_slot self.now inst) (has_slot self.now inst) }
-        ensures owned { owner self.now.members result.1 ≡ stretch.now.server }
-        ensures above { inst < result.1 }
-        ensures known { (j : ℕ) → inst < j → j < result.1 → j < instance_count → owner self.now.members j ≡ stretch.now.server → is_none (known_slot self.now j).learned ≡ false }
-    {
-        let members = stretch.members;
+        let members = self.members;
         let server = stretch.server;
-        // The proof reads off the count that there are few members.
-        let _few = members.count();
-        match self.slots.get(inst) {
-            Some(slot) => (survey.with_slot(members, slot), next_owned(members, inst)),
-            None => {
-                let past = self.skipped[server as usize].past(inst);
-                if past > inst {
-                    (survey, members.first_owned(server, past))
-                } else {
-                    (survey.with_bare(), next_owned(members, inst))
-                }
-            }
-        }
+        let is_last = self.slots.begin_all(*stretch, id, out);
+        retally_changed(
+            &self.slots,
+            &self.skipped,
+            members,
+            server,
+            is_last,
+            &mut self.tallies,
+        );
     }
 
     // A server's instances from the least on that may not be learned, up to a front.
@@ -412,17 +393,14 @@ impl Known {
 }
 
 // For each server, no range.
-fn no_ranges(alloc: Global, members: Members) -> Result<Vec<Ranges>, Refusal>
+fn no_ranges(alloc: Global, members: Members) -> Result<Vec<Ranges>, NoMemory>
     ensures none { IfOk result (λ v. (j : ℕ) → slice_index_or v.items j [] ≡ []) }
     ensures count { IfOk result (λ v. length v.items ≡ members.count) }
-    ensures memory { IfErr result (λ r. r ≡ NoMemory) }
 {
     let count = members.count() as usize;
     let mut skipped = Vec::new(alloc);
     while skipped.len() < count {
-        if skipped.push(Ranges::new(alloc)).is_err() {
-            return Err(Refusal::NoMemory);
-        }
+        skipped.push(Ranges::new(alloc))?;
     }
     Ok(skipped)
 }
@@ -440,11 +418,7 @@ fn unheard(skipped: &Vec<Ranges>, members: Members, inst: u32) -> Slot
     requires { IsSorted members skipped.now.items }
     ensures { result ≡ unheard members (is_passed members skipped.now.items inst) }
 {
-    if is_passed(skipped, members, inst) {
-        Slot::known(members, Value::Noop)
-    } else {
-        Slot::new(members)
-    }
+    blank(members, is_passed(skipped, members, inst))
 }
 
 // The value that was learned at an instance.
@@ -470,8 +444,10 @@ fn learned_from(slots: &Slots, skipped: &Vec<Ranges>, members: Members, from: u3
     requires sorted { IsSorted members skipped.now.items }
     requires small { from ≤ instance_count }
     ensures small { result ≤ instance_count }
-    ensures known { (j : ℕ) → from ≤ j → j < result → is_none (known_at members slots.now skipped.now.items j).learned ≡ false }
-    ensures least { result < instance_count → is_none (known_at members slots.now skipped.now.items result).learned ≡ true }
+    ensures known { (j : ℕ) → from ≤ j → j < result
+        → is_none (known_at members slots.now skipped.now.items j).learned ≡ false }
+    ensures least { result < instance_count
+        → is_none (known_at members slots.now skipped.now.items result).learned ≡ true }
 {
     let mut inst = from;
     while inst < INSTANCES && learned_at(slots, skipped, members, inst).is_some() {
@@ -480,29 +456,155 @@ fn learned_from(slots: &Slots, skipped: &Vec<Ranges>, members: Members, from: u3
     inst
 }
 
+// Counts a server's instances between two places.
+//
+// It jumps over the ranges, and goes from one instance to the next where there is none.
+fn tally_from(
+    slots: &Slots,
+    skipped: &Vec<Ranges>,
+    members: Members,
+    server: u8,
+    first: u32,
+    stop: u32,
+) -> Tally
+    requires sorted { IsSorted members skipped.now.items }
+    requires told { IsTold members slots.now skipped.now.items }
+    requires member { server < members.count }
+    requires ahead { first ≤ stop }
+    requires small { stop ≤ instance_count }
+    ensures counted { IsTallyFrom members (known_at members slots.now skipped.now.items)
+        server first result }
+    ensures stop { result.stop ≡ stop }
+{
+    let ranges = &skipped[server as usize];
+    let mut tally = Tally {
+        stop: first,
+        open_count: 0,
+        full_count: 0,
+    };
+    while tally.stop < stop {
+        let past = ranges.past(tally.stop).min(stop);
+        let end = ranges.clear_to(past, stop);
+        tally = tally.plus(tally_slots(slots, members, server, past, end));
+    }
+    tally
+}
+
+// Counts a server's instances between two places where no range has any.
+fn tally_slots(slots: &Slots, members: Members, server: u8, first: u32, stop: u32) -> Tally
+    requires member { server < members.count }
+    requires ahead { first ≤ stop }
+    requires small { stop ≤ instance_count }
+    ensures counted { IsTallyFrom members (known_by_slot members slots.now) server first result }
+    ensures stop { result.stop ≡ stop }
+{
+    let mut tally = Tally {
+        stop,
+        open_count: 0,
+        full_count: 0,
+    };
+    let mut inst = members.first_owned(server, first);
+    while inst < stop {
+        tally = tally_slot(slots, members, inst, tally);
+        inst = next_owned(members, inst);
+    }
+    tally
+}
+
+// Counts one instance more, which no range has.
+fn tally_slot(slots: &Slots, members: Members, inst: u32, tally: Tally) -> Tally
+    requires small { inst < instance_count }
+    requires few { tally.open_count ≤ instance_count }
+    requires fewer { tally.full_count ≤ instance_count }
+    ensures { result ≡ tallied members tally (known_by_slot members slots.now inst) }
+{
+    match slots.get(inst) {
+        Some(slot) => tally.with_slot(members, slot),
+        None => tally.with_bare(),
+    }
+}
+
+// What was counted of a server's instances, once no-op is learned at those of a stretch.
+//
+// It counts only those of them that were counted.
+fn tally_given(slots: &Slots, skipped: &Vec<Ranges>, stretch: &Stretch, tally: Tally) -> Tally
+    requires sorted { IsSorted stretch.now.members skipped.now.items }
+    requires told { IsTold stretch.now.members slots.now skipped.now.items }
+    requires member { stretch.now.server < stretch.now.members.count }
+    requires counted { IsTally stretch.now.members
+        (known_at stretch.now.members slots.now skipped.now.items) stretch.now.server tally }
+    ensures { IsTally stretch.now.members
+        (λ j. given stretch.now j (known_at stretch.now.members slots.now skipped.now.items j))
+        stretch.now.server result }
+{
+    let first = stretch.first;
+    let stop = stretch.stop.min(tally.stop);
+    if first >= stop {
+        return tally;
+    }
+    let given = tally_from(slots, skipped, stretch.members, stretch.server, first, stop);
+    tally.without(given)
+}
+
+// Counts a server's instances anew, if many may have changed.
+fn retally_changed(
+    slots: &Slots,
+    skipped: &Vec<Ranges>,
+    members: Members,
+    server: u8,
+    is_changed: bool,
+    tallies: &mut Tallies,
+)
+    requires sorted { IsSorted members skipped.now.items }
+    requires told { IsTold members slots.now skipped.now.items }
+    requires member { server < members.count }
+    requires small { (tally_of tallies.old server).stop ≤ instance_count }
+    requires quiet { is_changed ≡ false
+        → IsTally members (known_at members slots.now skipped.now.items) server
+        (tally_of tallies.old server) }
+    ensures here { IsTally members (known_at members slots.now skipped.now.items) server
+        (tally_of tallies.new server) }
+    ensures rest { (q : ℕ) → (q ≡ server → ⊥) → tally_of tallies.new q ≡ tally_of tallies.old q }
+{
+    if is_changed {
+        // The proof reads off the count that there are few members.
+        let _few = members.count();
+        let stop = tallies.get(server).stop;
+        let tally = tally_from(slots, skipped, members, server, 0, stop);
+        tallies.put(server, tally);
+    }
+}
+
 // Learns no-op at a stretch of a server's instances, and counts those that were not learned.
-fn skip_stretch(slots: &mut Slots, ranges: &mut Ranges, stretch: &Stretch) -> Result<u32, Refusal>
+fn skip_stretch(slots: &mut Slots, ranges: &mut Ranges, stretch: &Stretch) -> Result<u32, NoMemory>
     requires stretch { IsStretch stretch.now }
-    requires owned { IsOwned stretch.now.members stretch.now.server (first_owned stretch.now.members stretch.now.server instance_count) ranges.old }
+    requires some { stretch.now.first < stretch.now.stop }
+    requires owned { IsOwned stretch.now.members stretch.now.server
+        (first_owned stretch.now.members stretch.now.server instance_count) ranges.old }
     requires rising { IsRising 0 ranges.old }
     requires end { owner stretch.now.members stretch.now.stop ≡ stretch.now.server }
-    requires low { stretch.now.stop ≤ first_owned stretch.now.members stretch.now.server instance_count }
-    requires told { (j : ℕ) (t : SlotState) → j < instance_count → owner stretch.now.members j ≡ stretch.now.server → covers ranges.old j ≡ true → stand_at slots.old j ≡ Some t → is_none t.learned ≡ false }
+    requires low { stretch.now.stop
+        ≤ first_owned stretch.now.members stretch.now.server instance_count }
+    requires told { (j : ℕ) (s : SlotState) → j < instance_count
+        → owner stretch.now.members j ≡ stretch.now.server → covers ranges.old j ≡ true
+        → stand_at slots.old j ≡ Some s → is_none s.learned ≡ false }
     ensures rising { IsRising 0 ranges.new }
-    ensures owned { IsOwned stretch.now.members stretch.now.server (first_owned stretch.now.members stretch.now.server instance_count) ranges.new }
-    ensures covers { OnOk result ((j : ℕ) → j < instance_count → owner stretch.now.members j ≡ stretch.now.server → covers ranges.new j ≡ (covers ranges.old j || is_within stretch.now.first stretch.now.stop j)) }
-    ensures slots { OnOk result ((j : ℕ) → j < instance_count → stand_at slots.new j ≡ option_map (given stretch.now j) (stand_at slots.old j)) }
-    ensures learned { IfOk result (λ n. n ≡ count_by (is_given_in stretch.now ranges.old slots.old) instances) }
+    ensures owned { IsOwned stretch.now.members stretch.now.server
+        (first_owned stretch.now.members stretch.now.server instance_count) ranges.new }
+    ensures covers { OnOk result ((j : ℕ) → j < instance_count
+        → owner stretch.now.members j ≡ stretch.now.server
+        → covers ranges.new j
+        ≡ (covers ranges.old j || is_within stretch.now.first stretch.now.stop j)) }
+    ensures slots { OnOk result ((j : ℕ) → j < instance_count
+        → stand_at slots.new j ≡ option_map (given stretch.now j) (stand_at slots.old j)) }
+    ensures learned { IfOk result (λ n. n
+        ≡ count_by (is_given_in stretch.now ranges.old slots.old) instances) }
     ensures same { OnErr result (ranges.new ≡ ranges.old) }
     ensures kept { OnErr result (slots.new ≡ slots.old) }
-    ensures memory { IfErr result (λ r. r ≡ NoMemory) }
 {
     let first = stretch.first;
     let stop = stretch.stop;
     let members = stretch.members;
-    if ranges.past(first) >= stop {
-        return Ok(0);
-    }
     let told = slots.told(*stretch, ranges);
     let further = ranges.add(first, stop)?;
     slots.learn_noops(*stretch);

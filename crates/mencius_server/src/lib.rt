@@ -5,29 +5,34 @@
 //! it sends is put on an `Outbox`, and all that it learns comes by [`Server::hear`], of its own
 //! messages too: whoever calls it is the network.
 //!
-//! What a call does is said of histories: in every reached history in which the server is what the
-//! definitions say, the call is one event of that history. Where messages were heard that no cluster
-//! of such servers sends, a call is still safe, and changes nothing where it is refused; no more is
-//! promised then.
+//! What a call does, and why it is refused, is said of the server's own state, whatever it heard,
+//! also messages that no cluster of such servers sends. By [`laws`] the call is then one event of
+//! every reached trace in which the server is what the definitions say.
 #![tactic(auto)]
 
 ghost use Rattle.mencius_base.specs.Limits.{greatest_front, instance_count};
 ghost use Rattle.mencius_base.specs.Members.{owner};
-ghost use Rattle.mencius_base.specs.declared.refusal.Refusal.TheVariants.{NoMemory};
+ghost use Rattle.mencius_base.specs.declared.refusal.Refusal.TheVariants as refusal;
 ghost use Rattle.mencius_server.specs.Reached.{server_at};
 ghost use Rattle.mencius_server.specs.Changes.{IsSaid, changed};
+ghost use Rattle.mencius_server.specs.Glances.{glance_of};
+ghost use Rattle.mencius_server.specs.Machine.{waits_at};
 ghost use Rattle.mencius_server.specs.State.{slot, with_slot};
 ghost use Rattle.std.specs.Prelude.{◌≡◌, ◌<◌, ◌≤◌, [], OnOk, OnErr, IfOk, IfErr, ℕ};
 
 use crate::change::Change;
+use crate::glance::glance_at;
 use crate::known::Known;
 use crate::notes::Notes;
-use mencius_base::{INSTANCES, Members, Refusal, Value};
+use coord_paxos::Slot;
+pub use glance::Glance;
+use mencius_base::{INSTANCES, Members, NoMemory, Refusal, Value};
 use std::alloc::Global;
 use std::marker::Model;
 
 mod change;
 mod delivery;
+mod glance;
 mod known;
 pub mod laws;
 mod notes;
@@ -36,7 +41,7 @@ mod revocation;
 mod slots;
 mod stretch;
 mod suggestion;
-mod survey;
+mod tally;
 #[cfg(test)]
 mod tests;
 
@@ -61,7 +66,9 @@ impl Model for Server {
 
     ghost view = { λ s. record { members = s.members; id = s.id; front = s.front; slots = s.known.slots } };
 
-    ghost invariant = { λ s. IsKept (record { members = s.members; id = s.id; front = s.front; slots = s.known.slots }) s.known.members s.notes };
+    ghost invariant = { λ s. IsKept
+        (record { members = s.members; id = s.id; front = s.front; slots = s.known.slots })
+        s.known.members s.notes };
 }
 
 impl Server {
@@ -71,7 +78,7 @@ impl Server {
     pub fn new(alloc: Global, members: Members, id: u8) -> Result<Server, Refusal>
         requires { id < members.count }
         ensures ok { IfOk result (λ s. s ≡ server_at members [] id) }
-        ensures memory { IfErr result (λ r. r ≡ NoMemory) }
+        ensures memory { IfErr result (λ r. r ≡ refusal.NoMemory) }
     {
         // The proof reads off the count that there are few members.
         let _few = members.count();
@@ -83,6 +90,23 @@ impl Server {
             known,
             notes: Notes::new(alloc),
         })
+    }
+
+    /// The servers of the cluster, as [`Server::new`] got them.
+    pub fn members(&self) -> Members
+        ensures { result ≡ self.now.members }
+    {
+        self.members
+    }
+
+    /// The server's own number, below the number of the members.
+    pub fn id(&self) -> u8
+        ensures id { result ≡ self.now.id }
+        ensures member { result < self.now.members.count }
+    {
+        // The proof reads the number's bound off the members.
+        let _members = &self.members;
+        self.id
     }
 
     /// The next own instance, past all that the server suggested or skipped.
@@ -107,6 +131,31 @@ impl Server {
         }
     }
 
+    /// What the server knows of an instance, in short. Past 4,095 there is no instance, and nothing is known.
+    pub fn glance(&self, inst: u32) -> Glance
+        ensures { result ≡ glance_of (slot self.now inst) }
+    {
+        if inst < INSTANCES {
+            self.known.glance(inst)
+        } else {
+            glance_at(&Slot::new(self.members))
+        }
+    }
+
+    /// The ticket that waits since it lost an instance: the server suggested it there and learned no-op,
+    /// and suggested it nowhere further on.
+    pub fn waiting_at(&self, inst: u32) -> Option<u32>
+        ensures { result ≡ waits_at self.now inst }
+    {
+        // That there are no more slots is learned at a field.
+        let _inside = &self.front;
+        if inst < INSTANCES {
+            self.waits(inst)
+        } else {
+            None
+        }
+    }
+
     /// How many slots the server keeps, and how many ranges of instances that it was heard to skip.
     ///
     /// A slot stands only where something else than a Skip was heard or done, so that neither count
@@ -126,12 +175,12 @@ impl Server {
     }
 
     // Changes an instance's slot where it stands, and leaves the front.
-    fn change(&mut self, inst: u32, change: Change) -> Result<(), Refusal>
+    fn change(&mut self, inst: u32, change: Change) -> Result<(), NoMemory>
         requires small { inst < instance_count }
         requires said { IsSaid self.old.members change }
-        ensures ok { OnOk result (self.new ≡ with_slot self.old inst (changed (slot self.old inst) change)) }
+        ensures ok { OnOk result (self.new
+            ≡ with_slot self.old inst (changed (slot self.old inst) change)) }
         ensures err { OnErr result (self.new ≡ self.old) }
-        ensures memory { IfErr result (λ r. r ≡ NoMemory) }
     {
         self.known.change(inst, change)?;
         let is_lost = matches!(self.known.learned(inst), Some(Value::Noop));

@@ -2,12 +2,11 @@
 //!
 //! A server owns every few instances, and a range stands for those of them that lie in it. The ranges
 //! rise, and no two of them meet.
-ghost use Rattle.mencius_base.specs.declared.refusal.Refusal.TheVariants.{NoMemory};
 ghost use Rattle.mencius_server.specs.Ranges.{IsRising, covers, joined, reach_of};
 ghost use Rattle.mencius_server.specs.declared.ranges.Span.{Span};
 ghost use Rattle.std.specs.Prelude.{◌≡◌, ℕ, ◌+◌, ◌<◌, ◌≤◌, [], true, false, length, slice_index_or, vec_capacity, vec_len, IfErr, IfOk, OnErr, OnOk};
 
-use mencius_base::Refusal;
+use mencius_base::NoMemory;
 use std::alloc::Global;
 use std::marker::Model;
 
@@ -74,17 +73,30 @@ impl Ranges {
         }
     }
 
+    /// The least place from an instance on that lies in a range, as far as another place.
+    pub(crate) fn clear_to(&self, inst: u32, stop: u32) -> u32
+        requires { inst ≤ stop }
+        ensures above { inst ≤ result }
+        ensures within { result ≤ stop }
+        ensures clear { (j : ℕ) → inst ≤ j → j < result → covers self.now j ≡ false }
+        ensures further { inst < stop → covers self.now inst ≡ false → inst < result }
+    {
+        let at = first_past(&self.spans, inst);
+        if at < self.spans.len() {
+            self.spans[at].first.max(inst).min(stop)
+        } else {
+            stop
+        }
+    }
+
     /// Adds a range, joined with those that it meets, and answers how far the ranges reach further.
-    pub(crate) fn add(&mut self, first: u32, stop: u32) -> Result<u32, Refusal>
+    pub(crate) fn add(&mut self, first: u32, stop: u32) -> Result<u32, NoMemory>
         requires { first < stop }
         ensures ok { OnOk result (self.new ≡ joined self.old first stop) }
         ensures further { IfOk result (λ n. n + reach_of self.old ≡ reach_of self.new) }
         ensures err { OnErr result (self.new ≡ self.old) }
-        ensures memory { IfErr result (λ r. r ≡ NoMemory) }
     {
-        if self.spans.reserve(1).is_err() {
-            return Err(Refusal::NoMemory);
-        }
+        self.spans.reserve(1)?;
         Ok(join(&mut self.spans, first, stop))
     }
 }

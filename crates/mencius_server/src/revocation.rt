@@ -2,19 +2,18 @@
 ghost use Rattle.mencius_base.specs.Limits.{greatest_round};
 ghost use Rattle.coord_paxos.specs.Fresh.{new_slot};
 ghost use Rattle.coord_paxos.specs.Slot.{after_begin};
-ghost use Rattle.mencius_model.specs.History.{History, sent};
 ghost use Rattle.mencius_base.specs.Members.{below, instances, owner};
 ghost use Rattle.mencius_base.specs.Refusal.{IsRefusedFor};
-ghost use Rattle.mencius_base.specs.declared.event.Event.TheVariants.{Suspect};
 ghost use Rattle.mencius_base.specs.declared.message.Message.TheVariants.{Prepare};
-ghost use Rattle.mencius_base.specs.declared.refusal.Refusal.TheVariants.{NoMemory};
 ghost use Rattle.mencius_server.specs.Machine.{IsUndone, after_suspect, ballot_after, is_revoked, is_round_full, is_suspected, round_after, slot_revoked, suspect_cause, suspect_sent};
-ghost use Rattle.mencius_server.specs.Reached.{IsAt, IsStep, refusal_of};
+ghost use Rattle.mencius_server.specs.Slots.{begun, prepare_at};
 ghost use Rattle.mencius_server.specs.State.{slot};
+ghost use Rattle.mencius_server.specs.Tallies.{is_spent};
 ghost use Rattle.std.specs.List.{count_by, filter, list_any};
 ghost use Rattle.std.specs.Prelude.{◌≡◌, false, is_none, min, ◌+◌, ◌<◌, ◌≤◌, [], ◌∷◌, ◌++◌, ◌==◌, OnOk, OnErr, IfErr, if◌then◌else◌, Some, ℕ, slice_index_or, map, true, ◌&&◌, vec_len};
 
 use crate::Server;
+use crate::tally::is_last;
 use coord_paxos::Slot;
 use mencius_base::{Ballot, Members, Message, Outbox, Refusal};
 
@@ -36,37 +35,25 @@ impl Server {
     /// `NoMemory`. No Prepare is sent then.
     pub fn suspect(&mut self, suspected: u8, out: &mut Outbox) -> Result<(), Refusal>
         requires { suspected < self.old.members.count }
-        // In every reached history that this server is of, the call is the suspicion.
-        ensures step { OnOk result ((w : History) → IsAt w self.old → IsStep w (Suspect self.old.id suspected) self.old self.new out.old out.new) }
-        ensures refusal { (w : History) → IsAt w self.old → IsRefusedFor (refusal_of w (Suspect self.old.id suspected) self.old out.old) result }
+        // What it does by the server's own state, whatever was heard before; `laws::events` says
+        // that in every reached trace it is the suspicion.
+        ensures sent { OnOk result (out.new.messages
+            ≡ out.old.messages ++ suspect_sent self.old suspected) }
+        ensures after { OnOk result (self.new ≡ after_suspect self.old suspected) }
+        ensures refusal { IsRefusedFor (suspect_cause self.old out.old suspected) result }
         ensures err { OnErr result (IsUndone self.old self.new out.old out.new) }
         ensures members { self.new.members ≡ self.old.members }
         ensures id { self.new.id ≡ self.old.id }
         ensures limit { out.new.limit ≡ out.old.limit }
     {
-        // The proof reads the server's own number off its members.
-        let _members = &self.members;
-        self.revoke(suspected, out)
-    }
-
-    fn revoke(&mut self, suspected: u8, out: &mut Outbox) -> Result<(), Refusal>
-        requires { suspected < self.old.members.count }
-        ensures sent { OnOk result (out.new.messages ≡ out.old.messages ++ suspect_sent self.old suspected) }
-        ensures after { OnOk result (self.new ≡ after_suspect self.old suspected) }
-        ensures limit { out.new.limit ≡ out.old.limit }
-        ensures err { OnErr result (IsUndone self.old self.new out.old out.new) }
-        ensures refusal { IsRefusedFor (suspect_cause self.old out.old suspected) result }
-    {
         if self.id == suspected {
             return Err(Refusal::SelfSuspect);
         }
-        let survey = self.known.survey(suspected, self.front);
-        if let Err(refusal) = survey.reserve(out) {
-            self.known.remember(suspected, self.front, survey);
-            return Err(refusal);
-        }
+        let tally = self.known.tally(suspected, self.front);
+        tally.reserve(out)?;
         self.known
-            .begin_all(self.id, suspected, self.front, survey.bare_count, out)
+            .begin_all(self.id, suspected, self.front, tally.open_count, out)?;
+        Ok(())
     }
 }
 
@@ -80,18 +67,28 @@ pub(crate) fn round_after(members: Members, slot: &Slot) -> u32
     tried.max(promised) + 1
 }
 
-// Starts a first phase at a slot where nothing was learned.
-pub(crate) fn begin_slot(slot: &mut Slot, members: Members, id: u8, inst: u32, out: &mut Outbox)
+// Starts a first phase at a slot where nothing was learned: whether it is in the last round.
+pub(crate) fn begin_slot(
+    slot: &mut Slot,
+    members: Members,
+    id: u8,
+    inst: u32,
+    out: &mut Outbox,
+) -> bool
     requires member { id < members.count }
-    requires rounds { is_none slot.old.learned ≡ true → round_after members slot.old ≤ greatest_round }
+    requires rounds { is_none slot.old.learned ≡ true
+        → round_after members slot.old ≤ greatest_round }
     requires room { is_none slot.old.learned ≡ true → 0 < out.old.room }
-    ensures after { slot.new ≡ (if is_none slot.old.learned then after_begin slot.old (ballot_after members id slot.old) else slot.old) }
-    ensures sent { out.new.messages ≡ out.old.messages ++ (if is_none slot.old.learned then Prepare id inst (ballot_after members id slot.old) ∷ [] else []) }
+    ensures after { slot.new ≡ begun members id slot.old }
+    ensures sent { out.new.messages
+        ≡ out.old.messages ++ prepare_at members id inst (Some slot.old) }
     ensures room { out.new.room + (if is_none slot.old.learned then 1 else 0) ≡ out.old.room }
     ensures limit { out.new.limit ≡ out.old.limit }
+    ensures last { result ≡ false → is_none slot.old.learned ≡ true
+        → is_spent members slot.new ≡ false }
 {
     if slot.learned().is_some() {
-        return;
+        return false;
     }
     let round = round_after(members, slot);
     if let Some(ballot) = Ballot::new(members, round, id) {
@@ -102,4 +99,5 @@ pub(crate) fn begin_slot(slot: &mut Slot, members: Members, id: u8, inst: u32, o
             ballot,
         });
     }
+    is_last(members, slot)
 }

@@ -6,23 +6,24 @@ ghost use Rattle.coord_paxos.specs.SlotState.{SlotState};
 ghost use Rattle.mencius_base.specs.Members.{below, instances};
 ghost use Rattle.mencius_base.specs.declared.message.Message.TheVariants.{Prepare};
 ghost use Rattle.mencius_base.specs.declared.message.Value.TheVariants.{Noop};
-ghost use Rattle.mencius_base.specs.declared.refusal.Refusal.TheVariants.{NoMemory};
+ghost use Rattle.mencius_server.specs.Known.{unheard};
 ghost use Rattle.mencius_server.specs.Lending.{LendsSlot};
 ghost use Rattle.mencius_server.specs.Machine.{ballot_after, round_after};
 ghost use Rattle.mencius_server.specs.Places.{IsPlaced, standing};
 ghost use Rattle.mencius_server.specs.Ranges.{covers};
 ghost use Rattle.mencius_server.specs.Slots.{begun, begun_at, given, is_begun, is_lacking, is_learned, is_told, is_unlearned, prepare_at, prepare_of, stand_at, stood_at};
 ghost use Rattle.mencius_server.specs.Stretches.{IsStretch};
+ghost use Rattle.mencius_server.specs.Tallies.{is_spent};
 ghost use Rattle.std.specs.Borrow.{sem};
 ghost use Rattle.std.specs.List.{count_by, filter};
 ghost use Rattle.std.specs.Option.{option_map};
-ghost use Rattle.std.specs.Prelude.{◌≡◌, ℕ, ◌+◌, ◌<◌, ◌≤◌, ◌==◌, ◌++◌, ◌∷◌, [], ◌&&◌, not, true, is_none, is_some, length, map, slice_index_or, vec_capacity, vec_len, IfErr, IfNone, IfSome, IsSome, None, OnErr, OnOk, Some, if◌then◌else◌};
+ghost use Rattle.std.specs.Prelude.{◌≡◌, ℕ, ◌+◌, ◌<◌, ◌≤◌, ◌==◌, ◌++◌, ◌∷◌, [], ◌&&◌, not, false, true, is_none, is_some, length, map, slice_index_or, vec_capacity, vec_len, IfErr, IfNone, IfSome, IsSome, None, OnErr, OnOk, Some, if◌then◌else◌};
 
 use crate::ranges::Ranges;
 use crate::revocation::begin_slot;
 use crate::stretch::{Stretch, next_owned};
 use coord_paxos::Slot;
-use mencius_base::{INSTANCES, Members, Outbox, Refusal, Value};
+use mencius_base::{INSTANCES, Members, NoMemory, Outbox, Value};
 use std::alloc::Global;
 use std::marker::Model;
 
@@ -72,7 +73,7 @@ impl Slots {
     /// The slot that stands at an instance, if one does.
     pub(crate) fn get(&self, inst: u32) -> Option<&Slot>
         requires { inst < instance_count }
-        ensures there { IfSome result (λ t. stand_at self.now inst ≡ Some t.now) }
+        ensures there { IfSome result (λ s. stand_at self.now inst ≡ Some s.now) }
         ensures none { IfNone result (stand_at self.now inst ≡ None) }
     {
         match place_at(&self.places, inst) {
@@ -100,21 +101,23 @@ impl Slots {
         &mut self.slots[place]
     }
 
-    /// Makes a slot stand at an instance where none does.
-    pub(crate) fn stand(&mut self, inst: u32, slot: Slot) -> Result<(), Refusal>
+    /// Makes a slot stand at an instance where none does. A skipped instance is learned.
+    pub(crate) fn stand(
+        &mut self,
+        members: Members,
+        inst: u32,
+        is_skipped: bool,
+    ) -> Result<(), NoMemory>
         requires small { inst < instance_count }
         requires none { stand_at self.old inst ≡ None }
         ensures ok { OnOk result ((j : ℕ) → stand_at self.new j
-            ≡ (if j == inst then Some slot else stand_at self.old j)) }
+            ≡ (if j == inst then Some (unheard members is_skipped) else stand_at self.old j)) }
         ensures err { OnErr result (self.new ≡ self.old) }
-        ensures memory { IfErr result (λ r. r ≡ NoMemory) }
     {
-        if self.slots.reserve(1).is_err() {
-            return Err(Refusal::NoMemory);
-        }
+        self.slots.reserve(1)?;
         widen(&mut self.places, inst as usize + 1)?;
         self.places[inst as usize] = Some(self.slots.len());
-        self.slots.push_reserved(slot);
+        self.slots.push_reserved(blank(members, is_skipped));
         Ok(())
     }
 
@@ -126,64 +129,83 @@ impl Slots {
         stretch: Stretch,
         skipped: &Ranges,
         lacking: u32,
-    ) -> Result<(), Refusal>
+    ) -> Result<(), NoMemory>
         requires stretch { IsStretch stretch }
         requires small { stretch.stop ≤ instance_count }
-        requires lacking { count_by (is_lacking stretch skipped.now self.old) (below stretch.stop) ≤ lacking }
+        requires lacking { count_by (is_lacking stretch skipped.now self.old) (below stretch.stop)
+            ≤ lacking }
         ensures ok { OnOk result ((j : ℕ) → stand_at self.new j
             ≡ stood_at stretch skipped.now j (stand_at self.old j)) }
         ensures err { OnErr result (self.new ≡ self.old) }
-        ensures memory { IfErr result (λ r. r ≡ NoMemory) }
     {
         if lacking == 0 {
             return Ok(());
         }
-        if self.slots.reserve(lacking as usize).is_err() {
-            return Err(Refusal::NoMemory);
-        }
+        self.slots.reserve(lacking as usize)?;
         widen(&mut self.places, stretch.stop as usize)?;
         push_lacking(&mut self.places, &mut self.slots, stretch, skipped);
         Ok(())
     }
 
-    /// Starts a first phase at each slot of a stretch that has learned nothing. There is room for the Prepares.
-    pub(crate) fn begin_all(&mut self, stretch: Stretch, id: u8, out: &mut Outbox)
+    /// Starts a first phase at each slot of a stretch that has learned nothing: whether any is in the last round.
+    ///
+    /// There is room for the Prepares.
+    pub(crate) fn begin_all(&mut self, stretch: Stretch, id: u8, out: &mut Outbox) -> bool
         requires stretch { IsStretch stretch }
         requires small { stretch.stop ≤ instance_count }
         requires id { id < stretch.members.count }
-        requires rounds { (j : ℕ) (t : SlotState) → is_begun stretch self.old j ≡ true → stand_at self.old j ≡ Some t
-            → round_after stretch.members t ≤ greatest_round }
+        requires rounds { (j : ℕ) (s : SlotState) → is_begun stretch self.old j ≡ true
+            → stand_at self.old j ≡ Some s
+            → round_after stretch.members s ≤ greatest_round }
         requires room { count_by (is_begun stretch self.old) (below stretch.stop) ≤ out.old.room }
-        ensures slots { (j : ℕ) → stand_at self.new j ≡ begun_at stretch id j (stand_at self.old j) }
+        ensures slots { (j : ℕ) → stand_at self.new j
+            ≡ begun_at stretch id j (stand_at self.old j) }
         ensures sent { out.new.messages
             ≡ out.old.messages
-            ++ map (prepare_of stretch id self.old) (filter (is_begun stretch self.old) (below stretch.stop)) }
+            ++ map (prepare_of stretch id self.old)
+            (filter (is_begun stretch self.old) (below stretch.stop)) }
         ensures limit { out.new.limit ≡ out.old.limit }
+        ensures last { result ≡ false → (j : ℕ) (s : SlotState) → is_begun stretch self.old j ≡ true
+            → stand_at self.new j ≡ Some s → is_spent stretch.members s ≡ false }
     {
         let members = stretch.members;
         let stop = stretch.stop;
+        let mut is_last = false;
         let mut inst = stretch.first;
         while inst < stop {
-            self.begin(members, id, inst, out);
+            let is_last_here = self.begin(members, id, inst, out);
+            is_last = is_last || is_last_here;
             inst = next_owned(members, inst);
         }
+        is_last
     }
 
-    // Starts a first phase at an instance where a slot stands that has learned nothing.
-    fn begin(&mut self, members: Members, id: u8, inst: u32, out: &mut Outbox)
+    // Starts a first phase at an instance where a slot stands that has learned nothing: whether it is in the last
+    // round.
+    fn begin(&mut self, members: Members, id: u8, inst: u32, out: &mut Outbox) -> bool
         requires small { inst < instance_count }
         requires member { id < members.count }
-        requires rounds { (t : SlotState) → stand_at self.old inst ≡ Some t → is_none t.learned ≡ true
-            → round_after members t ≤ greatest_round }
+        requires rounds { (s : SlotState) → stand_at self.old inst ≡ Some s
+            → is_none s.learned ≡ true
+            → round_after members s ≤ greatest_round }
         requires room { is_unlearned (stand_at self.old inst) ≡ true → 0 < out.old.room }
         ensures slots { (j : ℕ) → stand_at self.new j
-            ≡ (if j == inst then option_map (begun members id) (stand_at self.old j) else stand_at self.old j) }
-        ensures sent { out.new.messages ≡ out.old.messages ++ prepare_at members id inst (stand_at self.old inst) }
-        ensures room { out.new.room + (if is_unlearned (stand_at self.old inst) then 1 else 0) ≡ out.old.room }
+            ≡ (if j == inst
+            then option_map (begun members id) (stand_at self.old j)
+            else stand_at self.old j) }
+        ensures sent { out.new.messages
+            ≡ out.old.messages ++ prepare_at members id inst (stand_at self.old inst) }
+        ensures room { out.new.room + (if is_unlearned (stand_at self.old inst) then 1 else 0)
+            ≡ out.old.room }
         ensures limit { out.new.limit ≡ out.old.limit }
+        ensures last { result ≡ false → (s : SlotState)
+            → is_unlearned (stand_at self.old inst) ≡ true
+            → stand_at self.new inst ≡ Some s → is_spent members s ≡ false }
     {
         if self.has(inst) {
-            begin_slot(self.at(inst), members, id, inst, out);
+            begin_slot(self.at(inst), members, id, inst, out)
+        } else {
+            false
         }
     }
 
@@ -217,7 +239,8 @@ impl Slots {
     /// Learns no-op at each slot of a stretch.
     pub(crate) fn learn_noops(&mut self, stretch: Stretch)
         requires stretch { IsStretch stretch }
-        ensures { (j : ℕ) → j < instance_count → stand_at self.new j ≡ option_map (given stretch j) (stand_at self.old j) }
+        ensures { (j : ℕ) → j < instance_count
+            → stand_at self.new j ≡ option_map (given stretch j) (stand_at self.old j) }
     {
         let members = stretch.members;
         let stop = self.end_of(stretch.stop);
@@ -232,7 +255,9 @@ impl Slots {
     fn learn_noop(&mut self, inst: u32)
         requires { inst < instance_count }
         ensures { (j : ℕ) → stand_at self.new j
-            ≡ (if j == inst then option_map (λ t. after_learn t Noop) (stand_at self.old j) else stand_at self.old j) }
+            ≡ (if j == inst
+            then option_map (λ s. after_learn s Noop) (stand_at self.old j)
+            else stand_at self.old j) }
     {
         if self.has(inst) {
             self.at(inst).learn(Value::Noop);
@@ -250,6 +275,17 @@ impl Slots {
     }
 }
 
+/// A slot where nothing was heard but perhaps a Skip.
+pub(crate) fn blank(members: Members, is_skipped: bool) -> Slot
+    ensures { result ≡ unheard members is_skipped }
+{
+    if is_skipped {
+        Slot::known(members, Value::Noop)
+    } else {
+        Slot::new(members)
+    }
+}
+
 // The place of the slot at an instance, if one stands there.
 fn place_at(places: &[Option<usize>], inst: u32) -> Option<usize>
     ensures { result ≡ slice_index_or places.now inst None }
@@ -261,23 +297,23 @@ fn place_at(places: &[Option<usize>], inst: u32) -> Option<usize>
     }
 }
 
-// Lengthens the table to some instances, at most all. Nothing stands at the new ones.
-fn widen(places: &mut Vec<Option<usize>>, wanted: usize) -> Result<(), Refusal>
+// Lengthens the table to some instances or a few more, at most all. Nothing stands at the new ones.
+fn widen(places: &mut Vec<Option<usize>>, wanted: usize) -> Result<(), NoMemory>
     requires small { wanted ≤ instance_count }
     requires few { vec_len places.old ≤ instance_count }
     ensures reach { OnOk result (wanted ≤ vec_len places.new) }
     ensures few { vec_len places.new ≤ instance_count }
-    ensures same { (j : ℕ) → slice_index_or places.new.items j None ≡ slice_index_or places.old.items j None }
+    ensures same { (j : ℕ) → slice_index_or places.new.items j None
+        ≡ slice_index_or places.old.items j None }
     ensures err { OnErr result (places.new.items ≡ places.old.items) }
-    ensures memory { IfErr result (λ r. r ≡ NoMemory) }
 {
     if places.len() >= wanted {
         return Ok(());
     }
-    if places.reserve(wanted - places.len()).is_err() {
-        return Err(Refusal::NoMemory);
-    }
-    while places.len() < wanted {
+    // A few more, so that the next ones need no room.
+    let wider = (wanted + 63).min(INSTANCES as usize);
+    places.reserve(wider - places.len())?;
+    while places.len() < wider {
         places.push_reserved(None);
     }
     Ok(())
@@ -294,7 +330,8 @@ fn push_lacking(
     requires wide { stretch.stop ≤ vec_len places.old }
     requires placed { IsPlaced places.old.items (vec_len slots.old) }
     requires room { vec_len slots.old
-        + count_by (is_lacking stretch skipped.now (standing places.old.items slots.old.items)) (below stretch.stop)
+        + count_by (is_lacking stretch skipped.now (standing places.old.items slots.old.items))
+        (below stretch.stop)
         ≤ vec_capacity slots.old }
     ensures placed { IsPlaced places.new.items (vec_len slots.new) }
     ensures stand { (j : ℕ) → stand_at (standing places.new.items slots.new.items) j
@@ -304,7 +341,8 @@ fn push_lacking(
     let stop = stretch.stop;
     let mut inst = stretch.first;
     while inst < stop {
-        if !skipped.covers(inst) {
+        // The table needs no search, so it is asked first.
+        if places[inst as usize].is_none() && !skipped.covers(inst) {
             push_at(places, slots, members, inst);
         }
         inst = next_owned(members, inst);
@@ -325,7 +363,8 @@ fn push_at(places: &mut Vec<Option<usize>>, slots: &mut Vec<Slot>, members: Memb
     ensures wide { vec_len places.new ≡ vec_len places.old }
     ensures room { vec_capacity slots.new ≡ vec_capacity slots.old }
     ensures more { vec_len slots.new
-        ≡ vec_len slots.old + (if is_none (stand_at (standing places.old.items slots.old.items) inst) then 1 else 0) }
+        ≡ vec_len slots.old
+        + (if is_none (stand_at (standing places.old.items slots.old.items) inst) then 1 else 0) }
 {
     let at = inst as usize;
     let place = slots.len();

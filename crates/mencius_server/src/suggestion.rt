@@ -1,23 +1,18 @@
 //! Rules 1 and 4: where a ticket is suggested, and which tickets wait to be suggested again.
 ghost use Rattle.mencius_base.specs.Limits.{instance_count};
-ghost use Rattle.mencius_model.specs.History.{History, sent, submitted};
-ghost use Rattle.mencius_base.specs.Members.{instances, owner, first_item};
+ghost use Rattle.mencius_base.specs.Members.{instances, owner};
 ghost use Rattle.mencius_base.specs.Refusal.{IsRefusedFor};
-ghost use Rattle.mencius_base.specs.declared.command.Command.{Command};
-ghost use Rattle.mencius_base.specs.declared.event.Event.TheVariants.{Retry, Submit};
 ghost use Rattle.mencius_base.specs.declared.message.Value.TheVariants.{Noop};
-ghost use Rattle.mencius_base.specs.declared.refusal.Refusal.TheVariants.{NoMemory};
 ghost use Rattle.mencius_server.specs.Known.{known_slot};
-ghost use Rattle.mencius_server.specs.Machine.{after_submit, suggested_in, IsUndone, after_submit_at, free_at, submit_cause, submit_sent, after_retry, first_waiting, is_suggested_past, is_ticket, retry_cause, retry_sent, suggested_at, waits_at};
-ghost use Rattle.mencius_server.specs.Reached.{IsAt, IsStep, refusal_of};
-ghost use Rattle.mencius_model.specs.Server.{waiting, ticket_of};
-ghost use Rattle.mencius_server.specs.State.{slot};
+ghost use Rattle.mencius_server.specs.Machine.{is_free_at, after_submit, suggested_in, IsUndone, after_submit_at, free_at, submit_cause, submit_sent, after_retry, first_waiting, is_suggested_past, is_ticket, retry_cause, retry_sent, suggested_at, waits_at};
+ghost use Rattle.mencius_model.specs.Server.{ticket_of};
+ghost use Rattle.mencius_server.specs.State.{IsFree, slot};
 ghost use Rattle.std.specs.List.{list_any};
 ghost use Rattle.std.specs.Prelude.{◌≡◌, ℕ, IfOk, ◌⊎◌, ◌||◌, IfErr, IfNone, None, false, is_none, min, slice_index_or, true, vec_len, ◌+◌, ◌<◌, ◌≤◌, ◌++◌, ◌==◌, length, OnOk, OnErr, IfSome, Some, ◌&&◌};
 
 use crate::Server;
 use crate::known::Known;
-use mencius_base::{INSTANCES, Members, Message, Outbox, Refusal, Value};
+use mencius_base::{INSTANCES, Members, Message, NoMemory, Outbox, Refusal, Value};
 
 impl Server {
     /// Suggests a new ticket (Rule 1 of Mao, Junqueira and Marzullo, OSDI 2008, section 4).
@@ -31,25 +26,17 @@ impl Server {
     /// In this order: `InstancesFull` where no such instance is left, `MessagesFull` where `out` is at
     /// its limit, `NoMemory`.
     pub fn submit(&mut self, ticket: u32, out: &mut Outbox) -> Result<(), Refusal>
-        // In every reached history that this server is of, and whose next ticket this is, the call is the submission.
-        ensures step { OnOk result ((w : History) (c : Command) → IsAt w self.old → ticket ≡ length (submitted w)
-            → IsStep w (Submit self.old.id c) self.old self.new out.old out.new) }
-        ensures refusal { (w : History) (c : Command) → IsAt w self.old → ticket ≡ length (submitted w)
-            → IsRefusedFor (refusal_of w (Submit self.old.id c) self.old out.old) result }
+        // What it does by the server's own state, whatever was heard before; `laws::events` says that in every reached
+        // trace whose next ticket this is it is the submission.
+        ensures sent { OnOk result (out.new.messages
+            ≡ out.old.messages ++ submit_sent self.old ticket (free_at self.old)) }
+        ensures after { OnOk result (self.new
+            ≡ after_submit_at self.old ticket (free_at self.old)) }
+        ensures refusal { IsRefusedFor (submit_cause out.old (free_at self.old)) result }
         ensures err { OnErr result (IsUndone self.old self.new out.old out.new) }
         ensures members { self.new.members ≡ self.old.members }
         ensures id { self.new.id ≡ self.old.id }
         ensures limit { out.new.limit ≡ out.old.limit }
-    {
-        self.suggest(ticket, out)
-    }
-
-    fn suggest(&mut self, ticket: u32, out: &mut Outbox) -> Result<(), Refusal>
-        ensures sent { OnOk result (out.new.messages ≡ out.old.messages ++ submit_sent self.old ticket (free_at self.old)) }
-        ensures after { OnOk result (self.new ≡ after_submit_at self.old ticket (free_at self.old)) }
-        ensures limit { out.new.limit ≡ out.old.limit }
-        ensures err { OnErr result (IsUndone self.old self.new out.old out.new) }
-        ensures refusal { IsRefusedFor (submit_cause out.old (free_at self.old)) result }
     {
         let Some(inst) = self.free() else {
             return Err(Refusal::InstancesFull);
@@ -62,14 +49,10 @@ impl Server {
     }
 
     // Writes a suggestion at a free instance.
-    fn place(&mut self, inst: u32, ticket: u32) -> Result<(), Refusal>
-        requires small { inst < instance_count }
-        requires own { owner self.old.members inst ≡ self.old.id }
-        requires ahead { self.old.front ≤ inst }
-        requires blank { is_none (slot self.old inst).learned ≡ true }
+    fn place(&mut self, inst: u32, ticket: u32) -> Result<(), NoMemory>
+        requires { IsFree self.old inst }
         ensures ok { OnOk result (self.new ≡ after_submit self.old inst ticket) }
         ensures err { OnErr result (self.new ≡ self.old) }
-        ensures memory { IfErr result (λ r. r ≡ NoMemory) }
     {
         let front = self.front;
         self.notes.reserve(front, ticket)?;
@@ -80,12 +63,34 @@ impl Server {
         Ok(())
     }
 
-    // The least own instance from the front on that was not learned.
-    fn free(&self) -> Option<u32>
-        ensures place { result ≡ free_at self.now }
-        ensures fits { IfSome result (λ k. (k < instance_count) × (owner self.now.members k ≡ self.now.id) × (self.now.front ≤ k) × (is_none (slot self.now k).learned ≡ true)) }
+    // The least own instance from the front on that was not learned, noted so that it is not looked for again.
+    fn free(&mut self) -> Option<u32>
+        ensures place { result ≡ free_at self.old }
+        ensures fits { IfSome result (λ i. IsFree self.old i) }
+        ensures same { self.new ≡ self.old }
     {
-        let mut inst = self.next_own(self.front);
+        match self.find_free() {
+            Some(inst) => {
+                self.notes.free_only_from(inst);
+                Some(inst)
+            }
+            None => {
+                self.notes.free_only_from(INSTANCES);
+                None
+            }
+        }
+    }
+
+    // The least own instance from the front on that was not learned.
+    fn find_free(&self) -> Option<u32>
+        ensures place { result ≡ free_at self.now }
+        ensures fits { IfSome result (λ i. IsFree self.now i) }
+        ensures before { IfSome result (λ i. (j : ℕ) → j < i → is_free_at self.now j ≡ false) }
+        ensures none { IfNone result ((j : ℕ) → j < instance_count
+            → is_free_at self.now j ≡ false) }
+    {
+        let from = self.front.max(self.notes.free_from());
+        let mut inst = self.next_own(from);
         while inst < INSTANCES {
             if self.learned(inst).is_none() {
                 return Some(inst);
@@ -98,12 +103,6 @@ impl Server {
     /// The first ticket that waits to be suggested again (Rule 4), if any: by rising instance, a ticket
     /// waits where this server suggested it and learned no-op, and suggested it nowhere further on.
     pub fn waiting(&self) -> Option<u32>
-        ensures { (w : History) → IsAt w self.now → result ≡ first_item (waiting w self.now.id) }
-    {
-        self.first_waiting()
-    }
-
-    fn first_waiting(&self) -> Option<u32>
         ensures { result ≡ first_waiting self.now }
     {
         match self.first_lost() {
@@ -114,7 +113,9 @@ impl Server {
 
     // The least instance at which a ticket waits, and the ticket.
     fn first_lost(&self) -> Option<(u32, u32)>
-        ensures first { IfSome result (λ p. (p.0 < instance_count) × (waits_at self.now p.0 ≡ Some p.1) × ((j : ℕ) → j < p.0 → waits_at self.now j ≡ None)) }
+        ensures first { IfSome result (λ x. (x.0 < instance_count)
+            × (waits_at self.now x.0 ≡ Some x.1)
+            × ((j : ℕ) → j < x.0 → waits_at self.now j ≡ None)) }
         ensures none { IfNone result ((j : ℕ) → j < instance_count → waits_at self.now j ≡ None) }
     {
         let end = self.front.min(INSTANCES);
@@ -129,7 +130,7 @@ impl Server {
     }
 
     // The ticket that waits since it lost an instance.
-    fn waits(&self, inst: u32) -> Option<u32>
+    pub(crate) fn waits(&self, inst: u32) -> Option<u32>
         requires { inst < instance_count }
         ensures { result ≡ waits_at self.now inst }
     {
@@ -184,28 +185,22 @@ impl Server {
     /// In this order: `NothingWaiting` where [`Server::waiting`] is `None`, `InstancesFull` where no own
     /// instance from the front on is unlearned, `MessagesFull` where `out` is at its limit, `NoMemory`.
     pub fn retry(&mut self, out: &mut Outbox) -> Result<(), Refusal>
-        // In every reached history that this server is of, the call is the retry.
-        ensures step { OnOk result ((w : History) → IsAt w self.old → IsStep w (Retry self.old.id) self.old self.new out.old out.new) }
-        ensures refusal { (w : History) → IsAt w self.old → IsRefusedFor (refusal_of w (Retry self.old.id) self.old out.old) result }
+        // What it does by the server's own state, whatever was heard before; `laws::events` says that in every reached
+        // trace it is the retry.
+        ensures sent { OnOk result (out.new.messages
+            ≡ out.old.messages ++ retry_sent self.old (first_waiting self.old)) }
+        ensures after { OnOk result (self.new ≡ after_retry self.old (first_waiting self.old)) }
+        ensures refusal { IsRefusedFor
+            (retry_cause self.old out.old (first_waiting self.old)) result }
         ensures err { OnErr result (IsUndone self.old self.new out.old out.new) }
         ensures members { self.new.members ≡ self.old.members }
         ensures id { self.new.id ≡ self.old.id }
         ensures limit { out.new.limit ≡ out.old.limit }
     {
-        self.suggest_again(out)
-    }
-
-    fn suggest_again(&mut self, out: &mut Outbox) -> Result<(), Refusal>
-        ensures sent { OnOk result (out.new.messages ≡ out.old.messages ++ retry_sent self.old (first_waiting self.old)) }
-        ensures after { OnOk result (self.new ≡ after_retry self.old (first_waiting self.old)) }
-        ensures limit { out.new.limit ≡ out.old.limit }
-        ensures err { OnErr result (IsUndone self.old self.new out.old out.new) }
-        ensures refusal { IsRefusedFor (retry_cause self.old out.old (first_waiting self.old)) result }
-    {
         match self.first_lost() {
             Some((inst, ticket)) => {
                 self.notes.lost_only_from(inst);
-                self.suggest(ticket, out)
+                self.submit(ticket, out)
             }
             None => {
                 self.notes.lost_only_from(INSTANCES);

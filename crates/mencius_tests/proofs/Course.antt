@@ -1,26 +1,27 @@
--- What the laws say where a journal replays, and so does a beginning of it.
+-- What the laws say where a journal replays, and so does a prefix of it.
 use Rattle.std.proofs.Common.{◌≡◌, ℕ, ◌≤◌, List, [], ◌++◌, Ok, sym, append-nil}
 use Rattle.mencius_base.specs.declared.event.Event.{Event}
 use Rattle.mencius_base.specs.Members.{Membership}
-use Rattle.mencius_model.specs.History.{History}
+use Rattle.mencius_model.specs.Trace.{Trace}
 use Rattle.mencius_model.specs.Next.{replay}
 use Rattle.mencius_model.specs.Executed.{executed, IsPrefix, IsComparable}
-use Rattle.mencius_model.specs.Laws.{Comparing, Growing, IsMoment}
+use Rattle.mencius_model.specs.Laws.{HistoriesComparable, HistoriesGrow, IsMoment}
 
 -- the end of a journal is one of its moments
-whole : (m : Membership) (journal : List Event) (w : History) → replay m journal ≡ Ok w → IsMoment m journal w
+whole : (m : Membership) (journal : List Event) (w : Trace) → replay m journal ≡ Ok w → IsMoment m journal w
 whole m journal w h = record { before = journal; after = []; splits = sym (append-nil journal); replays = h }
 
--- of two histories, at the beginning of a journal and at its end, one begins the other
-pub comparable : Comparing → (m : Membership) (old new since : List Event) (w u : History) (s r : ℕ) → 1 ≤ m.count
-    → new ≡ old ++ since → replay m old ≡ Ok w → replay m new ≡ Ok u → IsComparable (executed w s) (executed u r)
-comparable law m old new since w u s r some grown before after =
-    law m new u w u (record { some_server = some; replays = after })
-    (record { before = old; after = since; splits = grown; replays = before }) (whole m new u after) s r
+-- of two histories, after a prefix of a journal and after the whole, one is a prefix of the other
+pub comparable : HistoriesComparable → (m : Membership) (old new since : List Event) (w v : Trace) (p q : ℕ)
+    → 1 ≤ m.count
+    → new ≡ old ++ since → replay m old ≡ Ok w → replay m new ≡ Ok v → IsComparable (executed w p) (executed v q)
+comparable law m old new since w v p q some grown before after =
+    law m new v w v (record { some_server = some; replays = after })
+    (record { before = old; after = since; splits = grown; replays = before }) (whole m new v after) p q
 
--- the former begins the latter where both are one server's
-pub grows : Growing → (m : Membership) (old new since : List Event) (w u : History) (s : ℕ) → 1 ≤ m.count
-    → new ≡ old ++ since → replay m old ≡ Ok w → replay m new ≡ Ok u → IsPrefix (executed w s) (executed u s)
-grows law m old new since w u s some grown before after =
-    law m new u w (record { some_server = some; replays = after })
-    (record { before = old; after = since; splits = grown; replays = before }) s
+-- the former is a prefix of the latter where both are one server's
+pub grows : HistoriesGrow → (m : Membership) (old new since : List Event) (w v : Trace) (p : ℕ) → 1 ≤ m.count
+    → new ≡ old ++ since → replay m old ≡ Ok w → replay m new ≡ Ok v → IsPrefix (executed w p) (executed v p)
+grows law m old new since w v p some grown before after =
+    law m new v w (record { some_server = some; replays = after })
+    (record { before = old; after = since; splits = grown; replays = before }) p

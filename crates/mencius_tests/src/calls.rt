@@ -60,23 +60,35 @@ fn each_event_has_its_effect(rt: HostRuntime) -> Result<(), Fail> {
     Ok(())
 }
 
+// What a cluster answers of a server: its front, how many instances it executed, and how many commands.
+fn answers_of(cluster: &Cluster, server: u8) -> Option<(u32, u32, usize)> {
+    let front = cluster.front(server)?;
+    let done = cluster.done(server)?;
+    Some((front, done, cluster.history(server)?.len()))
+}
+
+fn assert_servers<R: Abort>(rt: &R, cluster: &Cluster) {
+    assert_eq!(rt; cluster.members().count(), 3);
+    assert_eq!(rt; cluster.servers(), 3);
+    assert_eq!(rt; answers_of(cluster, 0), Some((3, 1, 1)));
+    assert_eq!(rt; answers_of(cluster, 1), Some((4, 2, 2)));
+    assert_eq!(rt; answers_of(cluster, 2), Some((2, 0, 0)));
+    assert_eq!(rt; cluster.front(3), None);
+    assert_eq!(rt; cluster.longest(), 1);
+}
+
+fn assert_learned<R: Abort>(rt: &R, cluster: &Cluster) {
+    let last = cluster.history(1).and_then(|history| history.last());
+    assert_eq!(rt; last.copied(), Some(1));
+    assert_eq!(rt; cluster.learned(1, 1), Some(Value::Ticket(1)));
+    assert_eq!(rt; cluster.learned(2, 1), None);
+}
+
 #[test]
 fn servers_answer(rt: HostRuntime) -> Result<(), Fail> {
     let cluster = cluster_after(&rt, rt.alloc(), "get_at_another_server")?;
-    assert_eq!(rt; cluster.members().count(), 3);
-    assert_eq!(rt; cluster.servers(), 3);
-    for (server, front, done, executed) in [(0, 3, 1, 1), (1, 4, 2, 2), (2, 2, 0, 0)] {
-        assert_eq!(rt; cluster.front(server), Some(front), "front of {server}");
-        assert_eq!(rt; cluster.done(server), Some(done), "done of {server}");
-        let history = cluster.history(server).ok_or("no history")?;
-        assert_eq!(rt; history.len(), executed, "history of {server}");
-    }
-    assert_eq!(rt; cluster.front(3), None);
-    let last = cluster.history(1).ok_or("no history")?.last();
-    assert_eq!(rt; last.copied(), Some(1));
-    assert_eq!(rt; cluster.longest(), 1);
-    assert_eq!(rt; cluster.learned(1, 1), Some(Value::Ticket(1)));
-    assert_eq!(rt; cluster.learned(2, 1), None);
+    assert_servers(&rt, &cluster);
+    assert_learned(&rt, &cluster);
     Ok(())
 }
 
@@ -101,14 +113,24 @@ fn lists_answer(rt: HostRuntime) -> Result<(), Fail> {
     Ok(())
 }
 
+// After a schedule, the reply of each client is the one in these words.
+fn assert_replies<R: Abort>(
+    rt: &R,
+    alloc: Global,
+    name: &str,
+    wanted: [&str; 2],
+) -> Result<(), Fail> {
+    let cluster = cluster_after(rt, alloc, name)?;
+    let [first, second] = wanted;
+    assert_eq!(rt; shown(&cluster, 1), first);
+    assert_eq!(rt; shown(&cluster, 2), second);
+    Ok(())
+}
+
 #[test]
 fn replies_answer(rt: HostRuntime) -> Result<(), Fail> {
     let alloc = rt.alloc();
-    let done = cluster_after(&rt, alloc, "get_at_another_server")?;
-    assert_eq!(rt; shown(&done, 1), "none");
-    assert_eq!(rt; shown(&done, 2), "x");
-    let waiting = cluster_after(&rt, alloc, "revoked_and_suggested_again")?;
-    assert_eq!(rt; shown(&waiting, 1), "pending");
-    assert_eq!(rt; shown(&waiting, 2), "not submitted");
-    Ok(())
+    assert_replies(&rt, alloc, "get_at_another_server", ["none", "x"])?;
+    let wanted = ["pending", "not submitted"];
+    assert_replies(&rt, alloc, "revoked_and_suggested_again", wanted)
 }

@@ -15,9 +15,15 @@ fn words(alloc: Global, line: &str) -> Result<Vec<String>, AllocError> {
 
 #[test]
 fn replay_is_asked_for(rt: HostRuntime) -> Result<(), Fail> {
-    let line = words(rt.alloc(), "mencius replay")?;
-    let task = read_command_line(rt.alloc(), line.as_slice()).map_err(|_| "refused")?;
-    assert_eq!(rt; task, Task::Replay);
+    for (line, is_strict) in [
+        ("mencius replay", false),
+        ("mencius replay --strict", true),
+        ("--lookup replay", false),
+    ] {
+        let given = words(rt.alloc(), line)?;
+        let task = read_command_line(rt.alloc(), given.as_slice()).map_err(|_| "refused")?;
+        assert_eq!(rt; task, Task::Replay { is_strict }, "at {line}");
+    }
     Ok(())
 }
 
@@ -66,7 +72,8 @@ fn bad_command_lines(rt: HostRuntime) -> Result<(), Fail> {
     for (line, want) in [
         (
             "mencius",
-            "error: 'mencius' requires a subcommand but one was not provided\n  [subcommands: replay, run, help]\n\nUsage: mencius <COMMAND>\n",
+            "error: 'mencius' requires a subcommand but one was not provided\n  [subcommands: replay, run, help]\
+             \n\nUsage: mencius <COMMAND>\n",
         ),
         (
             "mencius walk",
@@ -74,7 +81,7 @@ fn bad_command_lines(rt: HostRuntime) -> Result<(), Fail> {
         ),
         (
             "mencius replay now",
-            "error: unexpected argument 'now' found\n\nUsage: mencius replay\n",
+            "error: unexpected argument 'now' found\n\nUsage: mencius replay [OPTIONS] < SCENARIO\n",
         ),
         (
             "mencius --loud replay",
@@ -82,7 +89,7 @@ fn bad_command_lines(rt: HostRuntime) -> Result<(), Fail> {
         ),
         (
             "mencius run now",
-            "error: unexpected argument 'now' found\n\nUsage: mencius run [OPTIONS]\n",
+            "error: unexpected argument 'now' found\n\nUsage: mencius run [OPTIONS] < SCENARIO\n",
         ),
         (
             "mencius run --lookup",
@@ -90,15 +97,18 @@ fn bad_command_lines(rt: HostRuntime) -> Result<(), Fail> {
         ),
         (
             "mencius run --lookup -a!",
-            "error: invalid value '-a!' for '--lookup <KEY>': a key has 1 to 64 ASCII letters, digits, `_`, `-` or `.`\n\nUsage: mencius <COMMAND>\n",
+            "error: invalid value '-a!' for '--lookup <KEY>': a key has 1 to 64 ASCII letters, digits, `_`, `-` or `.`\
+             \n\nUsage: mencius <COMMAND>\n",
         ),
         (
             "mencius run --lookup a!",
-            "error: invalid value 'a!' for '--lookup <KEY>': a key has 1 to 64 ASCII letters, digits, `_`, `-` or `.`\n\nUsage: mencius <COMMAND>\n",
+            "error: invalid value 'a!' for '--lookup <KEY>': a key has 1 to 64 ASCII letters, digits, `_`, `-` or `.`\
+             \n\nUsage: mencius <COMMAND>\n",
         ),
         (
             "mencius run --lookup=",
-            "error: invalid value '' for '--lookup <KEY>': a key has 1 to 64 ASCII letters, digits, `_`, `-` or `.`\n\nUsage: mencius <COMMAND>\n",
+            "error: invalid value '' for '--lookup <KEY>': a key has 1 to 64 ASCII letters, digits, `_`, `-` or `.`\
+             \n\nUsage: mencius <COMMAND>\n",
         ),
     ] {
         let given = words(rt.alloc(), line)?;
@@ -133,6 +143,9 @@ Options:
   -h, --help
           Print help (see a summary with '-h')
 
+  -V, --version
+          Print version
+
 Examples, at the top of the repository:
   echo '{\"version\":1,\"servers\":1,\"events\":[\"submit 0 1.0 set a x\",
     \"deliver 0 0\",\"deliver 1 0\",\"execute 0\"]}' | ./mencius replay
@@ -155,7 +168,7 @@ in order of sending. A command's ID is CLIENT.NUMBER, two numbers that the clien
   submit S ID del KEY       .. to remove KEY
   deliver K D               message K reaches server D, for the first time or again
   lose K D                  message K can no longer reach server D
-  suspect P Q               server P takes Q for stopped, and revokes its open instances
+  suspect P Q               server P suspects that Q has stopped, and revokes what Q left open
   retry P                   server P suggests a command again that lost its instance
   execute S                 server S executes its next instance
 
@@ -171,14 +184,18 @@ What is printed, in this order:
   reply ID =TEXT            .. or this text,
   reply ID pending          .. or no answer yet
 
-Usage: mencius replay
+Usage: mencius replay [OPTIONS] < SCENARIO
 
 Options:
+      --strict
+          Ends with status 1 if any event was refused
+
   -h, --help
           Print help (see a summary with '-h')
 
 Exit status:
   0  done
+  1  done, but with --strict an event was refused
   2  a bad command line
   3  a bad scenario: 21 NotJson, 22 BadShape, 23 BadLimit
   4  reading or writing failed: 24 ReadFailed, 25 WriteFailed
@@ -224,7 +241,7 @@ What is printed, in this order:
 With one worker a scenario always prints the same, byte for byte. With more, it is the
 machine that decides whose turn comes next, and the journal says what came of it.
 
-Usage: mencius run [OPTIONS]
+Usage: mencius run [OPTIONS] < SCENARIO
 
 Options:
       --journal
@@ -260,6 +277,8 @@ fn help(rt: HostRuntime) -> Result<(), Fail> {
         ("mencius help replay", REPLAY_HELP),
         ("mencius run --help", RUN_HELP),
         ("mencius help run", RUN_HELP),
+        ("mencius --version", "mencius 0.1.0\n"),
+        ("mencius -V", "mencius 0.1.0\n"),
     ] {
         let given = words(rt.alloc(), line)?;
         let Err(asked) = read_command_line(rt.alloc(), given.as_slice()) else {

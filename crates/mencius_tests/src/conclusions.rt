@@ -6,12 +6,11 @@
 
 ghost use Rattle.std.specs.Prelude.{List, ◌≡◌, ◌≤◌, ◌<◌, ◌⊎◌, ◌++◌, ◌↔◌, OnOk, OnErr, IfOk, IfErr, IfSome, IsErrOf, IsSome};
 ghost use Rattle.mencius_base.specs.declared.event.Event.{Event};
-ghost use Rattle.mencius_base.specs.declared.refusal.Refusal.TheVariants.{BadServer, NoMemory};
 ghost use Rattle.mencius_model.specs.Executed.{IsComparable, IsPrefix, executed};
-ghost use Rattle.mencius_cluster.specs.State.{history_of};
+ghost use Rattle.mencius_cluster.specs.State.{trace_of};
 ghost use Rattle.mencius_model.specs.Outcomes.{accepted_from};
 
-use mencius_base::{Event, Refusal};
+use mencius_base::{Event, NoMemory, Refusal};
 use mencius_cluster::{Cluster, laws};
 use std::alloc::Global;
 
@@ -26,7 +25,7 @@ pub struct Noted {
 
 /// Notes the history of a server, steps the cluster through the events, passing over those that it
 /// refuses, and then notes the history of the same or another server. Of the two histories one
-/// begins the other, and where both are one server's the earlier begins the later.
+/// is a prefix of the other, and where both are one server's the earlier is one of the later.
 ///
 /// `BadServer` comes where one of the servers is no member, and then nothing has changed. After
 /// `NoMemory` the cluster may have taken some of the events.
@@ -38,10 +37,12 @@ pub fn note_across(
     other: u8,
 ) -> Result<Noted, Refusal>
     // Which histories were noted, and what became of the cluster.
-    ensures inside { OnOk result ((server < cluster.old.members.count) × (other < cluster.old.members.count)) }
-    ensures earlier { IfOk result (λ n. n.earlier.items ≡ executed (history_of cluster.old) server) }
-    ensures later { IfOk result (λ n. n.later.items ≡ executed (history_of cluster.new) other) }
-    ensures journal { OnOk result (cluster.new.journal ≡ cluster.old.journal ++ accepted_from cluster.old.members (history_of cluster.old) events.items) }
+    ensures inside { OnOk result ((server < cluster.old.members.count)
+        × (other < cluster.old.members.count)) }
+    ensures earlier { IfOk result (λ n. n.earlier.items ≡ executed (trace_of cluster.old) server) }
+    ensures later { IfOk result (λ n. n.later.items ≡ executed (trace_of cluster.new) other) }
+    ensures journal { OnOk result (cluster.new.journal ≡ cluster.old.journal
+        ++ accepted_from cluster.old.members (trace_of cluster.old) events.items) }
     ensures members { cluster.new.members ≡ cluster.old.members }
 
     // What a caller concludes.
@@ -49,53 +50,57 @@ pub fn note_across(
     ensures grows { IfOk result (λ n. server ≡ other → IsPrefix n.earlier.items n.later.items) }
 
     // The errors.
-    ensures refusal { IfErr result (λ r. (r ≡ BadServer) ⊎ (r ≡ NoMemory)) }
-    ensures outside { IsErrOf result BadServer → (cluster.old.members.count ≤ server) ⊎ (cluster.old.members.count ≤ other) }
-    ensures nothing { IsErrOf result BadServer → cluster.new ≡ cluster.old }
-    ensures taken { OnErr result ((taken : List Event) × (cluster.new.journal ≡ cluster.old.journal ++ taken)) }
+    ensures refusal { IfErr result (λ r. (r ≡ Refusal.BadServer) ⊎ (r ≡ Refusal.NoMemory)) }
+    ensures outside { IsErrOf result Refusal.BadServer
+        → (cluster.old.members.count ≤ server) ⊎ (cluster.old.members.count ≤ other) }
+    ensures nothing { IsErrOf result Refusal.BadServer → cluster.new ≡ cluster.old }
+    ensures taken { OnErr result ((taken : List Event)
+        × (cluster.new.journal ≡ cluster.old.journal ++ taken)) }
 {
-    // The laws, and `members` below, are called for their promises alone.
+    // The laws, and `replays` below, are called for their promises alone.
     laws::agreement();
     laws::growth();
     let servers = cluster.servers();
     if server >= servers || other >= servers {
         return Err(Refusal::BadServer);
     }
-    cluster.members();
-    let earlier = cluster.history(server).unwrap_or(&[]).to_vec(alloc)?;
+    cluster.replays();
+    let earlier = cluster.history(server).unwrap().to_vec(alloc)?;
     step_all(cluster, events)?;
-    cluster.members();
-    let later = cluster.history(other).unwrap_or(&[]).to_vec(alloc)?;
+    cluster.replays();
+    let later = cluster.history(other).unwrap().to_vec(alloc)?;
     Ok(Noted { earlier, later })
 }
 
-/// The histories of two servers at one moment, of which one begins the other, or `None` where one
-/// of them is no member.
+/// The histories of two servers at one moment, of which one is a prefix of the other, or `None` where
+/// one of them is no member.
 pub fn histories(cluster: &Cluster, first: u8, second: u8) -> Option<(&[u32], &[u32])>
-    ensures some { IsSome result ↔ ((first < cluster.now.members.count) × (second < cluster.now.members.count)) }
-    ensures first { IfSome result (λ h. h.0.now ≡ executed (history_of cluster.now) first) }
-    ensures second { IfSome result (λ h. h.1.now ≡ executed (history_of cluster.now) second) }
+    ensures some { IsSome result
+        ↔ ((first < cluster.now.members.count) × (second < cluster.now.members.count)) }
+    ensures first { IfSome result (λ h. h.0.now ≡ executed (trace_of cluster.now) first) }
+    ensures second { IfSome result (λ h. h.1.now ≡ executed (trace_of cluster.now) second) }
     ensures comparable { IfSome result (λ h. IsComparable h.0.now h.1.now) }
 {
     // Called for their promises alone.
     laws::agreement();
-    cluster.members();
+    cluster.replays();
     Some((cluster.history(first)?, cluster.history(second)?))
 }
 
 // Steps a cluster through the events, passing over those that it refuses.
-fn step_all(cluster: &mut Cluster, events: Vec<Event>) -> Result<(), Refusal>
-    ensures journal { OnOk result (cluster.new.journal ≡ cluster.old.journal ++ accepted_from cluster.old.members (history_of cluster.old) events.items) }
+fn step_all(cluster: &mut Cluster, events: Vec<Event>) -> Result<(), NoMemory>
+    ensures journal { OnOk result (cluster.new.journal ≡ cluster.old.journal
+        ++ accepted_from cluster.old.members (trace_of cluster.old) events.items) }
     ensures members { cluster.new.members ≡ cluster.old.members }
-    ensures taken { OnErr result ((taken : List Event) × (cluster.new.journal ≡ cluster.old.journal ++ taken)) }
-    ensures memory { IfErr result (λ r. r ≡ NoMemory) }
+    ensures taken { OnErr result ((taken : List Event)
+        × (cluster.new.journal ≡ cluster.old.journal ++ taken)) }
 {
     for event in events {
         match cluster.step(event) {
             Ok(_) => {}
             Err(refusal) => {
                 if refusal == Refusal::NoMemory {
-                    return Err(refusal);
+                    return Err(NoMemory);
                 }
             }
         }
@@ -107,7 +112,7 @@ fn step_all(cluster: &mut Cluster, events: Vec<Event>) -> Result<(), Refusal>
 mod tests {
     use super::{histories, note_across};
     use crate::courses::{named, new_cluster, scenario_of};
-    use mencius_base::Refusal;
+    use mencius_base::{Event, Refusal};
     use std::panic::Expect;
     use std::test::Fail;
 
@@ -128,7 +133,8 @@ mod tests {
             let scenario = scenario_of(&rt, alloc, named(&rt, "get_at_another_server"))?;
             let mut cluster = new_cluster(&rt, alloc, scenario.members);
             let mut rest = Vec::new(alloc);
-            for (place, event) in scenario.events.into_iter().enumerate() {
+            let events: Vec<Event> = scenario.events.into_iter().collect(alloc)?;
+            for (place, event) in events.into_iter().enumerate() {
                 if place < first {
                     assert!(rt; cluster.step(event).is_ok());
                 } else {
@@ -153,7 +159,8 @@ mod tests {
         for (server, other) in [(3, 0), (0, 3), (3, 3)] {
             let scenario = scenario_of(&rt, alloc, named(&rt, "get_at_another_server"))?;
             let mut cluster = new_cluster(&rt, alloc, scenario.members);
-            let answer = note_across(alloc, &mut cluster, server, scenario.events, other);
+            let events = scenario.events.into_iter().collect(alloc)?;
+            let answer = note_across(alloc, &mut cluster, server, events, other);
             let refusal = answer.expect_err(&rt, "no such server");
             assert_eq!(rt; refusal, Refusal::BadServer);
             assert_eq!(rt; cluster.events(), 0);

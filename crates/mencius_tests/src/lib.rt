@@ -1,9 +1,10 @@
-//! Tests of the whole program: worked schedules, each call of a cluster, the greatest ones that a cluster takes, journals
-//! stepped through again, runs of workers, hostile input, failing readers and writers, and the texts of the command
-//! line.
+//! Tests of the whole program: worked schedules, each call of a cluster, the greatest ones that a cluster takes,
+//! journals stepped through again, runs of workers, hostile input, failing readers and writers, and the texts of the
+//! command line.
 //!
-//! The modules [`conclusions`] and [`readings`] are no tests: they prove what a caller of a cluster, or
-//! of a board and its readers, can conclude from public clauses alone.
+//! The modules [`conclusions`], [`hands`] and [`readings`] are no tests: they prove what a caller of a
+//! cluster, of single servers, or of a board and its readers, can conclude from public clauses alone.
+//! [`same`] compares the answers of two clusters.
 #![tactic(auto)]
 
 #[cfg(test)]
@@ -14,9 +15,12 @@ pub mod conclusions;
 #[cfg(test)]
 mod courses;
 #[cfg(test)]
+mod endings;
+#[cfg(test)]
 mod faults;
 #[cfg(test)]
 mod fixtures;
+pub mod hands;
 #[cfg(test)]
 mod journal_again;
 #[cfg(test)]
@@ -24,6 +28,7 @@ mod limits;
 pub mod readings;
 #[cfg(test)]
 mod runs;
+pub mod same;
 #[cfg(test)]
 mod schedules;
 #[cfg(test)]

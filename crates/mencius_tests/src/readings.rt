@@ -18,8 +18,8 @@ pub struct Reading {
     pub count: u32,
 }
 
-/// Tells a reader News of its own board, and looks a key up. The answer is from a list that the News's
-/// list begins. Whoever calls it needs no lock, and it never waits.
+/// Tells a reader News of its own board, and looks a key up. The answer is from a list of which
+/// the News's list is a prefix. Whoever calls it needs no lock, and it never waits.
 pub fn look_up_told(
     alloc: Global,
     reader: &mut Reader,
@@ -28,7 +28,8 @@ pub fn look_up_told(
 ) -> Result<Reading, BoardFault>
     requires { news.book ≡ reader.old.book }
     ensures told { OnOk result (IsPrefix news.log reader.new.log) }
-    ensures text { IfOk result (λ x. option_map string_bytes x.text ≡ value_at key.now reader.new.log) }
+    ensures text { IfOk result (λ x. option_map string_bytes x.text
+        ≡ value_at key.now reader.new.log) }
     ensures count { IfOk result (λ x. x.count ≡ length reader.new.log) }
     ensures board { reader.new.book ≡ reader.old.book }
 {
@@ -49,7 +50,8 @@ pub fn look_up_shown<R: Wait>(
 ) -> Result<Reading, BoardFault>
     requires { reader.old.book ≡ board.old.book }
     ensures shown { OnOk result (IsPrefix (longest board.old.cluster) reader.new.log) }
-    ensures text { IfOk result (λ x. option_map string_bytes x.text ≡ value_at key.now reader.new.log) }
+    ensures text { IfOk result (λ x. option_map string_bytes x.text
+        ≡ value_at key.now reader.new.log) }
     ensures cluster { board.new.cluster ≡ board.old.cluster }
 {
     let news = board.show(rt, alloc)?;

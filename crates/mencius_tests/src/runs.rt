@@ -4,6 +4,7 @@ use crate::courses::{new_cluster, stepped};
 use crate::fixtures::{Page, Pieces, Trouble, replayed, report_of};
 use mencius_app::{AppFault, Open, Std, read_plan, read_scenario, run};
 use mencius_board::{Board, Chooser, worker_turn};
+use mencius_cluster::Cluster;
 use std::alloc::Global;
 use std::panic::Expect;
 use std::process::Abort;
@@ -95,6 +96,40 @@ fn each_journal_replays(rt: HostRuntime) -> Result<(), Fail> {
     Ok(())
 }
 
+// A cluster after the turns of a run's one worker, each taken on a board.
+fn cluster_of_turns<R: Abort + Wait>(
+    rt: &R,
+    alloc: Global,
+    scenario: &str,
+) -> Result<Cluster, Fail> {
+    let scenario = read_plan(alloc, scenario.as_bytes()).map_err(|_| "a plan")?;
+    let cluster = new_cluster(rt, alloc, scenario.members);
+    assert!(rt; scenario.plan.workers() == 1);
+    let mut chooser = Chooser::new(&scenario.plan, 0);
+    let mut board = Board::new(rt, alloc, cluster, 1).expect(rt, "a board");
+    for _ in 0..2000 {
+        let turn = worker_turn(&mut board, &mut chooser);
+        assert_eq!(rt; turn, Ok(()));
+    }
+    Ok(board.end(rt))
+}
+
+// A run's text begins with the journal of a cluster, and ends with its report.
+fn assert_printed<R: Abort>(
+    rt: &R,
+    alloc: Global,
+    text: &str,
+    cluster: &Cluster,
+) -> Result<(), Fail> {
+    let (line, rest) = text.split_once('\n').ok_or("one line")?;
+    let printed = read_scenario(alloc, line.as_bytes()).map_err(|_| "a scenario")?;
+    let replay = stepped(rt, alloc, printed);
+    assert!(rt; replay.journal() == cluster.journal());
+    let report = report_of(rt, alloc, cluster);
+    assert!(rt; report.as_slice() == rest.as_bytes());
+    Ok(())
+}
+
 #[test]
 fn one_worker_is_a_board_that_is_stepped(rt: HostRuntime) -> Result<(), Fail> {
     let alloc = rt.alloc();
@@ -102,25 +137,8 @@ fn one_worker_is_a_board_that_is_stepped(rt: HostRuntime) -> Result<(), Fail> {
     let answer = ran(&rt, alloc, ONE_WORKER, true, None, &mut written);
     assert_eq!(rt; answer, Ok(()));
     let text = String::from_utf8(written)?;
-    let (line, rest) = text.as_str().split_once('\n').ok_or("one line")?;
-
-    let scenario = read_plan(alloc, ONE_WORKER.as_bytes()).map_err(|_| "a plan")?;
-    let cluster = new_cluster(&rt, alloc, scenario.members);
-    let mut board = Board::new(&rt, alloc, cluster, 1).expect(&rt, "a board");
-    assert!(rt; scenario.plan.workers() == 1);
-    let mut chooser = Chooser::new(&scenario.plan, 0);
-    for _ in 0..2000 {
-        let turn = worker_turn(&mut board, &mut chooser);
-        assert_eq!(rt; turn, Ok(()));
-    }
-    let cluster = board.end(&rt);
-
-    let printed = read_scenario(alloc, line.as_bytes()).map_err(|_| "a scenario")?;
-    let replay = stepped(&rt, alloc, printed);
-    assert!(rt; replay.journal() == cluster.journal());
-    let report = report_of(&rt, alloc, &cluster);
-    assert!(rt; report.as_slice() == rest.as_bytes());
-    Ok(())
+    let cluster = cluster_of_turns(&rt, alloc, ONE_WORKER)?;
+    assert_printed(&rt, alloc, text.as_str(), &cluster)
 }
 
 // A scenario of one server and one worker with these fields.
@@ -132,7 +150,8 @@ fn plan_of(
     commands: &str,
 ) -> Result<String, Fail> {
     let text = format!(in alloc;
-        "{{\"version\":1,\"servers\":1,\"workers\":{workers},\"seed\":1,\"turns\":{turns},\"loss\":{loss},\"commands\":{commands}}}"
+        "{{\"version\":1,\"servers\":1,\"workers\":{workers},\"seed\":1,\
+         \"turns\":{turns},\"loss\":{loss},\"commands\":{commands}}}"
     )?;
     Ok(text)
 }
@@ -193,7 +212,8 @@ fn fields(rt: HostRuntime) {
             shape,
         ),
         (
-            "{\"version\":1,\"servers\":1,\"workers\":1,\"seed\":1,\"turns\":0,\"loss\":0,\"commands\":[[]],\"beta\":0}",
+            "{\"version\":1,\"servers\":1,\"workers\":1,\"seed\":1,\
+             \"turns\":0,\"loss\":0,\"commands\":[[]],\"beta\":0}",
             shape,
         ),
         (
@@ -205,15 +225,18 @@ fn fields(rt: HostRuntime) {
             limit,
         ),
         (
-            "{\"version\":1,\"servers\":8,\"workers\":1,\"seed\":1,\"turns\":0,\"loss\":0,\"commands\":[[],[],[],[],[],[],[],[]]}",
+            "{\"version\":1,\"servers\":8,\"workers\":1,\"seed\":1,\
+             \"turns\":0,\"loss\":0,\"commands\":[[],[],[],[],[],[],[],[]]}",
             limit,
         ),
         (
-            "{\"version\":1,\"servers\":1,\"workers\":1,\"seed\":18446744073709551615,\"turns\":0,\"loss\":0,\"commands\":[[]]}",
+            "{\"version\":1,\"servers\":1,\"workers\":1,\"seed\":18446744073709551615,\
+             \"turns\":0,\"loss\":0,\"commands\":[[]]}",
             None,
         ),
         (
-            "{\"version\":1,\"servers\":1,\"workers\":1,\"seed\":18446744073709551616,\"turns\":0,\"loss\":0,\"commands\":[[]]}",
+            "{\"version\":1,\"servers\":1,\"workers\":1,\"seed\":18446744073709551616,\
+             \"turns\":0,\"loss\":0,\"commands\":[[]]}",
             shape,
         ),
         (

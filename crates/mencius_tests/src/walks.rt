@@ -15,7 +15,7 @@ const WALKED: [&str; 5] = [
     "prepare_answered_with_learn",
 ];
 
-// Adds the history of each server to those seen so far. Of each two, one begins the other.
+// Adds the history of each server to those seen so far. Of each two, one is a prefix of the other.
 fn see<R: Abort>(
     rt: &R,
     alloc: Global,

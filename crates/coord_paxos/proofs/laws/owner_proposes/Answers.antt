@@ -1,4 +1,4 @@
-use Rattle.coord_paxos.proofs.SlotHistory.{slot_at-suggested}
+use Rattle.coord_paxos.proofs.SlotTrace.{slot_at-suggested}
 use Rattle.coord_paxos.proofs.SlotLaws.{slot_at-empty}
 use Rattle.coord_paxos.proofs.laws.owner_proposes.Goals as goal
 

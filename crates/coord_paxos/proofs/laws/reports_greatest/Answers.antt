@@ -2,27 +2,27 @@ use Rattle.std.proofs.Common.{◌≡◌, ℕ, Option, Some, refl, subst}
 use Rattle.std.proofs.lemmas.Bool.{eq-eqb}
 use Rattle.mencius_base.specs.declared.message.Message.TheVariants.{Promise}
 use Rattle.mencius_base.specs.declared.message.Vote.{Vote}
-use Rattle.mencius_model.specs.History.{History, heard}
+use Rattle.mencius_model.specs.Trace.{Trace, heard}
 use Rattle.mencius_model.specs.Instance.{reported, vote_reported}
 use Rattle.mencius_model.specs.Laws.{HearsReport}
 use Rattle.mencius_model.proofs.Reports.{Stands, Stands-heard, highest_vote-heard}
 use Rattle.coord_paxos.proofs.laws.reports_greatest.Goals as goal
 
 -- the vote reported stands against each that was heard
-stands : (w : History) (p i b : ℕ) (u : Vote) → HearsReport w p i b u → Stands (reported w p i b) (Some u)
-stands w p i b u hears =
-    let reports : vote_reported i b (Promise hears.0 hears.1 i b (Some u)) ≡ Some u =
+stands : (w : Trace) (p i b : ℕ) (v : Vote) → HearsReport w p i b v → Stands (reported w p i b) (Some v)
+stands w p i b v hears =
+    let reports : vote_reported i b (Promise hears.0 hears.1 i b (Some v)) ≡ Some v =
     rw (eq-eqb i i refl, eq-eqb b b refl) in
     subst (λ (o : Option Vote). Stands (reported w p i b) o) reports
-    (Stands-heard (vote_reported i b) (heard w p) (Promise hears.0 hears.1 i b (Some u)) hears.2)
+    (Stands-heard (vote_reported i b) (heard w p) (Promise hears.0 hears.1 i b (Some v)) hears.2)
 
 pub returns-clause-heard : goal.returns-clause-heard
 returns-clause-heard c = λ w p i b v e. highest_vote-heard i b v (heard w p) e
 
 pub returns-clause-greatest : goal.returns-clause-greatest
 returns-clause-greatest c =
-    λ w p i b u v e hears. subst (λ (o : Option Vote). Stands o (Some u)) e (stands w p i b u hears)
+    λ w p i b v x e hears. subst (λ (o : Option Vote). Stands o (Some x)) e (stands w p i b x hears)
 
 pub returns-clause-some : goal.returns-clause-some
 returns-clause-some c =
-    λ w p i b u hears none. subst (λ (o : Option Vote). Stands o (Some u)) none (stands w p i b u hears)
+    λ w p i b v hears none. subst (λ (o : Option Vote). Stands o (Some v)) none (stands w p i b v hears)

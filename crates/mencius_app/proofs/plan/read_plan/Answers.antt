@@ -1,5 +1,6 @@
 use Rattle.std.proofs.Common.{◌≡◌, ◌≤◌, Ok, length, rules, subst}
 use Rattle.std.proofs.lemmas.List.{length-map}
+use Rattle.mencius_base.specs.Limits.{most_servers}
 use Rattle.mencius_input.specs.Plan.{plan, run_in}
 use Rattle.mencius_input.proofs.Plans.{plan_in_range}
 use Rattle.mencius_app.proofs.plan.read_plan.Goals as goal
@@ -9,6 +10,6 @@ pub returns-in-None : goal.returns-in-None
 returns-in-None c =
     let said : plan c.args.bytes.now ≡ Ok (run_in c.in_ok-members.field-0) = search rules in
     let fits = plan_in_range c.args.bytes.now _ said in
-    let lists : length c.in_ok-members.field-0.commands.items ≤ 7 = subst (λ n. n ≤ 7)
+    let lists : length c.in_ok-members.field-0.commands.items ≤ most_servers = subst (λ n. n ≤ most_servers)
     (length-map c.in_ok-members.field-0.commands.items (λ v. v.items)) fits.4 in
     absurd (search rules)

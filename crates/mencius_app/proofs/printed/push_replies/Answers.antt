@@ -1,5 +1,5 @@
 use Rattle.mencius_app.specs.Report.{reply_line}
-use Rattle.mencius_cluster.specs.State.{history_of}
+use Rattle.mencius_cluster.specs.State.{trace_of}
 use Rattle.mencius_app.proofs.Rounds.{texts_further}
 use Rattle.mencius_app.proofs.printed.push_replies.Goals as goal
 
@@ -7,4 +7,4 @@ pub loop-ticket-preserved : goal.loop-ticket-preserved
 loop-ticket-preserved c =
     texts_further
     (reply_line
-    (history_of c.args.cluster.now)) c.loop-ticket.ticket _ _ _ c.loop-ticket.invariant c.in_ok-push_reply.ensures
+    (trace_of c.args.cluster.now)) c.loop-ticket.ticket _ _ _ c.loop-ticket.invariant c.in_ok-push_reply.ensures

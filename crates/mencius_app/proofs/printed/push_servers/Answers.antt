@@ -1,5 +1,5 @@
 use Rattle.mencius_app.specs.Report.{server_line}
-use Rattle.mencius_cluster.specs.State.{history_of}
+use Rattle.mencius_cluster.specs.State.{trace_of}
 use Rattle.mencius_app.proofs.Rounds.{texts_further}
 use Rattle.mencius_app.proofs.printed.push_servers.Goals as goal
 
@@ -7,4 +7,4 @@ pub loop-server-preserved : goal.loop-server-preserved
 loop-server-preserved c =
     texts_further
     (server_line c.args.cluster.now.members
-    (history_of c.args.cluster.now)) c.loop-server.server _ _ _ c.loop-server.invariant c.in_ok-push_server.ensures
+    (trace_of c.args.cluster.now)) c.loop-server.server _ _ _ c.loop-server.invariant c.in_ok-push_server.ensures

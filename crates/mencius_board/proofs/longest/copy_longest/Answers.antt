@@ -1,17 +1,17 @@
 use Rattle.std.proofs.Common.{◌≡◌, ◌++◌, ℕ, List, arith, rules, sym, ap, ◌∙◌, length, take, get_or}
 use Rattle.mencius_base.specs.declared.command.Command.{Command}
-use Rattle.mencius_model.specs.History.{option_to_list}
+use Rattle.mencius_model.specs.Trace.{option_to_list}
 use Rattle.mencius_model.specs.Server.{done}
 use Rattle.mencius_model.specs.Executed.{executed}
 use Rattle.mencius_model.specs.Replying.{command_at, commands_of}
-use Rattle.mencius_cluster.specs.State.{history_of}
+use Rattle.mencius_cluster.specs.State.{trace_of}
 use Rattle.mencius_board.specs.Boards.{longest}
 use Rattle.mencius_board.proofs.Copying.{commands_next, longest_few, take_whole}
 use Rattle.mencius_board.proofs.longest.copy_longest.Goals as goal
 
 pub loop-ticket-preserved : goal.loop-ticket-preserved
 loop-ticket-preserved c =
-    let w = history_of c.args.cluster.now in
+    let w = trace_of c.args.cluster.now in
     let t : ℕ = get_or c.unwrap-tickets.result.now c.loop-ticket.ticket-index 0 in
     c.in_ok-push_command.ensures
     ∙ (ap (λ (xs : List Command). xs ++ option_to_list (command_at w t)) c.loop-ticket.invariant
@@ -21,7 +21,7 @@ pub returns-clause-list : goal.returns-clause-list
 unfolding longest
 returns-clause-list c =
     let x = c.args.cluster.now in
-    let w = history_of x in
+    let w = trace_of x in
     let tickets : c.unwrap-tickets.result.now ≡ executed w c.longest-server.result = search rules in
     let all : take c.loop-ticket.ticket-index c.unwrap-tickets.result.now ≡ c.unwrap-tickets.result.now =
     take_whole c.loop-ticket.ticket-index c.unwrap-tickets.result.now c.loop-ticket-test.false in
@@ -32,7 +32,7 @@ pub returns-clause-limit : goal.returns-clause-limit
 returns-clause-limit c =
     let x = c.args.cluster.now in
     let is : c.loop-ticket.list.items ≡ longest x = returns-clause-list c in
-    let done_is : c.unwrap-done.result ≡ done (history_of x) c.longest-server.result = search rules in
+    let done_is : c.unwrap-done.result ≡ done (trace_of x) c.longest-server.result = search rules in
     let few = longest_few x c.longest-server.result c.unwrap-done.result c.longest-server.ensures.place done_is in
     let same : length c.loop-ticket.list.items ≡ length (longest x) = ap length is in
     omega (arith, few, same, c.unwrap-done.type_inv)

@@ -2,7 +2,7 @@ use Rattle.std.proofs.Common.{List, ◌≡◌, ◌∙◌, [], ap, map, rules, st
 use Rattle.std.proofs.lemmas.Result.{IfOk-weaker}
 use Rattle.clap.specs.Kinds.{FailsBy, HasKind, or_else}
 use Rattle.clap.specs.Words.{Kinds, Text, app_of, fault_of, is_simple_and_free, subcommand_of}
-use Rattle.mencius_input.specs.CommandLine.{Asked, asked_by, asked_in, key_faults, program, with_joined_key}
+use Rattle.mencius_input.specs.CommandLine.{Asked, asked_by, asked_in, key_faults, program, words_read}
 use Rattle.mencius_input.proofs.CommandLines.{err_first, kinds_next, program_simple}
 use Rattle.mencius_input.proofs.command_line.read_command_line.Goals as goal
 
@@ -13,7 +13,7 @@ asked_there words = asked_by (subcommand_of program words)
 pub returns-in_err-matches-clause-faults : goal.returns-in_err-matches-clause-faults
 returns-in_err-matches-clause-faults c =
     let words = map string_bytes c.as_slice.result.now in
-    let joined : words ≡ with_joined_key (map string_bytes c.args.words.now) = search rules in
+    let joined : words ≡ words_read (map string_bytes c.args.words.now) = search rules in
     let simple : is_simple_and_free (app_of c.in_ok-command.command) ≡ true = ap is_simple_and_free
     c.in_ok-command.ensures ∙ program_simple in
     let same : fault_of (app_of c.in_ok-command.command) words ≡ fault_of program words = ap
@@ -27,7 +27,7 @@ returns-in_err-matches-clause-faults c =
 pub returns-clause-faults : goal.returns-clause-faults
 returns-clause-faults c =
     let words = map string_bytes c.as_slice.result.now in
-    let joined : words ≡ with_joined_key (map string_bytes c.args.words.now) = search rules in
+    let joined : words ≡ words_read (map string_bytes c.args.words.now) = search rules in
     let simple : is_simple_and_free (app_of c.in_ok-command.command) ≡ true = ap is_simple_and_free
     c.in_ok-command.ensures ∙ program_simple in
     let none : fault_of program words ≡ [] = ap (λ a. fault_of a words) (sym c.in_ok-command.ensures)
@@ -40,6 +40,6 @@ returns-clause-faults c =
 pub returns-clause-task : goal.returns-clause-task
 returns-clause-task c =
     let words = map string_bytes c.as_slice.result.now in
-    let joined : words ≡ with_joined_key (map string_bytes c.args.words.now) = search rules in
+    let joined : words ≡ words_read (map string_bytes c.args.words.now) = search rules in
     let said : asked_in c.in_ok-task.task ≡ asked_there words = search rules in
     IfOk-weaker c.with_good_key.result _ _ (λ t h. h ∙ said ∙ ap asked_there joined) c.with_good_key.ensures.task

@@ -1,14 +1,13 @@
-use Rattle.std.proofs.Common.{◌≡◌, ◌∙◌, Some, ap, ap₂, codes, rules, sym}
+use Rattle.std.proofs.Common.{◌≡◌, ◌∙◌, Some, ap, sym}
+use Rattle.std.proofs.lemmas.Result.{IfOk-weaker}
 use Rattle.clap.specs.Words.{found_of, rows_of, subcommand_rows_of}
-use Rattle.mencius_input.specs.CommandLine.{asked_by, asked_run}
+use Rattle.mencius_input.specs.CommandLine.{asked_by}
 use Rattle.mencius_input.proofs.CommandLines.{task_found}
 use Rattle.mencius_input.proofs.command_line.task_of.Goals as goal
 
-pub returns-in_ok-key_of-in-Some-run-default : goal.returns-in_ok-key_of-in-Some-run-default
-returns-in_ok-key_of-in-Some-run-default c =
-    let options = c.in-Some-run-default.options.now in
-    let named : c.in-Some-run-default.field-0-0.now ≡ codes "run" = search rules in
-    let there : subcommand_rows_of c.args.matches.now ≡ Some (codes "run", rows_of (found_of options)) =
-    task_found _ (codes "run") (rows_of (found_of options)) (ap Some (sym named)
-    ∙ c.in-Some-run-default.ensures.name) c.in-Some-run-default.ensures.rows in
-    ap₂ asked_run c.has_flag.ensures c.in_ok-key_of-in-Some-run-default.ensures ∙ ap asked_by (sym there)
+pub returns-in-Some : goal.returns-in-Some
+returns-in-Some c =
+    let rows = rows_of (found_of c.in-Some.options.now) in
+    let there : subcommand_rows_of c.args.matches.now ≡ Some (c.in-Some.name.now, rows) =
+    task_found _ c.in-Some.name.now rows c.in-Some.ensures.name c.in-Some.ensures.rows in
+    IfOk-weaker c.task_named.result _ _ (λ t h. h ∙ ap asked_by (sym there)) c.task_named.ensures

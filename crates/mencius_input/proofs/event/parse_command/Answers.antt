@@ -20,7 +20,10 @@ returns-in_err-id-2 c =
 
 pub returns-in-Ok : goal.returns-in-Ok
 returns-in-Ok c =
-    command_cut c.args.text.now c.in_ok-id.id.now c.in_ok-id.op.now c.in_ok-id-2.id c.in_ok-id-2.op None c.in_ok-id.ensures (command_pair c.in_ok-id.id.now c.in_ok-id.op.now c.parse_id.result c.parse_op.result (Ok (c.in_ok-id-2.id, c.in_ok-id-2.op)) c.in_ok-id-2.ensures c.parse_id.ensures c.parse_op.ensures) c.in-Ok.ensures.good ∙ ap Ok (sym c.in-Ok.ensures.command)
+    command_cut c.args.text.now c.in_ok-id.id.now c.in_ok-id.op.now c.in_ok-id-2.id c.in_ok-id-2.op None
+    c.in_ok-id.ensures (command_pair c.in_ok-id.id.now c.in_ok-id.op.now c.parse_id.result c.parse_op.result
+    (Ok (c.in_ok-id-2.id, c.in_ok-id-2.op)) c.in_ok-id-2.ensures c.parse_id.ensures c.parse_op.ensures)
+    c.in-Ok.ensures.good ∙ ap Ok (sym c.in-Ok.ensures.command)
 
 pub returns-in-Err : goal.returns-in-Err
 returns-in-Err c =

@@ -13,7 +13,8 @@ pub loop-ranges-init : goal.loop-ranges-init
 loop-ranges-init c = record {
   joining = elim c.if-first-eq0.branch [
     | then-first-eq0 w ↦ rw w.at-is
-        (joining_start c.args.ranges.now.items c.args.first c.args.stop 0 none c.requires.rising c.requires.some (omega arith) (λ j l. absurd (omega arith)) (λ j l k. omega (arith, w.if-first-eq0.true)))
+        (joining_start c.args.ranges.now.items c.args.first c.args.stop 0 none c.requires.rising c.requires.some
+        (omega arith) (λ j l. absurd (omega arith)) (λ j l k. omega (arith, w.if-first-eq0.true)))
     | else-first-eq0 w ↦
         let items : w.deref.result.now ≡ c.args.ranges.now.items = w.deref.ensures.value in
         let P : List Span → Type 0 =
@@ -23,7 +24,8 @@ loop-ranges-init c = record {
         → c.args.first - 1 < (get_or xs j d).stop in
         let before = subst P items w.first_past-at.ensures.before in
         let after = subst Q items w.first_past-at.ensures.after in
-        rw w.at-is (joining_start c.args.ranges.now.items c.args.first c.args.stop w.first_past-at.result none c.requires.rising c.requires.some
+        rw w.at-is (joining_start c.args.ranges.now.items c.args.first c.args.stop w.first_past-at.result none
+        c.requires.rising c.requires.some
         (omega (arith, w.first_past-at.ensures.within, ap length items))
         (λ j l. omega (arith, before j none l, w.if-first-eq0.false)) (λ j l k. omega (arith, after j none l k)))
   ];
@@ -40,7 +42,8 @@ loop-ranges-preserved c =
     let low : c.remove-met.result.first ≤ c.loop-ranges.union.stop =
     omega (arith, c.if-index-union.true, ap (λ (r : Span). r.first) met) in
     record {
-      joining = joining_more c.args.ranges.now.items c.loop-ranges.ranges.items c.remove-met.new.self.items c.args.first c.args.stop c.if-first-eq0.at
+      joining = joining_more c.args.ranges.now.items c.loop-ranges.ranges.items c.remove-met.new.self.items c.args.first
+          c.args.stop c.if-first-eq0.at
           c.loop-ranges.union.first c.loop-ranges.union.stop c.loop-ranges.absorbed _ _ _ c.remove-met.result inside
           (sym c.remove-met.ensures.value) low
           (c.remove-met.ensures.by_index.2
@@ -60,7 +63,8 @@ pub returns-clause-further : goal.returns-clause-further
 returns-clause-further c =
     let new = inserted c.insert.result c.insert.new.self.items c.loop-ranges.ranges.items _
     (c.insert.ensures.succeeds c.loop-ranges.invariant.room) c.insert.ensures.items in
-    (joining_ends c.args.ranges.now.items c.loop-ranges.ranges.items c.insert.new.self.items c.args.first c.args.stop c.if-first-eq0.at
+    (joining_ends c.args.ranges.now.items c.loop-ranges.ranges.items c.insert.new.self.items c.args.first c.args.stop
+    c.if-first-eq0.at
     c.loop-ranges.union.first c.loop-ranges.union.stop c.loop-ranges.absorbed c.loop-ranges.union none refl
     (λ inside. elim c.loop-ranges-test.branch [
       | then-loop-ranges-test+else-index-union w ↦

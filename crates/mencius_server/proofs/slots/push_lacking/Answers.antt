@@ -1,15 +1,17 @@
-use Rattle.std.proofs.Common.{◌+◌, ◌∙◌, arith, sym}
+use Rattle.std.proofs.Common.{◌≡◌, ◌+◌, ◌∙◌, arith, false, sym}
 use Rattle.mencius_server.specs.Places.{standing}
-use Rattle.mencius_server.proofs.Walks.{filled_more, filled_room, filled_walked, passed_room, passed_walked}
+use Rattle.mencius_server.specs.Slots.{is_lacking}
+use Rattle.mencius_server.proofs.Places.{some_read}
+use Rattle.mencius_server.proofs.Walks.{filled_more, filled_room, filled_walked, lacking_covered, passed_room, passed_walked, stands_whole}
 use Rattle.mencius_server.proofs.slots.push_lacking.Goals as goal
-use Rattle.mencius_server.proofs.slots.push_lacking.Goals.{then-not-covers, else-not-covers}
+use Rattle.mencius_server.proofs.slots.push_lacking.Goals.{then-is_none+then-not-covers, else-is_none, else-is_none-via-then-is_none+else-not-covers, else-is_none-via-else-is_none}
 
 pub push_at-requires-clause-room : goal.push_at-requires-clause-room
 push_at-requires-clause-room c =
     let inv = c.loop-inst.invariant in
     filled_room c.args.stretch c.args.skipped.now (standing c.args.places.now.items c.args.slots.now.items)
     (standing c.loop-inst.places.items c.loop-inst.slots.items) c.loop-inst.inst (c.loop-inst.inst + 1)
-    inv.own inv.low c.loop-inst-test.true (omega arith) (λ k l mine. l) inv.walked _ _ inv.room
+    inv.own inv.low c.loop-inst-test.true (omega arith) (λ j l mine. l) inv.walked _ _ inv.room
     (sym c.covers.ensures ∙ c.if-not-covers.true)
 
 pub loop-inst-preserved : goal.loop-inst-preserved
@@ -17,9 +19,9 @@ loop-inst-preserved c =
     let inv = c.loop-inst.invariant in
     let ahead = c.next_owned-inst.ensures.above in
     let least = c.next_owned-inst.ensures.least in
-    elim c.if-not-covers.branch [
-      | then-not-covers w ↦
-          let clear = sym c.covers.ensures ∙ w.if-not-covers.true in
+    elim c.if-is_none.branch [
+      | then-is_none+then-not-covers w ↦
+          let clear = sym w.covers.ensures ∙ w.if-not-covers.true in
           rw (w.places-is, w.slots-is) (record {
             own = c.next_owned-inst.ensures.owned ∙ inv.own;
             low = omega (arith, inv.low, ahead);
@@ -38,20 +40,31 @@ loop-inst-preserved c =
                 inv.own inv.low c.loop-inst-test.true ahead least inv.walked _ _ inv.room clear _
                 w.push_at.ensures.more);
           })
-      | else-not-covers w ↦
-          let covered = sym c.covers.ensures ∙ w.if-not-covers.false in
+      | else-is_none w ↦
+          let old = standing c.args.places.now.items c.args.slots.now.items in
+          let now = standing c.loop-inst.places.items c.loop-inst.slots.items in
+          let whole : is_lacking c.args.stretch c.args.skipped.now old c.loop-inst.inst ≡ false =
+          elim w.else-is_none.branch [
+            | else-is_none-via-then-is_none+else-not-covers v ↦
+                lacking_covered c.args.stretch c.args.skipped.now old c.loop-inst.inst
+                (sym v.covers.ensures ∙ v.if-not-covers.false)
+            | else-is_none-via-else-is_none v ↦
+                stands_whole c.args.stretch c.args.skipped.now old now c.loop-inst.inst c.next_owned-inst.result
+                inv.own inv.low c.loop-inst-test.true ahead least inv.walked _ _ inv.room
+                (some_read c.loop-inst.places.items c.loop-inst.slots.items _ c.loop-inst.inst c.index.result.now
+                c.is_none.result c.loop-inst.slots.ok.0 inv.placed
+                (omega (arith, inv.wide, c.loop-inst-test.true, c.loop-inst.places.ok.0)) c.index.ensures
+                c.is_none.ensures v.if-is_none.false)
+          ] in
           rw (w.places-is, w.slots-is) (record {
             own = c.next_owned-inst.ensures.owned ∙ inv.own;
             low = omega (arith, inv.low, ahead);
             wide = inv.wide;
             placed = inv.placed;
-            walked = passed_walked c.args.stretch c.args.skipped.now
-                (standing c.args.places.now.items c.args.slots.now.items)
-                (standing c.loop-inst.places.items c.loop-inst.slots.items) c.loop-inst.inst c.next_owned-inst.result
-                inv.own inv.low c.loop-inst-test.true ahead least inv.walked _ _ inv.room covered;
-            room = passed_room c.args.stretch c.args.skipped.now
-                (standing c.args.places.now.items c.args.slots.now.items)
-                (standing c.loop-inst.places.items c.loop-inst.slots.items) c.loop-inst.inst c.next_owned-inst.result
-                inv.own inv.low c.loop-inst-test.true ahead least inv.walked _ _ inv.room covered;
+            walked = passed_walked c.args.stretch c.args.skipped.now old now c.loop-inst.inst
+                c.next_owned-inst.result inv.own inv.low c.loop-inst-test.true ahead least inv.walked _ _ inv.room
+                whole;
+            room = passed_room c.args.stretch c.args.skipped.now old now c.loop-inst.inst c.next_owned-inst.result
+                inv.own inv.low c.loop-inst-test.true ahead least inv.walked _ _ inv.room whole;
           })
     ]

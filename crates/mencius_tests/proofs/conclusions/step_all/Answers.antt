@@ -5,8 +5,11 @@ use Rattle.mencius_app.proofs.Stepped.{accepted_further, refused_further}
 use Rattle.mencius_tests.proofs.conclusions.step_all.Goals as goal
 
 pub loop-event-preserved-in-Ok : goal.loop-event-preserved-in-Ok
-loop-event-preserved-in-Ok c = (_, accepted_further _ _ _ _ _ _ _ _ _ c.loop-event.invariant.1 c.in-Ok.ensures.effect)
+loop-event-preserved-in-Ok c = (_, accepted_further _ _ _ _ _ _ _ c.loop-event.invariant.1 c.in-Ok.ensures.effect)
 
 pub loop-event-preserved : goal.loop-event-preserved
-loop-event-preserved c =
-    (_, refused_further _ _ _ _ _ _ _ c.loop-event.invariant.1 c.in-Err.ensures.refusal (same_false the_type _ _ (sym c.if-eq.ensures)) c.in-Err.ensures.err)
+loop-event-preserved c = (
+  _,
+  refused_further _ _ _ _ _ _ _ c.loop-event.invariant.1 c.in-Err.ensures.refusal
+      (same_false the_type _ _ (sym c.if-eq.ensures)) c.in-Err.ensures.err,
+)

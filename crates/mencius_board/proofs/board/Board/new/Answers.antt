@@ -10,7 +10,7 @@ invariant_of-result g c =
     sound_new _ c.new-log.result c.mark-opening.result _ _ _
     (record {
       some_server = omega (arith, c.servers.ensures.some, c.servers.ensures.count);
-      replays = c.members.ensures.replays;
+      replays = c.replays.ensures;
       grows = c.growth.ensures.commands;
     })
     c.new-log.ensures c.mark-opening.ensures seen shown none

@@ -8,20 +8,21 @@ pub returns-in-Some : goal.returns-in-Some
 returns-in-Some c =
     c.accept_answer.ensures
     ∙ ap (λ (s : SlotState). accept_answer s c.args.from c.args.ballot)
-    (sym (seen_some c.self.inside.members c.self.inside.slots c.self.inside.skipped.items c.args.self.now c.self.view_is c.args.inst c.in-Some.slot.now c.requires.small c.in-Some.ensures.there))
+    (sym (seen_some _ _ _ _ c.self.view_is c.args.inst _ c.requires.small c.in-Some.ensures.there))
 
 pub returns-in-None : goal.returns-in-None
 returns-in-None c =
     c.accept_answer-in-None.ensures
     ∙ ap (λ (s : SlotState). accept_answer s c.args.from c.args.ballot) (c.unheard.ensures
-    ∙ sym (seen_none c.self.inside.members c.self.inside.slots c.self.inside.skipped.items c.args.self.now c.self.view_is c.args.inst c.requires.small c.in-None.ensures.none))
+    ∙ sym (seen_none _ _ _ _ c.self.view_is c.args.inst c.requires.small c.in-None.ensures.none))
 
 pub accept_answer-requires : goal.accept_answer-requires
 accept_answer-requires c =
     subst (λ (s : SlotState). c.args.from < s.members.count)
-    (seen_some c.self.inside.members c.self.inside.slots c.self.inside.skipped.items c.args.self.now c.self.view_is c.args.inst c.in-Some.slot.now c.requires.small c.in-Some.ensures.there) c.requires.member
+    (seen_some _ _ _ _ c.self.view_is c.args.inst _ c.requires.small c.in-Some.ensures.there) c.requires.member
 
 pub accept_answer-requires-in-None : goal.accept_answer-requires-in-None
 accept_answer-requires-in-None c =
     subst (λ (s : SlotState). c.args.from < s.members.count)
-    (seen_none c.self.inside.members c.self.inside.slots c.self.inside.skipped.items c.args.self.now c.self.view_is c.args.inst c.requires.small c.in-None.ensures.none ∙ sym c.unheard.ensures) c.requires.member
+    (seen_none _ _ _ _ c.self.view_is c.args.inst c.requires.small c.in-None.ensures.none ∙ sym c.unheard.ensures)
+    c.requires.member

@@ -6,7 +6,7 @@ use Rattle.mencius_server.proofs.known.Known.has_accepter.Goals as goal
 pub returns-then-from-accepts : goal.returns-then-from-accepts
 returns-then-from-accepts c = λ h.
     ap (λ (s : SlotState). get_or s.accepters c.args.from false)
-    (seen_some c.self.inside.members c.self.inside.slots c.self.inside.skipped.items c.args.self.now c.self.view_is
+    (seen_some _ _ _ _ c.self.view_is
     c.args.inst c.in-Some.slot.now c.requires c.in-Some.ensures.there)
-    ∙ ap (λ xs. get_or xs c.args.from false) (sym c.accepts-accepts.ensures)
+    ∙ ap (λ xs. get_or xs c.args.from false) (sym c.accepts-accepts.ensures.value)
     ∙ h

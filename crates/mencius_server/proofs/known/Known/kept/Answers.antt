@@ -5,4 +5,4 @@ use Rattle.mencius_server.proofs.known.Known.kept.Goals as goal
 pub returns : goal.returns
 returns c =
     c.len-slots.ensures.count
-    ∙ stand_count c.self.inside.members c.self.inside.slots c.self.inside.skipped.items c.args.self.now c.self.view_is c.len-slots.ensures.all
+    ∙ stand_count _ _ _ _ c.self.view_is c.len-slots.ensures.all

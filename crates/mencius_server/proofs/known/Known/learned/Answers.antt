@@ -6,4 +6,4 @@ use Rattle.mencius_server.proofs.known.Known.learned.Goals as goal
 pub returns : goal.returns
 returns c = c.learned_at.ensures
     ∙ ap (λ (s : SlotState). s.learned)
-    (sym (seen c.self.inside.members c.self.inside.slots c.self.inside.skipped.items c.args.self.now c.self.view_is c.args.inst c.requires))
+    (sym (seen _ _ _ _ c.self.view_is c.args.inst c.requires))

@@ -5,11 +5,11 @@ use Rattle.mencius_server.proofs.known.Known.open_stretch.Goals as goal
 
 pub returns : goal.returns
 returns c =
-    let members = ap (λ (k : KnownState). k.members) c.self.view_is in
+    let members = ap (λ (s : KnownState). s.members) c.self.view_is in
     record {
       stretch = record {
         member = omega
-            (arith, c.requires.suspected, ap (λ (k : KnownState). k.members.count) c.self.view_is);
+            (arith, c.requires.suspected, ap (λ (s : KnownState). s.members.count) c.self.view_is);
         own =
             c.first_owned-first.ensures.owned;
         small = omega (arith, c.min.ensures);
@@ -17,6 +17,7 @@ returns c =
       members = members;
       server = refl;
       stop = c.min.ensures;
-      before = open_before c.self.inside.members c.self.inside.slots c.self.inside.skipped.items c.self.inside.learned_below c.args.self.now c.self.view_is c.self.invariant.sound
-          c.args.suspected c.args.front c.first_owned-first.result c.first_owned-first.ensures.least c.first_owned-first.ensures.near;
+      before = open_before _ _ _ _ _ c.self.view_is c.self.invariant.sound
+          c.args.suspected c.args.front c.first_owned-first.result c.first_owned-first.ensures.least
+          c.first_owned-first.ensures.near;
     }

@@ -8,10 +8,10 @@ pub returns-in-Some : goal.returns-in-Some
 returns-in-Some c =
     c.prepare_answer.ensures
     ∙ ap (λ (s : SlotState). prepare_answer s c.args.ballot)
-    (sym (seen_some c.self.inside.members c.self.inside.slots c.self.inside.skipped.items c.args.self.now c.self.view_is c.args.inst c.in-Some.slot.now c.requires c.in-Some.ensures.there))
+    (sym (seen_some _ _ _ _ c.self.view_is c.args.inst _ c.requires c.in-Some.ensures.there))
 
 pub returns-in-None : goal.returns-in-None
 returns-in-None c =
     c.prepare_answer-in-None.ensures
     ∙ ap (λ (s : SlotState). prepare_answer s c.args.ballot) (c.unheard.ensures
-    ∙ sym (seen_none c.self.inside.members c.self.inside.slots c.self.inside.skipped.items c.args.self.now c.self.view_is c.args.inst c.requires c.in-None.ensures.none))
+    ∙ sym (seen_none _ _ _ _ c.self.view_is c.args.inst c.requires c.in-None.ensures.none))

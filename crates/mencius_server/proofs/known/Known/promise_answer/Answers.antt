@@ -8,20 +8,21 @@ pub returns-in-Some : goal.returns-in-Some
 returns-in-Some c =
     c.promise_answer.ensures
     ∙ ap (λ (s : SlotState). promise_answer s c.args.from c.args.ballot c.args.vote)
-    (sym (seen_some c.self.inside.members c.self.inside.slots c.self.inside.skipped.items c.args.self.now c.self.view_is c.args.inst c.in-Some.slot.now c.requires.small c.in-Some.ensures.there))
+    (sym (seen_some _ _ _ _ c.self.view_is c.args.inst _ c.requires.small c.in-Some.ensures.there))
 
 pub returns-in-None : goal.returns-in-None
 returns-in-None c =
     c.promise_answer-in-None.ensures
     ∙ ap (λ (s : SlotState). promise_answer s c.args.from c.args.ballot c.args.vote) (c.unheard.ensures
-    ∙ sym (seen_none c.self.inside.members c.self.inside.slots c.self.inside.skipped.items c.args.self.now c.self.view_is c.args.inst c.requires.small c.in-None.ensures.none))
+    ∙ sym (seen_none _ _ _ _ c.self.view_is c.args.inst c.requires.small c.in-None.ensures.none))
 
 pub promise_answer-requires : goal.promise_answer-requires
 promise_answer-requires c =
     subst (λ (s : SlotState). c.args.from < s.members.count)
-    (seen_some c.self.inside.members c.self.inside.slots c.self.inside.skipped.items c.args.self.now c.self.view_is c.args.inst c.in-Some.slot.now c.requires.small c.in-Some.ensures.there) c.requires.member
+    (seen_some _ _ _ _ c.self.view_is c.args.inst _ c.requires.small c.in-Some.ensures.there) c.requires.member
 
 pub promise_answer-requires-in-None : goal.promise_answer-requires-in-None
 promise_answer-requires-in-None c =
     subst (λ (s : SlotState). c.args.from < s.members.count)
-    (seen_none c.self.inside.members c.self.inside.slots c.self.inside.skipped.items c.args.self.now c.self.view_is c.args.inst c.requires.small c.in-None.ensures.none ∙ sym c.unheard.ensures) c.requires.member
+    (seen_none _ _ _ _ c.self.view_is c.args.inst c.requires.small c.in-None.ensures.none ∙ sym c.unheard.ensures)
+    c.requires.member

@@ -1,41 +1,70 @@
-use Rattle.std.proofs.Common.{◌≡◌, Some, None, set, refl, sym, ◌∙◌, ap, subst}
+use Rattle.std.proofs.Common.{◌≡◌, ℕ, ◌<◌, List, Option, Some, None, set, ⊎_elim, refl, sym, ◌∙◌, ap, subst}
 use Rattle.mencius_base.specs.declared.message.Value.TheVariants.{Ticket}
 use Rattle.coord_paxos.specs.SlotState.{SlotState}
-use Rattle.mencius_server.specs.Known.{KnownState, with_known}
-use Rattle.mencius_server.proofs.Knows.{seen_stands, some_there, stood_slot, written_quiet, written_shows}
-use Rattle.mencius_server.proofs.Opens.{renewed}
+use Rattle.std.proofs.lemmas.Bool.{cases_eq}
+use Rattle.mencius_base.specs.Limits.{instance_count}
+use Rattle.mencius_base.specs.Members.{Membership}
+use Rattle.mencius_server.specs.Known.{KnownState, known_at, with_known}
+use Rattle.mencius_server.specs.Slots.{stand_at}
+use Rattle.mencius_server.specs.Tallies.{IsKnown}
+use Rattle.mencius_server.specs.declared.ranges.Span.{Span}
+use Rattle.mencius_server.specs.declared.tally.Tally.{Tally}
+use Rattle.mencius_server.proofs.Knows.{at_here, at_off, known_there, seen_stands, some_there, stood_slot, written_quiet, written_shows}
+use Rattle.mencius_server.proofs.Tallying.{IsAlike, alike_same, counts_kept}
 use Rattle.mencius_server.proofs.known.Known.suggest.Goals as goal
 
 pub at-requires-clause-there : goal.at-requires-clause-there
 at-requires-clause-there c =
     some_there _ (sym
-    (seen_stands c.self.inside.members c.self.inside.slots c.self.inside.skipped.items c.stand.new.self c.self.view_is c.args.inst c.requires.small) ∙ c.in_ok-stand.ensures.there)
+    (seen_stands _ _ _ _ c.self.view_is c.args.inst c.requires.small) ∙ c.in_ok-stand.ensures.there)
 
 pub suggest-requires-clause-unsaid : goal.suggest-requires-clause-unsaid
 suggest-requires-clause-unsaid c =
     subst (λ (s : SlotState). s.proposal ≡ None)
-    (stood_slot c.self.inside.members c.self.inside.slots c.self.inside.skipped.items c.args.self.now c.stand.new.self c.args.inst c.at.result.now c.self.view_is c.in_ok-stand.ensures.ok c.requires.small c.at.ensures.value) c.requires.unsaid
+    (stood_slot _ _ _ _ _ c.args.inst _ c.self.view_is c.in_ok-stand.ensures.ok c.requires.small c.at.ensures.value)
+    c.requires.unsaid
 
 pub suggest-requires-clause-own : goal.suggest-requires-clause-own
 suggest-requires-clause-own c =
     subst (λ (s : SlotState). s.trying ≡ 0)
-    (stood_slot c.self.inside.members c.self.inside.slots c.self.inside.skipped.items c.args.self.now c.stand.new.self c.args.inst c.at.result.now c.self.view_is c.in_ok-stand.ensures.ok c.requires.small c.at.ensures.value) c.requires.own
+    (stood_slot _ _ _ _ _ c.args.inst _ c.self.view_is c.in_ok-stand.ensures.ok c.requires.small c.at.ensures.value)
+    c.requires.own
+
+-- a slot with a proposal counts as before
+alike : (m : Membership) (s x : SlotState) (t : ℕ) → x ≡ record s { proposal = Some (Ticket t) } → IsAlike m s x
+alike m s x t e = rw e (record { open_count = refl; full_count = refl })
+
+-- what is known, and what was counted of it, with the slot that is written
+kept : (m : Membership) (slots : List (Option SlotState)) (rs : List (List Span)) (low i t : ℕ) (tallies : List Tally)
+    (x y : SlotState) → i < instance_count → stand_at slots i ≡ Some x → y ≡ record x { proposal = Some (Ticket t) }
+    → IsKnown m slots rs low tallies → IsKnown m (set slots i (Some y)) rs low tallies
+kept m slots rs low i t tallies x y small there is h =
+    counts_kept m slots (set slots i (Some y)) rs rs low low tallies
+    (written_quiet m slots (set slots i (Some y)) rs i x y there refl low small
+    (ap (λ (s : SlotState). s.learned) is) h.sound)
+    (λ j l. ⊎_elim
+    (λ (at : j ≡ i).
+    subst (λ s. IsAlike m s (known_at m (set slots i (Some y)) rs j))
+    (sym (ap (known_at m slots rs) at ∙ known_there m slots rs i x there))
+    (subst (IsAlike m x) (sym (at_here m slots (set slots i (Some y)) rs i x y there refl j at)) (alike m x y t is)))
+    (λ (off : j ≡ i → ⊥).
+    alike_same m _ _ (sym (at_off m slots (set slots i (Some y)) rs i x y there refl j off)))
+    (cases_eq j i))
+    h
 
 pub invariant_of-self : goal.invariant_of-self
 invariant_of-self c =
-    renewed _ _ _ _ _
-    (written_quiet c.self.inside.members c.self.inside.slots
-    (set c.self.inside.slots c.args.inst
-    (Some c.suggest.new.self)) c.self.inside.skipped.items c.args.inst c.at.result.now c.suggest.new.self c.at.ensures.value refl
-    c.self.inside.learned_below c.requires.small
-    (ap (λ (s : SlotState). s.learned) c.suggest.ensures) c.self.invariant.sound) c.clear.ensures
+    kept c.self.inside.members c.self.inside.slots c.self.inside.skipped.items c.self.inside.learned_below c.args.inst
+    c.args.ticket c.self.inside.tallies c.at.result.now c.suggest.new.self c.requires.small c.at.ensures.value
+    c.suggest.ensures c.self.invariant
 
 pub returns-clause-ok : goal.returns-clause-ok
 returns-clause-ok c =
     written_shows c.self.inside.members c.self.inside.slots
     (set c.self.inside.slots c.args.inst (Some c.suggest.new.self)) c.self.inside.skipped.items c.args.inst
     c.at.result.now c.suggest.new.self c.at.ensures.value refl c.stand.new.self c.self.view_is
-    ∙ ap (λ (k : KnownState). record k { slots = set k.slots c.args.inst c.suggest.new.self }) c.in_ok-stand.ensures.ok
+    ∙ ap (λ (x : KnownState). record x { slots = set x.slots c.args.inst c.suggest.new.self }) c.in_ok-stand.ensures.ok
     ∙ ap (with_known c.args.self.now c.args.inst) (c.suggest.ensures
     ∙ ap (λ (s : SlotState). record s { proposal = Some (Ticket c.args.ticket) })
-    (sym (stood_slot c.self.inside.members c.self.inside.slots c.self.inside.skipped.items c.args.self.now c.stand.new.self c.args.inst c.at.result.now c.self.view_is c.in_ok-stand.ensures.ok c.requires.small c.at.ensures.value)))
+    (sym (stood_slot _ _ _ _ _ c.args.inst _ c.self.view_is c.in_ok-stand.ensures.ok c.requires.small
+    c.at.ensures.value)))

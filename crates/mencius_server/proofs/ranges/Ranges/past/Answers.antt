@@ -6,20 +6,20 @@ use Rattle.mencius_server.proofs.Spans.{covers_in, open_between, open_stop}
 use Rattle.mencius_server.proofs.ranges.Ranges.past.Goals as goal
 use Rattle.mencius_server.proofs.ranges.Ranges.past.Goals.{else-at-len-via-then-at-len+else-index-inst, else-at-len-via-else-at-len}
 
-here_covered : (xs now : List Span) (at i j : ℕ) (r t : Span) → xs ≡ now → at < length xs → r ≡ get_or xs at r
-    → t ≡ get_or xs at t
-    → r.first ≤ i → i ≤ j → j < t.stop → covers now j ≡ true
-here_covered xs now at i j r t e within r_is t_is low from high =
-    let same : get_or xs at t ≡ r = get_or_default xs at t r within ∙ sym r_is in
-    let first : (get_or xs at t).first ≤ j = omega (arith, ap (λ (s : Span). s.first) same) in
-    let stop : j < (get_or xs at t).stop = omega (arith, ap (λ (s : Span). s.stop) t_is) in
-    subst (λ ys. covers ys j ≡ true) e (covers_in xs at j t within first stop)
+here_covered : (xs now : List Span) (at i j : ℕ) (r d : Span) → xs ≡ now → at < length xs → r ≡ get_or xs at r
+    → d ≡ get_or xs at d
+    → r.first ≤ i → i ≤ j → j < d.stop → covers now j ≡ true
+here_covered xs now at i j r d e within r_is t_is low from high =
+    let same : get_or xs at d ≡ r = get_or_default xs at d r within ∙ sym r_is in
+    let first : (get_or xs at d).first ≤ j = omega (arith, ap (λ (s : Span). s.first) same) in
+    let stop : j < (get_or xs at d).stop = omega (arith, ap (λ (s : Span). s.stop) t_is) in
+    subst (λ ys. covers ys j ≡ true) e (covers_in xs at j d within first stop)
 
-stop_open : (xs now : List Span) (at : ℕ) (t : Span) → xs ≡ now → IsRising 0 xs → at < length xs
-    → t ≡ get_or xs at t → covers now t.stop ≡ false
-stop_open xs now at t e rising within t_is =
-    subst (λ ys. covers ys t.stop ≡ false) e
-    (ap (λ (s : Span). covers xs s.stop) t_is ∙ open_stop xs rising at t within)
+stop_open : (xs now : List Span) (at : ℕ) (d : Span) → xs ≡ now → IsRising 0 xs → at < length xs
+    → d ≡ get_or xs at d → covers now d.stop ≡ false
+stop_open xs now at d e rising within t_is =
+    subst (λ ys. covers ys d.stop ≡ false) e
+    (ap (λ (s : Span). covers xs s.stop) t_is ∙ open_stop xs rising at d within)
 
 between_open : (xs ys now : List Span) (at i : ℕ) (d : Span) → ys ≡ xs → xs ≡ now → IsRising 0 xs
     → ((j : ℕ) (d : Span) → j < at → (get_or ys j d).stop ≤ i)

@@ -1,10 +1,12 @@
-use Rattle.std.proofs.Common.{◌≡◌, ◌+◌, ◌<◌, ◌≤◌, ℕ, Bool, cond, false, true, ◌∙◌, ap, arith, refl, sym}
+use Rattle.std.proofs.Common.{◌≡◌, ◌+◌, ◌<◌, ◌≤◌, ℕ, Bool, cond, false, true, ◌∙◌, ⊎_elim, ap, arith, refl, sym}
 use Rattle.std.specs.Option.{option_map}
+use Rattle.std.proofs.lemmas.Bool.{cases_eq, cases_lt}
 use Rattle.mencius_server.specs.Slots.{begun, is_begun, is_in, is_unlearned, prepare_at, stand_at}
 use Rattle.mencius_server.proofs.Begins.{room_here, room_more, room_none, sent_more, sent_none}
 use Rattle.mencius_server.proofs.Gaps.{room_gap, sent_gap, sent_to}
 use Rattle.mencius_server.proofs.Walks.{begun_in, begun_out, in_here, out_before, out_between, out_past, prepare_here, unbegun_out, unlearned_in, walked_more, walked_start, written_here, written_off}
 use Rattle.mencius_server.proofs.slots.Slots.begin_all.Goals as goal
+use Rattle.mencius_server.proofs.slots.Slots.begin_all.Goals.{then-is_last, else-is_last}
 
 pub loop-inst-init : goal.loop-inst-init
 loop-inst-init c =
@@ -16,11 +18,12 @@ loop-inst-init c =
       walked = walked_start _ _ _ (λ j low. begun_out c.args.stretch c.args.id j _ (out_before c.args.stretch j low));
       sent = sent_gap _ _ _ _ 0 _ (omega arith) (λ j low high. before j high) (sent_none _ _ _);
       room = room_gap _ _ _ 0 _ (omega arith) (λ j low high. before j high) (room_none _ _ _ c.requires.room);
+      last = λ still j t low begins. let no = before j low in absurd (cc);
       limit = refl;
     }
 
-pub begin-requires-clause-rounds : goal.begin-requires-clause-rounds
-begin-requires-clause-rounds c = λ u stands unlearned.
+pub begin-is_last_here-requires-clause-rounds : goal.begin-is_last_here-requires-clause-rounds
+begin-is_last_here-requires-clause-rounds c = λ u stands unlearned.
     let inv = c.loop-inst.invariant in
     let here : is_in c.args.stretch c.loop-inst.inst ≡ true =
     in_here c.args.stretch c.loop-inst.inst inv.own inv.low c.loop-inst-test.true in
@@ -28,8 +31,8 @@ begin-requires-clause-rounds c = λ u stands unlearned.
     c.requires.rounds c.loop-inst.inst u
     (unlearned_in c.args.stretch c.args.self.now c.loop-inst.inst here ∙ ap is_unlearned was ∙ unlearned) was
 
-pub begin-requires-clause-room : goal.begin-requires-clause-room
-begin-requires-clause-room c = λ unlearned.
+pub begin-is_last_here-requires-clause-room : goal.begin-is_last_here-requires-clause-room
+begin-is_last_here-requires-clause-room c = λ unlearned.
     let inv = c.loop-inst.invariant in
     let here : is_in c.args.stretch c.loop-inst.inst ≡ true =
     in_here c.args.stretch c.loop-inst.inst inv.own inv.low c.loop-inst-test.true in
@@ -57,21 +60,40 @@ loop-inst-preserved c =
       walked = walked_more _ _ (stand_at c.loop-inst.self) _ c.loop-inst.inst _ ahead
           (λ j low high. begun_out c.args.stretch c.args.id j _ (out j low high))
           (written_here (option_map (begun c.args.stretch.members c.args.id)) (stand_at c.loop-inst.self)
-          (stand_at c.begin.new.self) c.loop-inst.inst c.begin.ensures.slots
+          (stand_at c.begin-is_last_here.new.self) c.loop-inst.inst c.begin-is_last_here.ensures.slots
           ∙ sym (begun_in c.args.stretch c.args.id c.loop-inst.inst _ here))
           (written_off (option_map (begun c.args.stretch.members c.args.id)) (stand_at c.loop-inst.self)
-          (stand_at c.begin.new.self) c.loop-inst.inst c.begin.ensures.slots)
+          (stand_at c.begin-is_last_here.new.self) c.loop-inst.inst c.begin-is_last_here.ensures.slots)
           inv.walked;
       sent = sent_gap _ _ _ _ (c.loop-inst.inst + 1) _ ahead between
-          (sent_more _ _ _ c.loop-inst.out.messages _ c.begin.new.out.messages c.loop-inst.inst
+          (sent_more _ _ _ c.loop-inst.out.messages _ c.begin-is_last_here.new.out.messages c.loop-inst.inst
           (ap (prepare_at c.args.stretch.members c.args.id c.loop-inst.inst) start
           ∙ prepare_here c.args.stretch c.args.id c.loop-inst.inst c.args.self.now _ _ refl begins)
-          c.begin.ensures.sent inv.sent);
+          c.begin-is_last_here.ensures.sent inv.sent);
       room = room_gap _ _ _ (c.loop-inst.inst + 1) _ ahead between
-          (room_more _ _ c.loop-inst.out.room c.begin.new.out.room c.loop-inst.inst
-          (ap (λ (b : Bool). c.begin.new.out.room + cond b 1 0) (begins ∙ ap is_unlearned (sym start))
-          ∙ c.begin.ensures.room) inv.room);
-      limit = c.begin.ensures.limit ∙ inv.limit;
+          (room_more _ _ c.loop-inst.out.room c.begin-is_last_here.new.out.room c.loop-inst.inst
+          (ap (λ (b : Bool). c.begin-is_last_here.new.out.room + cond b 1 0) (begins ∙ ap is_unlearned (sym start))
+          ∙ c.begin-is_last_here.ensures.room) inv.room);
+      last = λ still j t less begun_j stands. elim c.if-is_last.branch [
+        | then-is_last w ↦ let no : true ≡ false = sym w.if-is_last.true ∙ sym w.is_last-is ∙ still in absurd (cc)
+        | else-is_last w ↦ ⊎_elim
+            (λ (before : j < c.loop-inst.inst).
+            inv.last w.if-is_last.false j t before begun_j
+            (sym (written_off (option_map (begun c.args.stretch.members c.args.id)) (stand_at c.loop-inst.self)
+            (stand_at c.begin-is_last_here.new.self) c.loop-inst.inst c.begin-is_last_here.ensures.slots j
+            (λ e. absurd (omega arith))) ∙ stands))
+            (λ (from : c.loop-inst.inst ≤ j). ⊎_elim
+            (λ (at : j ≡ c.loop-inst.inst).
+            c.begin-is_last_here.ensures.last (sym w.is_last-is ∙ still) t
+            (ap is_unlearned start ∙ sym begins ∙ sym (ap (is_begun c.args.stretch c.args.self.now) at) ∙ begun_j)
+            (sym (ap (stand_at c.begin-is_last_here.new.self) at) ∙ stands))
+            (λ (off : j ≡ c.loop-inst.inst → ⊥).
+            let no = between j (omega arith) less in
+            let both : true ≡ false = sym begun_j ∙ no in absurd (cc))
+            (cases_eq j c.loop-inst.inst))
+            (cases_lt j c.loop-inst.inst)
+      ];
+      limit = c.begin-is_last_here.ensures.limit ∙ inv.limit;
     }
 
 pub returns-clause-sent : goal.returns-clause-sent

@@ -1,4 +1,6 @@
-use Rattle.std.proofs.Common.{◌≡◌, ◌-◌, ◌≤◌}
+use Rattle.std.proofs.Common.{◌≡◌, ℕ, Some, false, true, ◌-◌, ◌<◌, ◌≤◌}
+use Rattle.coord_paxos.specs.SlotState.{SlotState}
+use Rattle.mencius_server.specs.Tallies.{is_spent}
 use Rattle.mencius_base.specs.Members.{owner}
 use Rattle.mencius_server.specs.Slots.{begun_at, is_begun, prepare_of, stand_at}
 use Rattle.mencius_server.proofs.Begins.{HasRoomFrom, IsSentUpTo}
@@ -13,6 +15,8 @@ invariant-loop-inst l = record {
   sent : IsSentUpTo (prepare_of l.fn.stretch l.id l.initial.self) (is_begun l.fn.stretch l.initial.self)
       l.initial.out.messages l.out.messages l.inst;
   room : HasRoomFrom (is_begun l.fn.stretch l.initial.self) l.fn.stretch.stop l.out.room l.inst;
+  last : l.is_last ≡ false → (j : ℕ) (s : SlotState) → j < l.inst → is_begun l.fn.stretch l.initial.self j ≡ true
+      → stand_at l.self j ≡ Some s → is_spent l.fn.stretch.members s ≡ false;
   limit : l.out.limit ≡ l.initial.out.limit;
 }
 

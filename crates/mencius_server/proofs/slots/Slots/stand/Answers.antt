@@ -1,5 +1,6 @@
-use Rattle.std.proofs.Common.{◌<◌, ◌≤◌, ◌∙◌, [], ◌∷◌, ◌++◌, length, ap, arith}
+use Rattle.std.proofs.Common.{Some, cond, eqb, ◌<◌, ◌≤◌, ◌∙◌, [], ◌∷◌, ◌++◌, length, ap, arith}
 use Rattle.mencius_server.proofs.Places.{placed_stand, stand_stand}
+use Rattle.mencius_server.specs.Slots.{stand_at}
 use Rattle.mencius_base.specs.Limits.{instance_count}
 use Rattle.mencius_server.proofs.slots.Slots.stand.Goals as goal
 
@@ -15,12 +16,13 @@ invariant_of-self-2 c =
     (omega (arith, c.len.ensures, c.push_reserved.ensures.len))
 
 pub returns-clause-ok : goal.returns-clause-ok
-returns-clause-ok c =
+returns-clause-ok c = λ j.
     let few : length c.widen.new.places.items ≤ instance_count =
     omega (arith, c.widen.ensures.few, c.widen.new.places.ok.0) in
     let within : c.args.inst < length c.widen.new.places.items =
     omega (arith, c.in_ok-widen.ensures.reach, c.widen.new.places.ok.0) in
     stand_stand c.self.inside.places.items c.widen.new.places.items c.self.inside.slots.items _ _ c.len.result
     c.args.inst c.self.inside.slots.ok.0 c.self.invariant c.self.view_is
-    c.requires.none few c.widen.ensures.same within (c.len.ensures ∙ c.reserve.ensures.len) c.args.slot _
-    (c.push_reserved.ensures.items ∙ ap (λ xs. xs ++ c.args.slot ∷ []) c.reserve.ensures.items)
+    c.requires.none few c.widen.ensures.same within (c.len.ensures ∙ c.reserve.ensures.len) c.blank.result _
+    (c.push_reserved.ensures.items ∙ ap (λ xs. xs ++ c.blank.result ∷ []) c.reserve.ensures.items) j
+    ∙ ap (λ s. cond (eqb j c.args.inst) (Some s) (stand_at c.args.self.now j)) c.blank.ensures

@@ -1,5 +1,5 @@
-use Rattle.std.proofs.Common.{◌≡◌, ◌+◌, ◌<◌, ◌≤◌, true, false, not, Result, Ok, Err, ◌&&◌, length, ◌∙◌, ap, arith, sym, ⊎_elim}
-use Rattle.std.specs.Prelude.{OnOk, is_none, is_ok, vec_len, vec_capacity}
+use Rattle.std.proofs.Common.{◌≡◌, ◌+◌, ◌<◌, ◌≤◌, false, not, ◌&&◌, length, ◌∙◌, ap, arith, sym, ⊎_elim}
+use Rattle.std.specs.Prelude.{is_none, vec_len, vec_capacity}
 use Rattle.std.proofs.lemmas.Bool.{cases_lt}
 use Rattle.mencius_server.specs.Ranges.{covers}
 use Rattle.mencius_server.specs.Places.{standing}
@@ -27,16 +27,12 @@ push_lacking-requires-clause-placed c =
     rw c.reserve.ensures.len (placed_wider c.self.inside.places.items c.widen.new.places.items _ few
     c.widen.ensures.same c.self.invariant)
 
-if_ok : {A E : Type 0} (r : Result A E) (P : Type 0) → is_ok r ≡ true → OnOk r P → P
-if_ok (Ok x) P e h = h
-if_ok (Err x) P e h = absurd (cc)
-
 pub push_lacking-requires-clause-room : goal.push_lacking-requires-clause-room
 push_lacking-requires-clause-room c =
     let few : length c.widen.new.places.items ≤ instance_count =
     omega (arith, c.widen.ensures.few, c.widen.new.places.ok.0) in
     let fits : vec_len c.reserve.new.self + c.args.lacking ≤ vec_capacity c.reserve.new.self =
-    if_ok c.reserve.result _ c.if-is_err.ensures.negation c.reserve.ensures.ok in
+    c.in_ok-reserve.ensures.ok in
     let same = count_same (is_lacking c.args.stretch c.args.skipped.now
     (standing c.widen.new.places.items c.reserve.new.self.items))
     (is_lacking c.args.stretch c.args.skipped.now c.args.self.now) c.args.stretch.stop

@@ -1,7 +1,7 @@
 use Rattle.std.proofs.Common.{◌≡◌, ◌+◌, ◌<◌, ◌≤◌, Bool, cond, ◌∙◌, ap, arith, rules, sym}
 use Rattle.std.specs.List.{count_by}
 use Rattle.mencius_server.specs.Slots.{is_told}
-use Rattle.mencius_model.proofs.Below.{instances-below}
+use Rattle.mencius_model.proofs.NumberLists.{instances-below}
 use Rattle.mencius_server.proofs.Gaps.{count_gap, count_to, one_at_most}
 use Rattle.mencius_server.proofs.Skips.{count_more, count_none}
 use Rattle.mencius_server.proofs.Walks.{in_here, out_before, out_between, told_in, told_out, told_past}

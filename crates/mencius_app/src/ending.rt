@@ -1,0 +1,59 @@
+//! How a call of the program ends: its exit status, and its line on standard error.
+
+ghost use Rattle.std.specs.Prelude.{◌≡◌, ◌⊎◌};
+ghost use Rattle.std.specs.Io.KnownBytes.{Appends};
+ghost use Rattle.mencius_input.specs.Ends.{HasFailed, WritesFront};
+ghost use Rattle.mencius_app.specs.Ending.{fault_line, line_of_ending, status_of_ending};
+
+use mencius_input::{AppFault, Sink, exit_status, write_all};
+
+/// How a call of the program went.
+#[derive(Clone, Copy, Debug, PartialEq, Eq)]
+pub enum Ending {
+    /// What the command line asks for was done, and its text was written whole.
+    Done,
+    /// The same, but a strict replay had refused events.
+    Refused,
+    /// The command line is refused.
+    BadCommandLine,
+    /// It ended at a fault.
+    Failed(AppFault),
+}
+
+/// Ends a call of the program: writes the line of a fault, `mencius: fault NUMBER NAME`, where the
+/// call ended at one, and answers the exit status: 0 where it was done, 1 where a strict replay had
+/// refused events, 2 for a bad command line, and else [`exit_status`] of the fault. If the line can't be
+/// written, the status stays the same.
+pub fn end<E: Sink>(ending: Ending, errors: &mut E) -> u8
+    ensures status { result ≡ status_of_ending ending }
+    ensures line { Appends (E.contents errors.old) (E.contents errors.new) (line_of_ending ending)
+        ⊎ HasFailed (E.failed errors.old) (E.failed errors.new) }
+    ensures front { WritesFront (E.contents errors.old) (E.contents errors.new)
+        (line_of_ending ending) }
+{
+    match ending {
+        Ending::Done => 0,
+        Ending::Refused => 1,
+        Ending::BadCommandLine => 2,
+        Ending::Failed(fault) => {
+            // Nobody is left to tell where standard error fails.
+            let _ = write_all(errors, line_of_fault(fault).as_bytes());
+            exit_status(fault)
+        }
+    }
+}
+
+// What is said of a fault. It takes no memory, which may be what ran out.
+fn line_of_fault(fault: AppFault) -> &'static str
+    ensures { result.now ≡ fault_line fault }
+{
+    match fault {
+        AppFault::NotJson => "mencius: fault 21 NotJson\n",
+        AppFault::BadShape => "mencius: fault 22 BadShape\n",
+        AppFault::BadLimit => "mencius: fault 23 BadLimit\n",
+        AppFault::ReadFailed => "mencius: fault 24 ReadFailed\n",
+        AppFault::WriteFailed => "mencius: fault 25 WriteFailed\n",
+        AppFault::NoMemory => "mencius: fault 26 NoMemory\n",
+        AppFault::BoardFailed => "mencius: fault 27 BoardFailed\n",
+    }
+}

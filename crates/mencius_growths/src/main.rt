@@ -1,0 +1,84 @@
+//! Steps a board through the scenario on standard input, and after each event shows it and looks the key `a` up.
+//! Wherever memory runs out in one of these calls, it finds out whether anything changed, and makes the call again.
+//!
+//! `growths/check` refuses this program each of its growths of memory in turn. What it prints, the report and what was
+//! found last, is the same then as if none had been refused.
+//!
+//! It ends with status 0, with 6 where memory ran out in anything else, or with 9 where something changed; then
+//! standard error says in which call.
+#![tactic(auto)]
+
+mod watched;
+
+use crate::watched::{Stop, Watched};
+use mencius_app::{Std, report};
+use mencius_cluster::Cluster;
+use mencius_input::{Events, Sink, read_all, read_scenario, write_all};
+use std::alloc::Global;
+use std::process::ExitCode;
+use std::sync::Wait;
+
+// Takes the events of a scenario, and makes each call again that was refused memory.
+fn walk<R: Wait>(
+    rt: &R,
+    alloc: Global,
+    bytes: &[u8],
+    events: Events,
+    watched: &mut Watched,
+) -> Result<(), Stop> {
+    let mut taken: usize = 0;
+    for event in events {
+        watched.step(alloc, bytes, taken, event)?;
+        taken = taken.saturating_add(1);
+        watched.show(rt, alloc, bytes, taken)?;
+        watched.look_up(alloc)?;
+    }
+    Ok(())
+}
+
+// Writes the report, and what was found last.
+fn conclude<W: Sink>(alloc: Global, watched: &Watched, sink: &mut W) -> Result<(), Stop> {
+    let count = watched.count();
+    let Ok(line) = format!(in alloc; "lookup {:?} of {count}\n", watched.found()) else {
+        return Err(Stop::Elsewhere);
+    };
+    if report(alloc, watched.cluster(), sink).is_err() {
+        return Err(Stop::Elsewhere);
+    }
+    write_all(sink, line.as_bytes()).map_err(|_| Stop::Elsewhere)
+}
+
+// A course over the scenario that the bytes say.
+fn course<R: Wait, W: Sink>(rt: &R, alloc: Global, bytes: &[u8], sink: &mut W) -> Result<(), Stop> {
+    let Ok(scenario) = read_scenario(alloc, bytes) else {
+        return Err(Stop::Elsewhere);
+    };
+    let Ok(cluster) = Cluster::new(alloc, scenario.members) else {
+        return Err(Stop::Elsewhere);
+    };
+    let mut watched = Watched::new(rt, alloc, cluster)?;
+    let mut done = walk(rt, alloc, bytes, scenario.events, &mut watched);
+    if done.is_ok() {
+        done = conclude(alloc, &watched, sink);
+    }
+    watched.end(rt);
+    done
+}
+
+fn main(rt: HostRuntime) -> ExitCode {
+    let alloc = rt.alloc();
+    let mut source = Std::new(rt.stdin());
+    let mut sink = Std::new(rt.stdout());
+    let mut errors = Std::new(rt.stderr());
+    let Ok(bytes) = read_all(alloc, &mut source) else {
+        return ExitCode::from(6);
+    };
+    match course(&rt, alloc, bytes.as_slice(), &mut sink) {
+        Ok(()) => ExitCode::from(0),
+        Err(Stop::Elsewhere) => ExitCode::from(6),
+        Err(Stop::Changed(call)) => {
+            let _ = write_all(&mut errors, call.as_bytes());
+            ExitCode::from(9)
+        }
+    }
+}

@@ -1,0 +1,217 @@
+//! A board whose calls are made again where memory ran out in them.
+
+ghost use Rattle.std.specs.Prelude.{◌≡◌, IfOk};
+
+use mencius_base::{Event, Refusal};
+use mencius_board::{Board, BoardFault, News, Reader};
+use mencius_cluster::Cluster;
+use mencius_input::{Scenario, read_scenario};
+use mencius_tests::same::first_difference;
+use std::alloc::Global;
+use std::marker::Model;
+use std::sync::Wait;
+
+/// Why a course ends early.
+#[derive(Clone, Copy, Debug, PartialEq, Eq)]
+pub enum Stop {
+    /// Memory ran out in what is not tried.
+    Elsewhere,
+    /// The call of this name was refused memory, and something changed, or it was refused again.
+    Changed(&'static str),
+}
+
+/// A board, a reader of it, and what the last lookup found.
+pub struct Watched {
+    board: Board,
+    reader: Reader,
+    found: Option<String>,
+}
+
+impl Model for Watched {
+    ghost use Rattle.std.specs.Prelude.{◌≡◌};
+    ghost use Rattle.mencius_board.specs.Boards.{BoardState};
+
+    ghost Value = { BoardState };
+
+    ghost view = { λ w. w.board };
+
+    ghost invariant = { λ w. w.reader.book ≡ w.board.book };
+}
+
+impl Watched {
+    /// Over a cluster to which nothing has happened yet.
+    pub fn new<R: Wait>(rt: &R, alloc: Global, cluster: Cluster) -> Result<Watched, Stop> {
+        let Ok(mut board) = Board::new(rt, alloc, cluster, 1) else {
+            return Err(Stop::Elsewhere);
+        };
+        match board.reader() {
+            Ok(reader) => Ok(Watched {
+                board,
+                reader,
+                found: None,
+            }),
+            Err(_) => {
+                board.end(rt);
+                Err(Stop::Elsewhere)
+            }
+        }
+    }
+
+    /// Takes the board away.
+    pub fn end<R: Wait>(self, rt: &R) {
+        let Watched {
+            board,
+            reader: _reader,
+            found: _found,
+        } = self;
+        board.end(rt);
+    }
+
+    /// The cluster of the board.
+    pub fn cluster(&self) -> &Cluster {
+        self.board.cluster()
+    }
+
+    /// What the last lookup found.
+    pub fn found(&self) -> Option<&str> {
+        self.found.as_deref()
+    }
+
+    /// How many commands the list has that the last lookup was answered from.
+    pub fn count(&self) -> u32 {
+        self.reader.count()
+    }
+
+    /// Takes the event that stands at a place of the scenario, so many as there are before it having been taken.
+    pub fn step(
+        &mut self,
+        alloc: Global,
+        bytes: &[u8],
+        place: usize,
+        event: Event,
+    ) -> Result<(), Stop> {
+        if self.board.step(event) != Err(Refusal::NoMemory) {
+            return Ok(());
+        }
+        let (before, again) = retraced(alloc, bytes, place)?;
+        compare(alloc, &before, self.board.cluster(), "step")?;
+        let Some(again) = again else {
+            return Err(Stop::Elsewhere);
+        };
+        match self.board.step(again) {
+            Err(Refusal::NoMemory) => Err(Stop::Changed("step again")),
+            _ => Ok(()),
+        }
+    }
+
+    /// Shows the longest history once so many events were taken, and tells the reader.
+    pub fn show<R: Wait>(
+        &mut self,
+        rt: &R,
+        alloc: Global,
+        bytes: &[u8],
+        taken: usize,
+    ) -> Result<(), Stop> {
+        let news = match self.board.show(rt, alloc) {
+            Ok(news) => news,
+            Err(BoardFault::NoMemory | BoardFault::ShowRefused) => {
+                self.judge_show(alloc, bytes, taken)?;
+                self.show_once(rt, alloc)?
+            }
+            Err(_) => return Err(Stop::Changed("fault of show")),
+        };
+        self.reader.learn(news);
+        Ok(())
+    }
+
+    // Nothing, where a refused call of `show` left the cluster and what is shown as they were.
+    fn judge_show(&mut self, alloc: Global, bytes: &[u8], taken: usize) -> Result<(), Stop>
+        ensures { self.new ≡ self.old }
+    {
+        let (before, _) = retraced(alloc, bytes, taken)?;
+        compare(alloc, &before, self.board.cluster(), "show")?;
+        self.judge_shown(alloc)
+    }
+
+    // Nothing, where a lookup finds what the last one found.
+    fn judge_shown(&mut self, alloc: Global) -> Result<(), Stop>
+        ensures { self.new ≡ self.old }
+    {
+        let count = self.reader.count();
+        let found = self.look_up_once(alloc)?;
+        if self.reader.count() != count || found.as_deref() != self.found.as_deref() {
+            return Err(Stop::Changed("what is shown"));
+        }
+        Ok(())
+    }
+
+    fn show_once<R: Wait>(&mut self, rt: &R, alloc: Global) -> Result<News, Stop>
+        ensures { IfOk result (λ n. n.book ≡ self.new.book) }
+    {
+        match self.board.show(rt, alloc) {
+            Ok(news) => Ok(news),
+            Err(_) => Err(Stop::Changed("show again")),
+        }
+    }
+
+    /// Looks the key up.
+    pub fn look_up(&mut self, alloc: Global) -> Result<(), Stop> {
+        let count = self.reader.count();
+        let found = match self.reader.lookup(alloc, KEY) {
+            Ok(found) => found,
+            Err(fault) => {
+                if fault != BoardFault::NoMemory {
+                    return Err(Stop::Changed("fault of lookup"));
+                }
+                if self.reader.count() != count {
+                    return Err(Stop::Changed("floor"));
+                }
+                self.look_up_once(alloc)?
+            }
+        };
+        self.found = found;
+        Ok(())
+    }
+
+    fn look_up_once(&mut self, alloc: Global) -> Result<Option<String>, Stop>
+        ensures { self.new ≡ self.old }
+    {
+        self.reader
+            .lookup(alloc, KEY)
+            .map_err(|_| Stop::Changed("lookup again"))
+    }
+}
+
+// The key that is looked up.
+const KEY: &str = "a";
+
+// A new cluster after so many events of a scenario, and the event that comes next.
+fn retraced(alloc: Global, bytes: &[u8], taken: usize) -> Result<(Cluster, Option<Event>), Stop> {
+    let Ok(scenario) = read_scenario(alloc, bytes) else {
+        return Err(Stop::Elsewhere);
+    };
+    let Ok(mut cluster) = Cluster::new(alloc, scenario.members) else {
+        return Err(Stop::Elsewhere);
+    };
+    let mut events = scenario.events.into_iter();
+    for _ in 0..taken {
+        if let Some(event) = events.next() {
+            let _ = cluster.step(event);
+        }
+    }
+    Ok((cluster, events.next()))
+}
+
+// Nothing, where two clusters answer the same.
+fn compare(
+    alloc: Global,
+    first: &Cluster,
+    second: &Cluster,
+    call: &'static str,
+) -> Result<(), Stop> {
+    match first_difference(alloc, first, second) {
+        Ok(None) => Ok(()),
+        Ok(Some(_)) => Err(Stop::Changed(call)),
+        Err(_) => Err(Stop::Elsewhere),
+    }
+}

@@ -1,0 +1,156 @@
+-- What is parsed is converted: a step put on what is parsed, and the same step put on what comes of it.
+use Rattle.std.proofs.Common.{◌≡◌, ℕ, zero, suc, ◌-◌, ◌<◌, ◌≤◌, List, length, Option, Some, None, option_map, option_and_then, refl, ap, ◌∙◌}
+use Rattle.json.specs.Token.{Token}
+use Rattle.json.specs.Json as json
+use Rattle.json.specs.Json.{Parse, parse_map, after_end_array, read_key, items, items_step, members, members_step}
+use Rattle.json.proofs.Grammar.{items_end, items_more, members_end, members_more, members_no_key}
+use Rattle.serde_json.specs.Data.{Data, Members, array, item, no_items, no_members, object, put}
+use Rattle.serde_json.specs.Read.{converted, of_items, of_json, of_members}
+
+-- ---- any conversion
+
+behind : {B C : Type 0} (step : B → C) (rest : List Token) (made : Option B)
+    → option_map (λ c. (c, rest)) (option_map step made)
+    ≡ parse_map step (option_map {U = B × List Token} (λ b. (b, rest)) made)
+behind step rest None = refl
+behind step rest (Some b) = refl
+
+module _ {A B C : Type 0} where
+  -- a step before it
+  converted_step : (f : B → Option C) (step : A → B) (parsed : Option (A × List Token))
+      → converted f (parse_map step parsed) ≡ converted (λ a. f (step a)) parsed
+  converted_step f step None = refl
+  converted_step f step (Some p) = refl
+
+  -- a step after it
+  step_converted : (f : A → Option B) (step : B → C) (parsed : Option (A × List Token))
+      → converted (λ a. option_map step (f a)) parsed ≡ parse_map step (converted f parsed)
+  step_converted f step None = refl
+  step_converted f step (Some p) = behind step p.1 (f p.0)
+
+module _ {A B : Type 0} where
+  -- another conversion that makes the same
+  same_conversion : (f g : A → Option B) → ((a : A) → f a ≡ g a) → (parsed : Option (A × List Token))
+      → converted f parsed ≡ converted g parsed
+  same_conversion f g same None = refl
+  same_conversion f g same (Some p) = ap (option_map (λ b. (b, p.1))) (same p.0)
+
+  -- one that makes nothing
+  no_conversion : (f : A → Option B) → ((a : A) → f a ≡ None) → (parsed : Option (A × List Token))
+      → converted f parsed ≡ None
+  no_conversion f none None = refl
+  no_conversion f none (Some p) = ap (option_map (λ b. (b, p.1))) (none p.0)
+
+  -- what was converted to a value: it was parsed, and this became of it
+  record IsMade (f : A → Option B) (parsed : Option (A × List Token)) (b : B) (rest : List Token) : Type 0 where
+    from : A
+    there : parsed ≡ Some (from, rest)
+    becomes : f from ≡ Some b
+
+  is_made : (f : A → Option B) (parsed : Option (A × List Token)) (b : B) (rest : List Token)
+      → converted f parsed ≡ Some (b, rest) → IsMade f parsed b rest
+  is_made f None b rest e = absurd (cc)
+  is_made f (Some p) b rest e =
+      let found = at p (f p.0) e in
+      record { from = p.0; there = found.1; becomes = found.0 }
+    where
+      at : (q : A × List Token) (made : Option B)
+          → option_map {U = B × List Token} (λ c. (c, q.1)) made ≡ Some (b, rest)
+          → (made ≡ Some b) × (Some q ≡ Some (q.0, rest))
+      at q None e = absurd (cc)
+      at q (Some c) e = (ap (option_map (λ y. y.0)) e, ap (option_map (λ y. (q.0, y.1))) e)
+
+  -- what was parsed and could not be converted
+  unmade : (f : A → Option B) (p : A × List Token) → converted f (Some p) ≡ None → f p.0 ≡ None
+  unmade f p e = bare (f p.0) e
+    where
+      bare : (made : Option B) → option_map {U = B × List Token} (λ c. (c, p.1)) made ≡ None → made ≡ None
+      bare None e = refl
+      bare (Some c) e = absurd (cc)
+
+-- ---- lists and objects
+
+pub array_converted : (parsed : Option (json.Items × List Token))
+    → converted of_json (parse_map json.array parsed) ≡ parse_map array (converted of_items parsed)
+array_converted parsed = converted_step of_json json.array parsed ∙ step_converted of_items array parsed
+
+pub object_converted : (parsed : Option (json.Members × List Token))
+    → converted of_json (parse_map json.object parsed)
+    ≡ parse_map object (converted (λ ms. of_members ms no_members) parsed)
+object_converted parsed =
+    converted_step of_json json.object parsed ∙ step_converted (λ ms. of_members ms no_members) object parsed
+
+-- where a part can't be converted, nothing that it is put before can
+stopped : {X Y : Type 0} (put_before : json.Json → X → X) (f : X → Option Y)
+    → ((j : json.Json) → of_json j ≡ None → (x : X) → f (put_before j x) ≡ None)
+    → (more : Parse X) (part : Option (json.Json × List Token)) → converted of_json part ≡ None
+    → converted f (option_and_then (λ q. parse_map (put_before q.0) (more q.1)) part) ≡ None
+stopped put_before f none more None e = refl
+stopped put_before f none more (Some q) e =
+    converted_step f (put_before q.0) (more q.1)
+    ∙ no_conversion (λ x. f (put_before q.0 x)) (none q.0 (unmade of_json q e)) (more q.1)
+
+module _ (value : Parse json.Json) (turns : ℕ) where
+  -- one item more
+  pub next_item : (left rest : List Token) (d : Data) → 0 < turns → after_end_array left ≡ None
+      → converted of_json (value left) ≡ Some (d, rest)
+      → converted of_items (items value turns left)
+      ≡ parse_map (item d) (converted of_items (items value (turns - 1) rest))
+  next_item left rest d some going e =
+      let made = is_made of_json (value left) d rest e in
+      let others = items value (turns - 1) rest in
+      ap (converted of_items) (items_more value turns left rest made.from some going made.there)
+      ∙ converted_step of_items (json.item made.from) others
+      ∙ same_conversion (λ js. of_items (json.item made.from js)) (λ js. option_map (item d) (of_items js))
+      (λ js. rw made.becomes) others
+      ∙ step_converted of_items (item d) others
+
+  -- the last one is behind
+  pub no_item : (left rest : List Token) → length left ≤ turns → after_end_array left ≡ Some rest
+      → converted of_items (items value turns left) ≡ Some (no_items, rest)
+  no_item left rest enough closed = ap (converted of_items) (items_end value turns left rest enough closed)
+
+  module _ (found : Members) where
+    abbrev of_found : json.Members → Option Members
+    of_found ms = of_members ms found
+
+    -- one field more
+    pub next_member : (name : List ℕ) (left behind rest : List Token) (d : Data) → 0 < turns
+        → read_key left ≡ Some (Some name, behind) → converted of_json (value behind) ≡ Some (d, rest)
+        → converted (λ ms. of_members ms found) (members value turns left)
+        ≡ converted (λ ms. of_members ms (put name d found)) (members value (turns - 1) rest)
+    next_member name left behind rest d some key e =
+        let made = is_made of_json (value behind) d rest e in
+        let others = members value (turns - 1) rest in
+        ap (converted of_found) (members_more value turns name left behind rest made.from some key made.there)
+        ∙ converted_step of_found (json.member name made.from) others
+        ∙ same_conversion (λ ms. of_found (json.member name made.from ms)) (λ ms. of_members ms (put name d found))
+        (λ ms. rw made.becomes) others
+
+    -- neither a name nor the end
+    pub no_name : (left : List Token) → read_key left ≡ None
+        → converted (λ ms. of_members ms found) (members value turns left) ≡ None
+    no_name left e = ap (converted of_found) (members_no_key value turns left e)
+
+    pub no_member : (left rest : List Token) → length left ≤ turns → read_key left ≡ Some (None, rest)
+        → converted (λ ms. of_members ms found) (members value turns left) ≡ Some (found, rest)
+    no_member left rest enough closed =
+        ap (converted of_found) (members_end value turns left rest enough closed)
+
+-- an item, or the value of a field, that can't be read
+pub bad_item : (value : Parse json.Json) (turns : ℕ) (left : List Token) → after_end_array left ≡ None
+    → converted of_json (value left) ≡ None → converted of_items (items value turns left) ≡ None
+unfolding items
+bad_item value zero left going e = refl
+bad_item value (suc n) left going e =
+    ap (λ end. converted of_items (items_step value (items value n) left end)) going
+    ∙ stopped json.item of_items (λ j none js. rw none) (items value n) (value left) e
+
+pub bad_member : (value : Parse json.Json) (found : Members) (turns : ℕ) (name : List ℕ) (left behind : List Token)
+    → read_key left ≡ Some (Some name, behind) → converted of_json (value behind) ≡ None
+    → converted (λ ms. of_members ms found) (members value turns left) ≡ None
+unfolding members
+bad_member value found zero name left behind key e = refl
+bad_member value found (suc n) name left behind key e =
+    rw key (stopped (json.member name) (λ ms. of_members ms found) (λ j none ms. rw none) (members value n)
+    (value behind) e)

@@ -1,0 +1,15 @@
+use Rattle.std.proofs.Common.{length}
+use Rattle.std.specs.List.{list_all}
+use Rattle.mencius_input.specs.Grammar.{command_of, command_within}
+use Rattle.mencius_input.specs.Noted.{told}
+use Rattle.mencius_input.specs.Scenario.{said_by}
+use Rattle.mencius_input.proofs.Noted.{ListSoFar}
+use Rattle.mencius_input.proofs.commands.commands_in.Given as goal
+
+abbrev pub invariant-items : goal.invariant-items
+invariant-items l =
+    ListSoFar (said_by command_of) (list_all command_within) l.depth l.initial.reader l.reader
+    (told l.commands.items l.fault)
+
+abbrev pub decreases-items : goal.decreases-items
+decreases-items l = length l.reader

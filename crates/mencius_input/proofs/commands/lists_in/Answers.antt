@@ -1,0 +1,43 @@
+use Rattle.std.proofs.Common.{◌≡◌, None, Ok, length, map, nat_lt, refl, sym, ap, ◌∙◌, arith}
+use Rattle.std.specs.List.{list_all}
+use Rattle.json.specs.Json.{after_end_array}
+use Rattle.mencius_input.specs.Grammar.{command_within}
+use Rattle.mencius_input.specs.Judged.{seen}
+use Rattle.mencius_input.specs.Plan.{commands_of}
+use Rattle.mencius_input.specs.PlanFields.{lists_within}
+use Rattle.mencius_input.proofs.Next.{stops_at, stops_whole}
+use Rattle.mencius_input.proofs.Noted.{list_close, few_further, few_seen, list_start, list_stop, seen_seen, told_seen}
+use Rattle.mencius_input.proofs.commands.lists_in.Goals as goal
+
+pub items-init : goal.items-init
+items-init c =
+    list_start commands_of lists_within _ _ _ refl
+    (ap (λ lists. Ok (map (λ v. v.items) lists)) c.new-lists.ensures.items)
+
+pub returns-in_err-commands-clause-err : goal.returns-in_err-commands-clause-err
+returns-in_err-commands-clause-err c =
+    let l = c.items in
+    let going : (after_end_array l.reader ≡ None) × (c.take_end_array.new.self ≡ l.reader) = grind arith in
+    stops_at _ _ _ c.from_residual.ensures.1
+    (stops_whole _ _ _ (λ none. list_stop l.invariant going.0 (rw (← going.1) none)) c.in_err-commands.ensures.err)
+
+pub items-preserved : goal.items-preserved
+items-preserved c =
+    let l = c.items in
+    let going : (after_end_array l.reader ≡ None) × (c.take_end_array.new.self ≡ l.reader) = grind arith in
+    let done = c.in_ok-commands.ensures in
+    let many : c.len.result ≡ length l.lists.items = grind arith in
+    few_further (list_all command_within) 7 _ _ l.invariant going.0 _ done.ok.0 _ _ (rw (← going.1) done.shorter)
+    (rw (← going.1) done.ok.1)
+    (sym done.ok.2)
+    (few_seen (λ v. v.items) 7 _ _ _ _ _ _ _ c.where_room-commands.ensures
+    (ap (λ n. nat_lt n 7) many) c.in_ok-note.ensures.noted)
+
+pub returns-clause-ok : goal.returns-clause-ok
+returns-clause-ok c =
+    let read = list_close c.items.invariant c.take_end_array.new.self (grind arith) in (
+      read.0,
+      read.1,
+      seen_seen _ _ c.told.result ∙ ap (seen (map (λ v. v.items))) c.told.ensures ∙ told_seen (λ v. v.items) _ _
+          ∙ read.2,
+    )

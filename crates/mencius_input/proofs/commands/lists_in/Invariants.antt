@@ -1,0 +1,14 @@
+use Rattle.std.proofs.Common.{length, map}
+use Rattle.mencius_input.specs.Noted.{told}
+use Rattle.mencius_input.specs.Plan.{commands_of}
+use Rattle.mencius_input.specs.PlanFields.{lists_within}
+use Rattle.mencius_input.proofs.Noted.{ListSoFar}
+use Rattle.mencius_input.proofs.commands.lists_in.Given as goal
+
+abbrev pub invariant-items : goal.invariant-items
+invariant-items l =
+    ListSoFar commands_of lists_within l.depth l.initial.reader l.reader
+    (told (map (λ v. v.items) l.lists.items) l.fault)
+
+abbrev pub decreases-items : goal.decreases-items
+decreases-items l = length l.reader

@@ -1,0 +1,47 @@
+use Rattle.std.proofs.Common.{◌≡◌, Some, inr, arith}
+use Rattle.json.specs.Json.{read_key}
+use Rattle.json.proofs.Grammar.{read_key-shorter}
+use Rattle.serde_json.specs.Data.{no_members}
+use Rattle.mencius_input.proofs.Plans.{no_plan_fields}
+use Rattle.mencius_input.proofs.Next.{members_close, members_further, members_no_name, members_start, members_stop, stops_at, stops_whole}
+use Rattle.mencius_input.proofs.plan.next_fields.Goals as goal
+
+pub fields-init : goal.fields-init
+fields-init c = (no_members, members_start _ _, no_plan_fields)
+
+pub returns-in_err-name-clause-err : goal.returns-in_err-name-clause-err
+returns-in_err-name-clause-err c =
+    let l = c.fields in
+    stops_at _ _ _ c.from_residual.ensures.1
+    (inr (c.in_err-name.ensures.0, members_no_name _ _ l.reader l.invariant.0 l.invariant.1 c.in_err-name.ensures.1))
+
+pub fields-preserved : goal.fields-preserved
+fields-preserved c =
+    let l = c.fields in
+    let k = c.in-Some.name.now in
+    let s = c.next_name.new.reader in
+    let named : read_key l.reader ≡ Some (Some k, s) = grind arith in
+    let done = c.in_ok-read_field.ensures in (
+      _,
+      members_further _ _ l.reader l.invariant.0 l.invariant.1 k s _ done.ok.0 named
+          (read_key-shorter l.reader (Some k) s named) done.shorter done.ok.1,
+      done.ok.2 l.invariant.0 l.invariant.2,
+    )
+
+pub returns-in_err-read_field-clause-err : goal.returns-in_err-read_field-clause-err
+returns-in_err-read_field-clause-err c =
+    let l = c.fields in
+    let k = c.in-Some.name.now in
+    let s = c.next_name.new.reader in
+    let named : read_key l.reader ≡ Some (Some k, s) = grind arith in
+    stops_at _ _ _ c.from_residual-in_err-read_field.ensures.1
+    (stops_whole _ _ _ (λ none. members_stop _ _ l.reader l.invariant.0 l.invariant.1 k s named none)
+    c.in_err-read_field.ensures.err)
+
+pub returns-clause-ok : goal.returns-clause-ok
+returns-clause-ok c =
+    let l = c.fields in (
+      l.invariant.0,
+      members_close _ _ l.reader l.invariant.0 l.invariant.1 c.next_name.new.reader (grind arith),
+      l.invariant.2,
+    )

@@ -1,0 +1,12 @@
+use Rattle.std.proofs.Common.{length}
+use Rattle.serde_json.specs.Data.{Members}
+use Rattle.mencius_input.specs.PlanFields.{AreFields}
+use Rattle.mencius_input.proofs.Next.{MembersSoFar}
+use Rattle.mencius_input.proofs.plan.next_fields.Given as goal
+
+abbrev pub invariant-fields : goal.invariant-fields
+invariant-fields l =
+    (found : Members) × MembersSoFar l.depth l.initial.reader l.reader found × AreFields l.fields found
+
+abbrev pub decreases-fields : goal.decreases-fields
+decreases-fields l = length l.reader

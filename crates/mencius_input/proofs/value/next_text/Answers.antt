@@ -1,0 +1,34 @@
+use Rattle.std.proofs.Common.{◌≡◌, ◌∷◌, [], inr, refl, sym, ap, ◌∙◌, arith}
+use Rattle.json.specs.Reads.{token_of}
+use Rattle.serde_json.specs.Data.{string}
+use Rattle.mencius_input.specs.declared.fault.AppFault.TheVariants.{NotJson}
+use Rattle.mencius_input.specs.Next.{next_value}
+use Rattle.mencius_input.proofs.Begins.{passed_first, passed_no_text, text_first}
+use Rattle.mencius_input.proofs.Next.{next_none, stops_at}
+use Rattle.mencius_input.proofs.value.next_text.Goals as goal
+
+pub returns-in_err-token-clause-err : goal.returns-in_err-token-clause-err
+returns-in_err-token-clause-err c =
+    let empty : c.args.reader.now ≡ [] = grind arith in
+    let given : c.in_err-token.field-0.0 ≡ NotJson = grind arith in
+    stops_at _ _ _ c.from_residual.ensures.1
+    (inr (given, ap (next_value c.args.depth) empty ∙ next_none c.args.depth))
+
+pub returns-in-Some-clause-ok : goal.returns-in-Some-clause-ok
+returns-in-Some-clause-ok c =
+    let first : c.args.reader.now ≡ token_of c.in_ok-token.token ∷ c.next.new.self = grind arith in (
+      string c.in-Some.text.now,
+      text_first c.args.depth (token_of c.in_ok-token.token) c.next.new.self c.args.reader.now first c.in-Some.text.now
+          c.in-Some.ensures,
+      refl,
+    )
+
+pub returns-in_ok-pass_from-in-None-clause-ok : goal.returns-in_ok-pass_from-in-None-clause-ok
+returns-in_ok-pass_from-in-None-clause-ok c =
+    let first : c.args.reader.now ≡ token_of c.in_ok-token.token ∷ c.next.new.self = grind arith in
+    let done = c.in_ok-pass_from-in-None.ensures.ok in (
+      done.0,
+      passed_first c.args.depth (token_of c.in_ok-token.token) c.next.new.self c.args.reader.now first done.0 _ done.1,
+      sym (passed_no_text c.args.depth (token_of c.in_ok-token.token) c.next.new.self c.args.reader.now first done.0 _
+          done.1 c.in-None.ensures),
+    )

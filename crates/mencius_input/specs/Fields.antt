@@ -1,0 +1,53 @@
+-- The fields of a scenario that were read so far; for private clauses.
+use Rattle.std.specs.Prelude.{ℕ, ◌==◌, ◌&&◌, List, [], ◌∷◌, codes, Option, Some, option_map, Result, Ok, Err, nat_le, if◌then◌else◌}
+use Rattle.std.specs.List.{list_all}
+use Rattle.std.specs.Str.{bytes_eq}
+use Rattle.serde_json.specs.Data.{Members}
+use Rattle.mencius_base.specs.Limits.{most_servers}
+use Rattle.mencius_base.specs.declared.event.Event.{Event}
+use Rattle.mencius_input.specs.declared.fault.AppFault.{AppFault}
+use Rattle.mencius_input.specs.declared.fault.AppFault.TheVariants.{BadLimit, BadShape}
+use Rattle.mencius_input.specs.declared.scenario.Fields as code
+use Rattle.mencius_input.specs.declared.scenario.Name.{Name}
+use Rattle.mencius_input.specs.declared.scenario.Name.TheVariants.{Version, Servers, Events, Other}
+use Rattle.mencius_input.specs.Grammar.{event_within}
+use Rattle.mencius_input.specs.Judged.{judged}
+use Rattle.mencius_input.specs.Named.{AreNamed, Says}
+use Rattle.mencius_input.specs.Next.{whole_in}
+use Rattle.mencius_input.specs.Noted.{list_in}
+use Rattle.mencius_input.specs.Scenario.{Written}
+
+-- which field a name means
+unfoldable pub named : List ℕ → Name
+named name =
+    if bytes_eq name (codes "version") then Version
+    else (if bytes_eq name (codes "servers") then Servers
+    else (if bytes_eq name (codes "events") then Events
+    else Other))
+
+-- the three names, in order
+abbrev pub three_names : List (List ℕ)
+three_names = codes "events" ∷ codes "servers" ∷ codes "version" ∷ []
+
+-- what was read of the fields, each as it was written last
+pub record AreFields (f : code.Fields) (ms : Members) : Type 0 where
+  pub named : AreNamed three_names f.has_other ms
+  pub version : Says whole_in (codes "version") f.version ms
+  pub servers : Says whole_in (codes "servers") f.servers ms
+  pub events : Says (λ d. judged (list_all event_within) (list_in d)) (codes "events") f.events ms
+
+-- a scenario of this version
+abbrev pub fitted : ℕ → ℕ → List Event → Result Written AppFault
+fitted version servers events =
+    if (version == 1) && (nat_le 1 servers && nat_le servers most_servers)
+    then Ok (record { version = version; servers = servers; events = events }) else Err BadLimit
+
+abbrev pub fitted_events : ℕ → ℕ → Result (List Event) AppFault → Result Written AppFault
+fitted_events version servers (Ok events) = fitted version servers events
+fitted_events version servers (Err fault) = Err fault
+
+-- what three fields say
+abbrev pub said : Option (Option ℕ) → Option (Option ℕ) → Option (Result (List Event) AppFault)
+    → Result Written AppFault
+said (Some (Some version)) (Some (Some servers)) (Some events) = fitted_events version servers events
+said _ _ _ = Err BadShape

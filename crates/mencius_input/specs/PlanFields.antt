@@ -1,0 +1,81 @@
+-- The fields of a run's scenario that were read so far; for private clauses.
+use Rattle.std.specs.Prelude.{ℕ, ◌==◌, ◌&&◌, ◌||◌, List, [], ◌∷◌, length, map, codes, not, Option, Some, option_and_then, option_map, Result, Ok, Err, Bool, nat_le, if◌then◌else◌}
+use Rattle.std.specs.List.{list_all}
+use Rattle.serde_json.specs.Data.{Data, Members}
+use Rattle.serde_json.specs.Find.{as_array}
+use Rattle.mencius_base.specs.Limits.{most_servers}
+use Rattle.mencius_base.specs.Request.{Request}
+use Rattle.mencius_input.specs.declared.fault.AppFault.{AppFault}
+use Rattle.mencius_input.specs.declared.fault.AppFault.TheVariants.{BadLimit, BadShape}
+use Rattle.mencius_input.specs.declared.plan.Fields as code
+use Rattle.mencius_input.specs.declared.plan.Wholes as code_wholes
+use Rattle.mencius_input.specs.declared.plan.Numbers.{Numbers}
+use Rattle.mencius_input.specs.Grammar.{command_within}
+use Rattle.mencius_input.specs.Judged.{judged, seen}
+use Rattle.mencius_input.specs.Named.{AreNamed, Says, is_one_of, newest}
+use Rattle.mencius_input.specs.Next.{whole_in}
+use Rattle.mencius_input.specs.Plan.{WrittenPlan, commands_of, numbers_within}
+use Rattle.mencius_input.specs.Scenario.{◌>>=◌, all_of}
+
+-- a list of lists of texts
+abbrev pub lists_of : Data → Option (List (List Request))
+lists_of d = option_and_then (all_of commands_of) (as_array d)
+
+-- no command past a limit, and no more lists than there may be servers
+abbrev pub lists_within : List (List Request) → Bool
+lists_within lists = list_all (list_all command_within) lists && nat_le (length lists) most_servers
+
+abbrev pub whole_names : List (List ℕ)
+whole_names =
+    codes "loss" ∷ codes "seed" ∷ codes "servers" ∷ codes "turns" ∷ codes "version" ∷ codes "workers" ∷ []
+
+-- the seven names, in order
+abbrev pub plan_names : List (List ℕ)
+plan_names = codes "commands" ∷ whole_names
+
+-- what was known, and then what the field of a name says
+abbrev pub noted : code_wholes.Wholes → List ℕ → Option ℕ → code_wholes.Wholes
+noted w name whole = record {
+  version = newest (codes "version") name whole w.version;
+  servers = newest (codes "servers") name whole w.servers;
+  workers = newest (codes "workers") name whole w.workers;
+  seed = newest (codes "seed") name whole w.seed;
+  turns = newest (codes "turns") name whole w.turns;
+  loss = newest (codes "loss") name whole w.loss;
+  has_other = w.has_other || not (is_one_of name whole_names);
+}
+
+-- what was read of the fields, each as it was written last
+pub record AreFields (f : code.Fields) (ms : Members) : Type 0 where
+  pub named : AreNamed plan_names f.wholes.has_other ms
+  pub version : Says whole_in (codes "version") f.wholes.version ms
+  pub servers : Says whole_in (codes "servers") f.wholes.servers ms
+  pub workers : Says whole_in (codes "workers") f.wholes.workers ms
+  pub seed : Says whole_in (codes "seed") f.wholes.seed ms
+  pub turns : Says whole_in (codes "turns") f.wholes.turns ms
+  pub loss : Says whole_in (codes "loss") f.wholes.loss ms
+  pub commands : Says (λ d. judged lists_within (lists_of d)) (codes "commands")
+      (option_map (seen (λ v. map (λ l. l.items) v.items)) f.commands) ms
+
+-- a field that is there, and is a whole number
+abbrev pub there : Option (Option ℕ) → Option ℕ
+there known = option_and_then (λ whole. whole) known
+
+-- the numbers, where all of them are there
+abbrev pub numbers_in : code_wholes.Wholes → Option Numbers
+numbers_in w = do
+  version ← there w.version
+  servers ← there w.servers
+  workers ← there w.workers
+  seed ← there w.seed
+  turns ← there w.turns
+  loss ← there w.loss
+  Some (record { version = version; servers = servers; workers = workers; seed = seed; turns = turns; loss = loss })
+
+-- what the seven fields say
+abbrev pub plan_said : Option Numbers → Option (Result (List (List Request)) AppFault) → Result WrittenPlan AppFault
+plan_said (Some n) (Some (Ok lists)) =
+    if numbers_within n && (length lists == n.servers)
+    then Ok (record { numbers = n; commands = lists }) else Err BadLimit
+plan_said (Some n) (Some (Err fault)) = Err fault
+plan_said _ _ = Err BadShape

@@ -1,0 +1,341 @@
+-- Lists over the servers and over the instances.
+use Rattle.std.proofs.Common.{◌≡◌, ℕ, ◌+◌, ◌<◌, ◌≤◌, Bool, true, false, Option, Some, None, cond, zero, suc, add-zero, List, [], ◌∷◌, ◌++◌, map, length, filter, get_or, set, append-nil, ◌&&◌, ◌||◌, refl, sym, ◌∙◌, ap, arith, ⊎_elim}
+use Rattle.std.specs.Prelude.{replicate}
+use Rattle.std.specs.List.{count_by, filter_map, find, fold, list_any, range_with_len}
+use Rattle.std.proofs.lemmas.List.{length-set, length-replicate, get_or-replicate, get_or-set_other}
+use Rattle.std.proofs.lemmas.Grind.{get_or-set_at}
+use Rattle.std.proofs.lemmas.List.Sums.{fold-append}
+use Rattle.std.proofs.lemmas.List.FromFn.{map-range_with_len_more, fill_by_all, get_or-map-range_with_len, length-map-range_with_len}
+use Rattle.std.proofs.lemmas.List.Elements.{filter-append}
+use Rattle.std.proofs.lemmas.Bool.{cases_eq, or_cases, or_left, or_right}
+use Rattle.mencius_base.specs.Members.{below, instances, first_item}
+use Rattle.mencius_base.specs.Limits.{instance_count}
+
+pub length-map-below : {X : Type 0} (f : ℕ → X) (n : ℕ) → length (map f (below n)) ≡ n
+unfolding below
+length-map-below f n = length-map-range_with_len f 0 n
+
+pub get_or-map-below : {X : Type 0} (f : ℕ → X) (n i : ℕ) (d : X) → i < n → get_or (map f (below n)) i d ≡ f i
+unfolding below
+get_or-map-below f n i d h = get_or-map-range_with_len f 0 n i i d h (omega arith)
+
+-- a list that is f at each place is the list of f
+pub map-below_by : {X : Type 0} (f : ℕ → X) (xs : List X) (n : ℕ) (d : X) → length xs ≡ n
+    → ((k : ℕ) → k < n → get_or xs k d ≡ f k) → xs ≡ map f (below n)
+unfolding below
+map-below_by f xs n d h e = fill_by_all f xs n d h e
+
+pub map-below_same : {X : Type 0} (f g : ℕ → X) (n : ℕ) (d : X) → ((k : ℕ) → k < n → f k ≡ g k)
+    → map f (below n) ≡ map g (below n)
+map-below_same f g n d e =
+    map-below_by g (map f (below n)) n d (length-map-below f n) (λ k h. get_or-map-below f n k d h ∙ e k h)
+
+-- a write at one place
+pub map-below_set : {X : Type 0} (f g : ℕ → X) (n i : ℕ) (v d : X) → g i ≡ v
+    → ((k : ℕ) → k < n → (k ≡ i → ⊥) → f k ≡ g k) → set (map f (below n)) i v ≡ map g (below n)
+map-below_set f g n i v d here there =
+    map-below_by g (set (map f (below n)) i v) n d (length-set _ _ _ ∙ length-map-below f n)
+    (λ k h. ⊎_elim
+    (λ (e : k ≡ i). let within : i < length (map f (below n)) = rw (length-map-below f n) (omega arith) in
+    get_or-set_at (map f (below n)) i k v d e within ∙ sym here ∙ ap g (sym e))
+    (λ (ne : k ≡ i → ⊥). get_or-set_other (map f (below n)) i k v d ne ∙ get_or-map-below f n k d h ∙ there k h ne)
+    (cases_eq k i))
+
+-- one value everywhere
+pub map-below_constant : {X : Type 0} (f : ℕ → X) (n : ℕ) (y : X) → ((k : ℕ) → k < n → f k ≡ y)
+    → replicate n y ≡ map f (below n)
+map-below_constant f n y e =
+    map-below_by f (replicate n y) n y (length-replicate n y) (λ k h. get_or-replicate n k y y h ∙ sym (e k h))
+
+-- a count over a list of tests
+counts_alike : (f : ℕ → Bool) (n : ℕ) (xs : List ℕ)
+    → fold (λ (k : ℕ) (b : Bool). k + cond b 1 0) n (map f xs) ≡ fold (λ (k : ℕ) (x : ℕ). k + cond (f x) 1 0) n xs
+counts_alike f n [] = refl
+counts_alike f n (x ∷ xs) = counts_alike f (n + cond (f x) 1 0) xs
+
+pub count_by-map : (f : ℕ → Bool) (xs : List ℕ) → count_by (λ b. b) (map f xs) ≡ count_by f xs
+count_by-map f xs = counts_alike f 0 xs
+
+pub instances-below : instances ≡ below instance_count
+unfolding instances
+instances-below = refl
+
+pub length-map-instances : {X : Type 0} (f : ℕ → X) → length (map f instances) ≡ instance_count
+length-map-instances f = rw instances-below (length-map-below f instance_count)
+
+pub get_or-map-instances : {X : Type 0} (f : ℕ → X) (i : ℕ) (d : X) → i < instance_count
+    → get_or (map f instances) i d ≡ f i
+get_or-map-instances f i d h = rw instances-below (get_or-map-below f instance_count i d h)
+
+pub map-instances_set : {X : Type 0} (f g : ℕ → X) (i : ℕ) (v d : X) → g i ≡ v
+    → ((k : ℕ) → k < instance_count → (k ≡ i → ⊥) → f k ≡ g k) → set (map f instances) i v ≡ map g instances
+map-instances_set f g i v d here there = rw instances-below (map-below_set f g instance_count i v d here there)
+
+pub below-more : (n : ℕ) → below (n + 1) ≡ below n ++ n ∷ []
+unfolding below
+below-more n =
+    sym (map-same (range_with_len 0 (n + 1))) ∙ map-range_with_len_more (λ (x : ℕ). x) 0 n n (omega arith)
+    ∙ ap (λ (xs : List ℕ). xs ++ n ∷ []) (map-same (range_with_len 0 n))
+  where
+    map-same : (xs : List ℕ) → map (λ (x : ℕ). x) xs ≡ xs
+    map-same [] = refl
+    map-same (x ∷ xs) = ap (λ (ys : List ℕ). x ∷ ys) (map-same xs)
+
+-- a count up to one more
+pub count_by-below_more : (test : ℕ → Bool) (n : ℕ)
+    → count_by test (below (n + 1)) ≡ count_by test (below n) + cond (test n) 1 0
+count_by-below_more test n =
+    ap (count_by test) (below-more n) ∙ fold-append (λ (k : ℕ) (x : ℕ). k + cond (test x) 1 0) 0 (below n) (n ∷ [])
+
+-- a count goes no further than the last that passes
+pub count_by-below_none : (test : ℕ → Bool) (n k : ℕ) → ((j : ℕ) → n ≤ j → j < n + k → test j ≡ false)
+    → count_by test (below (n + k)) ≡ count_by test (below n)
+count_by-below_none test n zero e = ap (λ (j : ℕ). count_by test (below j)) (add-zero n)
+count_by-below_none test n (suc k) e =
+    let next : n + suc k ≡ n + k + 1 = omega arith in
+    let past : n ≤ n + k = omega arith in
+    ap (λ (j : ℕ). count_by test (below j)) next ∙ count_by-below_more test (n + k)
+    ∙ rw (e (n + k) past (omega arith), add-zero (count_by test (below (n + k))))
+    (count_by-below_none test n k (λ j low high. e j low (omega arith)))
+
+pub count_by-below_zero : (test : ℕ → Bool) → count_by test (below 0) ≡ 0
+unfolding below
+count_by-below_zero test = refl
+
+find-range : (test : ℕ → Bool) (a n i : ℕ) → a ≤ i → i < a + n → ((j : ℕ) → a ≤ j → j < i → test j ≡ false)
+    → test i ≡ true → find test (range_with_len a n) ≡ Some i
+find-range test a zero i low high before here = absurd (omega arith)
+find-range test a (suc n) i low high before here =
+    ⊎_elim
+    (λ (e : a ≡ i). rw (e, here))
+    (λ (ne : a ≡ i → ⊥).
+    let above : a + 1 ≤ i = omega arith in
+    let missed : test a ≡ false = before a (omega arith) (omega arith) in
+    rw missed (find-range test (a + 1) n i above (omega arith) (λ j l h. before j (omega arith) h) here))
+    (cases_eq a i)
+
+find-range_none : (test : ℕ → Bool) (a n : ℕ) → ((j : ℕ) → a ≤ j → j < a + n → test j ≡ false)
+    → find test (range_with_len a n) ≡ None
+find-range_none test a zero none = refl
+find-range_none test a (suc n) none =
+    let missed : test a ≡ false = none a (omega arith) (omega arith) in
+    rw missed (find-range_none test (a + 1) n (λ j l h. none j (omega arith) (omega arith)))
+
+find-range_same : (f g : ℕ → Bool) (a n : ℕ) → ((j : ℕ) → j < a + n → f j ≡ g j)
+    → find f (range_with_len a n) ≡ find g (range_with_len a n)
+find-range_same f g a zero e = refl
+find-range_same f g a (suc n) e = rw (e a (omega arith), find-range_same f g (a + 1) n (λ j h. e j (omega arith)))
+
+-- the first instance that passes
+pub find-instances : (test : ℕ → Bool) (i : ℕ) → i < instance_count → ((j : ℕ) → j < i → test j ≡ false) → test i ≡ true
+    → find test instances ≡ Some i
+unfolding below instances
+find-instances test i small before here =
+    find-range test 0 instance_count i (omega arith) small (λ j l h. before j h) here
+
+pub find-instances_none : (test : ℕ → Bool) → ((j : ℕ) → j < instance_count → test j ≡ false)
+    → find test instances ≡ None
+unfolding below instances
+find-instances_none test none = find-range_none test 0 instance_count (λ j l h. none j h)
+
+pub find-instances_same : (f g : ℕ → Bool) → ((j : ℕ) → j < instance_count → f j ≡ g j)
+    → find f instances ≡ find g instances
+unfolding below instances
+find-instances_same f g e = find-range_same f g 0 instance_count e
+
+-- what is found passes, and is an instance
+pub record IsFound (test : ℕ → Bool) (n k : ℕ) : Type 0 where
+  pub passes : test k ≡ true
+  pub small : k < n
+
+found_at : (test : ℕ → Bool) (a n k : ℕ) (c : Bool) → test a ≡ c
+    → cond c (Some a) (find test (range_with_len (a + 1) n)) ≡ Some k
+    → (find test (range_with_len (a + 1) n) ≡ Some k → IsFound test (a + 1 + n) k) → IsFound test (a + suc n) k
+found_at test a n k true here e rest =
+    let same : a ≡ k = cc in record { passes = rw (← same) here; small = omega arith }
+found_at test a n k false missed e rest =
+    let further = rest e in
+    record { passes = further.passes; small = let low : k < a + 1 + n = further.small in omega arith }
+
+find-range_found : (test : ℕ → Bool) (a n k : ℕ) → find test (range_with_len a n) ≡ Some k → IsFound test (a + n) k
+find-range_found test a zero k e = absurd (cc)
+find-range_found test a (suc n) k e = found_at test a n k (test a) refl e (find-range_found test (a + 1) n k)
+
+pub find-instances_found : (test : ℕ → Bool) (k : ℕ) → find test instances ≡ Some k → IsFound test instance_count k
+unfolding below instances
+find-instances_found test k e = find-range_found test 0 instance_count k e
+
+pub map-instances_same : {X : Type 0} (f g : ℕ → X) (d : X) → ((k : ℕ) → k < instance_count → f k ≡ g k)
+    → map f instances ≡ map g instances
+map-instances_same f g d e = rw instances-below (map-below_same f g instance_count d e)
+
+-- the first that a function gives over the instances
+first_item-range : (f : ℕ → Option ℕ) (a n i t : ℕ) → a ≤ i → i < a + n → ((j : ℕ) → a ≤ j → j < i → f j ≡ None)
+    → f i ≡ Some t → first_item (filter_map f (range_with_len a n)) ≡ Some t
+first_item-range f a zero i t low high before here = absurd (omega arith)
+first_item-range f a (suc n) i t low high before here =
+    ⊎_elim
+    (λ (e : a ≡ i). rw (e, here))
+    (λ (ne : a ≡ i → ⊥).
+    let above : a + 1 ≤ i = omega arith in
+    let missed : f a ≡ None = before a (omega arith) (omega arith) in
+    rw missed (first_item-range f (a + 1) n i t above (omega arith) (λ j l h. before j (omega arith) h) here))
+    (cases_eq a i)
+
+first_item-range_none : (f : ℕ → Option ℕ) (a n : ℕ) → ((j : ℕ) → a ≤ j → j < a + n → f j ≡ None)
+    → first_item (filter_map f (range_with_len a n)) ≡ None
+first_item-range_none f a zero none = refl
+first_item-range_none f a (suc n) none =
+    let missed : f a ≡ None = none a (omega arith) (omega arith) in
+    rw missed (first_item-range_none f (a + 1) n (λ j l h. none j (omega arith) (omega arith)))
+
+filter_map-range_same : (f g : ℕ → Option ℕ) (a n : ℕ) → ((j : ℕ) → j < a + n → f j ≡ g j)
+    → filter_map f (range_with_len a n) ≡ filter_map g (range_with_len a n)
+filter_map-range_same f g a zero e = refl
+filter_map-range_same f g a (suc n) e =
+    rw (e a (omega arith), filter_map-range_same f g (a + 1) n (λ j h. e j (omega arith)))
+
+pub first_item-instances : (f : ℕ → Option ℕ) (i t : ℕ) → i < instance_count → ((j : ℕ) → j < i → f j ≡ None)
+    → f i ≡ Some t
+    → first_item (filter_map f instances) ≡ Some t
+unfolding below instances
+first_item-instances f i t small before here =
+    first_item-range f 0 instance_count i t (omega arith) small (λ j l h. before j h) here
+
+pub first_item-instances_none : (f : ℕ → Option ℕ) → ((j : ℕ) → j < instance_count → f j ≡ None)
+    → first_item (filter_map f instances) ≡ None
+unfolding below instances
+first_item-instances_none f none = first_item-range_none f 0 instance_count (λ j l h. none j h)
+
+pub filter_map-instances_same : (f g : ℕ → Option ℕ) → ((j : ℕ) → j < instance_count → f j ≡ g j)
+    → filter_map f instances ≡ filter_map g instances
+unfolding below instances
+filter_map-instances_same f g e = filter_map-range_same f g 0 instance_count e
+
+-- whether a test passes at some instance
+any-range : (test : ℕ → Bool) (a n i : ℕ) → a ≤ i → i < a + n → test i ≡ true
+    → list_any test (range_with_len a n) ≡ true
+any-range test a zero i low high here = absurd (omega arith)
+any-range test a (suc n) i low high here =
+    ⊎_elim
+    (λ (e : a ≡ i). or_left (test a) _ (rw e here))
+    (λ (ne : a ≡ i → ⊥). let above : a + 1 ≤ i = omega arith in
+    or_right (test a) _ (any-range test (a + 1) n i above (omega arith) here))
+    (cases_eq a i)
+
+any-range_none : (test : ℕ → Bool) (a n : ℕ) → ((j : ℕ) → a ≤ j → j < a + n → test j ≡ false)
+    → list_any test (range_with_len a n) ≡ false
+any-range_none test a zero none = refl
+any-range_none test a (suc n) none =
+    let missed : test a ≡ false = none a (omega arith) (omega arith) in
+    rw missed (any-range_none test (a + 1) n (λ j l h. none j (omega arith) (omega arith)))
+
+any-range_found : (test : ℕ → Bool) (a n : ℕ) → list_any test (range_with_len a n) ≡ true
+    → (j : ℕ) × (j < a + n) × (test j ≡ true)
+any-range_found test a zero h = absurd (cc)
+any-range_found test a (suc n) h =
+    ⊎_elim
+    (λ (e : test a ≡ true). (a, omega arith, e))
+    (λ (e : list_any test (range_with_len (a + 1) n) ≡ true). let r = any-range_found test (a + 1) n e in
+    (r.0, let low : r.0 < a + 1 + n = r.1 in omega arith, r.2))
+    (or_cases (test a) (list_any test (range_with_len (a + 1) n)) h)
+
+pub any-instances : (test : ℕ → Bool) (i : ℕ) → i < instance_count → test i ≡ true → list_any test instances ≡ true
+unfolding below instances
+any-instances test i small here = any-range test 0 instance_count i (omega arith) small here
+
+pub any-instances_none : (test : ℕ → Bool) → ((j : ℕ) → j < instance_count → test j ≡ false)
+    → list_any test instances ≡ false
+unfolding below instances
+any-instances_none test none = any-range_none test 0 instance_count (λ j l h. none j h)
+
+pub any-instances_found : (test : ℕ → Bool) → list_any test instances ≡ true
+    → (j : ℕ) × (j < instance_count) × (test j ≡ true)
+unfolding below instances
+any-instances_found test h = any-range_found test 0 instance_count h
+
+-- filters
+pub any-filter : (g f : ℕ → Bool) (xs : List ℕ) → list_any f (filter g xs) ≡ list_any (λ (x : ℕ). g x && f x) xs
+any-filter g f [] = refl
+any-filter g f (x ∷ xs) = go (g x) (any-filter g f xs) where
+  go : (b : Bool) → list_any f (filter g xs) ≡ list_any (λ (y : ℕ). g y && f y) xs
+      → list_any f (cond b (x ∷ filter g xs) (filter g xs)) ≡ ((b && f x) || list_any (λ (y : ℕ). g y && f y) xs)
+  go true e = ap (λ (c : Bool). f x || c) e
+  go false e = e
+
+pub map-filter_same : {X : Type 0} (f f' : ℕ → X) (g g' : ℕ → Bool) → ((j : ℕ) → f j ≡ f' j) → ((j : ℕ) → g j ≡ g' j)
+    → (xs : List ℕ) → map f (filter g xs) ≡ map f' (filter g' xs)
+map-filter_same f f' g g' e h [] = refl
+map-filter_same f f' g g' e h (x ∷ xs) =
+    ap (λ (b : Bool). map f (cond b (x ∷ filter g xs) (filter g xs))) (h x)
+    ∙ go (g' x) (map-filter_same f f' g g' e h xs)
+  where
+    go : (b : Bool) → map f (filter g xs) ≡ map f' (filter g' xs)
+        → map f (cond b (x ∷ filter g xs) (filter g xs)) ≡ map f' (cond b (x ∷ filter g' xs) (filter g' xs))
+    go true r = rw (e x, r)
+    go false r = r
+
+map-filter-range_same : {X : Type 0} (f f' : ℕ → X) (g g' : ℕ → Bool) (a n : ℕ) → ((j : ℕ) → j < a + n → f j ≡ f' j)
+    → ((j : ℕ) → j < a + n → g j ≡ g' j)
+    → map f (filter g (range_with_len a n)) ≡ map f' (filter g' (range_with_len a n))
+map-filter-range_same f f' g g' a zero e h = refl
+map-filter-range_same f f' g g' a (suc n) e h =
+    ap (λ (b : Bool). map f
+    (cond b (a ∷ filter g (range_with_len (a + 1) n)) (filter g (range_with_len (a + 1) n)))) (h a (omega arith))
+    ∙ go (g' a)
+    (map-filter-range_same f f' g g' (a + 1) n (λ j l. e j (omega arith)) (λ j l. h j (omega arith)))
+  where
+    go : (b : Bool) → map f (filter g (range_with_len (a + 1) n)) ≡ map f' (filter g' (range_with_len (a + 1) n))
+        → map f (cond b (a ∷ filter g (range_with_len (a + 1) n)) (filter g (range_with_len (a + 1) n)))
+        ≡ map f' (cond b (a ∷ filter g' (range_with_len (a + 1) n)) (filter g' (range_with_len (a + 1) n)))
+    go true r = rw (e a (omega arith), r)
+    go false r = r
+
+pub map-filter-instances_same : {X : Type 0} (f f' : ℕ → X) (g g' : ℕ → Bool)
+    → ((j : ℕ) → j < instance_count → f j ≡ f' j)
+    → ((j : ℕ) → j < instance_count → g j ≡ g' j)
+    → map f (filter g instances) ≡ map f' (filter g' instances)
+unfolding below instances
+map-filter-instances_same f f' g g' e h = map-filter-range_same f f' g g' 0 instance_count e h
+
+pub filter-below_zero : (test : ℕ → Bool) → filter test (below 0) ≡ []
+unfolding below
+filter-below_zero test = refl
+
+pub filter-below_more : (test : ℕ → Bool) (n : ℕ)
+    → filter test (below (n + 1)) ≡ filter test (below n) ++ cond (test n) (n ∷ []) []
+filter-below_more test n = ap (filter test) (below-more n) ∙ filter-append test (below n) (n ∷ [])
+
+pub filter-below_none : (test : ℕ → Bool) (n k : ℕ) → ((j : ℕ) → n ≤ j → j < n + k → test j ≡ false)
+    → filter test (below (n + k)) ≡ filter test (below n)
+filter-below_none test n zero e = ap (λ (j : ℕ). filter test (below j)) (add-zero n)
+filter-below_none test n (suc k) e =
+    let next : n + suc k ≡ n + k + 1 = omega arith in
+    let past : n ≤ n + k = omega arith in
+    ap (λ (j : ℕ). filter test (below j)) next ∙ filter-below_more test (n + k)
+    ∙ rw (e (n + k) past (omega arith), append-nil) (filter-below_none test n k (λ j low high. e j low (omega arith)))
+
+pub count_by-below_le : (test : ℕ → Bool) (a b : ℕ) → a ≤ b → count_by test (below a) ≤ count_by test (below b)
+count_by-below_le test a zero h = let e : a ≡ 0 = omega arith in rw e (omega arith)
+count_by-below_le test a (suc b) h =
+    ⊎_elim
+    (λ (e : a ≡ suc b). rw e (omega arith))
+    (λ (ne : a ≡ suc b → ⊥).
+    let next : suc b ≡ b + 1 = omega arith in
+    let low : a ≤ b = omega arith in
+    rw next (omega (arith, count_by-below_more test b, count_by-below_le test a b low)))
+    (cases_eq a (suc b))
+
+filter-range_same : (g g' : ℕ → Bool) (a n : ℕ) → ((j : ℕ) → j < a + n → g j ≡ g' j)
+    → filter g (range_with_len a n) ≡ filter g' (range_with_len a n)
+filter-range_same g g' a zero h = refl
+filter-range_same g g' a (suc n) h = rw (h a (omega arith), filter-range_same g g' (a + 1) n (λ j l. h j (omega arith)))
+
+pub filter-instances_same : (g g' : ℕ → Bool) → ((j : ℕ) → j < instance_count → g j ≡ g' j)
+    → filter g instances ≡ filter g' instances
+unfolding below instances
+filter-instances_same g g' h = filter-range_same g g' 0 instance_count h
+
+pub any-map : (f : ℕ → Bool) (xs : List ℕ) → list_any f xs ≡ list_any (λ (b : Bool). b) (map f xs)
+any-map f [] = refl
+any-map f (x ∷ xs) = ap (λ (b : Bool). f x || b) (any-map f xs)

@@ -1,0 +1,63 @@
+-- Lines that say nothing of what a server knows of an instance.
+use Rattle.std.proofs.Common.{◌≡◌, ℕ, Bool, true, false, Option, None, refl, sym, eqb, ◌&&◌}
+use Rattle.mencius_base.specs.declared.message.Message.{Message}
+use Rattle.mencius_base.specs.declared.message.Message.TheVariants.{Suggest, Skip, Accepted, Promise, Propose, Learn}
+use Rattle.mencius_base.specs.declared.message.Value.{Value}
+use Rattle.mencius_base.specs.declared.message.Vote.{Vote}
+use Rattle.mencius_model.specs.Trace.{Line, Heard, Sent, Learned}
+use Rattle.mencius_model.specs.Instance.{promised_by, proposed_by, accepted_by, learned_by, tried_by, is_promise, is_acceptance, vote_reported}
+use Rattle.std.proofs.lemmas.Bool.{ne_eqb}
+
+-- a line that says nothing of p's slot for i
+pub record IsQuiet (p i : ℕ) (l : Line) : Type 0 where
+  pub promised : promised_by p i l ≡ 0
+  pub proposed : (b : ℕ) → proposed_by i b l ≡ None
+  pub accepted : accepted_by p i l ≡ None
+  pub learned : learned_by p i l ≡ None
+  pub tried : tried_by p i l ≡ 0
+
+pub quiet_heard : (k p i : ℕ) → IsQuiet p i (Heard k p)
+quiet_heard k p i = record { promised = refl; proposed = λ b. refl; accepted = refl; learned = refl; tried = refl }
+
+-- a message that counts in no tally of the ballot that p tries at i
+pub record IsUncounted (i b : ℕ) (x : Message) : Type 0 where
+  pub promise : (q : ℕ) → is_promise i b q x ≡ false
+  pub acceptance : (q : ℕ) → is_acceptance i b q x ≡ false
+  pub report : vote_reported i b x ≡ None
+
+-- what p says of one instance is quiet for another
+both-false : (t : Bool) → (t && false) ≡ false
+both-false true = refl
+both-false false = refl
+
+pub quiet_accepted : (p q i b j : ℕ) → (j ≡ i → ⊥) → IsQuiet p j (Sent (Accepted p q i b))
+quiet_accepted p q i b j ne =
+    let other : (eqb p p && eqb i j) ≡ false = rw (ne_eqb i j (λ e. ne (sym e))) (both-false (eqb p p)) in
+    record { promised = rw other; proposed = λ c. refl; accepted = rw other; learned = refl; tried = refl }
+
+pub quiet_promise : (p q i b j : ℕ) (v : Option Vote) → (j ≡ i → ⊥) → IsQuiet p j (Sent (Promise p q i b v))
+quiet_promise p q i b j v ne =
+    let other : (eqb p p && eqb i j) ≡ false = rw (ne_eqb i j (λ e. ne (sym e))) (both-false (eqb p p)) in
+    record { promised = rw other; proposed = λ c. refl; accepted = refl; learned = refl; tried = refl }
+
+pub quiet_propose : (p i b j : ℕ) (v : Value) → (j ≡ i → ⊥) → IsQuiet p j (Sent (Propose p i b v))
+quiet_propose p i b j v ne =
+    let other : eqb i j ≡ false = ne_eqb i j (λ e. ne (sym e)) in
+    record { promised = refl; proposed = λ c. rw other; accepted = refl; learned = refl; tried = refl }
+
+pub quiet_suggest : (p i t j : ℕ) → (j ≡ i → ⊥) → IsQuiet p j (Sent (Suggest p i t))
+quiet_suggest p i t j ne =
+    let other : eqb i j ≡ false = ne_eqb i j (λ e. ne (sym e)) in
+    record { promised = refl; proposed = λ c. rw other; accepted = refl; learned = refl; tried = refl }
+
+pub quiet_learned : (p i j : ℕ) (v : Value) → (j ≡ i → ⊥) → IsQuiet p j (Learned p i v)
+quiet_learned p i j v ne =
+    let other : (eqb p p && eqb i j) ≡ false = rw (ne_eqb i j (λ e. ne (sym e))) (both-false (eqb p p)) in
+    record { promised = refl; proposed = λ c. refl; accepted = refl; learned = rw other; tried = refl }
+
+pub quiet_skip : (p q first stop i : ℕ) → IsQuiet p i (Sent (Skip q first stop))
+quiet_skip p q first stop i =
+    record { promised = refl; proposed = λ c. refl; accepted = refl; learned = refl; tried = refl }
+
+pub quiet_learn : (p q i j : ℕ) (v : Value) → IsQuiet p j (Sent (Learn q i v))
+quiet_learn p q i j v = record { promised = refl; proposed = λ c. refl; accepted = refl; learned = refl; tried = refl }

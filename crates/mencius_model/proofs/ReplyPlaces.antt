@@ -1,0 +1,226 @@
+-- Which reply a command has: the first place of a ticket, and the three answers of `reply_of`.
+use Rattle.std.proofs.Common.{◌≡◌, ℕ, zero, suc, ◌≤◌, Bool, true, false, eqb, eqb-true, eq-eqb, List, [], ◌∷◌, inl, inr, refl, sym, ap, ◌∙◌, arith, Option, Some, None, slice_get, option_map, ◌↔◌}
+use Rattle.std.specs.List.{list_any}
+use Rattle.std.proofs.lemmas.Bool.{cases_Bool, and_parts, or_parts}
+use Rattle.std.proofs.lemmas.Option.{some_pair_parts}
+use Rattle.mencius_base.specs.declared.command.CommandId.{CommandId}
+use Rattle.mencius_base.specs.Members.{Membership}
+use Rattle.mencius_model.specs.Trace.{Trace, submitted}
+use Rattle.mencius_base.specs.Command.{is_same_id}
+use Rattle.mencius_model.specs.Executed.{executed}
+use Rattle.mencius_model.specs.Replying.{Reply, NotYet, Is, place_of, reply_from, reply_of_place, reply_of}
+use Rattle.mencius_model.specs.Laws.{IsReply, IsPending, IsSubmitted}
+use Rattle.mencius_model.proofs.Lists.{none_in, get_in}
+use Rattle.mencius_model.proofs.LineRights.{IsGrown}
+use Rattle.mencius_model.proofs.Histories.{history_once}
+use Rattle.mencius_model.proofs.Tickets.{identity_once, Submission}
+
+-- ---- the first place
+
+-- k is the first place of an item that passes
+pub record IsPlace (A : Type 0) (p : A → Bool) (xs : List A) (k : ℕ) : Type 0 where
+  pub item : A
+  pub there : slice_get xs k ≡ Some item
+  pub passes : p item ≡ true
+  pub first : (j : ℕ) (x : A) → slice_get xs j ≡ Some x → p x ≡ true → k ≤ j
+
+-- a place after the first
+mapped : (o : Option ℕ) (k : ℕ) → option_map suc o ≡ Some k → (j : ℕ) × (o ≡ Some j) × (k ≡ suc j)
+mapped None k h = absurd (cc)
+mapped (Some j) k h = (j, refl, cc)
+
+later_place : {A : Type 0} (p : A → Bool) (x : A) (xs : List A) (i : ℕ) → p x ≡ false
+    → ((j : ℕ) (y : A) → slice_get xs j ≡ Some y → p y ≡ true → i ≤ j)
+    → (j : ℕ) (y : A) → slice_get (x ∷ xs) j ≡ Some y → p y ≡ true → suc i ≤ j
+later_place p x xs i miss f zero y a b = let s : x ≡ y = cc in absurd (let t = rw s at miss in cc)
+later_place p x xs i miss f (suc j) y a b = omega (arith, f j y a b)
+
+place_next : {A : Type 0} (p : A → Bool) (x : A) (xs : List A) (i k : ℕ) → k ≡ suc i → p x ≡ false → IsPlace A p xs i
+    → IsPlace A p (x ∷ xs) k
+place_next p x xs i k e miss s =
+    rw e (record {
+      item = s.item;
+      there = s.there;
+      passes = s.passes;
+      first = λ j y a b. later_place p x xs i miss s.first j y a b;
+    })
+
+-- `place_of` answers the first place of an item that passes
+place_is : {A : Type 0} (p : A → Bool) (xs : List A) (k : ℕ) → place_of p xs ≡ Some k → IsPlace A p xs k
+place_is p [] k h = absurd (cc)
+place_is p (x ∷ xs) k h =
+    elim (cases_Bool (p x)) [
+      | inl e ↦
+          let z : 0 ≡ k = (let s = rw e at h in cc) in
+          rw (← z) (record { item = x; there = refl; passes = e; first = λ j y a b. omega arith })
+      | inr e ↦
+          let r = mapped (place_of p xs) k (rw e at h) in
+          place_next p x xs r.0 k r.2 e (place_is p xs r.0 r.1)
+    ]
+
+mapped_none : (o : Option ℕ) → option_map suc o ≡ None → o ≡ None
+mapped_none None h = refl
+mapped_none (Some k) h = absurd (cc)
+
+-- and none exactly where no item passes
+no_place : {A : Type 0} (p : A → Bool) (xs : List A) → place_of p xs ≡ None → list_any p xs ≡ false
+no_place p [] h = refl
+no_place p (x ∷ xs) h =
+    elim (cases_Bool (p x)) [
+      | inl e ↦ absurd (let s = rw e at h in cc)
+      | inr e ↦ rw e (no_place p xs (mapped_none (place_of p xs) (rw e at h)))
+    ]
+
+some_place : {A : Type 0} (p : A → Bool) (xs : List A) → list_any p xs ≡ false → place_of p xs ≡ None
+some_place p [] h = refl
+some_place p (x ∷ xs) h =
+    let r = or_parts (p x) (list_any p xs) h in
+    rw (r.0, some_place p xs r.1)
+
+-- ---- the reply
+
+-- who has the identity of a third has the identity of each other
+same_ids : (a b id : CommandId) → is_same_id a id ≡ true → is_same_id b id ≡ true → is_same_id a b ≡ true
+same_ids a b id h k =
+    let r = and_parts (eqb a.client id.client) (eqb a.number id.number) h in
+    let s = and_parts (eqb b.client id.client) (eqb b.number id.number) k in
+    let c = eqb-true a.client id.client r.0 ∙ sym (eqb-true b.client id.client s.0) in
+    let n = eqb-true a.number id.number r.1 ∙ sym (eqb-true b.number id.number s.1) in
+    rw (eq-eqb a.client b.client c, eq-eqb a.number b.number n)
+
+module _ (m : Membership) (few : 1 ≤ m.count) (w : Trace) (g : IsGrown m w) (id : CommandId) where
+  abbrev is_id : Submission → Bool
+  is_id x = is_same_id x.0.id id
+
+  abbrev is_ticket : ℕ → ℕ → Bool
+  is_ticket t u = eqb u t
+
+  -- one submission has this identity
+  same_submission : (t u : ℕ) (x y : Submission) → slice_get (submitted w) t ≡ Some x
+      → slice_get (submitted w) u ≡ Some y
+      → is_same_id x.0.id id ≡ true → is_same_id y.0.id id ≡ true → (t ≡ u) × (x ≡ y)
+  same_submission t u x y a b h k =
+      let e = identity_once m w g t u x y a b (same_ids x.0.id y.0.id id h k) in
+      let c = rw (← e) at b in
+      (e, cc)
+
+  -- it stands at one place of its home's history, so it has one reply
+  pub reply_once : (x y : Option (List ℕ)) → IsReply w id x → IsReply w id y → x ≡ y
+  reply_once x y a b =
+      let s = same_submission a.ticket b.ticket (a.command, a.home) (b.command, b.home) a.given b.given a.same b.same in
+      let parts = some_pair_parts a.command b.command a.home b.home (ap Some s.1) in
+      let there : slice_get (executed w a.home) b.place ≡ Some a.ticket = rw (parts.1, s.0) b.there in
+      let p = history_once m few w g a.home a.place b.place a.ticket a.there there in
+      a.is ∙ (rw (parts.0, parts.1, p) (sym b.is))
+
+  -- a reply is not given and awaited at once
+  not_both : (r : Option (List ℕ)) → IsReply w id r → IsPending w id → ⊥
+  not_both r a b =
+      let s = same_submission a.ticket b.ticket (a.command, a.home) (b.command, b.home) a.given b.given a.same b.same in
+      let parts = some_pair_parts a.command b.command a.home b.home (ap Some s.1) in
+      b.absent a.place (rw (← parts.1, ← s.0) a.there)
+
+  -- ---- what `reply_of` answers is so
+
+  given_at : (t : ℕ) (x : Submission) (o : Option ℕ) (r : Option (List ℕ)) → slice_get (submitted w) t ≡ Some x
+      → is_same_id x.0.id id ≡ true
+      → place_of (is_ticket t) (executed w x.1) ≡ o → reply_from w x.0 x.1 o ≡ Is r → IsReply w id r
+  given_at t x None r a s e h = absurd (cc)
+  given_at t x (Some k) r a s e h =
+      let p = place_is (is_ticket t) (executed w x.1) k e in
+      let same = eqb-true p.item t p.passes in
+      record {
+        ticket = t;
+        command = x.0;
+        home = x.1;
+        place = k;
+        given = a;
+        same = s;
+        there = p.there ∙ ap Some same;
+        first = λ j b. p.first j t b (eq-eqb t t refl);
+        is = cc;
+      }
+
+  pending_at : (t : ℕ) (x : Submission) (o : Option ℕ) → slice_get (submitted w) t ≡ Some x
+      → is_same_id x.0.id id ≡ true
+      → place_of (is_ticket t) (executed w x.1) ≡ o → reply_from w x.0 x.1 o ≡ NotYet → IsPending w id
+  pending_at t x (Some k) a s e h = absurd (cc)
+  pending_at t x None a s e h =
+      record {
+        ticket = t;
+        command = x.0;
+        home = x.1;
+        given = a;
+        same = s;
+        absent = λ k there. none_in (is_ticket t) t (executed w x.1) (no_place (is_ticket t) (executed w x.1) e)
+            (get_in (executed w x.1) k t there) (eq-eqb t t refl);
+      }
+
+  given_for : (o : Option ℕ) (r : Option (List ℕ)) → place_of is_id (submitted w) ≡ o
+      → reply_of_place w o ≡ Some (Is r) → IsReply w id r
+  given_for None r e h = absurd (cc)
+  given_for (Some t) r e h =
+      let p = place_is is_id (submitted w) t e in
+      let k = rw p.there at h in
+      given_at t p.item (place_of (is_ticket t) (executed w p.item.1)) r p.there p.passes refl (cc)
+
+  pending_for : (o : Option ℕ) → place_of is_id (submitted w) ≡ o → reply_of_place w o ≡ Some NotYet → IsPending w id
+  pending_for None e h = absurd (cc)
+  pending_for (Some t) e h =
+      let p = place_is is_id (submitted w) t e in
+      let k = rw p.there at h in
+      pending_at t p.item (place_of (is_ticket t) (executed w p.item.1)) p.there p.passes refl (cc)
+
+  none_for : (o : Option ℕ) → place_of is_id (submitted w) ≡ o → reply_of_place w o ≡ None → o ≡ None
+  none_for None e h = refl
+  none_for (Some t) e h =
+      let p = place_is is_id (submitted w) t e in
+      let k = rw p.there at h in
+      absurd (cc)
+
+  -- ---- and what is so it answers
+
+  not_true : (b : Bool) → (b ≡ true → ⊥) → b ≡ false
+  not_true true h = absurd (h refl)
+  not_true false h = refl
+
+  -- no reply exactly where the identity was never submitted
+  pub unknown : (reply_of w id ≡ None) ↔ (IsSubmitted w id → ⊥)
+  unknown = (
+    (λ h s. let n = no_place is_id (submitted w) (none_for (place_of is_id (submitted w)) refl h) in
+        let t : list_any is_id (submitted w) ≡ true = s in absurd (cc)),
+    (λ h. rw (some_place is_id (submitted w) (not_true (list_any is_id (submitted w)) h))),
+  )
+
+  -- of a submitted identity there is a reply, if only a pending one
+  something : (t : ℕ) (x : Submission) → slice_get (submitted w) t ≡ Some x → is_same_id x.0.id id ≡ true
+      → reply_of w id ≡ None → ⊥
+  something t x a s h =
+      none_in is_id x (submitted w) (no_place is_id (submitted w) (none_for (place_of is_id (submitted w)) refl h))
+      (get_in (submitted w) t x a) s
+
+  -- of the three answers, a reply or a pending command leaves one
+  by_cases : (o : Option Reply) → reply_of w id ≡ o → (t : ℕ) (x : Submission) → slice_get (submitted w) t ≡ Some x
+      → is_same_id x.0.id id ≡ true
+      → ((r : Option (List ℕ)) → IsReply w id r → o ≡ Some (Is r)) × (IsPending w id → o ≡ Some NotYet)
+  by_cases None e t x a s = absurd (something t x a s e)
+  by_cases (Some NotYet) e t x a s =
+      let p = pending_for (place_of is_id (submitted w)) refl e in
+      ((λ r k. absurd (not_both r k p)), (λ k. refl))
+  by_cases (Some (Is y)) e t x a s =
+      let p = given_for (place_of is_id (submitted w)) y refl e in
+      ((λ r k. ap (λ z. Some (Is z)) (reply_once y r p k)), (λ k. absurd (not_both y p k)))
+
+  -- a reply is given exactly where there is one
+  pub replied : (r : Option (List ℕ)) → (reply_of w id ≡ Some (Is r)) ↔ IsReply w id r
+  replied r = (
+    (λ h. given_for (place_of is_id (submitted w)) r refl h),
+    (λ a. (by_cases (reply_of w id) refl a.ticket (a.command, a.home) a.given a.same).0 r a),
+  )
+
+  -- and pending exactly where the home has not executed the command
+  pub awaited : (reply_of w id ≡ Some NotYet) ↔ IsPending w id
+  awaited = (
+    (λ h. pending_for (place_of is_id (submitted w)) refl h),
+    (λ a. (by_cases (reply_of w id) refl a.ticket (a.command, a.home) a.given a.same).1 a),
+  )

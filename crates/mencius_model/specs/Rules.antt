@@ -1,0 +1,98 @@
+-- The rules of a server, each over the few facts that it asks: `Next` asks them of the list of lines, and whoever keeps
+-- what a server knows has them in its fields.
+use Rattle.std.specs.Prelude.{ℕ, ◌+◌, max, Bool, false, List, [], ◌∷◌, Option, Some, None, nat_lt, nat_le, if◌then◌else◌, ◌&&◌, ◌==◌, is_none}
+use Rattle.mencius_base.specs.Numbers.{ServerId, Inst, BallotNo, TicketNo}
+use Rattle.mencius_base.specs.Members.{Membership, owner, first_owned, round}
+use Rattle.mencius_base.specs.declared.message.Answer.{Answer}
+use Rattle.mencius_base.specs.declared.message.Answer.TheVariants.{Promise as Promised, Known, Silent}
+use Rattle.mencius_base.specs.declared.message.Message.{Message}
+use Rattle.mencius_base.specs.declared.message.Message.TheVariants.{Suggest, Skip, Accepted, Promise, Propose, Learn}
+use Rattle.mencius_base.specs.declared.message.Value.{Value}
+use Rattle.mencius_base.specs.declared.message.Vote.{Vote}
+use Rattle.mencius_model.specs.Trace.{Line, Sent, Learned}
+use Rattle.mencius_model.specs.Instance.{value_or_noop}
+
+-- ---- a ticket
+
+-- an own instance from the front on may take one where nothing is learned
+abbrev pub is_free_from : Membership → ServerId → Inst → Inst → Option Value → Bool
+is_free_from m p front i learned = (owner m i == p && nat_le front i) && is_none learned
+
+-- the Suggest of a ticket, where there is a free instance for it
+abbrev pub suggestion : ServerId → Option Inst → TicketNo → List Line
+suggestion p None t = []
+suggestion p (Some i) t = Sent (Suggest p i t) ∷ []
+
+-- ---- a Suggest or a Propose
+
+-- a suggestion above the own front gives up the own instances below it, whether or not it is accepted then
+abbrev pub skip_lines : Membership → ServerId → Inst → Inst → List Line
+skip_lines m p front i = if nat_lt front i then Sent (Skip p front (first_owned m p (i + 1))) ∷ [] else []
+
+-- what q proposes at (i, b) is accepted unless a greater ballot was promised
+abbrev pub acceptance_lines : ServerId → ServerId → Inst → BallotNo → BallotNo → List Line
+acceptance_lines p q i b promised = if nat_le promised b then Sent (Accepted p q i b) ∷ [] else []
+
+-- ---- a Skip
+
+-- it gives up the instances of its sender in its range
+abbrev pub gives_up : Membership → Inst → Message → Bool
+gives_up m i (Skip from first stop) = (from == owner m i && nat_le first i) && nat_lt i stop
+gives_up m i _ = false
+
+-- where an instance is given up and nothing is learned, no-op is learned at once, without a majority
+abbrev pub is_given_up_from : Membership → Inst → Message → Option Value → Bool
+is_given_up_from m i x learned = gives_up m i x && is_none learned
+
+-- ---- a Prepare
+
+-- what is learned is told; else a ballot above all promised ones is promised, with the vote
+abbrev pub acceptor_answer : BallotNo → Option Vote → BallotNo → Option Value → Answer
+acceptor_answer promised vote b (Some v) = Known v
+acceptor_answer promised vote b None = if nat_lt promised b then Promised vote else Silent
+
+-- p answers the Prepare of q at (i, b)
+abbrev pub answer_lines : ServerId → ServerId → Inst → BallotNo → Answer → List Line
+answer_lines p q i b (Promised vote) = Sent (Promise p q i b vote) ∷ []
+answer_lines p q i b (Known v) = Sent (Learn p i v) ∷ []
+answer_lines p q i b Silent = []
+
+-- ---- a Promise
+
+-- once a majority promised, the value of the greatest vote that was reported is proposed, or no-op: where nothing is
+-- learned, and nothing was proposed yet
+abbrev pub proposal_due : Option Value → Option Value → Bool → Option Vote → Option Value
+proposal_due learned proposed majority reported =
+    if (is_none learned && is_none proposed) && majority then Some (value_or_noop reported) else None
+
+-- p proposes a value at (i, b), if one is due
+abbrev pub proposal_lines : ServerId → Inst → BallotNo → Option Value → List Line
+proposal_lines p i b None = []
+proposal_lines p i b (Some v) = Sent (Propose p i b v) ∷ []
+
+-- ---- an Accepted
+
+-- once a majority accepted, what was proposed is decided: where nothing is learned
+abbrev pub decision_due : Option Value → Option Value → Bool → Option Value
+decision_due learned proposed majority = if is_none learned && majority then proposed else None
+
+-- p learns the value, and tells everybody, if one is decided
+abbrev pub decision_lines : ServerId → Inst → Option Value → List Line
+decision_lines p i None = []
+decision_lines p i (Some v) = Learned p i v ∷ Sent (Learn p i v) ∷ []
+
+-- ---- a Learn
+
+-- the first value that is learned stays
+abbrev pub learning_lines : ServerId → Inst → Value → Option Value → List Line
+learning_lines p i v learned = if is_none learned then Learned p i v ∷ [] else []
+
+-- ---- a suspicion
+
+-- it covers the instances of q up to the own front of which nothing is learned
+abbrev pub is_covered_from : Membership → ServerId → Inst → Inst → Option Value → Bool
+is_covered_from m q front i learned = (owner m i == q && nat_le i front) && is_none learned
+
+-- one above the rounds of the ballots tried and promised
+abbrev pub round_above : Membership → BallotNo → BallotNo → ℕ
+round_above m tried promised = max (round m tried) (round m promised) + 1

@@ -1,0 +1,13 @@
+use Rattle.std.proofs.Common.{◌-◌, ◌≤◌}
+use Rattle.mencius_server.specs.Known.{known_at}
+use Rattle.mencius_server.specs.Tallies.{IsTallyFrom}
+use Rattle.mencius_server.proofs.known.tally_from.Given as goal
+
+abbrev pub invariant-loop-tally : goal.invariant-loop-tally
+invariant-loop-tally l = record {
+  counted : IsTallyFrom l.members (known_at l.members l.slots l.skipped.items) l.server l.first l.tally;
+  within : l.tally.stop ≤ l.stop;
+}
+
+abbrev pub decreases-loop-tally : goal.decreases-loop-tally
+decreases-loop-tally l = l.stop - l.tally.stop

@@ -1,0 +1,13 @@
+use Rattle.std.proofs.Common.{◌≡◌, ◌-◌}
+use Rattle.mencius_server.specs.Tallies.{known_by_slot}
+use Rattle.mencius_server.proofs.Tallying.{IsTalliedTo}
+use Rattle.mencius_server.proofs.known.tally_slots.Given as goal
+
+abbrev pub invariant-loop-inst : goal.invariant-loop-inst
+invariant-loop-inst l = record {
+  tallied : IsTalliedTo l.members (known_by_slot l.members l.slots) l.server l.first l.stop l.tally l.inst;
+  stop : l.tally.stop ≡ l.stop;
+}
+
+abbrev pub decreases-loop-inst : goal.decreases-loop-inst
+decreases-loop-inst l = l.stop - l.inst

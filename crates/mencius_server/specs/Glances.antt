@@ -1,0 +1,15 @@
+-- What a server knows of an instance, in short.
+use Rattle.std.specs.List.{count_by}
+use Rattle.coord_paxos.specs.SlotState.{SlotState}
+use Rattle.mencius_server.specs.declared.glance.Glance.{Glance}
+
+-- of the tallies their counts, and not the vote that was reported
+abbrev pub glance_of : SlotState → Glance
+glance_of t = record {
+  promised = t.promised;
+  learned = t.learned;
+  trying = t.trying;
+  proposal = t.proposal;
+  promises = count_by (λ b. b) t.promisers;
+  accepts = count_by (λ b. b) t.accepters;
+}

@@ -1,0 +1,116 @@
+-- What is counted of each server's instances, for suspicions of it.
+use Rattle.std.specs.Prelude.{◌≡◌, ℕ, ◌+◌, ◌-◌, ◌<◌, ◌≤◌, Bool, true, false, List, Option, Some, if◌then◌else◌, ◌&&◌, ◌==◌, is_none, min, nat_lt, slice_index_or, unwrap_or}
+use Rattle.std.specs.List.{count_by, filter, list_any}
+use Rattle.mencius_base.specs.declared.refusal.Refusal.{Refusal}
+use Rattle.mencius_base.specs.declared.refusal.Refusal.TheVariants.{NothingToRevoke, RoundsFull}
+use Rattle.mencius_base.specs.Members.{Membership, below, instances, owner}
+use Rattle.mencius_base.specs.Outbox.{Outgoing, outbox_full}
+use Rattle.coord_paxos.specs.Fresh.{new_slot}
+use Rattle.coord_paxos.specs.SlotState.{SlotState}
+use Rattle.mencius_server.specs.Machine.{round_after}
+use Rattle.mencius_server.specs.Known.{IsSound, KnownState, is_open, is_passed, is_round_full_at, known_at}
+use Rattle.mencius_server.specs.Slots.{stand_at}
+use Rattle.mencius_server.specs.Stretches.{IsStretch}
+use Rattle.mencius_server.specs.declared.stretch.Stretch.{Stretch}
+use Rattle.mencius_server.specs.declared.ranges.Span.{Span}
+use Rattle.mencius_server.specs.declared.tally.Tally.{Tally}
+use Rattle.mencius_base.specs.Limits.{greatest_round, instance_count}
+
+abbrev pub no_tally : Tally
+no_tally = record { stop = 0; open_count = 0; full_count = 0 }
+
+-- the tally of a server
+abbrev pub tally_of : List Tally → ℕ → Tally
+tally_of ts q = slice_index_or ts q no_tally
+
+-- no further round is left at a slot
+abbrev pub is_spent : Membership → SlotState → Bool
+is_spent m s = nat_lt greatest_round (round_after m s)
+
+-- an instance of q at which nothing was learned, and one that has no further round either
+abbrev pub is_open_of : Membership → (ℕ → SlotState) → ℕ → ℕ → Bool
+is_open_of m f q j = owner m j == q && is_none (f j).learned
+
+abbrev pub is_full_of : Membership → (ℕ → SlotState) → ℕ → ℕ → Bool
+is_full_of m f q j = is_open_of m f q j && is_spent m (f j)
+
+-- these are the numbers of q's instances below a place, where f is known of each instance
+pub record IsTally (m : Membership) (f : ℕ → SlotState) (q : ℕ) (t : Tally) : Type 0 where
+  pub small : t.stop ≤ instance_count
+  pub open_count : t.open_count ≡ count_by (is_open_of m f q) (below t.stop)
+  pub full_count : t.full_count ≡ count_by (is_full_of m f q) (below t.stop)
+
+-- the same of its instances between two places
+pub record IsTallyFrom (m : Membership) (f : ℕ → SlotState) (q first : ℕ) (t : Tally) : Type 0 where
+  pub ahead : first ≤ t.stop
+  pub small : t.stop ≤ instance_count
+  pub open_count : t.open_count + count_by (is_open_of m f q) (below first)
+      ≡ count_by (is_open_of m f q) (below t.stop)
+  pub full_count : t.full_count + count_by (is_full_of m f q) (below first)
+      ≡ count_by (is_full_of m f q) (below t.stop)
+
+-- what is known of an instance by a slot alone
+abbrev pub known_by_slot : Membership → List (Option SlotState) → ℕ → SlotState
+known_by_slot m slots j = unwrap_or (stand_at slots j) (new_slot m)
+
+-- nothing is open that was skipped
+abbrev pub IsTold : Membership → List (Option SlotState) → List (List Span) → Type 0
+IsTold m slots rs = (j : ℕ) → j < instance_count → is_passed m rs j ≡ true
+    → is_none (known_at m slots rs j).learned ≡ false
+
+-- with what was counted further on, or without some
+abbrev pub summed : Tally → Tally → Tally
+summed t u =
+    record { stop = u.stop; open_count = t.open_count + u.open_count; full_count = t.full_count + u.full_count }
+
+abbrev pub lessened : Tally → Tally → Tally
+lessened t u = record t { open_count = t.open_count - u.open_count; full_count = t.full_count - u.full_count }
+
+-- one instance more, or one less
+abbrev pub open_one : SlotState → ℕ
+open_one s = if is_none s.learned then 1 else 0
+
+abbrev pub full_one : Membership → SlotState → ℕ
+full_one m s = if is_none s.learned && is_spent m s then 1 else 0
+
+abbrev pub tallied : Membership → Tally → SlotState → Tally
+tallied m t s = record t { open_count = t.open_count + open_one s; full_count = t.full_count + full_one m s }
+
+abbrev pub untallied : Membership → Tally → SlotState → Tally
+untallied m t s = record t { open_count = t.open_count - open_one s; full_count = t.full_count - full_one m s }
+
+-- the instance was counted
+pub record HasCounted (m : Membership) (t : Tally) (s : SlotState) : Type 0 where
+  pub open_count : open_one s ≤ t.open_count
+  pub full_count : full_one m s ≤ t.full_count
+  pub few : t.open_count ≤ instance_count
+  pub fewer : t.full_count ≤ instance_count
+
+-- a slot is another one from now on
+abbrev pub moved : Membership → ℕ → Tally → SlotState → SlotState → Tally
+moved m i t s u = if nat_lt i t.stop then tallied m (untallied m t s) u else t
+
+-- what a suspicion of q would revoke, up to a front
+pub record IsSurvey (k : KnownState) (q front : ℕ) (t : Tally) : Type 0 where
+  pub open_count : t.open_count ≡ count_by (is_open k q front) instances
+  pub full_count : nat_lt 0 t.full_count ≡ list_any (is_round_full_at k) (filter (is_open k q front) instances)
+
+-- why a suspicion of which this was counted is refused, running out of memory aside
+abbrev pub tally_cause : Tally → Outgoing → Option Refusal
+tally_cause t o = if t.open_count == 0
+    then Some NothingToRevoke
+    else if nat_lt 0 t.full_count then Some RoundsFull else outbox_full o t.open_count
+
+-- the instances of q from one on before which none is open, up to a front
+pub record IsOpenStretch (k : KnownState) (q front : ℕ) (t : Stretch) : Type 0 where
+  pub stretch : IsStretch t
+  pub members : t.members ≡ k.members
+  pub server : t.server ≡ q
+  pub stop : t.stop ≡ min (front + 1) instance_count
+  pub before : (j : ℕ) → j < t.first → is_open k q front j ≡ false
+
+-- what is known, and what was counted of it
+pub record IsKnown (m : Membership) (slots : List (Option SlotState)) (rs : List (List Span)) (low : ℕ)
+    (tallies : List Tally) : Type 0 where
+  pub sound : IsSound m slots rs low
+  pub counted : (q : ℕ) → IsTally m (known_at m slots rs) q (tally_of tallies q)

@@ -1,0 +1,104 @@
+//! What two clusters answer, compared.
+
+use mencius_cluster::Cluster;
+use std::alloc::{AllocError, Global};
+
+// The first of a server's answers that differ.
+fn of_server(first: &Cluster, second: &Cluster, server: u8) -> Option<&'static str> {
+    if first.front(server) != second.front(server) {
+        return Some("front");
+    }
+    if first.done(server) != second.done(server) {
+        return Some("done");
+    }
+    if first.history(server) != second.history(server) {
+        return Some("history");
+    }
+    for inst in 0..4096 {
+        if first.learned(server, inst) != second.learned(server, inst) {
+            return Some("learned");
+        }
+    }
+    None
+}
+
+fn of_servers(first: &Cluster, second: &Cluster) -> Option<&'static str> {
+    if first.servers() != second.servers() {
+        return Some("servers");
+    }
+    if first.longest() != second.longest() {
+        return Some("longest");
+    }
+    for server in 0..first.servers() {
+        let found = of_server(first, second, server);
+        if found.is_some() {
+            return found;
+        }
+    }
+    None
+}
+
+// The first difference between the commands and their replies.
+fn of_commands(
+    alloc: Global,
+    first: &Cluster,
+    second: &Cluster,
+) -> Result<Option<&'static str>, AllocError> {
+    if first.commands() != second.commands() {
+        return Ok(Some("commands"));
+    }
+    for ticket in 0..first.commands() {
+        let command = format!(in alloc; "{:?}", first.command(ticket))?;
+        let command_again = format!(in alloc; "{:?}", second.command(ticket))?;
+        if command.as_str() != command_again.as_str() {
+            return Ok(Some("command"));
+        }
+        let submission = format!(in alloc; "{:?}", first.submission(ticket))?;
+        let submission_again = format!(in alloc; "{:?}", second.submission(ticket))?;
+        if submission.as_str() != submission_again.as_str() {
+            return Ok(Some("submission"));
+        }
+        if let Some(command) = first.command(ticket) {
+            let reply = format!(in alloc; "{:?}", first.reply(command.id()))?;
+            let reply_again = format!(in alloc; "{:?}", second.reply(command.id()))?;
+            if reply.as_str() != reply_again.as_str() {
+                return Ok(Some("reply"));
+            }
+        }
+    }
+    Ok(None)
+}
+
+fn of_messages(first: &Cluster, second: &Cluster) -> Option<&'static str> {
+    if first.messages() != second.messages() {
+        return Some("messages");
+    }
+    for number in 0..first.messages() {
+        if first.message(number) != second.message(number) {
+            return Some("message");
+        }
+    }
+    None
+}
+
+/// The first of two clusters' answers that are not the same, by the name of the call, or `None` where they answer the
+/// same to each question.
+pub fn first_difference(
+    alloc: Global,
+    first: &Cluster,
+    second: &Cluster,
+) -> Result<Option<&'static str>, AllocError> {
+    if first.events() != second.events() {
+        return Ok(Some("events"));
+    }
+    if first.journal() != second.journal() {
+        return Ok(Some("journal"));
+    }
+    if let Some(found) = of_messages(first, second) {
+        return Ok(Some(found));
+    }
+    if let Some(found) = of_servers(first, second) {
+        return Ok(Some(found));
+    }
+    of_commands(alloc, first, second)
+}

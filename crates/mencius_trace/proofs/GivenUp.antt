@@ -1,0 +1,115 @@
+-- The lines of the instances that a Skip makes a server learn, instance after instance.
+use Rattle.std.proofs.Common.{◌≡◌, ℕ, ◌+◌, ◌-◌, ◌<◌, ◌≤◌, Bool, true, false, List, [], ◌∷◌, ◌++◌, map, cond, eqb, ◌&&◌, refl, sym, ap, ◌∙◌, append-nil, append_assoc, arith}
+use Rattle.std.specs.Prelude.{nat_le, nat_lt, is_none}
+use Rattle.std.specs.List.{filter}
+use Rattle.std.proofs.lemmas.Grind.{flat_map-append}
+use Rattle.std.proofs.lemmas.List.{map-append}
+use Rattle.std.proofs.lemmas.Bool.{le-leb, lt-ltb, le-ltb, lt-leb}
+use Rattle.mencius_base.specs.Limits.{instance_count}
+use Rattle.mencius_base.specs.Members.{Membership, below, owner}
+use Rattle.mencius_base.specs.declared.message.Value.TheVariants.{Noop}
+use Rattle.mencius_model.specs.Trace.{Learned, Trace}
+use Rattle.mencius_model.specs.Instance.{learned}
+use Rattle.mencius_model.specs.Next.{is_given_up, on_skip}
+use Rattle.mencius_server.proofs.Lost.{eqb_swap}
+use Rattle.mencius_model.proofs.NumberLists.{filter-below_more, filter-below_none, filter-below_zero, instances-below}
+use Rattle.mencius_trace.specs.Facts.{learned_line}
+use Rattle.mencius_trace.specs.Told.{learned_in, learned_lines}
+
+-- those below a place
+abbrev pub given_below : (ℕ → Bool) → Trace → ℕ → ℕ → List ℕ
+given_below test w p n = learned_lines w (map (λ j. Learned p j Noop) (filter test (below n)))
+
+given-more : (test : ℕ → Bool) (w : Trace) (p n : ℕ) (b : Bool) → test n ≡ b
+    → given_below test w p (n + 1) ≡ given_below test w p n ++ cond b (learned_line w p n Noop) []
+given-more test w p n b e =
+    ap (λ js. learned_lines w (map (λ j. Learned p j Noop) js)) (filter-below_more test n)
+    ∙ ap (learned_lines w) (map-append (λ j. Learned p j Noop) (filter test (below n)) (cond (test n) (n ∷ []) []))
+    ∙ flat_map-append (learned_in w) (map (λ j. Learned p j Noop) (filter test (below n)))
+    (map (λ j. Learned p j Noop) (cond (test n) (n ∷ []) []))
+    ∙ ap (λ t. given_below test w p n ++ t)
+    (ap (λ c. learned_lines w (map (λ j. Learned p j Noop) (cond c (n ∷ []) []))) e ∙ last b)
+  where
+    last : (c : Bool)
+        → learned_lines w (map (λ j. Learned p j Noop) (cond c (n ∷ []) [])) ≡ cond c (learned_line w p n Noop) []
+    last true = append-nil (learned_line w p n Noop)
+    last false = refl
+
+-- in the range the owner and what is learned decide
+in_range : (m : Membership) (w : Trace) (p q first stop j : ℕ) → first ≤ j → j < stop
+    → is_given_up m w p q first stop j ≡ (eqb (owner m j) q && is_none (learned w p j))
+in_range m w p q first stop j low high =
+    rw (le-leb first j low, lt-ltb j stop high)
+    (by (eqb q (owner m j)) ∙ ap (λ b. b && is_none (learned w p j)) (eqb_swap q (owner m j)))
+  where
+    by : (b : Bool) → (((b && true) && true) && is_none (learned w p j)) ≡ (b && is_none (learned w p j))
+    by true = refl
+    by false = refl
+
+early : (m : Membership) (w : Trace) (p q first stop j : ℕ) → j < first → is_given_up m w p q first stop j ≡ false
+early m w p q first stop j h = rw (lt-leb first j h) (by (eqb q (owner m j)))
+  where
+    by : (b : Bool) → (((b && false) && nat_lt j stop) && is_none (learned w p j)) ≡ false
+    by true = refl
+    by false = refl
+
+late : (m : Membership) (w : Trace) (p q first stop j : ℕ) → stop ≤ j → is_given_up m w p q first stop j ≡ false
+late m w p q first stop j h = rw (le-ltb j stop h) (by (eqb q (owner m j) && nat_le first j))
+  where
+    by : (b : Bool) → ((b && false) && is_none (learned w p j)) ≡ false
+    by true = refl
+    by false = refl
+
+-- a text has the lines of the instances from the first up to a place
+pub record IsGivenTo (m : Membership) (w : Trace) (p q first stop n : ℕ) (before now : List ℕ) : Type 0 where
+  pub text : p < m.count → first < instance_count
+      → (n ≤ instance_count) × (now ≡ before ++ given_below (is_given_up m w p q first stop) w p n)
+
+none_before : (m : Membership) (w : Trace) (p q first stop : ℕ)
+    → given_below (is_given_up m w p q first stop) w p first ≡ []
+none_before m w p q first stop =
+    let plain : 0 + first ≡ first = omega arith in
+    ap (λ n. given_below (is_given_up m w p q first stop) w p n) (sym plain)
+    ∙ ap (λ js. learned_lines w (map (λ j. Learned p j Noop) js))
+    (filter-below_none (is_given_up m w p q first stop) 0 first
+    (λ j low high. early m w p q first stop j (omega (arith, high)))
+    ∙ filter-below_zero (is_given_up m w p q first stop))
+
+pub given_start : (m : Membership) (w : Trace) (p q first stop : ℕ) (before : List ℕ)
+    → IsGivenTo m w p q first stop first before before
+given_start m w p q first stop before = record {
+  text = λ member small. (
+    omega (arith, small),
+    sym
+        (ap (λ t. before ++ t) (none_before m w p q first stop) ∙ append-nil before),
+  );
+}
+
+pub given_next : (m : Membership) (w : Trace) (p q first stop n : ℕ) (before old new : List ℕ)
+    → first ≤ n → n < stop → n < instance_count → IsGivenTo m w p q first stop n before old
+    → (p < m.count → new ≡ old ++ cond (eqb (owner m n) q && is_none (learned w p n)) (learned_line w p n Noop) [])
+    → IsGivenTo m w p q first stop (n + 1) before new
+given_next m w p q first stop n before old new low high fits had got = record {
+  text = λ member small.
+      let was = had.text member small in (
+        omega (arith, fits),
+        got member
+            ∙ ap (λ t. t ++ cond (eqb (owner m n) q && is_none (learned w p n)) (learned_line w p n Noop) []) was.1
+            ∙ append_assoc before (given_below (is_given_up m w p q first stop) w p n) _
+            ∙ ap (λ t. before ++ t)
+            (sym (given-more (is_given_up m w p q first stop) w p n _ (in_range m w p q first stop n low high))),
+      );
+}
+
+pub given_whole : (m : Membership) (w : Trace) (p q first stop n : ℕ) (before now : List ℕ)
+    → (n < instance_count → stop ≤ n) → IsGivenTo m w p q first stop n before now
+    → p < m.count → first < instance_count → now ≡ before ++ learned_lines w (on_skip m w p q first stop)
+given_whole m w p q first stop n before now past had member small =
+    let was = had.text member small in
+    let rest : n + (instance_count - n) ≡ instance_count = omega (arith, was.0) in
+    was.1
+    ∙ ap (λ js. before ++ learned_lines w (map (λ j. Learned p j Noop) js))
+    (sym (filter-below_none (is_given_up m w p q first stop) n (instance_count - n)
+    (λ j low high. late m w p q first stop j (omega (arith, past (omega (arith, low, high, rest)), low))))
+    ∙ ap (λ k. filter (is_given_up m w p q first stop) (below k)) rest
+    ∙ ap (filter (is_given_up m w p q first stop)) (sym instances-below))

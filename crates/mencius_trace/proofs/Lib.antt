@@ -1,0 +1,7 @@
+pub mod Worked
+pub mod Rounds
+pub mod Members
+pub mod GivenUp
+pub mod Messages
+pub mod Same
+pub mod Whole

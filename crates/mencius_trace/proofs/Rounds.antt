@@ -1,0 +1,114 @@
+-- One more round of a loop that writes a text.
+use Rattle.std.proofs.Common.{◌≡◌, ℕ, zero, suc, ◌+◌, Bool, true, false, List, [], ◌∷◌, ◌++◌, Option, Some, None, ◌||◌, ap, sym, ◌∙◌, refl, append-nil, append_assoc, arith, filter_map}
+use Rattle.std.specs.Prelude.{codes, is_some}
+use Rattle.std.specs.List.{cons_option, flat_map, range_with_len}
+use Rattle.std.proofs.lemmas.List.Elements.{filter_map-append}
+use Rattle.std.proofs.lemmas.Grind.{flat_map-append}
+use Rattle.mencius_base.specs.Limits.{instance_count}
+use Rattle.mencius_base.specs.Members.{below}
+use Rattle.mencius_model.specs.Trace.{Trace}
+use Rattle.mencius_model.specs.Server.{waiting, waiting_at}
+use Rattle.mencius_model.proofs.NumberLists.{below-more, instances-below}
+use Rattle.mencius_trace.specs.Closing.{ticket_in, tickets_text, waiting_ticket}
+
+-- one number more
+pub range_last : (a n j : ℕ) → a + n ≡ j → range_with_len a (suc n) ≡ range_with_len a n ++ j ∷ []
+range_last a zero j e = let same : a ≡ j = omega arith in ap (λ x. x ∷ []) same
+range_last a (suc n) j e = ap (λ l. a ∷ l) (range_last (a + 1) n j (omega arith))
+
+texts_more : (f : ℕ → List ℕ) (n : ℕ)
+    → flat_map f (range_with_len 0 (n + 1)) ≡ flat_map f (range_with_len 0 n) ++ f n
+texts_more f n =
+    let on : n + 1 ≡ suc n = omega arith in
+    let last : range_with_len 0 (suc n) ≡ range_with_len 0 n ++ n ∷ [] = range_last 0 n n (omega arith) in
+    ap (λ k. flat_map f (range_with_len 0 k)) on ∙ ap (flat_map f) last
+    ∙ flat_map-append f (range_with_len 0 n) (n ∷ [])
+    ∙ ap (λ t. flat_map f (range_with_len 0 n) ++ t) (append-nil (f n))
+
+-- a text that had the first of these texts, and then got the next
+pub texts_further : (f : ℕ → List ℕ) (n : ℕ) (before old new : List ℕ)
+    → old ≡ before ++ flat_map f (range_with_len 0 n) → new ≡ old ++ f n
+    → new ≡ before ++ flat_map f (range_with_len 0 (n + 1))
+texts_further f n before old new had got =
+    got ∙ ap (λ t. t ++ f n) had ∙ append_assoc before (flat_map f (range_with_len 0 n)) (f n)
+    ∙ ap (λ t. before ++ t) (sym (texts_more f n))
+
+-- ---- tickets that wait
+
+-- those of the instances below a place
+abbrev pub waiting_below : Trace → ℕ → ℕ → List ℕ
+waiting_below w p n = filter_map (waiting_at w p) (below n)
+
+abbrev pub is_some_list : List ℕ → Bool
+is_some_list [] = false
+is_some_list (t ∷ ts) = true
+
+-- a text has the tickets of the instances below a place, and it is known whether there are any
+pub record IsWaitingTo (w : Trace) (p n : ℕ) (some : Bool) (before now : List ℕ) : Type 0 where
+  pub text : now ≡ before ++ flat_map (waiting_ticket w) (waiting_below w p n)
+  pub some_is : some ≡ is_some_list (waiting_below w p n)
+
+below_none : (w : Trace) (p : ℕ) → waiting_below w p 0 ≡ []
+unfolding below
+below_none w p = refl
+
+pub waiting_start : (w : Trace) (p : ℕ) (before : List ℕ) → IsWaitingTo w p 0 false before before
+waiting_start w p before = record {
+  text = sym (ap (λ ts. before ++ flat_map (waiting_ticket w) ts) (below_none w p) ∙ append-nil before);
+  some_is = sym (ap is_some_list (below_none w p));
+}
+
+waiting_more : (w : Trace) (p n : ℕ)
+    → waiting_below w p (n + 1) ≡ waiting_below w p n ++ cons_option (waiting_at w p n) []
+waiting_more w p n =
+    ap (filter_map (waiting_at w p)) (below-more n) ∙ filter_map-append (waiting_at w p) (below n) (n ∷ [])
+
+some_more : (xs : List ℕ) (o : Option ℕ) → (is_some o || is_some_list xs) ≡ is_some_list (xs ++ cons_option o [])
+some_more xs None = ap is_some_list (sym (append-nil xs))
+some_more [] (Some t) = refl
+some_more (x ∷ xs) (Some t) = refl
+
+one_more : (w : Trace) (o : Option ℕ) → ticket_in w o ≡ flat_map (waiting_ticket w) (cons_option o [])
+one_more w None = refl
+one_more w (Some t) = sym (append-nil (waiting_ticket w t))
+
+pub waiting_next : (w : Trace) (p n : ℕ) (some one : Bool) (before old new : List ℕ)
+    → IsWaitingTo w p n some before old → new ≡ old ++ ticket_in w (waiting_at w p n)
+    → one ≡ is_some (waiting_at w p n) → IsWaitingTo w p (n + 1) (one || some) before new
+waiting_next w p n some one before old new had got is =
+    let o = waiting_at w p n in
+    let xs = waiting_below w p n in
+    let f = waiting_ticket w in
+    record {
+      text = got ∙ ap (λ t. t ++ ticket_in w o) had.text ∙ append_assoc before (flat_map f xs) (ticket_in w o)
+          ∙ ap (λ t. before ++ (flat_map f xs ++ t)) (one_more w o)
+          ∙ ap (λ t. before ++ t) (sym (ap (flat_map f) (waiting_more w p n)
+          ∙ flat_map-append f xs (cons_option o [])));
+      some_is = ap (λ b. b || some) is ∙ ap (λ b. is_some o || b) had.some_is ∙ some_more xs o
+          ∙ ap is_some_list (sym (waiting_more w p n));
+    }
+
+all_below : (w : Trace) (p : ℕ) → waiting_below w p instance_count ≡ waiting w p
+all_below w p = ap (filter_map (waiting_at w p)) (sym instances-below)
+
+some_text : (w : Trace) (xs : List ℕ) → true ≡ is_some_list xs → flat_map (waiting_ticket w) xs ≡ tickets_text w xs
+some_text w [] h = absurd (cc)
+some_text w (x ∷ xs) h = refl
+
+none_text : (w : Trace) (xs : List ℕ) → false ≡ is_some_list xs
+    → flat_map (waiting_ticket w) xs ++ codes " -" ≡ tickets_text w xs
+none_text w [] h = refl
+none_text w (x ∷ xs) h = absurd (cc)
+
+pub waiting_some : (w : Trace) (p : ℕ) (before now : List ℕ) → IsWaitingTo w p instance_count true before now
+    → now ≡ before ++ tickets_text w (waiting w p)
+waiting_some w p before now had =
+    had.text ∙ ap (λ t. before ++ t) (some_text w (waiting_below w p instance_count) had.some_is)
+    ∙ ap (λ ts. before ++ tickets_text w ts) (all_below w p)
+
+pub waiting_none : (w : Trace) (p : ℕ) (before old new : List ℕ) → IsWaitingTo w p instance_count false before old
+    → new ≡ old ++ codes " -" → new ≡ before ++ tickets_text w (waiting w p)
+waiting_none w p before old new had got =
+    let xs = waiting_below w p instance_count in
+    got ∙ ap (λ t. t ++ codes " -") had.text ∙ append_assoc before (flat_map (waiting_ticket w) xs) (codes " -")
+    ∙ ap (λ t. before ++ t) (none_text w xs had.some_is) ∙ ap (λ ts. before ++ tickets_text w ts) (all_below w p)

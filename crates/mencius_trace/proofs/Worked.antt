@@ -1,0 +1,363 @@
+-- Schedules worked by hand, and the texts that the definitions make of them.
+use Rattle.std.proofs.Common.{◌≡◌, ℕ, List, [], ◌∷◌, ◌++◌, refl}
+use Rattle.std.specs.Prelude.{codes}
+use Rattle.std.specs.Fmt.{digits}
+use Rattle.std.specs.List.{flat_map}
+use Rattle.mencius_base.specs.declared.command.Command.{Command}
+use Rattle.mencius_base.specs.declared.command.Op.TheVariants.{Set}
+use Rattle.mencius_base.specs.declared.event.Event.{Event}
+use Rattle.mencius_base.specs.declared.event.Event.TheVariants.{Submit, Deliver, Lose, Suspect, Retry, Execute}
+use Rattle.mencius_base.specs.Members.{below, instances, most_messages, most_events, most_rounds}
+use Rattle.mencius_trace.specs.Words.{line_feed}
+use Rattle.mencius_trace.specs.Closing.{trace_text}
+
+-- lines, each with its end
+abbrev text_of : List (List ℕ) → List ℕ
+text_of ls = flat_map (λ l. l ++ line_feed) ls
+
+-- client 1 binds the key `a` to the text `x`
+abbrev set_a : Command
+set_a = record { id = record { client = 1; number = 0 }; op = Set (97 ∷ []) (120 ∷ []) }
+
+-- a server that is wrongly suspected: the revoker hears of the command and has to propose it
+abbrev wrong_suspicion : List Event
+wrong_suspicion =
+    Submit 0 set_a ∷ Deliver 0 2 ∷ Suspect 1 0 ∷ Deliver 2 1 ∷ Deliver 2 2 ∷ Deliver 3 1 ∷ Deliver 4 1 ∷ Deliver 5 1
+    ∷ Deliver 5 2 ∷ Deliver 6 1 ∷ Deliver 7 1 ∷ Execute 1 ∷ Deliver 8 0 ∷ Deliver 99 0 ∷ []
+
+text-wrong_suspicion : trace_text 3 wrong_suspicion ≡ text_of
+    (codes "servers 3"
+    ∷ codes "event 0 submit 0 1.0 set a x"
+    ∷ codes "sent 0 Suggest from 0 to all instance 0 ballot 0 value 1.0"
+    ∷ codes "front 0 3"
+    ∷ codes "event 1 deliver 0 2"
+    ∷ codes "sent 1 Accepted from 2 to 0 instance 0 ballot 0"
+    ∷ codes "event 2 suspect 1 0"
+    ∷ codes "sent 2 Prepare from 1 to all instance 0 ballot 4"
+    ∷ codes "event 3 deliver 2 1"
+    ∷ codes "sent 3 Promise from 1 to 1 instance 0 ballot 4 vote none"
+    ∷ codes "event 4 deliver 2 2"
+    ∷ codes "sent 4 Promise from 2 to 1 instance 0 ballot 4 vote 0 1.0"
+    ∷ codes "event 5 deliver 3 1"
+    ∷ codes "promises 1 instance 0 ballot 4 count 1 of 2"
+    ∷ codes "event 6 deliver 4 1"
+    ∷ codes "promises 1 instance 0 ballot 4 count 2 of 2"
+    ∷ codes "sent 5 Propose from 1 to all instance 0 ballot 4 value 1.0"
+    ∷ codes "event 7 deliver 5 1"
+    ∷ codes "sent 6 Accepted from 1 to 1 instance 0 ballot 4"
+    ∷ codes "event 8 deliver 5 2"
+    ∷ codes "sent 7 Accepted from 2 to 1 instance 0 ballot 4"
+    ∷ codes "event 9 deliver 6 1"
+    ∷ codes "acceptances 1 instance 0 ballot 4 count 1 of 2"
+    ∷ codes "event 10 deliver 7 1"
+    ∷ codes "acceptances 1 instance 0 ballot 4 count 2 of 2"
+    ∷ codes "learned 1 instance 0 value 1.0"
+    ∷ codes "sent 8 Learn from 1 to all instance 0 value 1.0"
+    ∷ codes "event 11 execute 1"
+    ∷ codes "executed 1 instance 0 value 1.0"
+    ∷ codes "event 12 deliver 8 0"
+    ∷ codes "learned 0 instance 0 value 1.0"
+    ∷ codes "event 13 deliver 99 0"
+    ∷ codes "refused NoMessage"
+    ∷ codes "server 0 front 3 executed 0 next 0 waiting -"
+    ∷ codes "server 1 front 1 executed 1 next 1 waiting -"
+    ∷ codes "server 2 front 2 executed 0 next 0 waiting -"
+    ∷ codes "unheard 0 Suggest to 0"
+    ∷ codes "unheard 0 Suggest to 1"
+    ∷ codes "unheard 1 Accepted to 0"
+    ∷ codes "unheard 2 Prepare to 0"
+    ∷ codes "unheard 5 Propose to 0"
+    ∷ codes "unheard 8 Learn to 1"
+    ∷ codes "unheard 8 Learn to 2"
+    ∷ [])
+unfolding below digits instances most_messages most_events most_rounds
+text-wrong_suspicion = refl
+
+-- a suggestion comes where no-op is decided: nobody answers it, and its ticket waits
+abbrev late_suggestion : List Event
+late_suggestion =
+    Suspect 1 0 ∷ Deliver 0 1 ∷ Deliver 0 2 ∷ Deliver 1 1 ∷ Deliver 2 1 ∷ Deliver 3 1 ∷ Deliver 3 2 ∷ Deliver 4 1
+    ∷ Deliver 5 1 ∷ Submit 0 set_a ∷ Deliver 7 1 ∷ Deliver 7 2 ∷ Deliver 6 0 ∷ []
+
+text-late_suggestion : trace_text 3 late_suggestion ≡ text_of
+    (codes "servers 3"
+    ∷ codes "event 0 suspect 1 0"
+    ∷ codes "sent 0 Prepare from 1 to all instance 0 ballot 4"
+    ∷ codes "event 1 deliver 0 1"
+    ∷ codes "sent 1 Promise from 1 to 1 instance 0 ballot 4 vote none"
+    ∷ codes "event 2 deliver 0 2"
+    ∷ codes "sent 2 Promise from 2 to 1 instance 0 ballot 4 vote none"
+    ∷ codes "event 3 deliver 1 1"
+    ∷ codes "promises 1 instance 0 ballot 4 count 1 of 2"
+    ∷ codes "event 4 deliver 2 1"
+    ∷ codes "promises 1 instance 0 ballot 4 count 2 of 2"
+    ∷ codes "sent 3 Propose from 1 to all instance 0 ballot 4 value no-op"
+    ∷ codes "event 5 deliver 3 1"
+    ∷ codes "sent 4 Accepted from 1 to 1 instance 0 ballot 4"
+    ∷ codes "event 6 deliver 3 2"
+    ∷ codes "sent 5 Accepted from 2 to 1 instance 0 ballot 4"
+    ∷ codes "event 7 deliver 4 1"
+    ∷ codes "acceptances 1 instance 0 ballot 4 count 1 of 2"
+    ∷ codes "event 8 deliver 5 1"
+    ∷ codes "acceptances 1 instance 0 ballot 4 count 2 of 2"
+    ∷ codes "learned 1 instance 0 value no-op"
+    ∷ codes "sent 6 Learn from 1 to all instance 0 value no-op"
+    ∷ codes "event 9 submit 0 1.0 set a x"
+    ∷ codes "sent 7 Suggest from 0 to all instance 0 ballot 0 value 1.0"
+    ∷ codes "front 0 3"
+    ∷ codes "event 10 deliver 7 1"
+    ∷ codes "ignored promised 4"
+    ∷ codes "event 11 deliver 7 2"
+    ∷ codes "ignored promised 4"
+    ∷ codes "event 12 deliver 6 0"
+    ∷ codes "learned 0 instance 0 value no-op"
+    ∷ codes "server 0 front 3 executed 0 next 0 waiting 1.0"
+    ∷ codes "server 1 front 1 executed 0 next 0 waiting -"
+    ∷ codes "server 2 front 2 executed 0 next 0 waiting -"
+    ∷ codes "unheard 0 Prepare to 0"
+    ∷ codes "unheard 3 Propose to 0"
+    ∷ codes "unheard 6 Learn to 1"
+    ∷ codes "unheard 6 Learn to 2"
+    ∷ codes "unheard 7 Suggest to 0"
+    ∷ [])
+unfolding below digits instances most_messages most_events most_rounds
+text-late_suggestion = refl
+
+-- and there, further on, it is decided
+abbrev suggested_again : List Event
+suggested_again =
+    Suspect 1 0 ∷ Deliver 0 1 ∷ Deliver 0 2 ∷ Deliver 1 1 ∷ Deliver 2 1 ∷ Deliver 3 1 ∷ Deliver 3 2 ∷ Deliver 4 1
+    ∷ Deliver 5 1 ∷ Submit 0 set_a ∷ Deliver 7 1 ∷ Deliver 7 2 ∷ Deliver 6 0 ∷ Retry 0 ∷ Deliver 8 0 ∷ Deliver 8 1
+    ∷ Deliver 8 2 ∷ Deliver 10 0 ∷ Deliver 12 0 ∷ Deliver 9 0 ∷ Deliver 11 0 ∷ []
+
+text-suggested_again : trace_text 3 suggested_again ≡ text_of
+    (codes "servers 3"
+    ∷ codes "event 0 suspect 1 0"
+    ∷ codes "sent 0 Prepare from 1 to all instance 0 ballot 4"
+    ∷ codes "event 1 deliver 0 1"
+    ∷ codes "sent 1 Promise from 1 to 1 instance 0 ballot 4 vote none"
+    ∷ codes "event 2 deliver 0 2"
+    ∷ codes "sent 2 Promise from 2 to 1 instance 0 ballot 4 vote none"
+    ∷ codes "event 3 deliver 1 1"
+    ∷ codes "promises 1 instance 0 ballot 4 count 1 of 2"
+    ∷ codes "event 4 deliver 2 1"
+    ∷ codes "promises 1 instance 0 ballot 4 count 2 of 2"
+    ∷ codes "sent 3 Propose from 1 to all instance 0 ballot 4 value no-op"
+    ∷ codes "event 5 deliver 3 1"
+    ∷ codes "sent 4 Accepted from 1 to 1 instance 0 ballot 4"
+    ∷ codes "event 6 deliver 3 2"
+    ∷ codes "sent 5 Accepted from 2 to 1 instance 0 ballot 4"
+    ∷ codes "event 7 deliver 4 1"
+    ∷ codes "acceptances 1 instance 0 ballot 4 count 1 of 2"
+    ∷ codes "event 8 deliver 5 1"
+    ∷ codes "acceptances 1 instance 0 ballot 4 count 2 of 2"
+    ∷ codes "learned 1 instance 0 value no-op"
+    ∷ codes "sent 6 Learn from 1 to all instance 0 value no-op"
+    ∷ codes "event 9 submit 0 1.0 set a x"
+    ∷ codes "sent 7 Suggest from 0 to all instance 0 ballot 0 value 1.0"
+    ∷ codes "front 0 3"
+    ∷ codes "event 10 deliver 7 1"
+    ∷ codes "ignored promised 4"
+    ∷ codes "event 11 deliver 7 2"
+    ∷ codes "ignored promised 4"
+    ∷ codes "event 12 deliver 6 0"
+    ∷ codes "learned 0 instance 0 value no-op"
+    ∷ codes "event 13 retry 0"
+    ∷ codes "sent 8 Suggest from 0 to all instance 3 ballot 0 value 1.0"
+    ∷ codes "front 0 6"
+    ∷ codes "event 14 deliver 8 0"
+    ∷ codes "sent 9 Accepted from 0 to 0 instance 3 ballot 0"
+    ∷ codes "event 15 deliver 8 1"
+    ∷ codes "sent 10 Skip from 1 to all instances 1 to 4"
+    ∷ codes "sent 11 Accepted from 1 to 0 instance 3 ballot 0"
+    ∷ codes "front 1 4"
+    ∷ codes "event 16 deliver 8 2"
+    ∷ codes "sent 12 Skip from 2 to all instances 2 to 5"
+    ∷ codes "sent 13 Accepted from 2 to 0 instance 3 ballot 0"
+    ∷ codes "front 2 5"
+    ∷ codes "event 17 deliver 10 0"
+    ∷ codes "learned 0 instance 1 value no-op"
+    ∷ codes "event 18 deliver 12 0"
+    ∷ codes "learned 0 instance 2 value no-op"
+    ∷ codes "event 19 deliver 9 0"
+    ∷ codes "acceptances 0 instance 3 ballot 0 count 1 of 2"
+    ∷ codes "event 20 deliver 11 0"
+    ∷ codes "acceptances 0 instance 3 ballot 0 count 2 of 2"
+    ∷ codes "learned 0 instance 3 value 1.0"
+    ∷ codes "sent 14 Learn from 0 to all instance 3 value 1.0"
+    ∷ codes "server 0 front 6 executed 0 next 0 waiting -"
+    ∷ codes "server 1 front 4 executed 0 next 0 waiting -"
+    ∷ codes "server 2 front 5 executed 0 next 0 waiting -"
+    ∷ codes "unheard 0 Prepare to 0"
+    ∷ codes "unheard 3 Propose to 0"
+    ∷ codes "unheard 6 Learn to 1"
+    ∷ codes "unheard 6 Learn to 2"
+    ∷ codes "unheard 7 Suggest to 0"
+    ∷ codes "unheard 10 Skip to 1"
+    ∷ codes "unheard 10 Skip to 2"
+    ∷ codes "unheard 12 Skip to 1"
+    ∷ codes "unheard 12 Skip to 2"
+    ∷ codes "unheard 13 Accepted to 0"
+    ∷ codes "unheard 14 Learn to 0"
+    ∷ codes "unheard 14 Learn to 1"
+    ∷ codes "unheard 14 Learn to 2"
+    ∷ [])
+unfolding below digits instances most_messages most_events most_rounds
+text-suggested_again = refl
+
+-- two servers give up their instances before a suggestion, and one Skip comes twice
+abbrev skip_before_a_suggestion : List Event
+skip_before_a_suggestion =
+    Submit 2 set_a ∷ Deliver 0 0 ∷ Deliver 0 1 ∷ Deliver 1 2 ∷ Deliver 3 2 ∷ Deliver 2 2 ∷ Deliver 4 2 ∷ Execute 2
+    ∷ Execute 2 ∷ Deliver 1 2 ∷ []
+
+text-skip_before_a_suggestion : trace_text 3 skip_before_a_suggestion ≡ text_of
+    (codes "servers 3"
+    ∷ codes "event 0 submit 2 1.0 set a x"
+    ∷ codes "sent 0 Suggest from 2 to all instance 2 ballot 0 value 1.0"
+    ∷ codes "front 2 5"
+    ∷ codes "event 1 deliver 0 0"
+    ∷ codes "sent 1 Skip from 0 to all instances 0 to 3"
+    ∷ codes "sent 2 Accepted from 0 to 2 instance 2 ballot 0"
+    ∷ codes "front 0 3"
+    ∷ codes "event 2 deliver 0 1"
+    ∷ codes "sent 3 Skip from 1 to all instances 1 to 4"
+    ∷ codes "sent 4 Accepted from 1 to 2 instance 2 ballot 0"
+    ∷ codes "front 1 4"
+    ∷ codes "event 3 deliver 1 2"
+    ∷ codes "learned 2 instance 0 value no-op"
+    ∷ codes "event 4 deliver 3 2"
+    ∷ codes "learned 2 instance 1 value no-op"
+    ∷ codes "event 5 deliver 2 2"
+    ∷ codes "acceptances 2 instance 2 ballot 0 count 1 of 2"
+    ∷ codes "event 6 deliver 4 2"
+    ∷ codes "acceptances 2 instance 2 ballot 0 count 2 of 2"
+    ∷ codes "learned 2 instance 2 value 1.0"
+    ∷ codes "sent 5 Learn from 2 to all instance 2 value 1.0"
+    ∷ codes "event 7 execute 2"
+    ∷ codes "executed 2 instance 0 value no-op"
+    ∷ codes "event 8 execute 2"
+    ∷ codes "executed 2 instance 1 value no-op"
+    ∷ codes "event 9 deliver 1 2"
+    ∷ codes "ignored learned no-op"
+    ∷ codes "server 0 front 3 executed 0 next 0 waiting -"
+    ∷ codes "server 1 front 4 executed 0 next 0 waiting -"
+    ∷ codes "server 2 front 5 executed 2 next 2 waiting -"
+    ∷ codes "unheard 0 Suggest to 2"
+    ∷ codes "unheard 1 Skip to 0"
+    ∷ codes "unheard 1 Skip to 1"
+    ∷ codes "unheard 3 Skip to 0"
+    ∷ codes "unheard 3 Skip to 1"
+    ∷ codes "unheard 5 Learn to 0"
+    ∷ codes "unheard 5 Learn to 1"
+    ∷ codes "unheard 5 Learn to 2"
+    ∷ [])
+unfolding below digits instances most_messages most_events most_rounds
+text-skip_before_a_suggestion = refl
+
+-- two servers revoke one instance at once: the greater ballot goes on
+abbrev duelling_revokers : List Event
+duelling_revokers =
+    Suspect 1 0 ∷ Suspect 2 0 ∷ Deliver 0 1 ∷ Deliver 0 0 ∷ Deliver 2 1 ∷ Deliver 3 1 ∷ Deliver 1 0 ∷ Deliver 4 0
+    ∷ Deliver 4 1 ∷ Deliver 1 1 ∷ Deliver 5 2 ∷ Deliver 7 2 ∷ Deliver 8 0 ∷ Deliver 8 1 ∷ Deliver 9 2 ∷ Deliver 10 2
+    ∷ Deliver 11 1 ∷ Execute 1 ∷ Execute 2 ∷ []
+
+text-duelling_revokers : trace_text 3 duelling_revokers ≡ text_of
+    (codes "servers 3"
+    ∷ codes "event 0 suspect 1 0"
+    ∷ codes "sent 0 Prepare from 1 to all instance 0 ballot 4"
+    ∷ codes "event 1 suspect 2 0"
+    ∷ codes "sent 1 Prepare from 2 to all instance 0 ballot 5"
+    ∷ codes "event 2 deliver 0 1"
+    ∷ codes "sent 2 Promise from 1 to 1 instance 0 ballot 4 vote none"
+    ∷ codes "event 3 deliver 0 0"
+    ∷ codes "sent 3 Promise from 0 to 1 instance 0 ballot 4 vote none"
+    ∷ codes "event 4 deliver 2 1"
+    ∷ codes "promises 1 instance 0 ballot 4 count 1 of 2"
+    ∷ codes "event 5 deliver 3 1"
+    ∷ codes "promises 1 instance 0 ballot 4 count 2 of 2"
+    ∷ codes "sent 4 Propose from 1 to all instance 0 ballot 4 value no-op"
+    ∷ codes "event 6 deliver 1 0"
+    ∷ codes "sent 5 Promise from 0 to 2 instance 0 ballot 5 vote none"
+    ∷ codes "event 7 deliver 4 0"
+    ∷ codes "ignored promised 5"
+    ∷ codes "event 8 deliver 4 1"
+    ∷ codes "sent 6 Accepted from 1 to 1 instance 0 ballot 4"
+    ∷ codes "event 9 deliver 1 1"
+    ∷ codes "sent 7 Promise from 1 to 2 instance 0 ballot 5 vote 4 no-op"
+    ∷ codes "event 10 deliver 5 2"
+    ∷ codes "promises 2 instance 0 ballot 5 count 1 of 2"
+    ∷ codes "event 11 deliver 7 2"
+    ∷ codes "promises 2 instance 0 ballot 5 count 2 of 2"
+    ∷ codes "sent 8 Propose from 2 to all instance 0 ballot 5 value no-op"
+    ∷ codes "event 12 deliver 8 0"
+    ∷ codes "sent 9 Accepted from 0 to 2 instance 0 ballot 5"
+    ∷ codes "event 13 deliver 8 1"
+    ∷ codes "sent 10 Accepted from 1 to 2 instance 0 ballot 5"
+    ∷ codes "event 14 deliver 9 2"
+    ∷ codes "acceptances 2 instance 0 ballot 5 count 1 of 2"
+    ∷ codes "event 15 deliver 10 2"
+    ∷ codes "acceptances 2 instance 0 ballot 5 count 2 of 2"
+    ∷ codes "learned 2 instance 0 value no-op"
+    ∷ codes "sent 11 Learn from 2 to all instance 0 value no-op"
+    ∷ codes "event 16 deliver 11 1"
+    ∷ codes "learned 1 instance 0 value no-op"
+    ∷ codes "event 17 execute 1"
+    ∷ codes "executed 1 instance 0 value no-op"
+    ∷ codes "event 18 execute 2"
+    ∷ codes "executed 2 instance 0 value no-op"
+    ∷ codes "server 0 front 0 executed 0 next 0 waiting -"
+    ∷ codes "server 1 front 1 executed 1 next 1 waiting -"
+    ∷ codes "server 2 front 2 executed 1 next 1 waiting -"
+    ∷ codes "unheard 0 Prepare to 2"
+    ∷ codes "unheard 1 Prepare to 2"
+    ∷ codes "unheard 4 Propose to 2"
+    ∷ codes "unheard 6 Accepted to 1"
+    ∷ codes "unheard 8 Propose to 2"
+    ∷ codes "unheard 11 Learn to 0"
+    ∷ codes "unheard 11 Learn to 2"
+    ∷ [])
+unfolding below digits instances most_messages most_events most_rounds
+text-duelling_revokers = refl
+
+-- a promise too many, a promise of a ballot that is no longer tried, and a loss
+abbrev other_reasons : List Event
+other_reasons =
+    Suspect 1 0 ∷ Deliver 0 0 ∷ Deliver 0 1 ∷ Deliver 0 2 ∷ Deliver 1 1 ∷ Deliver 2 1 ∷ Deliver 3 1 ∷ Suspect 1 0
+    ∷ Deliver 3 1 ∷ Lose 5 2 ∷ Deliver 5 2 ∷ []
+
+text-other_reasons : trace_text 3 other_reasons ≡ text_of
+    (codes "servers 3"
+    ∷ codes "event 0 suspect 1 0"
+    ∷ codes "sent 0 Prepare from 1 to all instance 0 ballot 4"
+    ∷ codes "event 1 deliver 0 0"
+    ∷ codes "sent 1 Promise from 0 to 1 instance 0 ballot 4 vote none"
+    ∷ codes "event 2 deliver 0 1"
+    ∷ codes "sent 2 Promise from 1 to 1 instance 0 ballot 4 vote none"
+    ∷ codes "event 3 deliver 0 2"
+    ∷ codes "sent 3 Promise from 2 to 1 instance 0 ballot 4 vote none"
+    ∷ codes "event 4 deliver 1 1"
+    ∷ codes "promises 1 instance 0 ballot 4 count 1 of 2"
+    ∷ codes "event 5 deliver 2 1"
+    ∷ codes "promises 1 instance 0 ballot 4 count 2 of 2"
+    ∷ codes "sent 4 Propose from 1 to all instance 0 ballot 4 value no-op"
+    ∷ codes "event 6 deliver 3 1"
+    ∷ codes "ignored proposed already"
+    ∷ codes "event 7 suspect 1 0"
+    ∷ codes "sent 5 Prepare from 1 to all instance 0 ballot 7"
+    ∷ codes "event 8 deliver 3 1"
+    ∷ codes "ignored tries 7"
+    ∷ codes "event 9 lose 5 2"
+    ∷ codes "event 10 deliver 5 2"
+    ∷ codes "refused LostMessage"
+    ∷ codes "server 0 front 0 executed 0 next 0 waiting -"
+    ∷ codes "server 1 front 1 executed 0 next 0 waiting -"
+    ∷ codes "server 2 front 2 executed 0 next 0 waiting -"
+    ∷ codes "unheard 4 Propose to 0"
+    ∷ codes "unheard 4 Propose to 1"
+    ∷ codes "unheard 4 Propose to 2"
+    ∷ codes "unheard 5 Prepare to 0"
+    ∷ codes "unheard 5 Prepare to 1"
+    ∷ [])
+unfolding below digits instances most_messages most_events most_rounds
+text-other_reasons = refl

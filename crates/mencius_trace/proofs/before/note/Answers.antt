@@ -1,0 +1,28 @@
+use Rattle.std.proofs.Common.{◌≤◌, ap, ◌∙◌, subst, string_bytes}
+use Rattle.mencius_cluster.specs.Answers.{if_member}
+use Rattle.mencius_cluster.specs.State.{trace_of}
+use Rattle.mencius_model.specs.Server.{front}
+use Rattle.mencius_trace.specs.Before.{IsGivenUp, IsTaken, heard_in}
+use Rattle.mencius_trace.proofs.before.note.Goals as goal
+
+pub returns : goal.returns
+returns c =
+    let m = c.args.cluster.now.members in
+    let w = trace_of c.args.cluster.now in
+    record {
+      few = subst (λ n. n ≤ 7) c.servers-few.ensures.count c.servers-few.ensures.few;
+      replays = c.replays.ensures;
+      server = c.actor_of-server.ensures;
+      front = c.front.ensures ∙ ap (λ p. if_member m p (front m w p)) c.actor_of-server.ensures;
+      heard = c.heard_in-heard.ensures;
+      hearing = subst (λ p. IsTaken m w p (heard_in w c.args.event.now) c.hearing_in-hearing.result)
+          c.actor_of-server.ensures
+          (subst (λ o. IsTaken m w c.actor_of-server.result o c.hearing_in-hearing.result) c.heard_in-heard.ensures
+          c.hearing_in-hearing.ensures);
+      given_up = subst (λ p. IsGivenUp m w p (heard_in w c.args.event.now) (string_bytes c.in_ok-given_up.given_up))
+          c.actor_of-server.ensures
+          (subst (λ o. IsGivenUp m w c.actor_of-server.result o (string_bytes c.in_ok-given_up.given_up))
+          c.heard_in-heard.ensures c.in_ok-given_up.ensures);
+      executing = c.executing_in-executing.ensures;
+      awaited = c.is_awaited-is_awaited.ensures;
+    }

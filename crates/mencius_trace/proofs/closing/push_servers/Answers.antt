@@ -1,0 +1,10 @@
+use Rattle.mencius_trace.specs.Closing.{server_line}
+use Rattle.mencius_cluster.specs.State.{trace_of}
+use Rattle.mencius_trace.proofs.Rounds.{texts_further}
+use Rattle.mencius_trace.proofs.closing.push_servers.Goals as goal
+
+pub loop-server-preserved : goal.loop-server-preserved
+loop-server-preserved c =
+    texts_further
+    (server_line c.args.cluster.now.members
+    (trace_of c.args.cluster.now)) c.loop-server.server _ _ _ c.loop-server.invariant c.in_ok-push_server.ensures

@@ -1,0 +1,48 @@
+-- What is told after an event, from what was noted before it; v is the trace after it.
+use Rattle.std.specs.Prelude.{ℕ, Bool, List, [], ◌++◌, Option, Some, None, nat_lt, if◌then◌else◌, slice_get}
+use Rattle.std.specs.List.{flat_map, range_with_len}
+use Rattle.mencius_base.specs.Numbers.{ServerId, Inst, MessageNo}
+use Rattle.mencius_base.specs.Members.{Membership}
+use Rattle.mencius_base.specs.declared.message.Message.{Message}
+use Rattle.mencius_base.specs.declared.message.Message.TheVariants.{Skip, Accepted, Learn}
+use Rattle.mencius_base.specs.declared.message.Value.{Value}
+use Rattle.mencius_model.specs.Trace.{Trace, sent}
+use Rattle.mencius_model.specs.Instance.{learned}
+use Rattle.mencius_trace.specs.declared.hearing.Hearing.{Hearing}
+use Rattle.mencius_trace.specs.Facts.{executed_line, learned_line, sent_line}
+use Rattle.mencius_trace.specs.Told.{awaited_lines, notice}
+
+abbrev pub notice_after : Membership → Trace → ServerId → Bool → Hearing → Option Message → List ℕ
+notice_after m v p is_silent hearing None = []
+notice_after m v p is_silent hearing (Some x) = notice m v p x is_silent hearing
+
+abbrev pub value_learned : Trace → ServerId → Inst → Option Value → List ℕ
+value_learned v p i None = []
+value_learned v p i (Some value) = learned_line v p i value
+
+-- what the server learned at an instance, if it is new
+abbrev pub learned_at : Trace → ServerId → Inst → ℕ → List ℕ
+learned_at v p i count = if nat_lt 0 count then value_learned v p i (learned v p i) else []
+
+-- what a message taught the server, where a Skip's lines are given
+abbrev pub learned_of : Trace → ServerId → List ℕ → ℕ → Message → List ℕ
+learned_of v p given_up count (Skip from first stop) = given_up
+learned_of v p given_up count (Accepted from to inst ballot) = learned_at v p inst count
+learned_of v p given_up count (Learn from inst value) = learned_at v p inst count
+learned_of v p given_up count _ = []
+
+abbrev pub learned_after : Trace → ServerId → List ℕ → ℕ → Option Message → List ℕ
+learned_after v p given_up count None = []
+learned_after v p given_up count (Some x) = learned_of v p given_up count x
+
+abbrev pub message_line : Trace → MessageNo → Option Message → List ℕ
+message_line v k None = []
+message_line v k (Some x) = sent_line v (k, x)
+
+-- so many messages, from a number on
+abbrev pub messages_from : Trace → MessageNo → ℕ → List ℕ
+messages_from v first count = flat_map (λ k. message_line v k (slice_get (sent v) k)) (range_with_len first count)
+
+abbrev pub execution_after : Trace → ServerId → Bool → Option (ℕ × Value) → List ℕ
+execution_after v p is_awaited None = []
+execution_after v p is_awaited (Some (i, value)) = executed_line v p i value ++ awaited_lines v is_awaited value

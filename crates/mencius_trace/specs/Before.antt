@@ -1,0 +1,62 @@
+-- What is noted before an event, so that what came of it can be told after it.
+use Rattle.std.specs.Prelude.{◌≡◌, Ok, ◌≤◌, ℕ, ◌<◌, Bool, false, List, [], Option, Some, None, option_map, slice_get, string_bytes, IfSome}
+use Rattle.mencius_base.specs.Limits.{instance_count}
+use Rattle.mencius_base.specs.Members.{Membership}
+use Rattle.mencius_base.specs.Numbers.{ServerId}
+use Rattle.mencius_base.specs.declared.event.Event.{Event}
+use Rattle.mencius_base.specs.declared.event.Event.TheVariants.{Deliver, Execute}
+use Rattle.mencius_base.specs.declared.message.Message.{Message}
+use Rattle.mencius_base.specs.declared.message.Message.TheVariants.{Skip}
+use Rattle.mencius_base.specs.declared.message.Value.{Value}
+use Rattle.mencius_base.specs.declared.message.Value.TheVariants.{Ticket}
+use Rattle.mencius_cluster.specs.Answers.{if_member}
+use Rattle.mencius_cluster.specs.State.{ClusterState, trace_of}
+use Rattle.mencius_model.specs.Trace.{Trace, sent}
+use Rattle.mencius_model.specs.Instance.{learned}
+use Rattle.mencius_model.specs.Server.{done, front}
+use Rattle.mencius_model.specs.Next.{on_skip, replay}
+use Rattle.mencius_model.specs.Replying.{command_at}
+use Rattle.mencius_trace.specs.declared.before.Before.{Before}
+use Rattle.mencius_trace.specs.declared.hearing.Hearing.{Hearing}
+use Rattle.mencius_trace.specs.Told.{actor, hearing, place_of, is_pending, learned_lines}
+
+-- the message that an event delivers
+abbrev pub heard_in : Trace → Event → Option Message
+heard_in w (Deliver k p) = slice_get (sent w) k
+heard_in w _ = None
+
+-- the lines of the instances that a Skip makes the server learn
+abbrev pub given_up : Membership → Trace → ServerId → Option Message → List ℕ
+given_up m w p (Some (Skip from first stop)) = learned_lines w (on_skip m w p from first stop)
+given_up m w p _ = []
+
+-- the instance that an event executes, with its value
+abbrev pub executing : Trace → Event → Option (ℕ × Value)
+executing w (Execute p) = option_map (λ x. (done w p, x)) (learned w p (done w p))
+executing w _ = None
+
+-- whether the command that an event executes has no reply yet
+abbrev pub is_awaited : Trace → Option (ℕ × Value) → Bool
+is_awaited w (Some (i, Ticket t)) = is_pending w (command_at w t)
+is_awaited w _ = false
+
+-- how a message is taken, where the server is one and the message is within its limits
+abbrev pub IsTaken : Membership → Trace → ServerId → Option Message → Hearing → Type 0
+IsTaken m w p heard h = p < m.count → IfSome heard (λ x. place_of x < instance_count → h ≡ hearing m w p x)
+
+-- the lines of what is given up, likewise
+abbrev pub IsGivenUp : Membership → Trace → ServerId → Option Message → List ℕ → Type 0
+IsGivenUp m w p heard text =
+    p < m.count → IfSome heard (λ x. place_of x < instance_count) → text ≡ given_up m w p heard
+
+-- the notes are those of this event
+pub record IsBefore (c : ClusterState) (e : Event) (b : Before) : Type 0 where
+  pub few : c.members.count ≤ 7
+  pub replays : replay c.members c.journal ≡ Ok (trace_of c)
+  pub server : b.server ≡ actor e
+  pub front : b.front ≡ if_member c.members (actor e) (front c.members (trace_of c) (actor e))
+  pub heard : b.heard ≡ heard_in (trace_of c) e
+  pub hearing : IsTaken c.members (trace_of c) (actor e) (heard_in (trace_of c) e) b.hearing
+  pub given_up : IsGivenUp c.members (trace_of c) (actor e) (heard_in (trace_of c) e) (string_bytes b.given_up)
+  pub executing : actor e < c.members.count → b.executing ≡ executing (trace_of c) e
+  pub awaited : b.is_awaited ≡ is_awaited (trace_of c) b.executing

@@ -1,0 +1,82 @@
+-- What is told after the last event, and the whole text.
+use Rattle.std.specs.Prelude.{Option, Some, None, ℕ, ◌+◌, Bool, false, List, [], ◌∷◌, ◌++◌, codes, decimal, ◌==◌, ◌&&◌, not, if◌then◌else◌}
+use Rattle.std.specs.List.{enumerate_from, flat_map, list_any, range_with_len}
+use Rattle.mencius_base.specs.Numbers.{ServerId, Inst, TicketNo, MessageNo}
+use Rattle.mencius_base.specs.declared.event.Event.{Event}
+use Rattle.mencius_base.specs.declared.message.Message.{Message}
+use Rattle.mencius_base.specs.Members.{Membership, below}
+use Rattle.mencius_base.specs.Message.{goes_to}
+use Rattle.mencius_model.specs.Trace.{Line, Heard, Lost, Trace, sent}
+use Rattle.mencius_model.specs.Server.{done, front, waiting}
+use Rattle.mencius_model.specs.Next.{next}
+use Rattle.mencius_model.specs.Outcomes.{trace_after}
+use Rattle.mencius_trace.specs.Facts.{kind_text}
+use Rattle.mencius_trace.specs.Told.{event_lines}
+use Rattle.mencius_trace.specs.Words.{line_feed, ticket_text}
+
+-- ---- each server
+
+-- a command after a space
+abbrev pub waiting_ticket : Trace → TicketNo → List ℕ
+waiting_ticket w t = 32 ∷ ticket_text w t
+
+-- that of a ticket that may be absent
+abbrev pub ticket_in : Trace → Option TicketNo → List ℕ
+ticket_in w None = []
+ticket_in w (Some t) = waiting_ticket w t
+
+-- the commands of tickets, or a dash
+abbrev pub tickets_text : Trace → List TicketNo → List ℕ
+tickets_text w [] = codes " -"
+tickets_text w (t ∷ ts) = flat_map (waiting_ticket w) (t ∷ ts)
+
+-- its front, how many instances it executed, and the next one
+abbrev pub progress_text : ServerId → Inst → ℕ → List ℕ
+progress_text p front done =
+    codes "server " ++ decimal p ++ codes " front " ++ decimal front ++ codes " executed " ++ decimal done
+    ++ codes " next " ++ decimal done ++ codes " waiting"
+
+-- and what waits at it
+abbrev pub server_line : Membership → Trace → ServerId → List ℕ
+server_line m w p = progress_text p (front m w p) (done w p) ++ tickets_text w (waiting w p) ++ line_feed
+
+abbrev pub server_lines : Membership → Trace → ℕ → List ℕ
+server_lines m w n = flat_map (server_line m w) (range_with_len 0 n)
+
+-- ---- each message that may still be heard
+
+-- the line says that p heard message k, or that it was lost for p
+abbrev pub settles : MessageNo → ServerId → Line → Bool
+settles k p (Heard message server) = message == k && server == p
+settles k p (Lost message server) = message == k && server == p
+settles k p _ = false
+
+-- the message goes to p, and p neither heard it nor can no longer hear it
+abbrev pub is_unheard : Trace → MessageNo → Message → ServerId → Bool
+is_unheard w k x p = goes_to p x && not (list_any (settles k p) w)
+
+abbrev pub unheard_line : Trace → MessageNo → Message → ServerId → List ℕ
+unheard_line w k x p =
+    if is_unheard w k x p
+    then codes "unheard " ++ decimal k ++ 32 ∷ kind_text x ++ codes " to " ++ decimal p ++ line_feed
+    else []
+
+abbrev pub unheard_lines : Membership → Trace → MessageNo × Message → List ℕ
+unheard_lines m w (k, x) = flat_map (unheard_line w k x) (below m.count)
+
+-- ---- the whole
+
+-- the servers, and then the messages
+abbrev pub closing : Membership → Trace → List ℕ
+closing m w =
+    server_lines m w m.count ++ flat_map (unheard_lines m w) (enumerate_from 0 (sent w))
+
+-- the events from a place on, and then what is told after the last
+abbrev pub told_from : Membership → Trace → ℕ → List Event → List ℕ
+told_from m w place [] = closing m w
+told_from m w place (e ∷ es) = event_lines m w place e ++ told_from m (trace_after w (next m w e)) (place + 1) es
+
+-- the events of a scenario of so many servers
+abbrev pub trace_text : ℕ → List Event → List ℕ
+trace_text servers es =
+    codes "servers " ++ decimal servers ++ line_feed ++ told_from (record { count = servers }) [] 0 es

@@ -1,0 +1,98 @@
+-- The lines of a printed trace, one fact each. Values are told in a trace that has their commands.
+use Rattle.std.specs.Prelude.{ℕ, List, ◌∷◌, ◌++◌, codes, decimal, Option, Some, None}
+use Rattle.mencius_base.specs.Numbers.{ServerId, Inst, BallotNo, MessageNo}
+use Rattle.mencius_base.specs.declared.event.Event.{Event}
+use Rattle.mencius_base.specs.declared.message.Message.{Message}
+use Rattle.mencius_base.specs.declared.message.Message.TheVariants.{Suggest, Skip, Accepted, Prepare, Promise, Propose, Learn}
+use Rattle.mencius_base.specs.declared.message.Value.{Value}
+use Rattle.mencius_base.specs.declared.message.Value.TheVariants.{Noop, Ticket}
+use Rattle.mencius_base.specs.declared.message.Vote.{Vote}
+use Rattle.mencius_base.specs.declared.refusal.Refusal.{Refusal}
+use Rattle.mencius_base.specs.Refusal.{refusal_name}
+use Rattle.mencius_model.specs.Trace.{Trace}
+use Rattle.mencius_trace.specs.Words.{event_text, line_feed, ticket_text}
+
+-- ---- parts of lines
+
+-- a command by its identity
+abbrev pub value_text : Trace → Value → List ℕ
+value_text w Noop = codes "no-op"
+value_text w (Ticket t) = ticket_text w t
+
+abbrev pub vote_text : Trace → Option Vote → List ℕ
+vote_text w None = codes " vote none"
+vote_text w (Some v) = codes " vote " ++ decimal v.ballot ++ 32 ∷ value_text w v.value
+
+abbrev pub to_all : ServerId → List ℕ
+to_all from = codes " from " ++ decimal from ++ codes " to all"
+
+abbrev pub to_one : ServerId → ServerId → List ℕ
+to_one from to = codes " from " ++ decimal from ++ codes " to " ++ decimal to
+
+abbrev pub at_instance : Inst → List ℕ
+at_instance i = codes " instance " ++ decimal i
+
+abbrev pub at_ballot : Inst → BallotNo → List ℕ
+at_ballot i b = at_instance i ++ codes " ballot " ++ decimal b
+
+abbrev pub with_value : Trace → Value → List ℕ
+with_value w v = codes " value " ++ value_text w v
+
+-- ---- messages
+
+abbrev pub kind_text : Message → List ℕ
+kind_text (Suggest from inst ticket) = codes "Suggest"
+kind_text (Skip from first stop) = codes "Skip"
+kind_text (Accepted from to inst ballot) = codes "Accepted"
+kind_text (Prepare from inst ballot) = codes "Prepare"
+kind_text (Promise from to inst ballot vote) = codes "Promise"
+kind_text (Propose from inst ballot value) = codes "Propose"
+kind_text (Learn from inst value) = codes "Learn"
+
+-- who sends it to whom
+abbrev pub way_text : Message → List ℕ
+way_text (Suggest from inst ticket) = to_all from
+way_text (Skip from first stop) = to_all from
+way_text (Accepted from to inst ballot) = to_one from to
+way_text (Prepare from inst ballot) = to_all from
+way_text (Promise from to inst ballot vote) = to_one from to
+way_text (Propose from inst ballot value) = to_all from
+way_text (Learn from inst value) = to_all from
+
+-- and what it says
+abbrev pub content_text : Trace → Message → List ℕ
+content_text w (Suggest from inst ticket) = at_ballot inst 0 ++ codes " value " ++ ticket_text w ticket
+content_text w (Skip from first stop) = codes " instances " ++ decimal first ++ codes " to " ++ decimal stop
+content_text w (Accepted from to inst ballot) = at_ballot inst ballot
+content_text w (Prepare from inst ballot) = at_ballot inst ballot
+content_text w (Promise from to inst ballot vote) = at_ballot inst ballot ++ vote_text w vote
+content_text w (Propose from inst ballot value) = at_ballot inst ballot ++ with_value w value
+content_text w (Learn from inst value) = at_instance inst ++ with_value w value
+
+-- ---- lines
+
+-- an event, by its place among all events
+abbrev pub event_line : ℕ → Event → List ℕ
+event_line place e = codes "event " ++ decimal place ++ 32 ∷ event_text e ++ line_feed
+
+abbrev pub refused_line : Refusal → List ℕ
+refused_line refusal = codes "refused " ++ refusal_name refusal ++ line_feed
+
+abbrev pub sent_line : Trace → MessageNo × Message → List ℕ
+sent_line w (k, x) =
+    codes "sent " ++ decimal k ++ 32 ∷ kind_text x ++ way_text x ++ content_text w x ++ line_feed
+
+abbrev pub learned_line : Trace → ServerId → Inst → Value → List ℕ
+learned_line w p i v = codes "learned " ++ decimal p ++ at_instance i ++ with_value w v ++ line_feed
+
+abbrev pub executed_line : Trace → ServerId → Inst → Value → List ℕ
+executed_line w p i v = codes "executed " ++ decimal p ++ at_instance i ++ with_value w v ++ line_feed
+
+abbrev pub front_line : ServerId → Inst → List ℕ
+front_line p front = codes "front " ++ decimal p ++ 32 ∷ decimal front ++ line_feed
+
+-- how many servers' words of one kind a server has counted, and how many are a majority
+abbrev pub tally_line : List ℕ → ServerId → Inst → BallotNo → ℕ → ℕ → List ℕ
+tally_line kind p i b count majority =
+    kind ++ 32 ∷ decimal p ++ at_ballot i b ++ codes " count " ++ decimal count ++ codes " of " ++ decimal majority
+    ++ line_feed

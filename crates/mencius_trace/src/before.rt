@@ -1,0 +1,253 @@
+//! What is noted before an event, so that what came of it can be told after it.
+
+ghost use Rattle.std.specs.Prelude.{◌≡◌, ◌<◌, ◌++◌, ◌&&◌, [], IfOk, OnOk, if◌then◌else◌, is_none, string_bytes};
+ghost use Rattle.mencius_base.specs.Limits.{instance_count};
+ghost use Rattle.mencius_base.specs.declared.message.Value.TheVariants.{Noop};
+ghost use Rattle.mencius_model.specs.Instance.{learned};
+ghost use Rattle.mencius_model.specs.Next.{on_skip};
+ghost use Rattle.mencius_trace.specs.Facts.{learned_line};
+ghost use Rattle.mencius_cluster.specs.State.{trace_of};
+ghost use Rattle.mencius_trace.specs.Told.{actor, hearing, hearing_at, if_tried, known_or, learned_lines, place_of, proposed_or};
+ghost use Rattle.mencius_trace.specs.Before.{IsBefore, IsGivenUp, IsTaken, executing, given_up, heard_in, is_awaited};
+
+use crate::facts::push_learned;
+use crate::hearing::Hearing;
+use mencius_base::{Ballot, Event, INSTANCES, Message, Value, Vote};
+use mencius_cluster::{Answered, Cluster, Glance};
+use std::alloc::{AllocError, Global};
+
+/// What is noted before an event.
+#[derive(Drop)]
+pub(crate) struct Before {
+    /// The server that the event happens at.
+    pub(crate) server: u8,
+    /// Its front.
+    pub(crate) front: Option<u32>,
+    /// The message that is delivered.
+    pub(crate) heard: Option<Message>,
+    /// How the server takes it.
+    pub(crate) hearing: Hearing,
+    /// The lines of the instances that a Skip makes the server learn.
+    pub(crate) given_up: String,
+    /// The instance that is executed, with its value.
+    pub(crate) executing: Option<(u32, Value)>,
+    /// Whether the command there has no reply yet.
+    pub(crate) is_awaited: bool,
+}
+
+/// Notes what stands before an event.
+pub(crate) fn note(alloc: Global, cluster: &Cluster, event: &Event) -> Result<Before, AllocError>
+    ensures { IfOk result (IsBefore cluster.now event.now) }
+{
+    // Called for their promises alone: the journal replays, and there are few members.
+    cluster.replays();
+    let _few = cluster.servers();
+    let server = actor_of(event);
+    let heard = heard_in(cluster, event);
+    let executing = executing_in(cluster, event);
+    let is_awaited = is_awaited(cluster, &executing);
+    let hearing = hearing_in(cluster, server, &heard);
+    let given_up = given_up_by(alloc, cluster, server, &heard)?;
+    Ok(Before {
+        server,
+        front: cluster.front(server),
+        heard,
+        hearing,
+        given_up,
+        executing,
+        is_awaited,
+    })
+}
+
+fn actor_of(event: &Event) -> u8
+    ensures { result ≡ actor event.now }
+{
+    match event {
+        Event::Submit { server, .. }
+        | Event::Deliver { server, .. }
+        | Event::Lose { server, .. }
+        | Event::Suspect { server, .. }
+        | Event::Retry { server }
+        | Event::Execute { server } => *server,
+    }
+}
+
+fn heard_in(cluster: &Cluster, event: &Event) -> Option<Message>
+    ensures { result ≡ heard_in (trace_of cluster.now) event.now }
+{
+    // The check of a value that holds a message looks for the types inside it among those named here.
+    let _inside: Option<Vote> = None;
+    match event {
+        Event::Deliver { message, .. } => cluster.message(*message),
+        _ => None,
+    }
+}
+
+fn executing_in(cluster: &Cluster, event: &Event) -> Option<(u32, Value)>
+    ensures { actor event.now < cluster.now.members.count
+        → result ≡ executing (trace_of cluster.now) event.now }
+{
+    let Event::Execute { server } = event else {
+        return None;
+    };
+    let inst = cluster.done(*server)?;
+    let value = cluster.learned(*server, inst)?;
+    Some((inst, value))
+}
+
+fn is_awaited(cluster: &Cluster, executing: &Option<(u32, Value)>) -> bool
+    ensures { result ≡ is_awaited (trace_of cluster.now) executing.now }
+{
+    let Some((_, Value::Ticket(ticket))) = executing else {
+        return false;
+    };
+    match cluster.submission(*ticket) {
+        Some(submission) => matches!(submission.answer, Answered::Pending),
+        None => false,
+    }
+}
+
+fn hearing_in(cluster: &Cluster, server: u8, heard: &Option<Message>) -> Hearing
+    ensures { IsTaken cluster.now.members (trace_of cluster.now) server heard.now result }
+{
+    match heard {
+        Some(message) => hearing_of(cluster, server, message),
+        None => Hearing::Taken,
+    }
+}
+
+/// How a server takes a message.
+fn hearing_of(cluster: &Cluster, server: u8, message: &Message) -> Hearing
+    ensures { server < cluster.now.members.count → place_of message.now < instance_count
+        → result ≡ hearing cluster.now.members (trace_of cluster.now) server message.now }
+{
+    match cluster.glance(server, place_of(message)) {
+        Some(glance) => hearing_at(&glance, message),
+        None => Hearing::Taken,
+    }
+}
+
+fn hearing_at(glance: &Glance, message: &Message) -> Hearing
+    ensures { result ≡ hearing_at glance.now message.now }
+{
+    match *message {
+        Message::Suggest { .. } | Message::Prepare { .. } | Message::Propose { .. } => {
+            Hearing::Promised(glance.promised)
+        }
+        Message::Skip { .. } | Message::Learn { .. } => known_or(glance.learned, Hearing::Taken),
+        Message::Accepted { ballot, .. } => {
+            if_tried(
+                ballot,
+                glance.trying,
+                known_or(glance.learned, Hearing::Counted),
+            )
+        }
+        Message::Promise { ballot, .. } => {
+            if_tried(
+                ballot,
+                glance.trying,
+                known_or(glance.learned, counted(glance.proposal)),
+            )
+        }
+    }
+}
+
+// A promise counts where nothing was proposed yet.
+fn counted(proposal: Option<Value>) -> Hearing
+    ensures { result ≡ proposed_or proposal Hearing.Counted }
+{
+    match proposal {
+        Some(_) => Hearing::Proposed,
+        None => Hearing::Counted,
+    }
+}
+
+pub(crate) fn place_of(message: &Message) -> u32
+    ensures { result ≡ place_of message.now }
+{
+    match *message {
+        Message::Suggest { inst, .. }
+        | Message::Accepted { inst, .. }
+        | Message::Prepare { inst, .. }
+        | Message::Promise { inst, .. }
+        | Message::Propose { inst, .. }
+        | Message::Learn { inst, .. } => inst,
+        Message::Skip { first, .. } => first,
+    }
+}
+
+fn known_or(learned: Option<Value>, otherwise: Hearing) -> Hearing
+    ensures { result ≡ known_or learned otherwise }
+{
+    match learned {
+        Some(value) => Hearing::Known(value),
+        None => otherwise,
+    }
+}
+
+fn if_tried(ballot: Ballot, tried: Ballot, hearing: Hearing) -> Hearing
+    ensures { result ≡ if_tried ballot tried hearing }
+{
+    if ballot == tried {
+        hearing
+    } else {
+        Hearing::Tries(tried)
+    }
+}
+
+/// The lines of the instances that a Skip makes a server learn.
+fn given_up_by(
+    alloc: Global,
+    cluster: &Cluster,
+    server: u8,
+    heard: &Option<Message>,
+) -> Result<String, AllocError>
+    ensures { IfOk result (λ s.
+        IsGivenUp cluster.now.members (trace_of cluster.now) server heard.now (string_bytes s)) }
+{
+    let mut text = String::new(alloc);
+    if let Some(Message::Skip { from, first, stop }) = heard {
+        push_given_up(&mut text, cluster, server, *from, *first, *stop)?;
+    }
+    Ok(text)
+}
+
+fn push_given_up(
+    text: &mut String,
+    cluster: &Cluster,
+    server: u8,
+    from: u8,
+    first: u32,
+    stop: u32,
+) -> Result<(), AllocError>
+    ensures { OnOk result (server < cluster.now.members.count → first < instance_count
+        → string_bytes text.new
+        ≡ string_bytes text.old ++ learned_lines (trace_of cluster.now)
+        (on_skip cluster.now.members (trace_of cluster.now) server from first stop)) }
+{
+    let members = cluster.members();
+    for inst in first..stop.min(INSTANCES) {
+        let is_own = members.owner(inst) == from;
+        push_where_unlearned(text, cluster, server, inst, is_own)?;
+    }
+    Ok(())
+}
+
+// Adds the line of an instance that the server has not learned, if it is wanted.
+fn push_where_unlearned(
+    text: &mut String,
+    cluster: &Cluster,
+    server: u8,
+    inst: u32,
+    is_wanted: bool,
+) -> Result<(), AllocError>
+    ensures { OnOk result (server < cluster.now.members.count → string_bytes text.new
+        ≡ string_bytes text.old
+        ++ (if is_wanted && is_none (learned (trace_of cluster.now) server inst)
+        then learned_line (trace_of cluster.now) server inst Noop else [])) }
+{
+    if is_wanted && cluster.learned(server, inst).is_none() {
+        return push_learned(text, cluster, server, inst, Value::Noop);
+    }
+    Ok(())
+}

@@ -1,0 +1,86 @@
+//! What is told after the last event.
+
+ghost use Rattle.std.specs.Prelude.{◌≡◌, ◌<◌, ◌++◌, IfOk, OnOk, is_some, string_bytes};
+ghost use Rattle.mencius_base.specs.Limits.{instance_count};
+ghost use Rattle.mencius_cluster.specs.State.{trace_of};
+ghost use Rattle.mencius_model.specs.Server.{waiting, waiting_at};
+ghost use Rattle.mencius_trace.specs.Closing.{progress_text, server_line, server_lines, ticket_in, tickets_text};
+
+use crate::words::push_ticket;
+use mencius_base::INSTANCES;
+use mencius_cluster::Cluster;
+use std::alloc::AllocError;
+
+/// Adds a line for each server: its front, how far it is, and the tickets that wait at it.
+pub fn push_servers(text: &mut String, cluster: &Cluster) -> Result<(), AllocError>
+    ensures { OnOk result (string_bytes text.new ≡ string_bytes text.old
+        ++ server_lines cluster.now.members (trace_of cluster.now) cluster.now.members.count) }
+{
+    for server in 0..cluster.servers() {
+        push_server(text, cluster, server)?;
+    }
+    Ok(())
+}
+
+fn push_server(text: &mut String, cluster: &Cluster, server: u8) -> Result<(), AllocError>
+    requires { server < cluster.now.members.count }
+    ensures { OnOk result (string_bytes text.new
+        ≡ string_bytes text.old ++ server_line cluster.now.members (trace_of cluster.now) server) }
+{
+    let Some(front) = cluster.front(server) else {
+        unreachable!();
+    };
+    let Some(done) = cluster.done(server) else {
+        unreachable!();
+    };
+    push_progress(text, server, front, done)?;
+    push_waiting(text, cluster, server)?;
+    text.push('\n')
+}
+
+fn push_progress(text: &mut String, server: u8, front: u32, done: u32) -> Result<(), AllocError>
+    ensures { OnOk result (string_bytes text.new
+        ≡ string_bytes text.old ++ progress_text server front done) }
+{
+    write!(
+        text,
+        "server {server} front {front} executed {done} next {done} waiting"
+    )
+}
+
+// The tickets that wait at a server, or a dash.
+fn push_waiting(text: &mut String, cluster: &Cluster, server: u8) -> Result<(), AllocError>
+    requires { server < cluster.now.members.count }
+    ensures { OnOk result (string_bytes text.new ≡ string_bytes text.old
+        ++ tickets_text (trace_of cluster.now) (waiting (trace_of cluster.now) server)) }
+{
+    let mut some = false;
+    for inst in 0..INSTANCES {
+        some = push_waiting_at(text, cluster, server, inst)? || some;
+    }
+    if !some {
+        text.push_str(" -")?;
+    }
+    Ok(())
+}
+
+// The ticket that waits since the server lost an instance, and whether one does.
+fn push_waiting_at(
+    text: &mut String,
+    cluster: &Cluster,
+    server: u8,
+    inst: u32,
+) -> Result<bool, AllocError>
+    requires member { server < cluster.now.members.count }
+    requires small { inst < instance_count }
+    ensures text { OnOk result (string_bytes text.new ≡ string_bytes text.old
+        ++ ticket_in (trace_of cluster.now) (waiting_at (trace_of cluster.now) server inst)) }
+    ensures some { IfOk result (λ b. b ≡ is_some (waiting_at (trace_of cluster.now) server inst)) }
+{
+    let Some(ticket) = cluster.waiting_at(server, inst) else {
+        return Ok(false);
+    };
+    text.push(' ')?;
+    push_ticket(text, cluster, ticket)?;
+    Ok(true)
+}

@@ -1,0 +1,14 @@
+//! What each event of a schedule did, one fact a line.
+#![tactic(auto)]
+
+mod before;
+mod closing;
+mod facts;
+mod hearing;
+mod telling;
+mod words;
+
+pub use closing::push_servers;
+pub use hearing::Hearing;
+pub use telling::tell;
+pub use words::{push_answer, push_command, push_event, push_id};

@@ -1,0 +1,384 @@
+//! What came of an event.
+
+ghost use Rattle.std.specs.Prelude.{ℕ, ◌≡◌, ◌≢◌, ◌==◌, ◌&&◌, false, slice_get, ◌<◌, ◌++◌, ◌-◌, [], Some, IfErr, IfSome, OnOk, length, string_bytes};
+ghost use Rattle.mencius_base.specs.Limits.{instance_count};
+ghost use Rattle.mencius_base.specs.declared.event.Event.{Event};
+ghost use Rattle.mencius_base.specs.declared.refusal.Refusal.TheVariants.{NoMemory as Unreserved};
+ghost use Rattle.mencius_cluster.specs.State.{ClusterState, IsStepped, trace_of};
+ghost use Rattle.mencius_model.specs.Next.{next};
+ghost use Rattle.mencius_model.specs.Outcomes.{trace_after};
+ghost use Rattle.mencius_model.specs.Replying.{command_at};
+ghost use Rattle.mencius_model.specs.Server.{front};
+ghost use Rattle.mencius_model.specs.Trace.{sent};
+ghost use Rattle.mencius_trace.specs.After.{execution_after, learned_after, learned_at, learned_of, message_line, messages_from, notice_after};
+ghost use Rattle.mencius_trace.specs.Before.{IsBefore};
+ghost use Rattle.mencius_trace.specs.Facts.{refused_line};
+ghost use Rattle.mencius_trace.specs.Told.{awaited_lines, count_line, event_lines, front_lines, given_to, ignored_line, notice, place_of, reason_text, told};
+
+use crate::before::{Before, note, place_of};
+use crate::facts::{
+    push_event_line, push_executed, push_front, push_learned, push_refused, push_sent, push_tally,
+    push_value,
+};
+use crate::hearing::Hearing;
+use crate::words::{push_answer, push_id};
+use mencius_base::{Event, Members, Message, NoMemory, Refusal, Value, Vote};
+use mencius_cluster::{Answered, Cluster, Effect, Glance};
+use std::alloc::{AllocError, Global};
+
+/// Steps a cluster by an event, and adds the event and what came of it to a text.
+pub fn tell(
+    alloc: Global,
+    text: &mut String,
+    cluster: &mut Cluster,
+    place: usize,
+    event: Event,
+) -> Result<(), NoMemory>
+    ensures text { OnOk result (string_bytes text.new ≡ string_bytes text.old
+        ++ event_lines cluster.old.members (trace_of cluster.old) place event) }
+    ensures trace { OnOk result (trace_of cluster.new ≡ trace_after (trace_of cluster.old)
+        (next cluster.old.members (trace_of cluster.old) event)) }
+    ensures members { OnOk result (cluster.new.members ≡ cluster.old.members) }
+{
+    push_event_line(text, place, &event)?;
+    let before = note(alloc, cluster, &event)?;
+    match cluster.step(event) {
+        Ok(effect) => push_told(text, cluster, &before, effect),
+        Err(refusal) => push_refusal(text, refusal),
+    }
+}
+
+fn push_refusal(text: &mut String, refusal: Refusal) -> Result<(), NoMemory>
+    ensures text { OnOk result (string_bytes text.new
+        ≡ string_bytes text.old ++ refused_line refusal) }
+    ensures other { OnOk result (refusal ≢ Unreserved) }
+{
+    if refusal == Refusal::NoMemory {
+        return Err(NoMemory);
+    }
+    push_refused(text, refusal)?;
+    Ok(())
+}
+
+// All that came of an accepted event.
+fn push_told(
+    text: &mut String,
+    cluster: &Cluster,
+    before: &Before,
+    effect: Effect,
+) -> Result<(), NoMemory>
+    ensures { OnOk result ((c : ClusterState) (e : Event) → IsBefore c e before.now
+        → IsStepped c cluster.now e effect → string_bytes text.new
+        ≡ string_bytes text.old ++ told c.members (trace_of c) (trace_of cluster.now) e) }
+{
+    push_notice(text, cluster, before, is_silent(effect))?;
+    push_learned_lines(text, cluster, before, effect.learned)?;
+    push_sent_lines(text, cluster, effect.first)?;
+    push_front_line(text, cluster, before.server, before.front)?;
+    push_execution(text, cluster, before)?;
+    Ok(())
+}
+
+fn is_silent(effect: Effect) -> bool
+    ensures { result ≡ (effect.sent == 0 && effect.learned == 0) }
+{
+    effect.sent == 0 && effect.learned == 0
+}
+
+fn push_notice(
+    text: &mut String,
+    cluster: &Cluster,
+    before: &Before,
+    is_silent: bool,
+) -> Result<(), AllocError>
+    ensures { OnOk result (before.now.server < cluster.now.members.count
+        → IfSome before.now.heard (λ x. place_of x < instance_count)
+        → string_bytes text.new ≡ string_bytes text.old ++ notice_after cluster.now.members
+        (trace_of cluster.now) before.now.server is_silent before.now.hearing before.now.heard) }
+{
+    match &before.heard {
+        Some(message) => {
+            push_notice_of(
+                text,
+                cluster,
+                before.server,
+                message,
+                is_silent,
+                before.hearing,
+            )
+        }
+        None => Ok(()),
+    }
+}
+
+fn push_notice_of(
+    text: &mut String,
+    cluster: &Cluster,
+    server: u8,
+    message: &Message,
+    is_silent: bool,
+    hearing: Hearing,
+) -> Result<(), AllocError>
+    ensures { OnOk result (server < cluster.now.members.count
+        → place_of message.now < instance_count
+        → string_bytes text.new ≡ string_bytes text.old ++ notice cluster.now.members
+        (trace_of cluster.now) server message.now is_silent hearing) }
+{
+    if hearing == Hearing::Taken {
+        return Ok(());
+    }
+    if hearing == Hearing::Counted {
+        return push_count(text, cluster, server, message);
+    }
+    if is_silent {
+        return push_ignored(text, cluster, hearing);
+    }
+    Ok(())
+}
+
+fn push_count(
+    text: &mut String,
+    cluster: &Cluster,
+    server: u8,
+    message: &Message,
+) -> Result<(), AllocError>
+    ensures { OnOk result (server < cluster.now.members.count
+        → place_of message.now < instance_count
+        → string_bytes text.new ≡ string_bytes text.old ++ notice cluster.now.members
+        (trace_of cluster.now) server message.now false Hearing.Counted) }
+{
+    match cluster.glance(server, place_of(message)) {
+        Some(glance) => push_count_of(text, cluster.members(), server, &glance, message),
+        None => Ok(()),
+    }
+}
+
+fn push_count_of(
+    text: &mut String,
+    members: Members,
+    server: u8,
+    glance: &Glance,
+    message: &Message,
+) -> Result<(), AllocError>
+    ensures { OnOk result (string_bytes text.new
+        ≡ string_bytes text.old ++ count_line members server glance.now message.now) }
+{
+    let majority = members.majority();
+    match *message {
+        Message::Promise { inst, ballot, .. } => {
+            push_tally(
+                text,
+                "promises",
+                server,
+                inst,
+                ballot,
+                glance.promises,
+                majority,
+            )
+        }
+        Message::Accepted { inst, ballot, .. } => {
+            push_tally(
+                text,
+                "acceptances",
+                server,
+                inst,
+                ballot,
+                glance.accepts,
+                majority,
+            )
+        }
+        Message::Suggest { .. }
+        | Message::Skip { .. }
+        | Message::Prepare { .. }
+        | Message::Propose { .. }
+        | Message::Learn { .. } => Ok(()),
+    }
+}
+
+fn push_ignored(text: &mut String, cluster: &Cluster, hearing: Hearing) -> Result<(), AllocError>
+    ensures { OnOk result (string_bytes text.new
+        ≡ string_bytes text.old ++ ignored_line (trace_of cluster.now) hearing) }
+{
+    text.push_str("ignored ")?;
+    push_reason(text, cluster, hearing)?;
+    text.push('\n')
+}
+
+fn push_reason(text: &mut String, cluster: &Cluster, hearing: Hearing) -> Result<(), AllocError>
+    ensures { OnOk result (string_bytes text.new
+        ≡ string_bytes text.old ++ reason_text (trace_of cluster.now) hearing) }
+{
+    match hearing {
+        Hearing::Promised(ballot) => {
+            let ballot = ballot.number();
+            write!(text, "promised {ballot}")
+        }
+        Hearing::Tries(ballot) => {
+            let ballot = ballot.number();
+            write!(text, "tries {ballot}")
+        }
+        Hearing::Known(value) => {
+            text.push_str("learned ")?;
+            push_value(text, cluster, value)
+        }
+        Hearing::Proposed => text.push_str("proposed already"),
+        Hearing::Taken | Hearing::Counted => Ok(()),
+    }
+}
+
+fn push_learned_lines(
+    text: &mut String,
+    cluster: &Cluster,
+    before: &Before,
+    learned: u32,
+) -> Result<(), AllocError>
+    ensures { OnOk result (before.now.server < cluster.now.members.count
+        → string_bytes text.new ≡ string_bytes text.old ++ learned_after (trace_of cluster.now)
+        before.now.server (string_bytes before.now.given_up) learned before.now.heard) }
+{
+    match &before.heard {
+        Some(message) => {
+            let given_up = before.given_up.as_str();
+            push_learned_of(text, cluster, before.server, given_up, learned, message)
+        }
+        None => Ok(()),
+    }
+}
+
+fn push_learned_of(
+    text: &mut String,
+    cluster: &Cluster,
+    server: u8,
+    given_up: &str,
+    learned: u32,
+    message: &Message,
+) -> Result<(), AllocError>
+    ensures { OnOk result (server < cluster.now.members.count → string_bytes text.new
+        ≡ string_bytes text.old
+        ++ learned_of (trace_of cluster.now) server given_up.now learned message.now) }
+{
+    match *message {
+        Message::Skip { .. } => text.push_str(given_up),
+        Message::Accepted { inst, .. } => push_learned_at(text, cluster, server, inst, learned),
+        Message::Learn { inst, .. } => push_learned_at(text, cluster, server, inst, learned),
+        Message::Suggest { .. }
+        | Message::Prepare { .. }
+        | Message::Promise { .. }
+        | Message::Propose { .. } => Ok(()),
+    }
+}
+
+fn push_learned_at(
+    text: &mut String,
+    cluster: &Cluster,
+    server: u8,
+    inst: u32,
+    learned: u32,
+) -> Result<(), AllocError>
+    ensures { OnOk result (server < cluster.now.members.count → string_bytes text.new
+        ≡ string_bytes text.old ++ learned_at (trace_of cluster.now) server inst learned) }
+{
+    if learned == 0 {
+        return Ok(());
+    }
+    match cluster.learned(server, inst) {
+        Some(value) => push_learned(text, cluster, server, inst, value),
+        None => Ok(()),
+    }
+}
+
+// The lines of the messages from a number on.
+fn push_sent_lines(text: &mut String, cluster: &Cluster, first: u32) -> Result<(), AllocError>
+    ensures { OnOk result (string_bytes text.new ≡ string_bytes text.old
+        ++ messages_from (trace_of cluster.now) first
+        (length (sent (trace_of cluster.now)) - first)) }
+{
+    for number in first..cluster.messages() {
+        push_message(text, cluster, number)?;
+    }
+    Ok(())
+}
+
+fn push_message(text: &mut String, cluster: &Cluster, number: u32) -> Result<(), AllocError>
+    ensures { OnOk result (string_bytes text.new ≡ string_bytes text.old
+        ++ message_line (trace_of cluster.now) number
+        (slice_get (sent (trace_of cluster.now)) number)) }
+{
+    // The check of a value that holds a message looks for the types inside it among those named here.
+    let _inside: Option<Vote> = None;
+    match cluster.message(number) {
+        Some(message) => push_sent(text, cluster, number, message),
+        None => Ok(()),
+    }
+}
+
+fn push_front_line(
+    text: &mut String,
+    cluster: &Cluster,
+    server: u8,
+    before: Option<u32>,
+) -> Result<(), AllocError>
+    ensures { OnOk result ((old : ℕ) → before ≡ Some old → server < cluster.now.members.count
+        → string_bytes text.new ≡ string_bytes text.old
+        ++ front_lines server old (front cluster.now.members (trace_of cluster.now) server)) }
+{
+    let Some(old) = before else {
+        return Ok(());
+    };
+    let Some(new) = cluster.front(server) else {
+        return Ok(());
+    };
+    if old == new {
+        return Ok(());
+    }
+    push_front(text, server, new)
+}
+
+fn push_execution(text: &mut String, cluster: &Cluster, before: &Before) -> Result<(), AllocError>
+    ensures { OnOk result (string_bytes text.new ≡ string_bytes text.old
+        ++ execution_after (trace_of cluster.now) before.now.server before.now.is_awaited
+        before.now.executing) }
+{
+    let Some((inst, value)) = before.executing else {
+        return Ok(());
+    };
+    push_executed(text, cluster, before.server, inst, value)?;
+    push_awaited(text, cluster, before.is_awaited, value)
+}
+
+fn push_awaited(
+    text: &mut String,
+    cluster: &Cluster,
+    is_awaited: bool,
+    value: Value,
+) -> Result<(), AllocError>
+    ensures { OnOk result (string_bytes text.new ≡ string_bytes text.old
+        ++ awaited_lines (trace_of cluster.now) is_awaited value) }
+{
+    match value {
+        Value::Ticket(ticket) => {
+            if is_awaited {
+                return push_given(text, cluster, ticket);
+            }
+            Ok(())
+        }
+        Value::Noop => Ok(()),
+    }
+}
+
+fn push_given(text: &mut String, cluster: &Cluster, ticket: u32) -> Result<(), AllocError>
+    ensures { OnOk result (string_bytes text.new ≡ string_bytes text.old
+        ++ given_to (trace_of cluster.now) (command_at (trace_of cluster.now) ticket)) }
+{
+    let Some(submission) = cluster.submission(ticket) else {
+        return Ok(());
+    };
+    if matches!(submission.answer, Answered::Pending) {
+        return Ok(());
+    }
+    text.push_str("reply ")?;
+    push_id(text, submission.command.id())?;
+    text.push(' ')?;
+    push_answer(text, &submission.answer)?;
+    text.push('\n')
+}

@@ -1,0 +1,68 @@
+/* Refuses one growth of memory of the program that it is loaded into: the one whose number, from 1, is in REFUSED_GROWTH.
+ *
+ *     cc -shared -fPIC -O2 -o refuse.so refuse.c
+ *     LD_PRELOAD=./refuse.so REFUSED_GROWTH=7 REFUSED_NOTE=note PROGRAM
+ *
+ * Only what the program itself asks for is counted, not what the C library or the loader needs. Once the growth was
+ * refused, the file REFUSED_NOTE is there.
+ */
+#define _GNU_SOURCE
+#include <fcntl.h>
+#include <link.h>
+#include <stdatomic.h>
+#include <stddef.h>
+#include <stdint.h>
+#include <stdlib.h>
+#include <unistd.h>
+
+extern void *__libc_malloc(size_t size);
+extern void *__libc_realloc(void *block, size_t size);
+
+static uintptr_t first_address, end_address;
+static unsigned long refused_growth;
+static atomic_ulong growths;
+
+/* The first object that is told of is the program. */
+static int note_program(struct dl_phdr_info *object, size_t size, void *data)
+{
+    (void)size;
+    (void)data;
+    for (int place = 0; place < object->dlpi_phnum; place++) {
+        const ElfW(Phdr) *part = &object->dlpi_phdr[place];
+        if (part->p_type == PT_LOAD && (part->p_flags & PF_X)) {
+            first_address = object->dlpi_addr + part->p_vaddr;
+            end_address = first_address + part->p_memsz;
+        }
+    }
+    return 1;
+}
+
+__attribute__((constructor)) static void begin(void)
+{
+    const char *number = getenv("REFUSED_GROWTH");
+    dl_iterate_phdr(note_program, NULL);
+    refused_growth = number ? strtoul(number, NULL, 10) : 0;
+}
+
+static int is_refused(const void *caller)
+{
+    uintptr_t address = (uintptr_t)caller;
+    if (address < first_address || address >= end_address)
+        return 0;
+    if (atomic_fetch_add(&growths, 1) + 1 != refused_growth)
+        return 0;
+    const char *note = getenv("REFUSED_NOTE");
+    if (note)
+        close(open(note, O_WRONLY | O_CREAT, 0600));
+    return 1;
+}
+
+void *malloc(size_t size)
+{
+    return is_refused(__builtin_return_address(0)) ? NULL : __libc_malloc(size);
+}
+
+void *realloc(void *block, size_t size)
+{
+    return is_refused(__builtin_return_address(0)) ? NULL : __libc_realloc(block, size);
+}
