@@ -27,7 +27,7 @@ use Rattle.mencius_model.proofs.Tallies.{heard_more, or-true, votes_more}
 
 -- ---- nothing
 
-nothing_owned : (c : Bool) → ◌≡◌ {A = Option Value} (cond c None None) None
+nothing_owned : (a : Bool) → ◌≡◌ {A = Option Value} (cond a None None) None
 nothing_owned true = refl
 nothing_owned false = refl
 
@@ -41,9 +41,9 @@ module _ (m : Membership) (w : Trace) (p q i b : ℕ) where
   abbrev promised_at : SlotState
   promised_at = record (slot_at m w p i) { promised = b }
 
-  prepared_unlearned : (c : Bool) → ltb (promised w p i) b ≡ c
-      → slot_at m (followed_by w (answer_lines p q i b (cond c (Promised (vote w p i)) Silent))) p i
-      ≡ cond c promised_at (slot_at m w p i)
+  prepared_unlearned : (a : Bool) → ltb (promised w p i) b ≡ a
+      → slot_at m (followed_by w (answer_lines p q i b (cond a (Promised (vote w p i)) Silent))) p i
+      ≡ cond a promised_at (slot_at m w p i)
   prepared_unlearned true above =
       let over : promised w p i < b = ltb-true _ _ above in slot_at-promised m w p q i b (vote w p i) (omega arith)
   prepared_unlearned false below = refl
@@ -59,29 +59,29 @@ module _ (m : Membership) (w : Trace) (p q i b : ℕ) where
 
 -- ---- accept
 
-module _ (m : Membership) (w : Trace) (p q i b : ℕ) (v : Value) (said : proposed w i b ≡ Some v) where
-  accepted_or_not : (c : Bool) → leb (promised w p i) b ≡ c
-      → slot_at m (followed_by w (cond c (Sent (Accepted p q i b) ∷ []) [])) p i
-      ≡ cond c (record (slot_at m w p i) {
+module _ (m : Membership) (w : Trace) (p q i b : ℕ) (z : Value) (said : proposed w i b ≡ Some z) where
+  accepted_or_not : (a : Bool) → leb (promised w p i) b ≡ a
+      → slot_at m (followed_by w (cond a (Sent (Accepted p q i b) ∷ []) [])) p i
+      ≡ cond a (record (slot_at m w p i) {
         promised = b;
-        vote = Some (record { ballot = b; value = v });
+        vote = Some (record { ballot = b; value = z });
       }) (slot_at m w p i)
-  accepted_or_not true high = slot_at-accepted m w p q i b v (leb-true _ _ high) said
+  accepted_or_not true high = slot_at-accepted m w p q i b z (leb-true _ _ high) said
   accepted_or_not false low = refl
 
-  pub accepts : slot_at m (followed_by w (on_propose w p q i b)) p i ≡ after_accept (slot_at m w p i) b v
+  pub accepts : slot_at m (followed_by w (on_propose w p q i b)) p i ≡ after_accept (slot_at m w p i) b z
   accepts = accepted_or_not (leb (promised w p i) b) refl
 
 -- ---- learn
 
-learning_once : (s : SlotState) (v : Value) (o : Option Value) → s.learned ≡ o
-    → record s { learned = earlier o (Some v) } ≡ cond (is_none o) (record s { learned = Some v }) s
-learning_once s v None e = refl
-learning_once s v (Some u) e = ap (λ (o : Option Value). record s { learned = o }) (sym e)
+learning_once : (s : SlotState) (z : Value) (o : Option Value) → s.learned ≡ o
+    → record s { learned = earlier o (Some z) } ≡ cond (is_none o) (record s { learned = Some z }) s
+learning_once s z None e = refl
+learning_once s z (Some u) e = ap (λ (o : Option Value). record s { learned = o }) (sym e)
 
-pub learns : (m : Membership) (w : Trace) (p i : ℕ) (v : Value)
-    → slot_at m (Learned p i v ∷ w) p i ≡ after_learn (slot_at m w p i) v
-learns m w p i v = slot_at-learning m w p i v ∙ learning_once (slot_at m w p i) v (learned w p i) refl
+pub learns : (m : Membership) (w : Trace) (p i : ℕ) (z : Value)
+    → slot_at m (Learned p i z ∷ w) p i ≡ after_learn (slot_at m w p i) z
+learns m w p i z = slot_at-learning m w p i z ∙ learning_once (slot_at m w p i) z (learned w p i) refl
 
 -- ---- begin
 
@@ -116,7 +116,7 @@ slot_at-tried m w p i b above =
 report_of : (i b : ℕ) (x : Message) → ((q : ℕ) → is_promise i b q x ≡ false) → vote_reported i b x ≡ None
 report_of i b (Promise from to inst ballot reports) none = either (eqb inst i && eqb ballot b) (none from)
   where
-    either : (c : Bool) → (c && eqb from from) ≡ false → cond c reports None ≡ None
+    either : (a : Bool) → (a && eqb from from) ≡ false → cond a reports None ≡ None
     either true e = let itself : eqb from from ≡ true = eq-eqb from from refl in absurd (cc)
     either false e = refl
 report_of i b (Suggest from inst ticket) none = refl
@@ -126,9 +126,9 @@ report_of i b (Prepare from inst ballot) none = refl
 report_of i b (Propose from inst ballot value) none = refl
 report_of i b (Learn from inst value) none = refl
 
-neither : (a b : Bool) → (a || b) ≡ false → (a ≡ false) × (b ≡ false)
-neither false b e = (refl, e)
-neither true b e = absurd (cc)
+neither : (a d : Bool) → (a || d) ≡ false → (a ≡ false) × (d ≡ false)
+neither false d e = (refl, e)
+neither true d e = absurd (cc)
 
 unreported : (i b : ℕ) (hs : List Message) → ((q : ℕ) → list_any (is_promise i b q) hs ≡ false)
     → highest_vote (map (vote_reported i b) hs) ≡ None
@@ -191,37 +191,37 @@ voted_later w l p i quiet voted = record {
       (before.0, oldest_quiet (proposed_by i b) l w (quiet.proposed b) ∙ before.1);
 }
 
-uncounted_promise : (from to i b j c : ℕ) (v : Option Vote) → (eqb i j && eqb b c) ≡ false
-    → IsUncounted j c (Promise from to i b v)
-uncounted_promise from to i b j c v other =
+uncounted_promise : (from to i b j c : ℕ) (o : Option Vote) → (eqb i j && eqb b c) ≡ false
+    → IsUncounted j c (Promise from to i b o)
+uncounted_promise from to i b j c o other =
     record { promise = λ q. rw other; acceptance = λ q. refl; report = rw other }
 
 uncounted_acceptance : (from to i b j c : ℕ) → (eqb i j && eqb b c) ≡ false → IsUncounted j c (Accepted from to i b)
 uncounted_acceptance from to i b j c other = record { promise = λ q. refl; acceptance = λ q. rw other; report = refl }
 
 -- what is due says that nothing was proposed, and what is decided that nothing was learned
-due_unsaid : (l o : Option Value) (c : Bool) (x v : Value)
-    → cond ((is_none l && is_none o) && c) (Some x) None ≡ Some v → o ≡ None
-due_unsaid None None c x v e = refl
-due_unsaid None (Some u) c x v e = absurd (cc)
-due_unsaid (Some u) o c x v e = absurd (cc)
+due_unsaid : (l o : Option Value) (a : Bool) (x z : Value)
+    → cond ((is_none l && is_none o) && a) (Some x) None ≡ Some z → o ≡ None
+due_unsaid None None a x z e = refl
+due_unsaid None (Some u) a x z e = absurd (cc)
+due_unsaid (Some u) o a x z e = absurd (cc)
 
-decided_unlearned : (l : Option Value) (c : Bool) (o : Option Value) (v : Value)
-    → cond (is_none l && c) o None ≡ Some v → l ≡ None
-decided_unlearned None c o v e = refl
-decided_unlearned (Some u) c o v e = absurd (cc)
+decided_unlearned : (l : Option Value) (a : Bool) (o : Option Value) (z : Value)
+    → cond (is_none l && a) o None ≡ Some z → l ≡ None
+decided_unlearned None a o z e = refl
+decided_unlearned (Some u) a o z e = absurd (cc)
 
-module _ (m : Membership) (w : Trace) (k p i from b : ℕ) (v : Option Vote)
-    (e : slice_get (sent w) k ≡ Some (Promise from p i b v)) where
+module _ (m : Membership) (w : Trace) (k p i from b : ℕ) (r : Option Vote)
+    (e : slice_get (sent w) k ≡ Some (Promise from p i b r)) where
   tried_still : trying (Heard k p ∷ w) p i ≡ trying w p i
   tried_still = greatest_quiet (tried_by p i) (Heard k p) w refl
 
-  promise_heard : b ≡ trying w p i → slot_at m (Heard k p ∷ w) p i ≡ with_promise (slot_at m w p i) from v
-  promise_heard same = slot_at-heard_promise m w k p i from v (e ∙ ap (λ (c : ℕ). Some (Promise from p i c v)) same)
+  promise_heard : b ≡ trying w p i → slot_at m (Heard k p ∷ w) p i ≡ with_promise (slot_at m w p i) from r
+  promise_heard same = slot_at-heard_promise m w k p i from r (e ∙ ap (λ (c : ℕ). Some (Promise from p i c r)) same)
 
   -- what is due by all promises heard, this one among them
   promise_due : 0 < b → b ≡ trying w p i
-      → to_propose (with_promise (slot_at m w p i) from v)
+      → to_propose (with_promise (slot_at m w p i) from r)
       ≡ proposal_due (learned w p i) (proposed w i b) (are_majority m (promisers (Heard k p ∷ w) p i b))
       (reported (Heard k p ∷ w) p i b)
   promise_due tried same =
@@ -234,20 +234,20 @@ module _ (m : Membership) (w : Trace) (k p i from b : ℕ) (v : Option Vote)
       (are_majority m (promisers (Heard k p ∷ w) p i b)) (reported (Heard k p ∷ w) p i b))
       (earlier-none (proposed w i b))
 
-  pub promise_answered : 0 < b → promise_answer (slot_at m w p i) from b v ≡ proposal_at m w (Heard k p ∷ w) p i b
+  pub promise_answered : 0 < b → promise_answer (slot_at m w p i) from b r ≡ proposal_at m w (Heard k p ∷ w) p i b
   promise_answered tried = either (eqb b (trying w p i)) refl
     where
       either : (c : Bool) → eqb b (trying w p i) ≡ c
-          → cond c (to_propose (with_promise (slot_at m w p i) from v)) None
+          → cond c (to_propose (with_promise (slot_at m w p i) from r)) None
           ≡ cond c (proposal_due (learned w p i) (proposed w i b) (are_majority m (promisers (Heard k p ∷ w) p i b))
           (reported (Heard k p ∷ w) p i b)) None
       either true at = promise_due tried (eqb-true _ _ at)
       either false at = refl
 
   promise_proposed : 0 < b → IsVoted w p i → b ≡ trying w p i → (o : Option Value)
-      → to_propose (with_promise (slot_at m w p i) from v) ≡ o
+      → to_propose (with_promise (slot_at m w p i) from r) ≡ o
       → slot_at m (followed_by (Heard k p ∷ w) (proposal_lines p i b o)) p i
-      ≡ proposing (with_promise (slot_at m w p i) from v) o
+      ≡ proposing (with_promise (slot_at m w p i) from r) o
   promise_proposed tried voted same None due = promise_heard same
   promise_proposed tried voted same (Some x) due =
       let mine : b ≡ 0 → owner m i ≡ p = λ zero. absurd (omega arith) in
@@ -261,20 +261,20 @@ module _ (m : Membership) (w : Trace) (k p i from b : ℕ) (v : Option Vote)
       ∙ ap (λ (s : SlotState). record s { proposal = Some x }) (promise_heard same)
 
   pub promise_counted : 0 < b → IsVoted w p i
-      → slot_at m (followed_by (Heard k p ∷ w) (proposal_lines p i b (promise_answer (slot_at m w p i) from b v))) p i
-      ≡ after_promise (slot_at m w p i) from b v
+      → slot_at m (followed_by (Heard k p ∷ w) (proposal_lines p i b (promise_answer (slot_at m w p i) from b r))) p i
+      ≡ after_promise (slot_at m w p i) from b r
   promise_counted tried voted = either (eqb b (trying w p i)) refl
     where
       either : (c : Bool) → eqb b (trying w p i) ≡ c
           → slot_at m (followed_by (Heard k p ∷ w)
-          (proposal_lines p i b (cond c (to_propose (with_promise (slot_at m w p i) from v)) None))) p i
-          ≡ cond c (proposing (with_promise (slot_at m w p i) from v)
-          (to_propose (with_promise (slot_at m w p i) from v))) (slot_at m w p i)
+          (proposal_lines p i b (cond c (to_propose (with_promise (slot_at m w p i) from r)) None))) p i
+          ≡ cond c (proposing (with_promise (slot_at m w p i) from r)
+          (to_propose (with_promise (slot_at m w p i) from r))) (slot_at m w p i)
       either true at =
-          promise_proposed tried voted (eqb-true _ _ at) (to_propose (with_promise (slot_at m w p i) from v)) refl
+          promise_proposed tried voted (eqb-true _ _ at) (to_propose (with_promise (slot_at m w p i) from r)) refl
       either false at =
           slot_at-heard m w k p i _ e
-          (uncounted_promise from p i b i (trying w p i) v (ap (λ (c : Bool). eqb i i && c) at ∙ rw (eq-eqb i i refl)))
+          (uncounted_promise from p i b i (trying w p i) r (ap (λ (c : Bool). eqb i i && c) at ∙ rw (eq-eqb i i refl)))
 
 -- ---- add_accept
 
@@ -375,12 +375,12 @@ uncounted m w k p i x e none = slot_at-heard m w k p i x e (counts_nothing i (tr
 still_proposed : (w : Trace) (l : Line) (i b : ℕ) → proposed_by i b l ≡ None → proposed (l ∷ w) i b ≡ proposed w i b
 still_proposed w l i b none = oldest_quiet (proposed_by i b) l w none
 
-pub proposal_elsewhere : (m : Membership) (w : Trace) (p q i b : ℕ) (v : Value) → IsVoted w p i → b ≢ trying w p i
-    → slot_at m (Sent (Propose q i b v) ∷ w) p i ≡ slot_at m w p i
-proposal_elsewhere m w p q i b v voted other =
-    slot_at-proposing m w (Sent (Propose q i b v)) p i _ voted refl refl refl refl refl
+pub proposal_elsewhere : (m : Membership) (w : Trace) (p q i b : ℕ) (z : Value) → IsVoted w p i → b ≢ trying w p i
+    → slot_at m (Sent (Propose q i b z) ∷ w) p i ≡ slot_at m w p i
+proposal_elsewhere m w p q i b z voted other =
+    slot_at-proposing m w (Sent (Propose q i b z)) p i _ voted refl refl refl refl refl
     (ap (if_own m p i (trying w p i))
-    (still_proposed w (Sent (Propose q i b v)) i (trying w p i) (rw (eq-eqb i i refl, ne_eqb b (trying w p i) other))))
+    (still_proposed w (Sent (Propose q i b z)) i (trying w p i) (rw (eq-eqb i i refl, ne_eqb b (trying w p i) other))))
 
 pub suggestion_elsewhere : (m : Membership) (w : Trace) (p q i ticket : ℕ) → IsVoted w p i → owner m i ≢ p
     → slot_at m (Sent (Suggest q i ticket) ∷ w) p i ≡ slot_at m w p i

@@ -19,19 +19,19 @@ use Rattle.coord_paxos.specs.Reached.{if_own, slot_at}
 use Rattle.mencius_model.proofs.QuietLines.{IsQuiet, quiet_heard, IsUncounted}
 
 -- two slots with the same parts
-same_parts : (m n : Membership) (a b : ℕ) (c d : Option Vote) (e f : Option Value) (g h : ℕ) (i j : Option Vote)
-    (k l : Option Value) (q r s t : List Bool)
-    → m ≡ n → a ≡ b → c ≡ d → e ≡ f → g ≡ h → i ≡ j → k ≡ l → q ≡ r → s ≡ t
+same_parts : (m n : Membership) (a b : ℕ) (o d : Option Vote) (e f : Option Value) (g h : ℕ) (x y : Option Vote)
+    (z l : Option Value) (xs r s ys : List Bool)
+    → m ≡ n → a ≡ b → o ≡ d → e ≡ f → g ≡ h → x ≡ y → z ≡ l → xs ≡ r → s ≡ ys
     → ◌≡◌ {A = SlotState}
     (record {
       members = m;
       promised = a;
-      vote = c;
+      vote = o;
       learned = e;
       trying = g;
-      reported = i;
-      proposal = k;
-      promisers = q;
+      reported = x;
+      proposal = z;
+      promisers = xs;
       accepters = s;
     })
     (record {
@@ -40,18 +40,18 @@ same_parts : (m n : Membership) (a b : ℕ) (c d : Option Vote) (e f : Option Va
       vote = d;
       learned = f;
       trying = h;
-      reported = j;
+      reported = y;
       proposal = l;
       promisers = r;
-      accepters = t;
+      accepters = ys;
     })
-same_parts m n a b c d e f g h i j k l q r s t p1 p2 p3 p4 p5 p6 p7 p8 p9 = rw (p1, p2, p3, p4, p5, p6, p7, p8, p9)
+same_parts m n a b o d e f g h x y z l xs r s ys p1 p2 p3 p4 p5 p6 p7 p8 p9 = rw (p1, p2, p3, p4, p5, p6, p7, p8, p9)
 
-pub same_slot : (t u : SlotState) → t.members ≡ u.members → t.promised ≡ u.promised → t.vote ≡ u.vote
-    → t.learned ≡ u.learned
-    → t.trying ≡ u.trying → t.reported ≡ u.reported → t.proposal ≡ u.proposal → t.promisers ≡ u.promisers
-    → t.accepters ≡ u.accepters → t ≡ u
-same_slot t u = same_parts _ _ _ _ _ _ _ _ _ _ _ _ _ _ _ _ _ _
+pub same_slot : (s r : SlotState) → s.members ≡ r.members → s.promised ≡ r.promised → s.vote ≡ r.vote
+    → s.learned ≡ r.learned
+    → s.trying ≡ r.trying → s.reported ≡ r.reported → s.proposal ≡ r.proposal → s.promisers ≡ r.promisers
+    → s.accepters ≡ r.accepters → s ≡ r
+same_slot s r = same_parts _ _ _ _ _ _ _ _ _ _ _ _ _ _ _ _ _ _
 
 -- p's slot for i, with the tallies of other messages heard
 abbrev pub slot_hearing : Membership → Trace → ℕ → ℕ → List Message → SlotState
@@ -123,10 +123,10 @@ slot_at-heard_acceptance m w k p i from e =
     (λ q. rw (eq-eqb i i refl, eq-eqb (trying w p i) (trying w p i) refl)))
 
 -- a promise of it
-pub slot_at-heard_promise : (m : Membership) (w : Trace) (k p i from : ℕ) (v : Option Vote)
-    → slice_get (sent w) k ≡ Some (Promise from p i (trying w p i) v)
-    → slot_at m (Heard k p ∷ w) p i ≡ with_promise (slot_at m w p i) from v
-slot_at-heard_promise m w k p i from v e =
+pub slot_at-heard_promise : (m : Membership) (w : Trace) (k p i from : ℕ) (o : Option Vote)
+    → slice_get (sent w) k ≡ Some (Promise from p i (trying w p i) o)
+    → slot_at m (Heard k p ∷ w) p i ≡ with_promise (slot_at m w p i) from o
+slot_at-heard_promise m w k p i from o e =
     slot_at-unsaid m w (Heard k p) p i (quiet_heard k p i) ∙ ap (slot_hearing m w p i) (heard_more w k p _ e)
     ∙ same_slot _ _ refl refl refl refl refl
     (votes_more (vote_reported i (trying w p i)) (heard w p) _
@@ -137,11 +137,11 @@ slot_at-heard_promise m w k p i from v e =
     (tally_quiet (is_acceptance i (trying w p i)) (heard w p) _ m.count (λ q. refl))
 
 -- p accepts a value that was proposed
-pub slot_at-accepted : (m : Membership) (w : Trace) (p q i b : ℕ) (v : Value) → promised w p i ≤ b
-    → proposed w i b ≡ Some v
+pub slot_at-accepted : (m : Membership) (w : Trace) (p q i b : ℕ) (z : Value) → promised w p i ≤ b
+    → proposed w i b ≡ Some z
     → slot_at m (Sent (Accepted p q i b) ∷ w) p i
-    ≡ record (slot_at m w p i) { promised = b; vote = Some (record { ballot = b; value = v }) }
-slot_at-accepted m w p q i b v high said =
+    ≡ record (slot_at m w p i) { promised = b; vote = Some (record { ballot = b; value = z }) }
+slot_at-accepted m w p q i b z high said =
     let l : Line = Sent (Accepted p q i b) in
     let by : accepted_by p i l ≡ Some b = rw (eq-eqb p p refl, eq-eqb i i refl) in
     let acceptance : accepted (l ∷ w) p i ≡ Some b =
@@ -155,7 +155,7 @@ slot_at-accepted m w p q i b v high said =
     refl refl refl refl refl
 
 vote_stays : (w : Trace) (l : Line) (i : ℕ) (o : Option ℕ)
-    → ((b : ℕ) → o ≡ Some b → (v : Value) × (proposed w i b ≡ Some v)) → vote_of (l ∷ w) i o ≡ vote_of w i o
+    → ((b : ℕ) → o ≡ Some b → (z : Value) × (proposed w i b ≡ Some z)) → vote_of (l ∷ w) i o ≡ vote_of w i o
 vote_stays w l i None said = refl
 vote_stays w l i (Some b) said =
     ap (vote_at b) (oldest_stays (proposed_by i b) l w _ (said b refl).1 ∙ sym (said b refl).1)
@@ -183,12 +183,12 @@ slot_at-proposing m w l p i o voted unpromised unaccepted unlearned untried deaf
     ∙ ap (λ (hs : List Message). map (λ (q : ℕ). list_any (is_acceptance i (trying w p i) q) hs) (below m.count)) deaf)
 
 -- p proposes at the ballot that it tries
-pub slot_at-proposed : (m : Membership) (w : Trace) (p i b : ℕ) (v : Value) → IsVoted w p i → 0 < b
+pub slot_at-proposed : (m : Membership) (w : Trace) (p i b : ℕ) (z : Value) → IsVoted w p i → 0 < b
     → b ≡ trying w p i → proposed w i b ≡ None
-    → slot_at m (Sent (Propose p i b v) ∷ w) p i ≡ record (slot_at m w p i) { proposal = Some v }
-slot_at-proposed m w p i b v voted tried same unsaid =
-    slot_at-proposing m w (Sent (Propose p i b v)) p i (Some v) voted refl refl refl refl refl
-    (ap (λ (c : ℕ). if_own m p i c (proposed (Sent (Propose p i b v) ∷ w) i c)) (sym same)
+    → slot_at m (Sent (Propose p i b z) ∷ w) p i ≡ record (slot_at m w p i) { proposal = Some z }
+slot_at-proposed m w p i b z voted tried same unsaid =
+    slot_at-proposing m w (Sent (Propose p i b z)) p i (Some z) voted refl refl refl refl refl
+    (ap (λ (c : ℕ). if_own m p i c (proposed (Sent (Propose p i b z) ∷ w) i c)) (sym same)
     ∙ rw (unsaid, eq-eqb i i refl, eq-eqb b b refl, lt-ltb 0 b tried, or-true (eqb (owner m i) p)))
 
 -- the owner suggests
@@ -201,10 +201,10 @@ slot_at-suggested m w p i t voted mine untried unsaid =
     ∙ rw (unsaid, eq-eqb i i refl, eq-eqb (owner m i) p mine))
 
 -- p promises
-pub slot_at-promised : (m : Membership) (w : Trace) (p q i b : ℕ) (v : Option Vote) → promised w p i ≤ b
-    → slot_at m (Sent (Promise p q i b v) ∷ w) p i ≡ record (slot_at m w p i) { promised = b }
-slot_at-promised m w p q i b v high =
-    let l : Line = Sent (Promise p q i b v) in
+pub slot_at-promised : (m : Membership) (w : Trace) (p q i b : ℕ) (o : Option Vote) → promised w p i ≤ b
+    → slot_at m (Sent (Promise p q i b o) ∷ w) p i ≡ record (slot_at m w p i) { promised = b }
+slot_at-promised m w p q i b o high =
+    let l : Line = Sent (Promise p q i b o) in
     let promise : promised_by p i l ≡ b = rw (eq-eqb p p refl, eq-eqb i i refl) in
     slot_at-saying m w l p i (λ c. refl) refl
     ∙ same_slot _ _ refl
@@ -214,11 +214,11 @@ slot_at-promised m w p q i b v high =
     refl refl refl refl refl
 
 -- p says that it learned a value, whatever it had learned
-pub slot_at-learning : (m : Membership) (w : Trace) (p i : ℕ) (v : Value)
-    → slot_at m (Learned p i v ∷ w) p i ≡ record (slot_at m w p i) { learned = earlier (learned w p i) (Some v) }
-slot_at-learning m w p i v =
-    let l : Line = Learned p i v in
-    let by : learned_by p i l ≡ Some v = rw (eq-eqb p p refl, eq-eqb i i refl) in
+pub slot_at-learning : (m : Membership) (w : Trace) (p i : ℕ) (z : Value)
+    → slot_at m (Learned p i z ∷ w) p i ≡ record (slot_at m w p i) { learned = earlier (learned w p i) (Some z) }
+slot_at-learning m w p i z =
+    let l : Line = Learned p i z in
+    let by : learned_by p i l ≡ Some z = rw (eq-eqb p p refl, eq-eqb i i refl) in
     slot_at-saying m w l p i (λ c. refl) refl
     ∙ same_slot _ _ refl
     (max-zero (promised w p i))
@@ -227,8 +227,8 @@ slot_at-learning m w p i v =
     refl refl refl refl refl
 
 -- p learns a value
-pub slot_at-learned : (m : Membership) (w : Trace) (p i : ℕ) (v : Value) → learned w p i ≡ None
-    → slot_at m (Learned p i v ∷ w) p i ≡ record (slot_at m w p i) { learned = Some v }
-slot_at-learned m w p i v unlearned =
-    slot_at-learning m w p i v
-    ∙ ap (λ (o : Option Value). record (slot_at m w p i) { learned = earlier o (Some v) }) unlearned
+pub slot_at-learned : (m : Membership) (w : Trace) (p i : ℕ) (z : Value) → learned w p i ≡ None
+    → slot_at m (Learned p i z ∷ w) p i ≡ record (slot_at m w p i) { learned = Some z }
+slot_at-learned m w p i z unlearned =
+    slot_at-learning m w p i z
+    ∙ ap (λ (o : Option Value). record (slot_at m w p i) { learned = earlier o (Some z) }) unlearned

@@ -9,8 +9,8 @@ use Rattle.mencius_base.specs.declared.message.Value.TheVariants.{Ticket}
 use Rattle.mencius_base.specs.declared.message.Vote.{Vote}
 use Rattle.mencius_base.specs.Members.{Membership, owner}
 use Rattle.mencius_model.specs.Trace.{Line, Heard, Sent, Learned, Trace, followed_by, heard, sent}
-use Rattle.mencius_model.specs.Instance.{proposed, trying, IsUntried, IsVoted}
-use Rattle.mencius_model.specs.Rules.{answer_lines, decision_lines, proposal_lines}
+use Rattle.mencius_model.specs.Instance.{learned, promised, proposed, trying, vote, IsUntried, IsVoted}
+use Rattle.mencius_model.specs.Rules.{acceptor_answer, decision_lines, proposal_lines}
 use Rattle.mencius_model.specs.Next.{decision_at, on_prepare, on_propose, proposal_at}
 use Rattle.coord_paxos.specs.Fresh.{new_slot}
 use Rattle.coord_paxos.specs.Slot.{accept_answer, after_accept, after_acceptance, after_begin, after_learn, after_prepare, after_promise, prepare_answer, promise_answer}
@@ -32,11 +32,11 @@ SlotAfterSuggest =
 
 -- ---- prepare
 
--- what p answers to a Prepare of q
+-- what p answers to a Prepare is the acceptor's rule, by what the trace says of p
 abbrev pub PrepareAnswered : Type 0
 PrepareAnswered =
-    (m : Membership) (w : Trace) (p q : ServerId) (i : Inst) (b : BallotNo)
-    → answer_lines p q i b (prepare_answer (slot_at m w p i) b) ≡ on_prepare w p q i b
+    (m : Membership) (w : Trace) (p : ServerId) (i : Inst) (b : BallotNo)
+    → prepare_answer (slot_at m w p i) b ≡ acceptor_answer (promised w p i) (vote w p i) b (learned w p i)
 
 abbrev pub SlotAfterPrepare : Type 0
 SlotAfterPrepare =
@@ -48,9 +48,9 @@ SlotAfterPrepare =
 
 abbrev pub SlotAfterAccept : Type 0
 SlotAfterAccept =
-    (m : Membership) (w : Trace) (p q : ServerId) (i : Inst) (b : BallotNo) (v : Value) → proposed w i b ≡ Some v
+    (m : Membership) (w : Trace) (p q : ServerId) (i : Inst) (b : BallotNo) (z : Value) → proposed w i b ≡ Some z
     → slot_at m (followed_by w (on_propose w p q i b)) p i
-    ≡ after_accept (slot_at m w p i) b v
+    ≡ after_accept (slot_at m w p i) b z
 
 -- ---- begin
 
@@ -66,25 +66,25 @@ SlotAfterBegin =
 abbrev pub PromiseAnswered : Type 0
 PromiseAnswered =
     (m : Membership) (w : Trace) (k : MessageNo) (p : ServerId) (i : Inst) (q : ServerId) (b : BallotNo)
-    (v : Option Vote)
-    → slice_get (sent w) k ≡ Some (Promise q p i b v)
-    → 0 < b → promise_answer (slot_at m w p i) q b v ≡ proposal_at m w (Heard k p ∷ w) p i b
+    (o : Option Vote)
+    → slice_get (sent w) k ≡ Some (Promise q p i b o)
+    → 0 < b → promise_answer (slot_at m w p i) q b o ≡ proposal_at m w (Heard k p ∷ w) p i b
 
 -- a promise of any other ballot calls for nothing
 abbrev pub IgnoresPromises : Type 0
 IgnoresPromises =
-    (m : Membership) (w : Trace) (p : ServerId) (i : Inst) (q : ServerId) (b : BallotNo) (v : Option Vote)
-    → b ≢ trying w p i → promise_answer (slot_at m w p i) q b v ≡ None
+    (m : Membership) (w : Trace) (p : ServerId) (i : Inst) (q : ServerId) (b : BallotNo) (o : Option Vote)
+    → b ≢ trying w p i → promise_answer (slot_at m w p i) q b o ≡ None
 
 -- p hears a promise, and proposes if that is due
 abbrev pub SlotAfterPromise : Type 0
 SlotAfterPromise =
     (m : Membership) (w : Trace) (k : MessageNo) (p : ServerId) (i : Inst) (q : ServerId) (b : BallotNo)
-    (v : Option Vote)
-    → slice_get (sent w) k ≡ Some (Promise q p i b v)
+    (o : Option Vote)
+    → slice_get (sent w) k ≡ Some (Promise q p i b o)
     → 0 < b → IsVoted w p i
-    → slot_at m (followed_by (Heard k p ∷ w) (proposal_lines p i b (promise_answer (slot_at m w p i) q b v))) p i
-    ≡ after_promise (slot_at m w p i) q b v
+    → slot_at m (followed_by (Heard k p ∷ w) (proposal_lines p i b (promise_answer (slot_at m w p i) q b o))) p i
+    ≡ after_promise (slot_at m w p i) q b o
 
 -- ---- add_accept
 
@@ -114,8 +114,8 @@ SlotAfterAcceptance =
 -- the first value that p learns stays
 abbrev pub SlotAfterLearn : Type 0
 SlotAfterLearn =
-    (m : Membership) (w : Trace) (p : ServerId) (i : Inst) (v : Value)
-    → slot_at m (Learned p i v ∷ w) p i ≡ after_learn (slot_at m w p i) v
+    (m : Membership) (w : Trace) (p : ServerId) (i : Inst) (z : Value)
+    → slot_at m (Learned p i z ∷ w) p i ≡ after_learn (slot_at m w p i) z
 
 -- ---- every other line
 
@@ -154,9 +154,9 @@ LeavesUncounted =
 -- a proposal at a ballot that p does not try
 abbrev pub LeavesProposals : Type 0
 LeavesProposals =
-    (m : Membership) (w : Trace) (p q : ServerId) (i : Inst) (b : BallotNo) (v : Value) → IsVoted w p i
+    (m : Membership) (w : Trace) (p q : ServerId) (i : Inst) (b : BallotNo) (z : Value) → IsVoted w p i
     → b ≢ trying w p i
-    → slot_at m (Sent (Propose q i b v) ∷ w) p i ≡ slot_at m w p i
+    → slot_at m (Sent (Propose q i b z) ∷ w) p i ≡ slot_at m w p i
 
 -- a suggestion at an instance that p does not own
 abbrev pub LeavesSuggestions : Type 0

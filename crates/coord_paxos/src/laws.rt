@@ -16,7 +16,7 @@ pub fn owner_proposes()
     ensures suggested { SlotAfterSuggest }
 {}
 
-/// What [`prepare`](crate::Slot::prepare) answers is what the trace asks to be sent, and the slot
+/// What [`prepare`](crate::Slot::prepare) answers is the acceptor's rule over the trace, and the slot
 /// after that is the one that it leaves.
 pub fn prepares()
     ensures answer { PrepareAnswered }

@@ -1,18 +1,20 @@
 -- How a call of the program ends: its exit status, its line on standard error, and what was done before.
-use Rattle.std.specs.Prelude.{◌≡◌, ◌≢◌, ◌⊎◌, ◌&&◌, ℕ, Bool, false, not, List, [], ◌∷◌, ◌++◌, Option, codes, decimal, Result, Ok, Err}
+use Rattle.std.specs.Prelude.{◌≡◌, ◌≢◌, ◌⊎◌, ◌&&◌, ℕ, Bool, true, false, not, List, [], ◌∷◌, ◌++◌, Option, Some, None, codes, decimal, string_bytes, Result, Ok, Err}
 use Rattle.std.specs.Io.KnownBytes.{Appends}
 use Rattle.clap.specs.Words.{IsAmong, Text}
 use Rattle.clap.specs.declared.error.kind.ErrorKind.{ErrorKind}
 use Rattle.clap.specs.declared.error.kind.ErrorKind.TheVariants as kind
 use Rattle.mencius_input.specs.declared.fault.AppFault.{AppFault}
-use Rattle.mencius_input.specs.CommandLine.{Asked, are_texts, asked, asked_replay, asked_run, faults, line_of}
+use Rattle.mencius_input.specs.CommandLine.{Asked, are_texts, asked, asked_check, asked_replay, asked_run, asked_trace, faults, line_of}
 use Rattle.mencius_input.specs.Fault.{fault_name, fault_number}
 use Rattle.mencius_input.specs.Status.{status_of}
 use Rattle.mencius_app.specs.Replay.{IsFaultOf, IsJudgedReplayOf}
-use Rattle.mencius_app.specs.Report.{line_feed}
+use Rattle.mencius_trace.specs.Words.{line_feed}
+use Rattle.mencius_app.specs.Check.{IsCheckOf}
+use Rattle.mencius_app.specs.Trace.{IsTraceOf}
 use Rattle.mencius_app.specs.Run.{IsPlanFaultOf, IsRunOf}
 use Rattle.mencius_app.specs.declared.ending.Ending.{Ending}
-use Rattle.mencius_app.specs.declared.ending.Ending.TheVariants.{Done, Refused, BadCommandLine, Failed}
+use Rattle.mencius_app.specs.declared.ending.Ending.TheVariants.{Done, Refused, BadCommandLine, Failed, Explained}
 
 -- ---- the end
 
@@ -21,17 +23,32 @@ status_of_ending Done = 0
 status_of_ending Refused = 1
 status_of_ending BadCommandLine = 2
 status_of_ending (Failed fault) = status_of fault
+status_of_ending (Explained fault words) = status_of fault
+
+-- the fault that a call ended at
+abbrev pub fault_in : Ending → Option AppFault
+fault_in Done = None
+fault_in Refused = None
+fault_in BadCommandLine = None
+fault_in (Failed fault) = Some fault
+fault_in (Explained fault words) = Some fault
 
 -- a fault's number and name
 abbrev pub fault_line : AppFault → List ℕ
 fault_line fault = codes "mencius: fault " ++ decimal (fault_number fault) ++ 32 ∷ fault_name fault ++ line_feed
 
--- what standard error says of the end: nothing but of a fault
-abbrev pub line_of_ending : Ending → List ℕ
-line_of_ending Done = []
-line_of_ending Refused = []
-line_of_ending BadCommandLine = []
-line_of_ending (Failed fault) = fault_line fault
+-- there are words for the fault
+abbrev pub is_explained : Ending → Bool
+is_explained (Explained fault words) = true
+is_explained _ = false
+
+-- what standard error says of the end: nothing but of a fault, and then what words there are for it
+abbrev pub lines_of_ending : Ending → List ℕ
+lines_of_ending Done = []
+lines_of_ending Refused = []
+lines_of_ending BadCommandLine = []
+lines_of_ending (Failed fault) = fault_line fault
+lines_of_ending (Explained fault words) = fault_line fault ++ string_bytes words
 
 -- how a call ends whose work came to this
 abbrev pub ending_of : {T : Type 0} → Result T AppFault → Ending
@@ -58,14 +75,20 @@ IsMistaken arguments = (are_texts arguments ≡ false) ⊎ ((k : ErrorKind)
     × IsAmong k (faults (line_of arguments)) × (k ≢ kind.DisplayHelp) × (k ≢ kind.DisplayVersion))
 
 -- the text of a task, of all that a reader has, and whether refused events are told of
-abbrev pub IsTaskOf : Asked → Option (List ℕ) → List ℕ → Bool → Type 0
-IsTaskOf (asked_replay is_strict) known text told =
+abbrev pub IsTaskOf : Asked → Option (List ℕ) → Bool → List ℕ → Type 0
+IsTaskOf (asked_replay is_strict) known told text =
     (all : Bool) × IsJudgedReplayOf known text all × (told ≡ tells_of_refusals is_strict all)
-IsTaskOf (asked_run with_journal key) known text told = IsRunOf known with_journal key text × (told ≡ false)
+IsTaskOf asked_trace known told text = IsTraceOf known text × (told ≡ false)
+IsTaskOf asked_check known told text = IsCheckOf known text × (told ≡ false)
+IsTaskOf (asked_run with_journal key) known told text = IsRunOf known with_journal key text × (told ≡ false)
 
 -- the text of a task was written, whole
 abbrev pub DidTask : Asked → Option (List ℕ) → Option (List ℕ) → Option (List ℕ) → Bool → Type 0
-DidTask asked known old new told = (text : List ℕ) × IsTaskOf asked known text told × Appends old new text
+DidTask asked known old new told = (text : List ℕ) × IsTaskOf asked known told text × Appends old new text
+
+-- the text of a task, whether refused events are told of or not
+abbrev pub IsTextOf : Asked → Option (List ℕ) → List ℕ → Type 0
+IsTextOf asked known text = (told : Bool) × IsTaskOf asked known told text
 
 -- what the arguments ask for was written, whole
 abbrev pub Did : List Text → Option (List ℕ) → Option (List ℕ) → Option (List ℕ) → Bool → Type 0
@@ -73,7 +96,19 @@ Did arguments known old new told =
     ((told ≡ false) × AsksToShow arguments × ((text : List ℕ) × Appends old new text))
     ⊎ ((faults (line_of arguments) ≡ []) × DidTask (asked (line_of arguments)) known old new told)
 
+-- a text that the arguments ask for
+abbrev pub IsAskedFor : List Text → Option (List ℕ) → List ℕ → Type 0
+IsAskedFor arguments known text =
+    AsksToShow arguments ⊎ ((faults (line_of arguments) ≡ []) × IsTextOf (asked (line_of arguments)) known text)
+
 -- the input of a task is bad in this way, where it is known
 abbrev pub IsInputFaultOf : Asked → Option (List ℕ) → AppFault → Type 0
 IsInputFaultOf (asked_replay is_strict) known fault = IsFaultOf known fault
+IsInputFaultOf asked_trace known fault = IsFaultOf known fault
+IsInputFaultOf asked_check known fault = IsFaultOf known fault
 IsInputFaultOf (asked_run with_journal key) known fault = IsPlanFaultOf known fault
+
+-- the arguments ask for a task, whose input is bad in this way
+abbrev pub IsFaultFor : List Text → Option (List ℕ) → AppFault → Type 0
+IsFaultFor arguments known fault =
+    (faults (line_of arguments) ≡ []) × IsInputFaultOf (asked (line_of arguments)) known fault

@@ -2,19 +2,13 @@
 use Rattle.std.specs.Prelude.{ℕ, List, [], ◌∷◌, ◌++◌, codes, decimal, length, Option, Some, None}
 use Rattle.std.specs.List.{flat_map, range_with_len}
 use Rattle.mencius_base.specs.declared.command.Command.{Command}
-use Rattle.mencius_base.specs.declared.command.CommandId.{CommandId}
 use Rattle.mencius_model.specs.Trace.{Trace, events, sent, submitted}
 use Rattle.mencius_base.specs.Members.{Membership}
 use Rattle.mencius_base.specs.Numbers.{ServerId, TicketNo}
 use Rattle.mencius_model.specs.Server.{done, front}
-use Rattle.mencius_model.specs.Replying.{Reply, Is, command_at, reply_of}
+use Rattle.mencius_model.specs.Replying.{command_at, reply_of}
 use Rattle.mencius_model.specs.Executed.{executed}
-
-abbrev pub id_text : CommandId → List ℕ
-id_text id = decimal id.client ++ 46 ∷ decimal id.number
-
-abbrev pub line_feed : List ℕ
-line_feed = 10 ∷ []
+use Rattle.mencius_trace.specs.Words.{answer_text, id_text, line_feed}
 
 -- the identity of a ticket's command, after a space
 abbrev pub spaced_id : Option Command → List ℕ
@@ -30,14 +24,6 @@ abbrev pub server_line : Membership → Trace → ServerId → List ℕ
 server_line m w p =
     codes "server " ++ decimal p ++ codes " front " ++ decimal (front m w p) ++ codes " done " ++ decimal (done w p)
     ++ codes " history" ++ history_text w (executed w p) ++ line_feed
-
-abbrev pub former_text : Option (List ℕ) → List ℕ
-former_text None = codes "none"
-former_text (Some text) = 61 ∷ text
-
-abbrev pub answer_text : Option Reply → List ℕ
-answer_text (Some (Is former)) = former_text former
-answer_text _ = codes "pending"
 
 abbrev pub reply_of_command : Trace → Option Command → List ℕ
 reply_of_command w None = []

@@ -9,7 +9,8 @@ use Rattle.mencius_input.specs.declared.fault.AppFault.TheVariants.{BadLimit, Bo
 use Rattle.mencius_input.specs.Ends.{most_bytes}
 use Rattle.mencius_app.specs.Journal.{ReadsBack, journal_text}
 use Rattle.mencius_input.specs.Plan.{WrittenPlan, plan}
-use Rattle.mencius_app.specs.Report.{former_text, line_feed, report_text}
+use Rattle.mencius_app.specs.Report.{report_text}
+use Rattle.mencius_trace.specs.Words.{former_text, line_feed}
 
 -- ---- the text
 

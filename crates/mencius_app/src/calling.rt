@@ -1,16 +1,18 @@
 //! A call of the program, from its words to how it ends.
 
-ghost use Rattle.std.specs.Prelude.{◌≡◌, ◌≢◌, ◌⊎◌, ◌≤◌, ◌+◌, ℕ, List, [], false, true};
-ghost use Rattle.std.specs.Io.KnownBytes.{Appends, Keeps};
+ghost use Rattle.std.specs.Prelude.{◌≡◌, ◌≢◌, ◌⊎◌, ◌≤◌, ◌+◌, ℕ, List, [], false, true, IfErr, IfSome, OnOk, Some};
+ghost use Rattle.std.specs.Io.KnownBytes.{Appends};
 ghost use Rattle.clap.specs.Words.{kind_of};
-ghost use Rattle.mencius_input.specs.CommandLine.{are_texts, asked, asked_in, bytes_of, faults, line_of};
-ghost use Rattle.mencius_input.specs.Ends.{HasFailed, TakesAtMost, most_bytes, most_failed_calls};
-ghost use Rattle.mencius_app.specs.Ending.{Did, DidTask, IsInputFaultOf, IsMistaken, IsToShow, ending_of};
-ghost use Rattle.mencius_app.specs.Replay.{IsBadInput};
+ghost use Rattle.mencius_input.specs.CommandLine.{are_texts, asked, asked_check, asked_in, bytes_of, faults, line_of};
+ghost use Rattle.mencius_input.specs.Ends.{HasFailed, WritesFront, most_failed_calls};
+ghost use Rattle.mencius_app.specs.Calls.{AsksLittle, IsCause};
+ghost use Rattle.mencius_app.specs.Ending.{Did, DidTask, IsAskedFor, IsFaultFor, IsInputFaultOf, IsMistaken, IsTextOf, IsToShow, ending_of, fault_in, is_explained};
 
+use crate::checking::{Finding, check};
 use crate::ending::Ending;
 use crate::replaying::replay_judged;
 use crate::running::run;
+use crate::tracing::trace;
 use clap::Error;
 use clap::error::ErrorKind;
 use mencius_board::Open;
@@ -29,13 +31,14 @@ Usage: mencius <COMMAND>
 For more information, try '--help'.
 ";
 
-/// Does what the arguments behind the program's name ask for: a [`replay`](crate::replay) or a
-/// [`run`] of the scenario that `source` has, whose text goes to `sink`; or help or the version,
-/// which goes there too. What is wrong with the arguments, as one that is not UTF-8, goes to `errors`,
-/// and then nothing was read. The program's own name is not asked for, and so may be anything.
+/// Does what the arguments behind the program's name ask for: a [`replay`](crate::replay), a
+/// [`trace`], a [`check`] or a [`run`] of the scenario that `source` has, whose text goes to `sink`; or
+/// help or the version, which goes there too. What is wrong with the arguments, as one that is not
+/// UTF-8, goes to `errors`, and then nothing was read. The program's own name is not asked for, and
+/// so may be anything.
 ///
 /// It ends with `Done`, or with `Refused` where a strict replay had refused events, only once the
-/// whole text was written.
+/// whole text was written; and with `Explained` only where a check found a fault.
 pub fn perform<R: Source, W: Sink, E: Sink, T: Threads + Wait + Sync>(
     rt: &T,
     alloc: Global,
@@ -57,21 +60,16 @@ pub fn perform<R: Source, W: Sink, E: Sink, T: Threads + Wait + Sync>(
     ensures misused { result ≡ Ending.BadCommandLine →
         IsMistaken (bytes_of arguments.now) × (source.new ≡ source.old) × (sink.new ≡ sink.old) }
 
-    // Which fault, and when. Only a writer that failed leaves something written.
-    ensures bad_input { (f : AppFault) → result ≡ Ending.Failed f → IsBadInput f →
-        (faults (line_of (bytes_of arguments.now)) ≡ [])
-        × IsInputFaultOf (asked (line_of (bytes_of arguments.now))) (R.remaining source.old) f }
-    ensures read_failed { result ≡ Ending.Failed AppFault.ReadFailed
-        → HasFailed (R.failed source.old) (R.failed source.new) }
-    ensures write_failed { result ≡ Ending.Failed AppFault.WriteFailed
-        → HasFailed (W.failed sink.old) (W.failed sink.new) }
-    ensures nothing { (f : AppFault) → result ≡ Ending.Failed f → f ≢ AppFault.WriteFailed →
-        Keeps (W.contents sink.old) (W.contents sink.new) }
-
-    // How much was asked of the reader and the writer, whatever the answer.
-    ensures taken { TakesAtMost (most_bytes + 1) (R.remaining source.old) (R.remaining source.new) }
-    ensures reads_tried { R.failed source.new ≤ R.failed source.old + most_failed_calls }
-    ensures writes_tried { W.failed sink.new ≤ W.failed sink.old + most_failed_calls }
+    // Which fault, and when; and how much was asked of reader and writer, whatever the answer.
+    ensures fault { IfSome (fault_in result)
+        (IsCause (IsFaultFor (bytes_of arguments.now) (R.remaining source.old))
+        (IsAskedFor (bytes_of arguments.now) (R.remaining source.old))
+        (R.failed source.old) (R.failed source.new) (W.failed sink.old) (W.failed sink.new)
+        (W.contents sink.old) (W.contents sink.new)) }
+    ensures explained { is_explained result ≡ true
+        → asked (line_of (bytes_of arguments.now)) ≡ asked_check }
+    ensures asked { AsksLittle (R.remaining source.old) (R.remaining source.new)
+        (R.failed source.old) (R.failed source.new) (W.failed sink.old) (W.failed sink.new) }
 {
     if !are_texts(arguments) {
         // Nobody is left to tell where standard error fails.
@@ -90,15 +88,17 @@ fn tell<W: Sink, E: Sink>(alloc: Global, error: &Error, sink: &mut W, errors: &m
     ensures done { result ≡ Ending.Done → IsToShow (kind_of error.now)
         × (text : List ℕ) × Appends (W.contents sink.old) (W.contents sink.new) text }
     ensures all_accepted { result ≢ Ending.Refused }
+    ensures plain { is_explained result ≡ false }
     ensures misused { result ≡ Ending.BadCommandLine → (kind_of error.now ≢ ErrorKind.OutOfMemory)
         × (kind_of error.now ≢ ErrorKind.DisplayHelp)
         × (kind_of error.now ≢ ErrorKind.DisplayVersion)
         × (sink.new ≡ sink.old) }
-    ensures fault { (f : AppFault) → result ≡ Ending.Failed f
-        → (f ≡ AppFault.WriteFailed) ⊎ (f ≡ AppFault.NoMemory) }
-    ensures write_failed { result ≡ Ending.Failed AppFault.WriteFailed
-        → HasFailed (W.failed sink.old) (W.failed sink.new) }
-    ensures nothing { result ≡ Ending.Failed AppFault.NoMemory → sink.new ≡ sink.old }
+    ensures fault { IfSome (fault_in result)
+        (λ f. (f ≡ AppFault.WriteFailed) ⊎ (f ≡ AppFault.NoMemory)) }
+    ensures write_failed { fault_in result ≡ Some AppFault.WriteFailed
+        → HasFailed (W.failed sink.old) (W.failed sink.new) × IsToShow (kind_of error.now)
+        × (text : List ℕ) × WritesFront (W.contents sink.old) (W.contents sink.new) text }
+    ensures nothing { fault_in result ≡ Some AppFault.NoMemory → sink.new ≡ sink.old }
     ensures tried { W.failed sink.new ≤ W.failed sink.old + most_failed_calls }
 {
     if error.kind() == ErrorKind::OutOfMemory {
@@ -130,17 +130,14 @@ fn perform_task<R: Source, W: Sink, T: Threads + Wait + Sync>(
         DidTask (asked_in task) (R.remaining source.old) (W.contents sink.old)
         (W.contents sink.new) true }
     ensures taken_words { result ≢ Ending.BadCommandLine }
-    ensures bad_input { (f : AppFault) → result ≡ Ending.Failed f → IsBadInput f →
-        IsInputFaultOf (asked_in task) (R.remaining source.old) f }
-    ensures read_failed { result ≡ Ending.Failed AppFault.ReadFailed
-        → HasFailed (R.failed source.old) (R.failed source.new) }
-    ensures write_failed { result ≡ Ending.Failed AppFault.WriteFailed
-        → HasFailed (W.failed sink.old) (W.failed sink.new) }
-    ensures nothing { (f : AppFault) → result ≡ Ending.Failed f → f ≢ AppFault.WriteFailed →
-        Keeps (W.contents sink.old) (W.contents sink.new) }
-    ensures taken { TakesAtMost (most_bytes + 1) (R.remaining source.old) (R.remaining source.new) }
-    ensures reads_tried { R.failed source.new ≤ R.failed source.old + most_failed_calls }
-    ensures writes_tried { W.failed sink.new ≤ W.failed sink.old + most_failed_calls }
+    ensures fault { IfSome (fault_in result)
+        (IsCause (IsInputFaultOf (asked_in task) (R.remaining source.old))
+        (IsTextOf (asked_in task) (R.remaining source.old))
+        (R.failed source.old) (R.failed source.new) (W.failed sink.old) (W.failed sink.new)
+        (W.contents sink.old) (W.contents sink.new)) }
+    ensures explained { is_explained result ≡ true → asked_in task ≡ asked_check }
+    ensures asked { AsksLittle (R.remaining source.old) (R.remaining source.new)
+        (R.failed source.old) (R.failed source.new) (W.failed sink.old) (W.failed sink.new) }
 {
     match task {
         Task::Replay { is_strict } => match replay_judged(alloc, source, sink) {
@@ -153,6 +150,8 @@ fn perform_task<R: Source, W: Sink, T: Threads + Wait + Sync>(
             }
             Err(fault) => ending_of(Err(fault)),
         },
+        Task::Trace => ending_of(trace(alloc, source, sink)),
+        Task::Check => ending_of_check(check(alloc, source, sink)),
         Task::Run { with_journal, key } => {
             let key = key.as_deref();
             ending_of(run(rt, alloc, source, sink, &Open, with_journal, key))
@@ -167,5 +166,22 @@ fn ending_of(done: Result<(), AppFault>) -> Ending
     match done {
         Ok(()) => Ending::Done,
         Err(fault) => Ending::Failed(fault),
+    }
+}
+
+// How a call ends whose check came to this.
+fn ending_of_check(done: Result<(), Finding>) -> Ending
+    ensures done { OnOk done (result ≡ Ending.Done) }
+    ensures fault { IfErr done (λ found. fault_in result ≡ Some found.fault) }
+{
+    match done {
+        Ok(()) => Ending::Done,
+        Err(
+            Finding {
+                fault,
+                words: Some(words),
+            },
+        ) => Ending::Explained { fault, words },
+        Err(Finding { fault, words: None }) => Ending::Failed(fault),
     }
 }

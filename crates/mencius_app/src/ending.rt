@@ -1,14 +1,15 @@
 //! How a call of the program ends: its exit status, and its line on standard error.
 
-ghost use Rattle.std.specs.Prelude.{◌≡◌, ◌⊎◌};
+ghost use Rattle.std.specs.Prelude.{◌≡◌, ◌⊎◌, ◌++◌, OnOk, OnErr};
 ghost use Rattle.std.specs.Io.KnownBytes.{Appends};
 ghost use Rattle.mencius_input.specs.Ends.{HasFailed, WritesFront};
-ghost use Rattle.mencius_app.specs.Ending.{fault_line, line_of_ending, status_of_ending};
+ghost use Rattle.mencius_input.specs.Status.{status_of};
+ghost use Rattle.mencius_app.specs.Ending.{fault_line, lines_of_ending, status_of_ending};
 
 use mencius_input::{AppFault, Sink, exit_status, write_all};
 
 /// How a call of the program went.
-#[derive(Clone, Copy, Debug, PartialEq, Eq)]
+#[derive(Debug, Drop, PartialEq, Eq)]
 pub enum Ending {
     /// What the command line asks for was done, and its text was written whole.
     Done,
@@ -18,29 +19,61 @@ pub enum Ending {
     BadCommandLine,
     /// It ended at a fault.
     Failed(AppFault),
+    /// A check ended at a fault, and there are words for it.
+    Explained {
+        /// The fault.
+        fault: AppFault,
+        /// Where the scenario is wrong, and how, with a line feed at the end of each line.
+        words: String,
+    },
 }
 
 /// Ends a call of the program: writes the line of a fault, `mencius: fault NUMBER NAME`, where the
-/// call ended at one, and answers the exit status: 0 where it was done, 1 where a strict replay had
-/// refused events, 2 for a bad command line, and else [`exit_status`] of the fault. If the line can't be
-/// written, the status stays the same.
+/// call ended at one, and behind it the words for it, if there are any; and answers the exit status:
+/// 0 where it was done, 1 where a strict replay had refused events, 2 for a bad command line, and
+/// else [`exit_status`] of the fault. If the lines can't be written, the status stays the same.
 pub fn end<E: Sink>(ending: Ending, errors: &mut E) -> u8
     ensures status { result ≡ status_of_ending ending }
-    ensures line { Appends (E.contents errors.old) (E.contents errors.new) (line_of_ending ending)
+    ensures lines { Appends (E.contents errors.old) (E.contents errors.new) (lines_of_ending ending)
         ⊎ HasFailed (E.failed errors.old) (E.failed errors.new) }
     ensures front { WritesFront (E.contents errors.old) (E.contents errors.new)
-        (line_of_ending ending) }
+        (lines_of_ending ending) }
 {
     match ending {
         Ending::Done => 0,
         Ending::Refused => 1,
         Ending::BadCommandLine => 2,
-        Ending::Failed(fault) => {
-            // Nobody is left to tell where standard error fails.
-            let _ = write_all(errors, line_of_fault(fault).as_bytes());
-            exit_status(fault)
-        }
+        Ending::Failed(fault) => tell(errors, fault, ""),
+        Ending::Explained { fault, words } => tell(errors, fault, words.as_str()),
     }
+}
+
+// Writes the line of a fault and the words for it, and answers its exit status.
+fn tell<E: Sink>(errors: &mut E, fault: AppFault, words: &str) -> u8
+    ensures status { result ≡ status_of fault }
+    ensures lines { Appends (E.contents errors.old) (E.contents errors.new)
+        (fault_line fault ++ words.now) ⊎ HasFailed (E.failed errors.old) (E.failed errors.new) }
+    ensures front { WritesFront (E.contents errors.old) (E.contents errors.new)
+        (fault_line fault ++ words.now) }
+{
+    // Nobody is left to tell where standard error fails.
+    let _ = write_both(errors, line_of_fault(fault), words);
+    exit_status(fault)
+}
+
+// Writes two texts, one behind the other.
+fn write_both<E: Sink>(errors: &mut E, first: &str, second: &str) -> Result<(), AppFault>
+    ensures whole { OnOk result (Appends (E.contents errors.old) (E.contents errors.new)
+        (first.now ++ second.now)) }
+    ensures front { WritesFront (E.contents errors.old) (E.contents errors.new)
+        (first.now ++ second.now) }
+    ensures failed { OnErr result (HasFailed (E.failed errors.old) (E.failed errors.new)) }
+{
+    write_all(errors, first.as_bytes())?;
+    let done = write_all(errors, second.as_bytes());
+    // Called for its promise alone: no count is past its greatest value.
+    let _failures = errors.failures();
+    done
 }
 
 // What is said of a fault. It takes no memory, which may be what ran out.

@@ -1,9 +1,10 @@
-//! The edge of the program, from the bytes of a scenario to the bytes of a report: what a replay and
-//! a run make of their input, and the texts that they print.
+//! The edge of the program, from the bytes of a scenario to the bytes of a report: what a replay, a
+//! trace, a check and a run make of their input, and the texts that they print.
 #![tactic(auto)]
 
 mod arguments;
 mod calling;
+mod checking;
 mod ending;
 mod fault;
 mod journal;
@@ -11,9 +12,11 @@ mod plan;
 mod printed;
 mod replaying;
 mod running;
+mod tracing;
 
 pub use arguments::arguments_of;
 pub use calling::perform;
+pub use checking::{Finding, check};
 pub use ending::{Ending, end};
 pub use mencius_board::{Gate, Open};
 pub use mencius_input::{
@@ -23,3 +26,4 @@ pub use plan::{RunScenario, read_plan};
 pub use printed::report;
 pub use replaying::{replay, replay_judged};
 pub use running::run;
+pub use tracing::trace;

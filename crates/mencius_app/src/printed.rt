@@ -1,17 +1,15 @@
 //! The report of a cluster.
 
-ghost use Rattle.std.specs.Prelude.{ℕ, ◌≡◌, ◌<◌, ◌≤◌, ◌+◌, ◌⊎◌, ◌++◌, ◌∷◌, length, decimal, string_bytes, Some, IfErr, IfOk, IsErrOf, OnOk, slice_get};
+ghost use Rattle.std.specs.Prelude.{ℕ, ◌≡◌, ◌<◌, ◌≤◌, ◌+◌, ◌⊎◌, ◌++◌, length, string_bytes, Some, IfErr, IfOk, IsErrOf, OnOk, slice_get};
 ghost use Rattle.std.specs.Io.KnownBytes.{Appends, Keeps};
 ghost use Rattle.mencius_input.specs.Ends.{HasFailed, WritesFront, most_failed_calls};
-ghost use Rattle.mencius_app.specs.Report.{answer_text, counts_line, history_text, id_text, reply_line, reply_lines, reply_of_command, report_text, server_line, server_lines, spaced_id};
+ghost use Rattle.mencius_app.specs.Report.{counts_line, history_text, reply_line, reply_lines, reply_of_command, report_text, server_line, server_lines, spaced_id};
 ghost use Rattle.mencius_model.specs.Trace.{submitted};
-ghost use Rattle.mencius_cluster.specs.Answers.{bytes_in};
 ghost use Rattle.mencius_cluster.specs.State.{trace_of};
 
-use itoa::Buffer;
-use mencius_base::CommandId;
-use mencius_cluster::{Answered, Cluster, laws};
+use mencius_cluster::{Cluster, laws};
 use mencius_input::{AppFault, Sink, write_all};
+use mencius_trace::{push_answer, push_id};
 use std::alloc::{AllocError, Global};
 
 /// Writes the report of a cluster, whole. At most 1,001 calls of the writer fail.
@@ -107,22 +105,6 @@ fn push_history(text: &mut String, cluster: &Cluster, tickets: &[u32]) -> Result
     Ok(())
 }
 
-pub(crate) fn push_id(text: &mut String, id: CommandId) -> Result<(), AllocError>
-    ensures { OnOk result (string_bytes text.new ≡ string_bytes text.old ++ id_text id) }
-{
-    push_number(text, id.client)?;
-    text.push('.')?;
-    push_number(text, id.number)
-}
-
-// Adds a number's digits. A report has as many identities as there are commands, and `write!` takes three times
-// as long.
-fn push_number(text: &mut String, number: u32) -> Result<(), AllocError>
-    ensures { OnOk result (string_bytes text.new ≡ string_bytes text.old ++ decimal number) }
-{
-    text.push_str(Buffer::new().format(number))
-}
-
 fn push_replies(text: &mut String, cluster: &Cluster) -> Result<(), AllocError>
     ensures { OnOk result (string_bytes text.new ≡ string_bytes text.old
         ++ reply_lines (trace_of cluster.now) (length (submitted (trace_of cluster.now)))) }
@@ -146,15 +128,4 @@ fn push_reply(text: &mut String, cluster: &Cluster, ticket: u32) -> Result<(), A
     text.push(' ')?;
     push_answer(text, &submission.answer)?;
     text.push('\n')
-}
-
-fn push_answer(text: &mut String, answer: &Answered) -> Result<(), AllocError>
-    ensures { OnOk result (string_bytes text.new
-        ≡ string_bytes text.old ++ answer_text (Some (bytes_in answer.now))) }
-{
-    match answer {
-        Answered::Given(Some(former)) => write!(text, "={former}"),
-        Answered::Given(None) => text.push_str("none"),
-        Answered::Pending => text.push_str("pending"),
-    }
 }

@@ -4,10 +4,10 @@ use Rattle.rand_pcg.specs.Lcg.{Lcg, advance, next_state, state_after, started, i
 use Rattle.rand_pcg.specs.Pcg.{multiplier_64}
 use Rattle.mencius_board.specs.Choices.{drawing_after, drawn, first_drawing, one_on, three_on}
 
-one_later : (w m p n s : ℕ) → state_after w m p (suc n) s ≡ next_state w m p (state_after w m p n s)
+one_later : (x m p n s : ℕ) → state_after x m p (suc n) s ≡ next_state x m p (state_after x m p n s)
 unfolding state_after
-one_later w m p zero s = refl
-one_later w m p (suc n) s = one_later w m p n (next_state w m p s)
+one_later x m p zero s = refl
+one_later x m p (suc n) s = one_later x m p n (next_state x m p s)
 
 advance_more : (n : ℕ) (g : Lcg) → advance 64 multiplier_64 (suc n) g ≡ one_on (advance 64 multiplier_64 n g)
 advance_more n g = ap (λ (s : ℕ). record g { state = s }) (one_later 64 multiplier_64 g.increment n g.state)

@@ -8,4 +8,4 @@ use Rattle.mencius_board.specs.Running.{Answers, EndState, EndsAs, HasEnded, IsE
 pub ended : {T : Type 0} (o : Option (PromisedHandle T ProgressOf)) (plan : PlanState) (worker : ℕ) (end : EndState)
     → Answers plan.seed plan.turns worker o → EndsAs o end → IsEndOf plan worker end
 ended None plan worker end a e = inr e
-ended (Some h) plan worker end a e = inl (subst (λ (q : ProgressOf). HasEnded q.seed q.worker q.turns end) a e)
+ended (Some h) plan worker end a e = inl (subst (λ (x : ProgressOf). HasEnded x.seed x.worker x.turns end) a e)

@@ -9,7 +9,7 @@ use Rattle.mencius_cluster.specs.declared.cluster.Effect.{Effect}
 use Rattle.mencius_model.specs.Replying.{longest_commands}
 use Rattle.mencius_cluster.specs.State.{ClusterState, IsStepped, trace_of}
 use Rattle.mencius_board.specs.Boards.{IsSteady, longest}
-use Rattle.mencius_board.proofs.Prefixes.{prefix_self}
+use Rattle.mencius_model.proofs.Prefixes.{prefix_self}
 
 -- what a board relies on holds of the cluster that an event leaves
 steady_next : (x y : ClusterState) (e : Event) (f : Effect) → IsSteady x
@@ -31,7 +31,7 @@ longest_grows x y e f s step =
     (record { some_server = s.some_server; replays = all })
     (record { before = x.journal; after = e ∷ []; splits = refl; replays = s.replays }) in
     subst (λ (m : Membership). IsPrefix (longest_commands x.members (trace_of x)) (longest_commands m (trace_of y)))
-    (sym step.members) (more.0, sym more.1)
+    (sym step.members) more
 
 -- an event is accepted, or nothing changes
 pub answer_grows : (x y : ClusterState) (e : Event) (r : Result Effect Refusal) → IsSteady x

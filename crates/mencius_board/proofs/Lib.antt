@@ -1,4 +1,3 @@
-pub mod Prefixes
 pub mod Adding
 pub mod Steps
 pub mod Entries

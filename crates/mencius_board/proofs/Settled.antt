@@ -44,26 +44,26 @@ settled_fault plan done n (Err g ∷ rest) f e h =
 settled_fault plan done n (Ok d ∷ rest) f e h =
     settled_fault plan (done ++ chooser_at plan d ∷ []) (n + 1) rest f e (end_rest plan n (n + 1) (Ok d) rest refl h)
 
-settled_turned : (plan : PlanState) (done : List ChooserState) (ends : List EndState) (v : List ChooserState)
-    → settled_behind plan done ends ≡ Ok v → EndFrom plan (length done) ends
-    → ((k : ℕ) (c : ChooserState) → k < length done → Turned plan k (get_or done k c))
-    → (length v ≡ length done + length ends)
-    × ((k : ℕ) (c : ChooserState) → k < length v → Turned plan k (get_or v k c))
-settled_turned plan done [] v e h turned =
-    let same : done ≡ v = cc in (
+settled_turned : (plan : PlanState) (done : List ChooserState) (ends : List EndState) (x : List ChooserState)
+    → settled_behind plan done ends ≡ Ok x → EndFrom plan (length done) ends
+    → ((k : ℕ) (y : ChooserState) → k < length done → Turned plan k (get_or done k y))
+    → (length x ≡ length done + length ends)
+    × ((k : ℕ) (y : ChooserState) → k < length x → Turned plan k (get_or x k y))
+settled_turned plan done [] x e h turned =
+    let same : done ≡ x = cc in (
       subst (λ (xs : List ChooserState). length xs ≡ length done + 0) same (omega arith),
-      subst (λ (xs : List ChooserState). (k : ℕ) (c : ChooserState) → k < length xs
-          → Turned plan k (get_or xs k c)) same turned,
+      subst (λ (xs : List ChooserState). (k : ℕ) (y : ChooserState) → k < length xs
+          → Turned plan k (get_or xs k y)) same turned,
     )
-settled_turned plan done (Err g ∷ rest) v e h turned = absurd (cc)
-settled_turned plan done (Ok d ∷ rest) v e h turned =
+settled_turned plan done (Err g ∷ rest) x e h turned = absurd (cc)
+settled_turned plan done (Ok d ∷ rest) x e h turned =
     let more : List ChooserState = done ++ chooser_at plan d ∷ [] in
     let one : length more ≡ length done + 1 = length-append done (chooser_at plan d ∷ []) in
     let drawing : d.drawing ≡ drawing_after plan.seed (length done) plan.turns =
     has_drawn plan (length done) d (end_first plan (length done) (Ok d) rest h) in
     let is : Turned plan (length done) (chooser_at plan d) = record { plan = refl; drawing = drawing } in
-    let all = settled_turned plan more rest v e (end_rest plan (length done) (length more) (Ok d) rest one h)
-    (λ k c below. more_of (Turned plan) k done (chooser_at plan d) c turned is (omega (arith, below, one))) in
+    let all = settled_turned plan more rest x e (end_rest plan (length done) (length more) (Ok d) rest one h)
+    (λ k y below. more_of (Turned plan) k done (chooser_at plan d) y turned is (omega (arith, below, one))) in
     (omega (arith, all.0, one), all.1)
 
 ends_from : (plan : PlanState) (n : ℕ) (ends : List EndState) → length ends ≡ n → HaveEnded ends plan n
@@ -73,14 +73,14 @@ ends_from plan n ends len h k d below =
 
 -- what a run answers
 pub come_to : {V : Type 0} (plan : PlanState) (ends : List EndState) (items : V → List ChooserState) (many : V → ℕ)
-    (r : Result V BoardFault) → ((v : V) → many v ≡ length (items v)) → length ends ≡ plan.workers
+    (r : Result V BoardFault) → ((x : V) → many x ≡ length (items x)) → length ends ≡ plan.workers
     → HaveEnded ends plan plan.workers
-    → MatchResult r (λ v. settled plan ends ≡ Ok (items v)) (λ f. settled plan ends ≡ Err f)
-    → IfOk r (λ v. many v ≡ plan.workers) × IfOk r (λ v. HaveTurned (items v) plan) × IfErr r (IsRunFault plan.turns)
-come_to plan ends items many (Ok v) counts len h e =
+    → MatchResult r (λ x. settled plan ends ≡ Ok (items x)) (λ f. settled plan ends ≡ Err f)
+    → IfOk r (λ x. many x ≡ plan.workers) × IfOk r (λ x. HaveTurned (items x) plan) × IfErr r (IsRunFault plan.turns)
+come_to plan ends items many (Ok x) counts len h e =
     let from : EndFrom plan 0 ends = ends_from plan plan.workers ends len h in
-    let all = settled_turned plan [] ends (items v) e from (λ k c below. absurd (omega (arith, below))) in
-    let as_many : length (items v) ≡ plan.workers = omega (arith, all.0, len) in
-    (counts v ∙ as_many, (λ k c below. all.1 k c (omega (arith, as_many, below))), tt)
+    let all = settled_turned plan [] ends (items x) e from (λ k c below. absurd (omega (arith, below))) in
+    let as_many : length (items x) ≡ plan.workers = omega (arith, all.0, len) in
+    (counts x ∙ as_many, (λ k c below. all.1 k c (omega (arith, as_many, below))), tt)
 come_to plan ends items many (Err f) counts len h e =
     (tt, tt, settled_fault plan [] 0 ends f e (ends_from plan plan.workers ends len h))

@@ -16,21 +16,21 @@ pub any_left : {A B : Type 0} (o : Option A) (left : List B) (first : A → B) (
 any_left None left first rest h = ap is_any (sym h)
 any_left (Some x) left first rest h = ap is_any (sym h)
 
-pub picked_is : (c : ChooserState) (x : ClusterState) (loss : ℕ) (left : Bool) (words : List ℕ) (p : Pick)
-    → loss ≡ c.plan.loss → left ≡ is_any c.left
-    → words ≡ words_of c.drawing.generator → p ≡ pick_of x loss left words → picked c x ≡ p
-picked_is c x loss left words p a b d is =
-    ap (λ n. pick_of x n (is_any c.left) (words_of c.drawing.generator)) (sym a)
-    ∙ (ap (λ (t : Bool). pick_of x loss t (words_of c.drawing.generator)) (sym b)
+pub picked_is : (y : ChooserState) (x : ClusterState) (loss : ℕ) (left : Bool) (words : List ℕ) (z : Pick)
+    → loss ≡ y.plan.loss → left ≡ is_any y.left
+    → words ≡ words_of y.drawing.generator → z ≡ pick_of x loss left words → picked y x ≡ z
+picked_is y x loss left words z a b d is =
+    ap (λ n. pick_of x n (is_any y.left) (words_of y.drawing.generator)) (sym a)
+    ∙ (ap (λ (o : Bool). pick_of x loss o (words_of y.drawing.generator)) (sym b)
     ∙ (ap (λ (ws : List ℕ). pick_of x loss left ws) (sym d) ∙ sym is))
 
 -- an event is picked
 pub event_chosen : (old new : ChooserState) (x : ClusterState) (e : Event) → picked old x ≡ Is e
     → new ≡ record old { drawing = drawn old.drawing } → IsChosen old x e new
 event_chosen old new x e is made = record {
-  plan = ap (λ (c : ChooserState). c.plan) made;
-  drawing = ap (λ (c : ChooserState). c.drawing) made;
-  taken = subst (λ (p : Pick). IsTaken p old.left e new.left) (sym is) (refl, ap (λ (c : ChooserState). c.left) made);
+  plan = ap (λ (y : ChooserState). y.plan) made;
+  drawing = ap (λ (y : ChooserState). y.drawing) made;
+  taken = subst (λ (z : Pick). IsTaken z old.left e new.left) (sym is) (refl, ap (λ (y : ChooserState). y.left) made);
 }
 
 -- the next command is picked, and is chosen or stays
@@ -40,12 +40,12 @@ pub command_chosen : {E : Type 0} (r : Result Event E) (old mid new : ChooserSta
     → MatchResult r (λ e. (e ≡ Submit first.0 first.1) × (new ≡ record mid { left = rest })) (λ _. new ≡ mid)
     → MatchResult r (λ e. IsChosen old x e new) (λ _. IsPutOff old x new)
 command_chosen (Ok e) old mid new x first rest is made left h =
-    let was : old.left ≡ first ∷ rest = sym (ap (λ (c : ChooserState). c.left) made) ∙ left in
-    let taken : IsTaken NextCommand (first ∷ rest) e new.left = (h.0, ap (λ (c : ChooserState). c.left) h.1) in
+    let was : old.left ≡ first ∷ rest = sym (ap (λ (y : ChooserState). y.left) made) ∙ left in
+    let taken : IsTaken NextCommand (first ∷ rest) e new.left = (h.0, ap (λ (y : ChooserState). y.left) h.1) in
     record {
-      plan = ap (λ (c : ChooserState). c.plan) h.1 ∙ ap (λ (c : ChooserState). c.plan) made;
-      drawing = ap (λ (c : ChooserState). c.drawing) h.1 ∙ ap (λ (c : ChooserState). c.drawing) made;
-      taken = subst (λ (p : Pick). IsTaken p old.left e new.left) (sym is)
+      plan = ap (λ (y : ChooserState). y.plan) h.1 ∙ ap (λ (y : ChooserState). y.plan) made;
+      drawing = ap (λ (y : ChooserState). y.drawing) h.1 ∙ ap (λ (y : ChooserState). y.drawing) made;
+      taken = subst (λ (z : Pick). IsTaken z old.left e new.left) (sym is)
           (subst (λ (xs : List (ℕ × Command)). IsTaken NextCommand xs e new.left) (sym was) taken);
     }
 command_chosen (Err f) old mid new x first rest is made left h = record { picks = is; same = h ∙ made }

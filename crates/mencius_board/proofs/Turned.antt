@@ -7,10 +7,10 @@ use Rattle.mencius_board.specs.Choices.{ChooserState}
 use Rattle.mencius_board.specs.Faults.{IsShowFault, IsTurnFault}
 use Rattle.mencius_board.specs.Turns.{EndsTurn, HasNoMemory, IsAfterTurn, TakesTurn}
 
-turned_fault : (c d : ChooserState) (x y : BoardState) (shows : Bool) (turned : Result (Unit {0}) BoardFault)
-    → EndsTurn c d x y turned → IfErr turned (IsTurnFault shows)
-turned_fault c d x y shows (Ok _) h = tt
-turned_fault c d x y shows (Err f) h = inl h.0
+turned_fault : (z d : ChooserState) (x y : BoardState) (shows : Bool) (turned : Result (Unit {0}) BoardFault)
+    → EndsTurn z d x y turned → IfErr turned (IsTurnFault shows)
+turned_fault z d x y shows (Ok _) h = tt
+turned_fault z d x y shows (Err f) h = inl h.0
 
 shown_fault : (f : BoardFault) → IsShowFault f → IsTurnFault true f
 shown_fault f (inl memory) = inl memory
@@ -28,17 +28,17 @@ after_fault false x y (Err f) (Ok _) h was = tt
 after_fault false x y (Err f) (Err g) h was = let same : f ≡ g = cc in subst (IsTurnFault false) same was
 
 -- its fault is one that a turn may have
-pub turn_fault : (c d : ChooserState) (x y : BoardState) (shows : Bool) (answer : Result (Unit {0}) BoardFault)
-    → TakesTurn c d x y shows answer → IfErr answer (IsTurnFault shows)
-turn_fault c d x y shows answer h =
-    after_fault shows h.board y h.turned answer h.then_is (turned_fault c d x h.board shows h.turned h.turn)
+pub turn_fault : (z d : ChooserState) (x y : BoardState) (shows : Bool) (answer : Result (Unit {0}) BoardFault)
+    → TakesTurn z d x y shows answer → IfErr answer (IsTurnFault shows)
+turn_fault z d x y shows answer h =
+    after_fault shows h.board y h.turned answer h.then_is (turned_fault z d x h.board shows h.turned h.turn)
 
-refused_plan : (c d : ChooserState) (x : BoardState) → HasNoMemory c d x → d.plan ≡ c.plan
-refused_plan c d x (inl put_off) = ap (λ (b : ChooserState). b.plan) put_off.same
-refused_plan c d x (inr chosen) = chosen.1.plan
+refused_plan : (y d : ChooserState) (x : BoardState) → HasNoMemory y d x → d.plan ≡ y.plan
+refused_plan y d x (inl put_off) = ap (λ (z : ChooserState). z.plan) put_off.same
+refused_plan y d x (inr chosen) = chosen.1.plan
 
 -- the plan stays
-pub turn_plan : (c d : ChooserState) (x y : BoardState) (answer : Result (Unit {0}) BoardFault)
-    → EndsTurn c d x y answer → d.plan ≡ c.plan
-turn_plan c d x y (Ok _) h = h.chosen.plan
-turn_plan c d x y (Err f) h = refused_plan c d x h.2
+pub turn_plan : (z d : ChooserState) (x y : BoardState) (answer : Result (Unit {0}) BoardFault)
+    → EndsTurn z d x y answer → d.plan ≡ z.plan
+turn_plan z d x y (Ok _) h = h.chosen.plan
+turn_plan z d x y (Err f) h = refused_plan z d x h.2

@@ -30,9 +30,9 @@ unfoldable pub longest : ClusterState → List Command
 longest c = longest_commands c.members (trace_of c)
 
 -- what a board relies on of its cluster: there are servers, the journal replays, and the longest history only grows
-pub record IsSteady (c : ClusterState) : Type 0 where
-  pub some_server : 1 ≤ c.members.count
-  pub replays : replay c.members c.journal ≡ Ok (trace_of c)
+pub record IsSteady (x : ClusterState) : Type 0 where
+  pub some_server : 1 ≤ x.members.count
+  pub replays : replay x.members x.journal ≡ Ok (trace_of x)
   pub grows : LongestCommandsGrow
 
 -- what every board keeps: what is shown and then what is pending is a prefix of the longest history. The log has the

@@ -93,9 +93,9 @@ abbrev pub chooser_at : PlanState → ProgressState → ChooserState
 chooser_at plan x = record { plan = plan; drawing = x.drawing; left = left_at plan x.drawing.worker x.next }
 
 -- the worker's plan, number and generator after so many turns
-pub record HasTurned (c : ChooserState) (own : PlanState) (worker turns : ℕ) : Type 0 where
-  pub plan : c.plan ≡ own
-  pub drawing : c.drawing ≡ drawing_after own.seed worker turns
+pub record HasTurned (x : ChooserState) (own : PlanState) (worker turns : ℕ) : Type 0 where
+  pub plan : x.plan ≡ own
+  pub drawing : x.drawing ≡ drawing_after own.seed worker turns
 
 -- ---- choices
 

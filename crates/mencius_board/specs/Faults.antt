@@ -15,10 +15,14 @@ IsLookupFault f = (f ≡ NoMemory) ⊎ (f ≡ NoReader)
 abbrev pub IsTurnFault : Bool → BoardFault → Type 0
 IsTurnFault shows f = (f ≡ NoMemory) ⊎ ((f ≡ ShowRefused) × (shows ≡ true))
 
--- of all turns of a worker, given by its number: worker 0 alone shows, after its 64th turn first
+-- worker 0 shows after each so many of its turns
+abbrev pub turns_a_show : ℕ
+turns_a_show = 64
+
+-- of all turns of a worker, given by its number: worker 0 alone shows
 abbrev pub IsWorkerFault : ℕ → ℕ → BoardFault → Type 0
-IsWorkerFault worker turns f = (f ≡ NoMemory) ⊎ ((f ≡ ShowRefused) × (worker ≡ 0) × (64 ≤ turns))
+IsWorkerFault worker turns f = (f ≡ NoMemory) ⊎ ((f ≡ ShowRefused) × (worker ≡ 0) × (turns_a_show ≤ turns))
 
 -- of a run of workers, each of so many turns
 abbrev pub IsRunFault : ℕ → BoardFault → Type 0
-IsRunFault turns f = (f ≡ NoMemory) ⊎ ((f ≡ NoWorker) ⊎ ((f ≡ ShowRefused) × (64 ≤ turns)))
+IsRunFault turns f = (f ≡ NoMemory) ⊎ ((f ≡ NoWorker) ⊎ ((f ≡ ShowRefused) × (turns_a_show ≤ turns)))

@@ -18,7 +18,7 @@ book_of (Some v) = Some v.book
 -- the value's list is all of its mark, and what each has seen is a prefix of it
 abbrev pub Keeps : VersionState → List (Option MarkState) → Type 0
 Keeps x views = (x.mark.log ≡ x.list)
-    × ((seat : ℕ) (v : Option MarkState) → get_elem? views seat ≡ some v → Follows v x.mark)
+    × ((seat : ℕ) (z : Option MarkState) → get_elem? views seat ≡ some z → Follows z x.mark)
 
 -- the value y was seen. What had been seen before is a prefix of its list
 abbrev pub Shows : Option MarkState → VersionState → VersionState → Option MarkState → Type 0

@@ -25,9 +25,9 @@ pub record IsRefusedBy (x y : BoardState) (e : Event) : Type 0 where
   pub same : y ≡ x
 
 -- a turn that ends well: an event was chosen, and accepted or refused
-pub record IsTurn (c d : ChooserState) (x y : BoardState) : Type 0 where
+pub record IsTurn (z d : ChooserState) (x y : BoardState) : Type 0 where
   pub event : Event
-  pub chosen : IsChosen c x.cluster event d
+  pub chosen : IsChosen z x.cluster event d
   pub stepped : IsAccepted x y event ⊎ IsRefusedBy x y event
 
 -- memory ran out: for the choice, or for the step of the event that was chosen
@@ -52,9 +52,9 @@ IsAfterTurn true x y (Err f) answer = (answer ≡ Err f) × (y ≡ x)
 IsAfterTurn false x y turned answer = (answer ≡ turned) × (y ≡ x)
 
 -- a turn, and what follows it
-pub record TakesTurn (c d : ChooserState) (x y : BoardState) (shows : Bool) (answer : Result (Unit {0}) BoardFault)
+pub record TakesTurn (z d : ChooserState) (x y : BoardState) (shows : Bool) (answer : Result (Unit {0}) BoardFault)
     : Type 0 where
   pub board : BoardState
   pub turned : Result (Unit {0}) BoardFault
-  pub turn : EndsTurn c d x board turned
+  pub turn : EndsTurn z d x board turned
   pub then_is : IsAfterTurn shows board y turned answer

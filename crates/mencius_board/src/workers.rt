@@ -65,6 +65,9 @@ pub fn lend<B, X, R: Wait, F: FnOnce(&mut B) -> X>(rt: &R, lock: &Mutex<B>, f: F
     f(&mut held)
 }
 
+/// Worker 0 shows the longest history after each so many of its turns.
+const TURNS_A_SHOW: u32 = 64;
+
 // How a worker ended.
 type Ended = Result<Progress, BoardFault>;
 
@@ -83,7 +86,7 @@ fn work<R: Wait, G: Gate>(
     let mut progress = Chooser::new(plan, worker).into_progress();
     for turn in 0..plan.turns() {
         gate.pass(worker);
-        let shows = worker == 0 && turn % 64 == 63;
+        let shows = worker == 0 && turn % TURNS_A_SHOW == TURNS_A_SHOW - 1;
         let (next, answer) = lend(
             rt,
             board,

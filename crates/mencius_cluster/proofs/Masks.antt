@@ -1,13 +1,11 @@
--- Losses, over a plain list of masks.
-use Rattle.std.proofs.Common.{◌≡◌, ℕ, ◌<◌, ◌||◌, arith, List, length, set, get_or, eqb, sym, ap, ◌∙◌, inl, inr}
+-- Marks, over a plain list of masks.
+use Rattle.std.proofs.Common.{◌≡◌, ℕ, ◌<◌, ◌&&◌, ◌||◌, arith, List, length, set, get_or, eqb, sym, ap, ◌∙◌, inl, inr}
 use Rattle.std.specs.Prelude.{◌==◌, ◌*◌, ◌^◌, ◌%◌, bit_or}
 use Rattle.std.specs.Int.{bit_at, w8}
 use Rattle.std.proofs.lemmas.Bool.Decides.{eqb_tells}
 use Rattle.std.proofs.lemmas.List.{get_or-set_other, get_or-set_same}
 use Rattle.std.proofs.lemmas.Nat.Bits.{bit_at_set_other, bit_at_set_same}
 use Rattle.mencius_base.specs.Limits.{most_servers}
-use Rattle.mencius_model.specs.Trace.{Lost}
-use Rattle.mencius_model.specs.Next.{is_loss}
 
 -- one bit more
 more_bits : (x p q : ℕ) → p < 8
@@ -18,11 +16,11 @@ more_bits x p q few =
       | inr e ↦ rw e.0 (ap (λ n. n == 1) (bit_at_set_other w8 x p few q (λ h. e.1 (sym h))))
     ]
 
--- a loss more in the masks, at message k and server p; a mask has a bit for each server that there may be
-pub noted : (xs : List ℕ) (k p x : ℕ) → k < length xs → p < most_servers → x ≡ get_or xs k 0 → (n q : ℕ)
+-- a mark more in the masks, at message k and server p; a mask has a bit for each server that there may be
+pub marked : (xs : List ℕ) (k p x : ℕ) → k < length xs → p < most_servers → x ≡ get_or xs k 0 → (n q : ℕ)
     → (bit_at (get_or (set xs k (bit_or x (1 * 2 ^ p % 256))) n 0) q == 1)
-    ≡ (is_loss n q (Lost k p) || (bit_at (get_or xs n 0) q == 1))
-noted xs k p x there few is n q =
+    ≡ ((k == n && p == q) || (bit_at (get_or xs n 0) q == 1))
+marked xs k p x there few is n q =
     let bit : p < 8 = omega arith in
     elim (eqb_tells k n) [
       | inl e ↦

@@ -1,6 +1,6 @@
 -- How the fields of a cluster are seen.
 use Rattle.mencius_cluster.specs.declared.cluster.Cluster.TheInside.{Inside}
-use Rattle.mencius_cluster.specs.Losses.{loss_in}
+use Rattle.mencius_cluster.specs.Marks.{mark_in}
 use Rattle.mencius_cluster.specs.State.{ClusterState}
 use Rattle.mencius_cluster.specs.Tables.{Tables, IsCluster, journal_of}
 
@@ -12,7 +12,7 @@ tables_in c = record {
   done = c.done.items;
   messages = c.messages;
   rows = c.submissions.entries;
-  is_lost = loss_in c.lost;
+  is_lost = mark_in c.lost;
   entries = c.journal.items;
 }
 

@@ -1,6 +1,6 @@
 pub mod Answers
 pub mod State
 pub mod Tables
-pub mod Losses
+pub mod Marks
 pub mod Inside
 pub mod Performed

@@ -5,10 +5,11 @@
 #![tactic(auto)]
 
 mod cluster;
-mod losses;
+mod marks;
 mod submission;
 
 pub use cluster::{Cluster, Effect};
+pub use marks::Marks;
 pub use mencius_model::laws;
 pub use mencius_server::Glance;
 pub use submission::{Answered, Submission};

@@ -14,3 +14,4 @@ pub mod Named
 pub mod Fields
 pub mod Plans
 pub mod Paired
+pub mod Placed

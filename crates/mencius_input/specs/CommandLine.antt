@@ -35,17 +35,30 @@ lookup_option = record (new_rule (codes "lookup")) { long = Some (codes "lookup"
 abbrev pub replay_task : App
 replay_task = with_rule (new_app (codes "replay")) strict_option
 
+abbrev pub trace_task : App
+trace_task = new_app (codes "trace")
+
+abbrev pub check_task : App
+check_task = new_app (codes "check")
+
 abbrev pub run_task : App
 run_task = with_rule (with_rule (new_app (codes "run")) journal_option) lookup_option
 
+-- with the tasks that take events as they stand
+abbrev pub with_replays : App
+with_replays =
+    with_subcommand (with_subcommand (with_subcommand without_tasks replay_task.top) trace_task.top) check_task.top
+
 abbrev pub program : App
-program = with_subcommand (with_subcommand without_tasks replay_task.top) run_task.top
+program = with_subcommand with_replays run_task.top
 
 -- ---- what is asked for
 
--- a replay, strict or not; or a run, with its journal or not, and with a key to look up or none
+-- a replay, strict or not; a trace; a check; or a run, with its journal or not, and with a key to look up or none
 pub data Asked : Type 0 where
   asked_replay : (is_strict : Bool) → Asked
+  asked_trace : Asked
+  asked_check : Asked
   asked_run : (with_journal : Bool) (key : Option Text) → Asked
 
 -- whether a flag was given: its text is then "true"
@@ -57,6 +70,8 @@ abbrev pub asked_by : Option (Text × List Row) → Asked
 asked_by None = asked_replay false
 asked_by (Some (name, rows)) =
     if bytes_eq name (codes "run") then asked_run (has_flag (codes "journal") rows) (first_of (codes "lookup") rows)
+    else if bytes_eq name (codes "trace") then asked_trace
+    else if bytes_eq name (codes "check") then asked_check
     else asked_replay (has_flag (codes "strict") rows)
 
 -- `--lookup` and its KEY make one word, `--lookup=KEY`, since a KEY may begin with a hyphen
@@ -77,6 +92,8 @@ asked words = asked_by (subcommand_of program (words_read words))
 -- the same, of a task
 abbrev pub asked_in : Task → Asked
 asked_in (task.Replay is_strict) = asked_replay is_strict
+asked_in task.Trace = asked_trace
+asked_in task.Check = asked_check
 asked_in (task.Run with_journal key) = asked_run with_journal (option_map string_bytes key)
 
 -- ---- what is wrong with it
@@ -93,6 +110,8 @@ bad_key_faults (Some key) = kind.ValueValidation ∷ []
 -- what is wrong with the key
 abbrev pub key_faults : Asked → Kinds
 key_faults (asked_replay is_strict) = []
+key_faults asked_trace = []
+key_faults asked_check = []
 key_faults (asked_run with_journal None) = []
 key_faults (asked_run with_journal (Some key)) = bad_key_faults (if is_key key then None else Some key)
 

@@ -13,3 +13,4 @@ pub mod Named
 pub mod Fields
 pub mod PlanFields
 pub mod Events
+pub mod Place

@@ -3,7 +3,7 @@
 ghost use Rattle.std.specs.Prelude.{◌≡◌, ◌≤◌, ◌∷◌, false, IfOk, Some, codes, length, map, option_copied, option_map, string_bytes};
 ghost use Rattle.clap.specs.declared.builder.command.Command.TheViews.{out-Command as fields_of};
 ghost use Rattle.clap.specs.Words.{FailsBy, app_of, first_of, found_of, kind_of, rows_of, subcommand_rows_of};
-ghost use Rattle.mencius_input.specs.CommandLine.{asked, asked_by, asked_in, bad_key_faults, faults, has_flag, is_key, key_faults, program, replay_task, run_task, with_joined_key, words_read};
+ghost use Rattle.mencius_input.specs.CommandLine.{asked, asked_by, asked_in, bad_key_faults, faults, check_task, has_flag, is_key, key_faults, program, replay_task, run_task, trace_task, with_joined_key, with_replays, words_read};
 ghost use Rattle.mencius_input.specs.Status.{status_of};
 
 use crate::fault::AppFault;
@@ -20,6 +20,10 @@ pub enum Task {
         /// Whether a refused event makes it end with another status.
         is_strict: bool,
     },
+    /// A trace of the scenario on standard input.
+    Trace,
+    /// A check of the scenario on standard input.
+    Check,
     /// A run of the workers of the scenario on standard input.
     Run {
         /// Whether the journal is printed before the report.
@@ -49,11 +53,12 @@ const TOP_NOTES: &str = "\
 Examples, at the top of the repository:
   echo '{\"version\":1,\"servers\":1,\"events\":[\"submit 0 1.0 set a x\",
     \"deliver 0 0\",\"deliver 1 0\",\"execute 0\"]}' | ./mencius replay
+  ./mencius trace < examples/duelling_revokers.json
   ./mencius run --journal < examples/calm_run.json | sed -n 1p | ./mencius replay
 
-`./mencius replay --help` and `./mencius run --help` say what goes in and what comes out.
-The folder examples/ has schedules and runs to try, and docs/FORMATS.md describes both
-formats.";
+`./mencius replay --help` and `./mencius run --help` say what goes in, and the help of each
+task what comes out. The folder examples/ has schedules and runs to try, and
+docs/FORMATS.md describes all formats.";
 
 const REPLAY_ABOUT: &str =
     "Steps a new cluster through the scenario on standard input and prints a report";
@@ -105,7 +110,99 @@ Example, at the top of the repository:
   echo '{\"version\":1,\"servers\":1,\"events\":[\"submit 0 1.0 set a x\",
     \"deliver 0 0\",\"deliver 1 0\",\"execute 0\"]}' | ./mencius replay
 
-docs/FORMATS.md describes the format in full, and examples/ has schedules to try.";
+`mencius trace` prints what each event did, and `mencius check` says where a bad scenario
+is wrong. docs/FORMATS.md describes the format in full, and examples/ has schedules to try.";
+
+const TRACE_ABOUT: &str =
+    "Steps a new cluster through the scenario on standard input and prints what each event did";
+
+const TRACE_LONG_ABOUT: &str = "\
+Steps a new cluster through the scenario on standard input and prints what each event did
+
+The scenario is one of `replay`, whose help says what it has. One fact is printed a line.
+Servers, events, messages and instances are numbered from 0. A value V is a command's ID,
+or no-op.
+
+  servers N                 once, at the beginning
+  event INDEX TEXT          an event, by its place; up to the next one follows what it did:
+  refused NAME              it was refused, and so did nothing
+  promises P instance I ballot B count C of M
+                            P heard a promise, as C servers have promised; M are a majority
+  acceptances P instance I ballot B count C of M
+                            P heard an acceptance, as C servers have accepted
+  ignored REASON            nothing came of a message: a greater ballot was promised
+                            (promised B), the receiver tries another one (tries B), it
+                            learned already (learned V), or it proposed already
+  learned P instance I value V
+                            P learned what stands at an instance
+  sent NUMBER KIND from S to D ..
+                            a message that was sent, to a server or to all, and what it
+                            says: Suggest, Skip, Accepted, Prepare, Promise, Propose or
+                            Learn; a Skip gives up its sender's instances I to J, without J
+  front P F                 the next own instance of P is now F
+  executed P instance I value V
+                            P executed its next instance
+  reply ID none             the reply of a command was given: nothing was at its key,
+  reply ID =TEXT            .. or this text
+
+After the last event:
+
+  server S front F executed D next I waiting ID ID ..
+                            for each server its next own instance, how many instances it
+                            executed, which is the next, and which commands lost their
+                            instance and wait for a retry, or - for none
+  unheard NUMBER KIND to D  for each message and server that it goes to, also its sender:
+                            it was neither heard there nor lost";
+
+const TRACE_USAGE: &str = "mencius trace < SCENARIO";
+
+const TRACE_NOTES: &str = "\
+Exit status:
+  0  done, whether events were refused or not
+  2  a bad command line
+  3  a bad scenario: 21 NotJson, 22 BadShape, 23 BadLimit
+  4  reading or writing failed: 24 ReadFailed, 25 WriteFailed
+  5  memory ran out: 26 NoMemory
+From 3 on, standard error has the line `mencius: fault NUMBER NAME`, and nothing was
+printed, unless writing failed.
+
+Examples, at the top of the repository:
+  ./mencius trace < examples/duelling_revokers.json
+  ./mencius run --journal < examples/calm_run.json | sed -n 1p | ./mencius trace
+
+`mencius check` says where a bad scenario is wrong. docs/FORMATS.md describes the trace in
+full, and examples/ has schedules to try.";
+
+const CHECK_ABOUT: &str = "Says where the scenario on standard input is wrong";
+
+const CHECK_LONG_ABOUT: &str = "\
+Says where the scenario on standard input is wrong
+
+The scenario is one of `replay`, whose help says what it has. No event of it is stepped.
+Where `replay` and `trace` would take it, a line is printed:
+
+  ok servers N events E     how many servers and how many events it has
+
+Where they would not, nothing is printed. Standard error then has the line of the fault
+that they give, and after it a line that says where and what it is.";
+
+const CHECK_USAGE: &str = "mencius check < SCENARIO";
+
+const CHECK_NOTES: &str = "\
+Exit status:
+  0  done: it is a scenario
+  2  a bad command line
+  3  a bad scenario: 21 NotJson, 22 BadShape, 23 BadLimit
+  4  reading or writing failed: 24 ReadFailed, 25 WriteFailed
+  5  memory ran out: 26 NoMemory
+From 3 on, standard error has the line `mencius: fault NUMBER NAME`; of a bad scenario
+there is a second line, unless memory for it ran out.
+
+Examples, at the top of the repository; the second finds a zero too many:
+  ./mencius check < examples/one_command.json
+  echo '{\"version\":1,\"servers\":3,\"events\":[\"deliver 00 0\"]}' | ./mencius check
+
+docs/FORMATS.md describes the format in full.";
 
 const RUN_ABOUT: &str = "Lets workers choose what happens to a new cluster and prints a report";
 
@@ -202,9 +299,33 @@ fn replay_command<'a>(alloc: Global) -> Result<Command<'a>, AllocError>
         .arg(strict)
 }
 
-// The command line that is read.
-fn command_line<'a>(alloc: Global) -> Result<Command<'a>, AllocError>
-    ensures { IfOk result (λ command. app_of command ≡ program) }
+// The task `trace`.
+fn trace_command<'a>(alloc: Global) -> Command<'a>
+    ensures trace { app_of result ≡ trace_task }
+    ensures local { (fields_of result).has_globals ≡ false }
+{
+    Command::new(alloc, "trace")
+        .about(TRACE_ABOUT)
+        .long_about(TRACE_LONG_ABOUT)
+        .after_help(TRACE_NOTES)
+        .override_usage(TRACE_USAGE)
+}
+
+// The task `check`.
+fn check_command<'a>(alloc: Global) -> Command<'a>
+    ensures check { app_of result ≡ check_task }
+    ensures local { (fields_of result).has_globals ≡ false }
+{
+    Command::new(alloc, "check")
+        .about(CHECK_ABOUT)
+        .long_about(CHECK_LONG_ABOUT)
+        .after_help(CHECK_NOTES)
+        .override_usage(CHECK_USAGE)
+}
+
+// The program with the tasks that take events as they stand.
+fn with_replays<'a>(alloc: Global) -> Result<Command<'a>, AllocError>
+    ensures { IfOk result (λ command. app_of command ≡ with_replays) }
 {
     Command::new(alloc, "mencius")
         .version(VERSION)
@@ -213,7 +334,15 @@ fn command_line<'a>(alloc: Global) -> Result<Command<'a>, AllocError>
         .after_help(TOP_NOTES)
         .subcommand_required(true)
         .subcommand(replay_command(alloc)?)?
-        .subcommand(run_command(alloc)?)
+        .subcommand(trace_command(alloc))?
+        .subcommand(check_command(alloc))
+}
+
+// The command line that is read.
+fn command_line<'a>(alloc: Global) -> Result<Command<'a>, AllocError>
+    ensures { IfOk result (λ command. app_of command ≡ program) }
+{
+    with_replays(alloc)?.subcommand(run_command(alloc)?)
 }
 
 // Whether a flag was given.
@@ -285,6 +414,12 @@ fn task_named(alloc: Global, name: &str, options: &ArgMatches) -> Result<Task, A
         let key = key_of(alloc, options)?;
         return Ok(Task::Run { with_journal, key });
     }
+    if name == "trace" {
+        return Ok(Task::Trace);
+    }
+    if name == "check" {
+        return Ok(Task::Check);
+    }
     let is_strict = has_flag(options, "strict");
     Ok(Task::Replay { is_strict })
 }
@@ -337,8 +472,8 @@ fn key_error(alloc: Global, command: &mut Command, key: &str) -> Result<Error, A
 
 /// What the words ask for, of which the first is the program's name, which may be anything. Which
 /// words are taken, which task and which options they ask for, and the kind of the error where they
-/// are not taken, is what `clap` says of a program with a version and the two subcommands
-/// `replay [--strict]` and `run [--journal] [--lookup KEY]`, once `--lookup` and the word behind it
+/// are not taken, is what `clap` says of a program with a version and the four subcommands
+/// `replay [--strict]`, `trace`, `check` and `run [--journal] [--lookup KEY]`, once `--lookup` and the word behind it
 /// are joined to `--lookup=KEY`; and a KEY that is no key of a command is refused.
 ///
 /// # Errors

@@ -4,11 +4,14 @@ ghost use Rattle.mencius_input.specs.Ends.{HasFailed, TakesAtMost, most_bytes, m
 
 use crate::fault::AppFault;
 use crate::source::Source;
-use std::alloc::Global;
+use std::alloc::{AllocError, Global};
 use std::io::ErrorKind;
 
 // The bytes of the longest scenario.
 const MOST_BYTES: usize = 16_777_216;
+
+// The bytes that one call asks for.
+const READ_BYTES: usize = 65_536;
 
 // How often an interrupted call is made again, over all calls.
 pub(crate) const MOST_RETRIES: u32 = 1_000;
@@ -33,12 +36,15 @@ pub fn read_all<R: Source>(alloc: Global, source: &mut R) -> Result<Vec<u8>, App
     ensures taken { TakesAtMost (most_bytes + 1) (R.remaining source.old) (R.remaining source.new) }
     ensures tried { R.failed source.new ≤ R.failed source.old + most_failed_calls }
 {
+    keep_freed_pages(alloc)?;
     let mut bytes = Vec::new(alloc);
     let mut retries = 0u32;
-    let mut buf = [0u8; 4096];
-    while bytes.len() <= MOST_BYTES {
-        let room = (MOST_BYTES + 1 - bytes.len()).min(buf.len());
-        match source.read(&mut buf[..room]) {
+    let mut room = Vec::new(alloc);
+    room.resize(READ_BYTES, 0u8)?;
+    let buf = room.as_mut_slice();
+    'reads: while bytes.len() <= MOST_BYTES {
+        let most = (MOST_BYTES + 1 - bytes.len()).min(buf.len());
+        match source.read(&mut buf[..most]) {
             Ok(0) => return Ok(bytes),
             Ok(n) => bytes.extend_from_slice(&buf[..n])?,
             Err(e) => {
@@ -50,4 +56,12 @@ pub fn read_all<R: Source>(alloc: Global, source: &mut R) -> Result<Vec<u8>, App
         }
     }
     Err(AppFault::BadLimit)
+}
+
+// Lets the heap keep the pages of large blocks that are freed. The C library's gives them back to the
+// system, until a block as large as this was freed once; what a cluster keeps would then be put on new
+// pages, which cost more than all else about it. The block itself is never touched.
+fn keep_freed_pages(alloc: Global) -> Result<(), AllocError> {
+    let _block = Vec::<u8>::with_capacity(alloc, MOST_BYTES)?;
+    Ok(())
 }

@@ -81,10 +81,10 @@ fn negative(numeral: &Numeral<'_>) -> Option<Option<u64>>
     finite(true, numeral)
 }
 
-// The whole number that a number's text is, where it is one. None where the number is too large to
-// be one of JSON's as `serde_json` reads it.
+/// The whole number that a number's text is, where it is one. None where the number is too large to
+/// be one of JSON's as `serde_json` reads it.
 #[tactic(auto, unfolding(serde_json::specs::Read::number_of))]
-fn whole_number(text: &str) -> Option<Option<u64>>
+pub(crate) fn whole_number(text: &str) -> Option<Option<u64>>
     ensures { result ≡ option_map as_u64 (number_of text.now) }
 {
     let bytes = text.as_bytes();
@@ -201,7 +201,9 @@ pub(crate) fn next_whole(reader: &mut Reader<'_>, depth: usize) -> Result<Option
     }
 }
 
-/// The text that the next value is, where it is one.
+/// The text that the next value is, where it is one. Always inlined: a call would move the text of
+/// each event through memory.
+#[inline(always)]
 pub(crate) fn next_text<'a>(
     reader: &mut Reader<'a>,
     depth: usize,

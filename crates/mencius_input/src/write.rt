@@ -1,6 +1,6 @@
-ghost use Rattle.std.specs.Prelude.{◌≡◌, ◌+◌, ◌≤◌, IfErr, OnOk, OnErr};
+ghost use Rattle.std.specs.Prelude.{◌≡◌, ◌⊎◌, ◌+◌, ◌≤◌, IfErr, OnOk, OnErr};
 ghost use Rattle.std.specs.Io.KnownBytes.{Appends};
-ghost use Rattle.mencius_input.specs.Ends.{HasFailed, WritesFront, most_failed_calls};
+ghost use Rattle.mencius_input.specs.Ends.{HasFailed, WritesFront, most_failed_calls, most_failures};
 
 use crate::fault::AppFault;
 use crate::read::MOST_RETRIES;
@@ -15,6 +15,8 @@ pub fn write_all<W: Sink>(sink: &mut W, text: &[u8]) -> Result<(), AppFault>
     ensures front { WritesFront (W.contents sink.old) (W.contents sink.new) text.now }
     ensures fault { IfErr result (λ f. f ≡ AppFault.WriteFailed) }
     ensures failed { OnErr result (HasFailed (W.failed sink.old) (W.failed sink.new)) }
+    ensures counted { (W.failed sink.old ≤ W.failed sink.new)
+        ⊎ (W.failed sink.new ≡ most_failures) }
     ensures tried { W.failed sink.new ≤ W.failed sink.old + most_failed_calls }
 {
     let mut written = 0usize;

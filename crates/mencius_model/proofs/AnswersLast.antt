@@ -81,7 +81,7 @@ same a = eq-eqb a a refl
 pub same_two : (a b : ℕ) → (eqb a a && eqb b b) ≡ true
 same_two a b = rw (same a) (same b)
 
-if_some : {A : Type 0} (t : Bool) (x y : A) → cond t (Some x) None ≡ Some y → (t ≡ true) × (x ≡ y)
+if_some : {A : Type 0} (a : Bool) (x y : A) → cond a (Some x) None ≡ Some y → (a ≡ true) × (x ≡ y)
 if_some true x y h = (refl, cc)
 if_some false x y h = absurd (cc)
 
@@ -90,10 +90,10 @@ both_eq a b c d h = let r = and_parts (eqb a b) (eqb c d) h in (eqb-true a b r.0
 
 -- ---- promises and acceptances
 
-pub promise_within : (w : Trace) (q to i b : ℕ) (v : Option Vote) → IsIn (Sent (Promise q to i b v)) w
+pub promise_within : (w : Trace) (q to i b : ℕ) (o : Option Vote) → IsIn (Sent (Promise q to i b o)) w
     → b ≤ promised w q i
-promise_within w q to i b v h =
-    let g = greatest_ge (promised_by q i) (Sent (Promise q to i b v)) w h in
+promise_within w q to i b o h =
+    let g = greatest_ge (promised_by q i) (Sent (Promise q to i b o)) w h in
     rw (same_two q i) at g
 
 pub acceptance_within : (w : Trace) (q to i b : ℕ) → IsIn (Sent (Accepted q to i b)) w → b ≤ promised w q i
@@ -158,65 +158,65 @@ accepted_in (l ∷ w) q i b h =
 
 -- ---- proposals
 
-pub proposed_more : (l : Line) (w : Trace) (i b : ℕ) (v : Value) → proposed w i b ≡ Some v
-    → proposed (l ∷ w) i b ≡ Some v
-proposed_more l w i b v h = oldest_more (proposed_by i b) l w v h
+pub proposed_more : (l : Line) (w : Trace) (i b : ℕ) (z : Value) → proposed w i b ≡ Some z
+    → proposed (l ∷ w) i b ≡ Some z
+proposed_more l w i b z h = oldest_more (proposed_by i b) l w z h
 
-proposal_line : (i b : ℕ) (v : Value) (l : Line) → 0 < b → proposed_by i b l ≡ Some v
-    → (p : ℕ) × (Sent (Propose p i b v) ≡ l)
-proposal_line i b v (Sent (Propose from inst ballot value)) pos h =
-    let r = if_some ((eqb inst i && eqb ballot b) && ltb 0 b) value v h in
+proposal_line : (i b : ℕ) (x : Value) (l : Line) → 0 < b → proposed_by i b l ≡ Some x
+    → (p : ℕ) × (Sent (Propose p i b x) ≡ l)
+proposal_line i b x (Sent (Propose from inst ballot value)) pos h =
+    let r = if_some ((eqb inst i && eqb ballot b) && ltb 0 b) value x h in
     let e = both_eq inst i ballot b (and_parts (eqb inst i && eqb ballot b) (ltb 0 b) r.0).0 in
     (from, cc)
-proposal_line i b v (Sent (Suggest from inst ticket)) pos h =
-    let r = if_some (eqb inst i && eqb b 0) (Ticket ticket) v h in
+proposal_line i b x (Sent (Suggest from inst ticket)) pos h =
+    let r = if_some (eqb inst i && eqb b 0) (Ticket ticket) x h in
     let z : b ≡ 0 = (both_eq inst i b 0 r.0).1 in
     absurd (omega (arith, z))
-proposal_line i b v _ pos h = absurd (cc)
+proposal_line i b x _ pos h = absurd (cc)
 
 -- a value that is proposed past ballot 0 stands in a Propose
-pub proposal_in : (w : Trace) (i b : ℕ) (v : Value) → 0 < b → proposed w i b ≡ Some v
-    → (p : ℕ) × IsIn (Sent (Propose p i b v)) w
-proposal_in w i b v pos h =
-    let r = oldest_in (proposed_by i b) w v h in
-    let s = proposal_line i b v r.0 pos r.2 in
+pub proposal_in : (w : Trace) (i b : ℕ) (z : Value) → 0 < b → proposed w i b ≡ Some z
+    → (p : ℕ) × IsIn (Sent (Propose p i b z)) w
+proposal_in w i b z pos h =
+    let r = oldest_in (proposed_by i b) w z h in
+    let s = proposal_line i b z r.0 pos r.2 in
     (s.0, rw s.1 r.1)
 
-start_line : (i : ℕ) (v : Value) (l : Line) → proposed_by i 0 l ≡ Some v
-    → (p : ℕ) × (t : ℕ) × (Sent (Suggest p i t) ≡ l) × (v ≡ Ticket t)
-start_line i v (Sent (Suggest from inst ticket)) h =
-    let r = if_some (eqb inst i && eqb 0 0) (Ticket ticket) v h in
+start_line : (i : ℕ) (z : Value) (l : Line) → proposed_by i 0 l ≡ Some z
+    → (p : ℕ) × (t : ℕ) × (Sent (Suggest p i t) ≡ l) × (z ≡ Ticket t)
+start_line i z (Sent (Suggest from inst ticket)) h =
+    let r = if_some (eqb inst i && eqb 0 0) (Ticket ticket) z h in
     let e = both_eq inst i 0 0 r.0 in
     (from, ticket, cc, cc)
-start_line i v (Sent (Propose from inst ballot value)) h =
-    let r = if_some ((eqb inst i && eqb ballot 0) && ltb 0 0) value v h in
+start_line i z (Sent (Propose from inst ballot value)) h =
+    let r = if_some ((eqb inst i && eqb ballot 0) && ltb 0 0) value z h in
     let e = (and_parts (eqb inst i && eqb ballot 0) (ltb 0 0) r.0).1 in
     absurd (cc)
-start_line i v _ h = absurd (cc)
+start_line i z _ h = absurd (cc)
 
 -- a value that is proposed at ballot 0 is a suggested ticket
-pub start_in : (w : Trace) (i : ℕ) (v : Value) → proposed w i 0 ≡ Some v
-    → (p : ℕ) × (t : ℕ) × IsIn (Sent (Suggest p i t)) w × (v ≡ Ticket t)
-start_in w i v h =
-    let r = oldest_in (proposed_by i 0) w v h in
-    let s = start_line i v r.0 r.2 in
+pub start_in : (w : Trace) (i : ℕ) (z : Value) → proposed w i 0 ≡ Some z
+    → (p : ℕ) × (t : ℕ) × IsIn (Sent (Suggest p i t)) w × (z ≡ Ticket t)
+start_in w i z h =
+    let r = oldest_in (proposed_by i 0) w z h in
+    let s = start_line i z r.0 r.2 in
     (s.0, s.1, rw s.2 r.1, s.3)
 
 -- ---- what was learned and suggested
 
-learned_line : (p i : ℕ) (v : Value) (l : Line) → learned_by p i l ≡ Some v → Learned p i v ≡ l
-learned_line p i v (Learned server inst value) h =
-    let r = if_some (eqb server p && eqb inst i) value v h in
+learned_line : (p i : ℕ) (z : Value) (l : Line) → learned_by p i l ≡ Some z → Learned p i z ≡ l
+learned_line p i z (Learned server inst value) h =
+    let r = if_some (eqb server p && eqb inst i) value z h in
     let e = both_eq server p inst i r.0 in
     cc
-learned_line p i v _ h = absurd (cc)
+learned_line p i z _ h = absurd (cc)
 
-pub learned_in : (w : Trace) (p i : ℕ) (v : Value) → learned w p i ≡ Some v → IsIn (Learned p i v) w
-learned_in w p i v h = let r = oldest_in (learned_by p i) w v h in rw (learned_line p i v r.0 r.2) r.1
+pub learned_in : (w : Trace) (p i : ℕ) (z : Value) → learned w p i ≡ Some z → IsIn (Learned p i z) w
+learned_in w p i z h = let r = oldest_in (learned_by p i) w z h in rw (learned_line p i z r.0 r.2) r.1
 
-pub learned_more : (l : Line) (w : Trace) (p i : ℕ) (v : Value) → learned w p i ≡ Some v
-    → learned (l ∷ w) p i ≡ Some v
-learned_more l w p i v h = oldest_more (learned_by p i) l w v h
+pub learned_more : (l : Line) (w : Trace) (p i : ℕ) (z : Value) → learned w p i ≡ Some z
+    → learned (l ∷ w) p i ≡ Some z
+learned_more l w p i z h = oldest_more (learned_by p i) l w z h
 
 suggested_line : (p i t : ℕ) (l : Line) → suggested_by p i l ≡ Some t → Sent (Suggest p i t) ≡ l
 suggested_line p i t (Sent (Suggest from inst ticket)) h =

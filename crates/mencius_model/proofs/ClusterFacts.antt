@@ -14,7 +14,7 @@ use Rattle.mencius_model.proofs.Histories.{executed_learned}
 
 -- what was executed was learned, and what was learned was submitted
 pub record IsTold (m : Membership) (w : Trace) : Type 0 where
-  pub executed : (p i : ℕ) → i < done w p → (v : Value) × (learned w p i ≡ Some v)
+  pub executed : (p i : ℕ) → i < done w p → (z : Value) × (learned w p i ≡ Some z)
   pub ticketed : (p i t : ℕ) → learned w p i ≡ Some (Ticket t) → t < length (submitted w)
 
 -- both hold of every reached trace

@@ -47,21 +47,21 @@ skipped_more m l w i h =
     in_any (gives_up m i) r.0 (sent (l ∷ w)) (in_sent r.0 (l ∷ w) (inr (sent_in r.0 w r.1))) r.2
 
 -- a later line leaves what is decided
-pub decided_more : (m : Membership) (l : Line) (w : Trace) (i : ℕ) (v : Value) → IsDecided m w i v
-    → IsDecided m (l ∷ w) i v
-decided_more m l w i v (inl c) =
+pub decided_more : (m : Membership) (l : Line) (w : Trace) (i : ℕ) (z : Value) → IsDecided m w i z
+    → IsDecided m (l ∷ w) i z
+decided_more m l w i z (inl c) =
     inl (
       c.0,
-      proposed_more l w i c.0 v c.1,
+      proposed_more l w i c.0 z c.1,
       majority_more m (has_accepted w i c.0) (has_accepted (l ∷ w) i c.0) (acceptance_more l w i c.0) c.2,
     )
-decided_more m l w i v (inr s) = inr (skipped_more m l w i s.0, s.1)
+decided_more m l w i z (inr s) = inr (skipped_more m l w i s.0, s.1)
 
 -- and so do all later lines
-pub decided_past : (m : Membership) (ls : List Line) (w : Trace) (i : ℕ) (v : Value) → IsDecided m w i v
-    → IsDecided m (ls ++ w) i v
-decided_past m [] w i v h = h
-decided_past m (l ∷ ls) w i v h = decided_more m l (ls ++ w) i v (decided_past m ls w i v h)
+pub decided_past : (m : Membership) (ls : List Line) (w : Trace) (i : ℕ) (z : Value) → IsDecided m w i z
+    → IsDecided m (ls ++ w) i z
+decided_past m [] w i z h = h
+decided_past m (l ∷ ls) w i z h = decided_more m l (ls ++ w) i z (decided_past m ls w i z h)
 
 -- where a Skip covers i, every proposal at i is no-op
 pub skipped_noop : (m : Membership) (w : Trace) → 1 ≤ m.count → IsGrown m w → (i b : ℕ) (x : Value)
@@ -76,24 +76,24 @@ skipped_noop m w few g i b x h e =
     ]
 
 -- decided values agree, in one trace
-pub agreement : (m : Membership) (w : Trace) → 1 ≤ m.count → IsGrown m w → (i : ℕ) (v x : Value)
-    → IsDecided m w i v → IsDecided m w i x → v ≡ x
-agreement m w few g i v x (inl c) (inl d) =
+pub agreement : (m : Membership) (w : Trace) → 1 ≤ m.count → IsGrown m w → (i : ℕ) (z x : Value)
+    → IsDecided m w i z → IsDecided m w i x → z ≡ x
+agreement m w few g i z x (inl c) (inl d) =
     elim (cases_order c.0 d.0) [
       | inl e ↦ let s = c.1 in let t = rw (← e) at d.1 in cc
       | inr o ↦ elim o [
-        | inl lt ↦ sym (chosen_above m w g i c.0 v c.1 c.2 d.0 x lt d.1)
-        | inr gt ↦ chosen_above m w g i d.0 x d.1 d.2 c.0 v gt c.1
+        | inl lt ↦ sym (chosen_above m w g i c.0 z c.1 c.2 d.0 x lt d.1)
+        | inr gt ↦ chosen_above m w g i d.0 x d.1 d.2 c.0 z gt c.1
       ]
     ]
-agreement m w few g i v x (inl c) (inr s) = skipped_noop m w few g i c.0 v s.0 c.1 ∙ sym s.1
-agreement m w few g i v x (inr s) (inl c) = s.1 ∙ sym (skipped_noop m w few g i c.0 x s.0 c.1)
-agreement m w few g i v x (inr s) (inr t) = s.1 ∙ sym t.1
+agreement m w few g i z x (inl c) (inr s) = skipped_noop m w few g i c.0 z s.0 c.1 ∙ sym s.1
+agreement m w few g i z x (inr s) (inl c) = s.1 ∙ sym (skipped_noop m w few g i c.0 x s.0 c.1)
+agreement m w few g i z x (inr s) (inr t) = s.1 ∙ sym t.1
 
 -- what was learned, and what a Learn message tells, is decided
 pub record AreDecided (m : Membership) (w : Trace) : Type 0 where
-  pub lines : (p i : ℕ) (v : Value) → IsIn (Learned p i v) w → IsDecided m w i v
-  pub messages : (p i : ℕ) (v : Value) → IsIn (Sent (Learn p i v)) w → IsDecided m w i v
+  pub lines : (p i : ℕ) (z : Value) → IsIn (Learned p i z) w → IsDecided m w i z
+  pub messages : (p i : ℕ) (z : Value) → IsIn (Sent (Learn p i z)) w → IsDecided m w i z
 
 pub all_decided : (m : Membership) (w : Trace) → IsGrown m w → AreDecided m w
 all_decided m [] g = record { lines = λ p i v h. absurd h; messages = λ p i v h. absurd h }
@@ -117,6 +117,6 @@ all_decided m (l ∷ w) g =
     }
 
 -- every learned value is decided
-pub learned_decided : (m : Membership) (w : Trace) → IsGrown m w → (p i : ℕ) (v : Value) → learned w p i ≡ Some v
-    → IsDecided m w i v
-learned_decided m w g p i v h = (all_decided m w g).lines p i v (learned_in w p i v h)
+pub learned_decided : (m : Membership) (w : Trace) → IsGrown m w → (p i : ℕ) (z : Value) → learned w p i ≡ Some z
+    → IsDecided m w i z
+learned_decided m w g p i z h = (all_decided m w g).lines p i z (learned_in w p i z h)

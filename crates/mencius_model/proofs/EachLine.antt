@@ -32,6 +32,6 @@ module _ (P : Line → Type 0) where
       rw (next_is m w v e h).is at (followed_along (head e ∷ lines m w e) w all (first, rest))
 
   -- a line that is added or not
-  pub one_if : (l : Line) (c : Bool) → P l → AreAll P (cond c (l ∷ []) [])
+  pub one_if : (l : Line) (d : Bool) → P l → AreAll P (cond d (l ∷ []) [])
   one_if l true h = (h, tt)
   one_if l false h = tt

@@ -69,7 +69,7 @@ noop_is None h = absurd (cc)
 noop_is (Some Noop) h = refl
 noop_is (Some (Ticket t)) h = absurd (cc)
 
-unless_some : (b : Bool) (t u : ℕ) → unless b (Some t) ≡ Some u → (b ≡ false) × (t ≡ u)
+unless_some : (a : Bool) (t u : ℕ) → unless a (Some t) ≡ Some u → (a ≡ false) × (t ≡ u)
 unless_some true t u h = absurd (cc)
 unless_some false t u h = (refl, cc)
 
@@ -160,7 +160,7 @@ suspect_may m w v p q (i ∷ xs) lt ne =
 
 -- ---- Deliver
 
-if_none : (t : Bool) (r : Refusal) (o : Option Refusal) → cond t (Some r) o ≡ None → (t ≡ false) × (o ≡ None)
+if_none : (a : Bool) (r : Refusal) (o : Option Refusal) → cond a (Some r) o ≡ None → (a ≡ false) × (o ≡ None)
 if_none true r o h = absurd (cc)
 if_none false r o h = (refl, h)
 
@@ -168,17 +168,17 @@ none_is : (o : Option Value) → is_none o ≡ true → o ≡ None
 none_is None h = refl
 none_is (Some v) h = absurd (cc)
 
-some_is : (o : Option Value) → is_none o ≡ false → (v : Value) × (o ≡ Some v)
+some_is : (o : Option Value) → is_none o ≡ false → (z : Value) × (o ≡ Some z)
 some_is None h = absurd (cc)
-some_is (Some v) h = (v, refl)
+some_is (Some z) h = (z, refl)
 
 -- the first Suggest or Propose is what is proposed
-some_or_none : (o : Option Value) → ((v : Value) × (o ≡ Some v)) ⊎ (o ≡ None)
+some_or_none : (o : Option Value) → ((z : Value) × (o ≡ Some z)) ⊎ (o ≡ None)
 some_or_none None = inr refl
-some_or_none (Some v) = inl (v, refl)
+some_or_none (Some z) = inl (z, refl)
 
 pub suggest_proposed : (w : Trace) (p i t : ℕ) → IsIn (Sent (Suggest p i t)) w
-    → (v : Value) × (proposed w i 0 ≡ Some v)
+    → (z : Value) × (proposed w i 0 ≡ Some z)
 suggest_proposed w p i t h =
     elim (some_or_none (proposed w i 0)) [
       | inl r ↦ r
@@ -188,7 +188,7 @@ suggest_proposed w p i t h =
     ]
 
 pub propose_proposed : (w : Trace) (p i b : ℕ) (x : Value) → 0 < b → IsIn (Sent (Propose p i b x)) w
-    → (v : Value) × (proposed w i b ≡ Some v)
+    → (z : Value) × (proposed w i b ≡ Some z)
 propose_proposed w p i b x pos h =
     elim (some_or_none (proposed w i b)) [
       | inl r ↦ r
@@ -197,22 +197,22 @@ propose_proposed w p i b x pos h =
           let k = rw (same_two i b, lt-ltb 0 b pos) at n in absurd (cc)
     ]
 
-promise_positive : (m : Membership) (w : Trace) → IsGrown m w → (q to i b : ℕ) (v : Option Vote)
-    → IsIn (Sent (Promise q to i b v)) w → 0 < b
-promise_positive m [] g q to i b v h = absurd h
-promise_positive m (l ∷ w) g q to i b v (inl e) =
-    let may : MayPromise w q to i b v = rw (← e) at g.1 in omega (arith, may.above)
-promise_positive m (l ∷ w) g q to i b v (inr h) = promise_positive m w g.0 q to i b v h
+promise_positive : (m : Membership) (w : Trace) → IsGrown m w → (q to i b : ℕ) (o : Option Vote)
+    → IsIn (Sent (Promise q to i b o)) w → 0 < b
+promise_positive m [] g q to i b o h = absurd h
+promise_positive m (l ∷ w) g q to i b o (inl e) =
+    let may : MayPromise w q to i b o = rw (← e) at g.1 in omega (arith, may.above)
+promise_positive m (l ∷ w) g q to i b o (inr h) = promise_positive m w g.0 q to i b o h
 
-pub propose_positive : (m : Membership) (w : Trace) → IsGrown m w → (p i b : ℕ) (v : Value)
-    → IsIn (Sent (Propose p i b v)) w → 0 < b
-propose_positive m [] g p i b v h = absurd h
-propose_positive m (l ∷ w) g p i b v (inl e) =
-    let may : MayPropose m w p i b v = rw (← e) at g.1 in
+pub propose_positive : (m : Membership) (w : Trace) → IsGrown m w → (p i b : ℕ) (z : Value)
+    → IsIn (Sent (Propose p i b z)) w → 0 < b
+propose_positive m [] g p i b z h = absurd h
+propose_positive m (l ∷ w) g p i b z (inl e) =
+    let may : MayPropose m w p i b z = rw (← e) at g.1 in
     let q = majorities_meet m may.among may.among may.majority may.majority in
     let r = may.promised q.0 q.1 in
     promise_positive m w g.0 q.0 r.to i b r.vote r.promise
-propose_positive m (l ∷ w) g p i b v (inr h) = propose_positive m w g.0 p i b v h
+propose_positive m (l ∷ w) g p i b z (inr h) = propose_positive m w g.0 p i b z h
 
 vote_heard : (w : Trace) (k q p i : ℕ) → vote (Heard k q ∷ w) p i ≡ vote w p i
 vote_heard w k q p i = go (accepted w p i) where
@@ -221,10 +221,10 @@ vote_heard w k q p i = go (accepted w p i) where
   go (Some b) = ap (vote_at b) (earlier_right (proposed w i b))
 
 module _ (m : Membership) (w : Trace) (g : IsGrown m w) (k p : ℕ) where
-  suggest_lines : (q i t : ℕ) → IsIn (Sent (Suggest q i t)) w → (a c : Bool) → (c ≡ true → promised w p i ≡ 0)
+  suggest_lines : (q i t : ℕ) → IsIn (Sent (Suggest q i t)) w → (a d : Bool) → (d ≡ true → promised w p i ≡ 0)
       → AllMay m (Heard k p ∷ w)
       ((if a then Sent (Skip p (front m w p) (first_owned m p (i + 1))) ∷ [] else [])
-      ++ (if c then Sent (Accepted p q i 0) ∷ [] else []))
+      ++ (if d then Sent (Accepted p q i 0) ∷ [] else []))
   suggest_lines q i t h true true f =
       let z = f refl in
       let r = suggest_proposed w q i t h in

@@ -34,7 +34,7 @@ heard_in (_ ∷ w) p x h = inr (heard_in w p x h)
 -- ---- tallies
 
 promise_message : (i b q : ℕ) (x : Message) → is_promise i b q x ≡ true
-    → (to : ℕ) × (v : Option Vote) × (Promise q to i b v ≡ x)
+    → (to : ℕ) × (o : Option Vote) × (Promise q to i b o ≡ x)
 promise_message i b q (Promise from to inst ballot vote) h =
     let r = and_parts (eqb inst i && eqb ballot b) (eqb from q) h in
     let s = and_parts (eqb inst i) (eqb ballot b) r.0 in
@@ -60,16 +60,16 @@ higher_left y (Some v) =
       | inr e ↦ (y, rw e, omega arith)
     ]
 
-higher_right : (o : Option Vote) (v : Vote) → (x : Vote) × (higher_vote o (Some v) ≡ Some x) × (v.ballot ≤ x.ballot)
-higher_right None v = (v, refl, omega arith)
-higher_right (Some u) v =
-    elim (cases_Bool (ltb u.ballot v.ballot)) [
-      | inl e ↦ (v, rw e, omega arith)
-      | inr e ↦ (u, rw e, omega (arith, ltb-false u.ballot v.ballot e))
+higher_right : (o : Option Vote) (z : Vote) → (x : Vote) × (higher_vote o (Some z) ≡ Some x) × (z.ballot ≤ x.ballot)
+higher_right None z = (z, refl, omega arith)
+higher_right (Some u) z =
+    elim (cases_Bool (ltb u.ballot z.ballot)) [
+      | inl e ↦ (z, rw e, omega arith)
+      | inr e ↦ (u, rw e, omega (arith, ltb-false u.ballot z.ballot e))
     ]
 
-higher_cases : (o p : Option Vote) (x : Vote) → higher_vote o p ≡ Some x → (o ≡ Some x) ⊎ (p ≡ Some x)
-higher_cases None p x h = inr h
+higher_cases : (o r : Option Vote) (x : Vote) → higher_vote o r ≡ Some x → (o ≡ Some x) ⊎ (r ≡ Some x)
+higher_cases None r x h = inr h
 higher_cases (Some u) None x h = inl h
 higher_cases (Some u) (Some v) x h =
     elim (cases_Bool (ltb u.ballot v.ballot)) [
@@ -77,70 +77,70 @@ higher_cases (Some u) (Some v) x h =
       | inr e ↦ inl (rw e at h)
     ]
 
-fold_above : (votes : List (Option Vote)) (v : Vote) (c : ℕ) → c ≤ v.ballot
-    → Reaches (fold higher_vote (Some v) votes) c
-fold_above [] v c le = le
-fold_above (o ∷ votes) v c le =
-    let r = higher_left v o in
+fold_above : (votes : List (Option Vote)) (z : Vote) (c : ℕ) → c ≤ z.ballot
+    → Reaches (fold higher_vote (Some z) votes) c
+fold_above [] z c le = le
+fold_above (o ∷ votes) z c le =
+    let r = higher_left z o in
     rw r.1 (fold_above votes r.0 c (omega (arith, r.2, le)))
 
-fold_reaches : (votes : List (Option Vote)) (start : Option Vote) (v : Vote) → IsIn (Some v) votes
-    → Reaches (fold higher_vote start votes) v.ballot
-fold_reaches [] start v h = absurd h
-fold_reaches (o ∷ votes) start v (inl e) =
-    let r = higher_right start v in
-    rw (← e, r.1) (fold_above votes r.0 v.ballot r.2)
-fold_reaches (o ∷ votes) start v (inr h) = fold_reaches votes (higher_vote start o) v h
+fold_reaches : (votes : List (Option Vote)) (start : Option Vote) (z : Vote) → IsIn (Some z) votes
+    → Reaches (fold higher_vote start votes) z.ballot
+fold_reaches [] start z h = absurd h
+fold_reaches (o ∷ votes) start z (inl e) =
+    let r = higher_right start z in
+    rw (← e, r.1) (fold_above votes r.0 z.ballot r.2)
+fold_reaches (o ∷ votes) start z (inr h) = fold_reaches votes (higher_vote start o) z h
 
-fold_in : (votes : List (Option Vote)) (start : Option Vote) (v : Vote) → fold higher_vote start votes ≡ Some v
-    → (start ≡ Some v) ⊎ IsIn (Some v) votes
-fold_in [] start v h = inl h
-fold_in (o ∷ votes) start v h =
-    elim (fold_in votes (higher_vote start o) v h) [
-      | inl e ↦ elim (higher_cases start o v e) [ inl a ↦ inl a | inr a ↦ inr (inl (sym a)) ]
+fold_in : (votes : List (Option Vote)) (start : Option Vote) (z : Vote) → fold higher_vote start votes ≡ Some z
+    → (start ≡ Some z) ⊎ IsIn (Some z) votes
+fold_in [] start z h = inl h
+fold_in (o ∷ votes) start z h =
+    elim (fold_in votes (higher_vote start o) z h) [
+      | inl e ↦ elim (higher_cases start o z e) [ inl a ↦ inl a | inr a ↦ inr (inl (sym a)) ]
       | inr k ↦ inr (inr k)
     ]
 
-in_votes : (i b : ℕ) (xs : List Message) (x : Message) (v : Vote) → IsIn x xs → vote_reported i b x ≡ Some v
-    → IsIn (Some v) (map (vote_reported i b) xs)
-in_votes i b [] x v h e = absurd h
-in_votes i b (y ∷ xs) x v (inl s) e = inl (rw s at (sym e))
-in_votes i b (y ∷ xs) x v (inr h) e = inr (in_votes i b xs x v h e)
+in_votes : (i b : ℕ) (xs : List Message) (x : Message) (z : Vote) → IsIn x xs → vote_reported i b x ≡ Some z
+    → IsIn (Some z) (map (vote_reported i b) xs)
+in_votes i b [] x z h e = absurd h
+in_votes i b (y ∷ xs) x z (inl s) e = inl (rw s at (sym e))
+in_votes i b (y ∷ xs) x z (inr h) e = inr (in_votes i b xs x z h e)
 
-votes_in : (i b : ℕ) (xs : List Message) (v : Vote) → IsIn (Some v) (map (vote_reported i b) xs)
-    → (x : Message) × IsIn x xs × (vote_reported i b x ≡ Some v)
-votes_in i b [] v h = absurd h
-votes_in i b (y ∷ xs) v (inl e) = (y, inl refl, sym e)
-votes_in i b (y ∷ xs) v (inr h) = let r = votes_in i b xs v h in (r.0, inr r.1, r.2)
+votes_in : (i b : ℕ) (xs : List Message) (z : Vote) → IsIn (Some z) (map (vote_reported i b) xs)
+    → (x : Message) × IsIn x xs × (vote_reported i b x ≡ Some z)
+votes_in i b [] z h = absurd h
+votes_in i b (y ∷ xs) z (inl e) = (y, inl refl, sym e)
+votes_in i b (y ∷ xs) z (inr h) = let r = votes_in i b xs z h in (r.0, inr r.1, r.2)
 
-if_vote : (t : Bool) (o : Option Vote) (v : Vote) → cond t o None ≡ Some v → (t ≡ true) × (o ≡ Some v)
-if_vote true o v h = (refl, h)
-if_vote false o v h = absurd (cc)
+if_vote : (a : Bool) (o : Option Vote) (z : Vote) → cond a o None ≡ Some z → (a ≡ true) × (o ≡ Some z)
+if_vote true o z h = (refl, h)
+if_vote false o z h = absurd (cc)
 
-vote_message : (i b : ℕ) (v : Vote) (x : Message) → vote_reported i b x ≡ Some v
-    → (q : ℕ) × (to : ℕ) × (Promise q to i b (Some v) ≡ x)
-vote_message i b v (Promise from to inst ballot vote) h =
-    let r = if_vote (eqb inst i && eqb ballot b) vote v h in
+vote_message : (i b : ℕ) (z : Vote) (x : Message) → vote_reported i b x ≡ Some z
+    → (q : ℕ) × (to : ℕ) × (Promise q to i b (Some z) ≡ x)
+vote_message i b z (Promise from to inst ballot vote) h =
+    let r = if_vote (eqb inst i && eqb ballot b) vote z h in
     let s = and_parts (eqb inst i) (eqb ballot b) r.0 in
     let e = eqb-true inst i s.0 in
     let f = eqb-true ballot b s.1 in
     let g = r.1 in
     (from, to, cc)
-vote_message i b v _ h = absurd (cc)
+vote_message i b z _ h = absurd (cc)
 
-pub reported_promise : (w : Trace) (p i b : ℕ) (v : Vote) → reported w p i b ≡ Some v
-    → (q : ℕ) × (to : ℕ) × IsIn (Sent (Promise q to i b (Some v))) w
-reported_promise w p i b v h =
-    elim (fold_in (map (vote_reported i b) (heard w p)) None v h) [
+pub reported_promise : (w : Trace) (p i b : ℕ) (z : Vote) → reported w p i b ≡ Some z
+    → (q : ℕ) × (to : ℕ) × IsIn (Sent (Promise q to i b (Some z))) w
+reported_promise w p i b z h =
+    elim (fold_in (map (vote_reported i b) (heard w p)) None z h) [
       | inl e ↦ absurd (cc)
       | inr k ↦
-          let r = votes_in i b (heard w p) v k in
-          let s = vote_message i b v r.0 r.2 in
+          let r = votes_in i b (heard w p) z k in
+          let s = vote_message i b z r.0 r.2 in
           (s.0, s.1, rw s.2 (heard_in w p r.0 r.1))
     ]
 
-own_vote : (q to i b : ℕ) (v : Option Vote) → vote_reported i b (Promise q to i b v) ≡ v
-own_vote q to i b v = rw (same_two i b)
+own_vote : (q to i b : ℕ) (o : Option Vote) → vote_reported i b (Promise q to i b o) ≡ o
+own_vote q to i b o = rw (same_two i b)
 
 pub promiser : (w : Trace) (p i b q : ℕ) → promisers w p i b q ≡ true → HasPromised w q i b (reported w p i b)
 promiser w p i b q h =

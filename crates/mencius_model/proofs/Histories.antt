@@ -31,7 +31,7 @@ executed_line p _ = inl refl
 
 -- an instance that s executed it had learned
 pub executed_learned : (m : Membership) (w : Trace) → IsGrown m w → (p i : ℕ) → i < done w p
-    → (v : Value) × (learned w p i ≡ Some v)
+    → (x : Value) × (learned w p i ≡ Some x)
 executed_learned m [] g p i lt = absurd (omega arith)
 executed_learned m (l ∷ w) g p i lt =
     elim (cases_lt i (done w p)) [
@@ -40,7 +40,7 @@ executed_learned m (l ∷ w) g p i lt =
           elim (executed_line p l) [
             | inl z ↦ absurd (omega (arith, z, ge, lt))
             | inr d ↦
-                let may : (v : Value) × (learned w p (done w p) ≡ Some v) = rw d.1 at g.1 in
+                let may : (x : Value) × (learned w p (done w p) ≡ Some x) = rw d.1 at g.1 in
                 let here : done w p ≡ i = omega (arith, d.0, ge, lt) in
                 (may.0, learned_more l w p i may.0 (rw here at may.1))
           ]
@@ -76,9 +76,11 @@ tickets_prefix f n (suc k) le =
     elim (cases_lt n (suc k)) [
       | inl lt ↦
           let r = tickets_prefix f n k (omega arith) in
-          let tail = filter_map (λ i. ticket_of (f i)) (k ∷ []) in
-          (r.0 ++ tail, tickets_more f k ∙ (ap (λ xs. xs ++ tail) r.1 ∙ append_assoc (tickets f n) r.0 tail))
-      | inr ge ↦ let e : n ≡ suc k = omega (arith, ge, le) in rw e ([], sym (append-nil (tickets f (suc k))))
+          let tail = filter_map (λ i. ticket_of (f i)) (k ∷ []) in (
+            r.0 ++ tail,
+            sym (append_assoc (tickets f n) r.0 tail) ∙ (ap (λ xs. xs ++ tail) r.1 ∙ sym (tickets_more f k)),
+          )
+      | inr ge ↦ let e : n ≡ suc k = omega (arith, ge, le) in rw e ([], append-nil (tickets f (suc k)))
     ]
 
 -- who agree where both learned have comparable lists
@@ -144,8 +146,8 @@ tickets_once f (suc n) h =
 
 -- comparable lists that have a first item have the same one
 heads : (x y : ℕ) (xs ys : List ℕ) → IsComparable (x ∷ xs) (y ∷ ys) → (x ≡ y) × IsComparable xs ys
-heads x y xs ys (inl p) = let e = p.1 in (cc, inl (p.0, cc))
-heads x y xs ys (inr p) = let e = p.1 in (cc, inr (p.0, cc))
+heads x y xs ys (inl h) = let e = h.1 in (cc, inl (h.0, cc))
+heads x y xs ys (inr h) = let e = h.1 in (cc, inr (h.0, cc))
 
 -- of comparable lists the one without t is a prefix of the part before t
 pub begins_before : (xs front back : List ℕ) (t : ℕ) → IsComparable xs (front ++ t ∷ back) → (IsIn t xs → ⊥)

@@ -31,7 +31,7 @@ IsLow _ = Unit {0}
 abbrev AreLow : List Line → Type 0
 AreLow ls = AreAll IsLow ls
 
-low_two : (x y : Message) (a b : Bool) → AreLow (cond a (Sent x ∷ []) [] ++ cond b (Sent y ∷ []) [])
+low_two : (x y : Message) (a d : Bool) → AreLow (cond a (Sent x ∷ []) [] ++ cond d (Sent y ∷ []) [])
 low_two x y true true = (tt, (tt, tt))
 low_two x y true false = (tt, tt)
 low_two x y false true = (tt, tt)
@@ -122,10 +122,10 @@ low_next m few w v e all h =
     }
 
 -- what is learned is learned at one of the 4,096 instances
-pub learned_small : (m : Membership) → m.count ≤ most_servers → (w : Trace) → IsReached m w → (p i : ℕ) (v : Value)
-    → learned w p i ≡ Some v → i < instance_count
-learned_small m few w r p i v h =
+pub learned_small : (m : Membership) → m.count ≤ most_servers → (w : Trace) → IsReached m w → (p i : ℕ) (z : Value)
+    → learned w p i ≡ Some z → i < instance_count
+learned_small m few w r p i z h =
     let start : IsLowReached m [] =
     record { reached = record { journal = []; replays = refl }; low = λ l h. absurd h } in
     (reached_along m (IsLowReached m) start (low_next m few) w r).low
-    (Learned p i v) (learned_in w p i v h)
+    (Learned p i z) (learned_in w p i z h)

@@ -18,6 +18,7 @@ pub mod SentOnce
 pub mod EventLines
 pub mod Decisions
 pub mod Histories
+pub mod Prefixes
 pub mod GrowingHistories
 pub mod Moments
 pub mod ReplyPlaces

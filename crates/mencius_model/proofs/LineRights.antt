@@ -36,7 +36,7 @@ pub record MaySuggest (m : Membership) (w : Trace) (p i t : ℕ) : Type 0 where
 -- whom an acceptance at (i, b) answers: who suggested or proposed there
 abbrev pub IsAsked : Trace → ℕ → ℕ → ℕ → Type 0
 IsAsked w to i b =
-    ((b ≡ 0) × ((t : ℕ) × IsIn (Sent (Suggest to i t)) w)) ⊎ ((v : Value) × IsIn (Sent (Propose to i b v)) w)
+    ((b ≡ 0) × ((t : ℕ) × IsIn (Sent (Suggest to i t)) w)) ⊎ ((z : Value) × IsIn (Sent (Propose to i b z)) w)
 
 pub record MayAccept (w : Trace) (p to i b : ℕ) : Type 0 where
   pub asked : IsAsked w to i b
@@ -50,10 +50,10 @@ pub record MayPrepare (m : Membership) (p i b : ℕ) : Type 0 where
   pub own : owner m b ≡ p
   pub other : owner m i ≡ p → ⊥
 
-pub record MayPromise (w : Trace) (p to i b : ℕ) (v : Option Vote) : Type 0 where
+pub record MayPromise (w : Trace) (p to i b : ℕ) (o : Option Vote) : Type 0 where
   pub asked : IsIn (Sent (Prepare to i b)) w
   pub above : promised w p i < b
-  pub is : v ≡ vote w p i
+  pub is : o ≡ vote w p i
 
 -- the ballot is in the vote's reach
 abbrev pub Reaches : Option Vote → ℕ → Type 0
@@ -65,9 +65,9 @@ pub record HasPromised (w : Trace) (q i b : ℕ) (highest : Option Vote) : Type 
   pub to : ℕ
   pub vote : Option Vote
   pub promise : IsIn (Sent (Promise q to i b vote)) w
-  pub within : (v : Vote) → vote ≡ Some v → Reaches highest v.ballot
+  pub within : (z : Vote) → vote ≡ Some z → Reaches highest z.ballot
 
-pub record MayPropose (m : Membership) (w : Trace) (p i b : ℕ) (v : Value) : Type 0 where
+pub record MayPropose (m : Membership) (w : Trace) (p i b : ℕ) (z : Value) : Type 0 where
   pub tried : b ≡ trying w p i
   pub none : proposed w i b ≡ None
   pub among : ℕ → Bool
@@ -75,7 +75,7 @@ pub record MayPropose (m : Membership) (w : Trace) (p i b : ℕ) (v : Value) : T
   pub highest : Option Vote
   pub promised : (q : ℕ) → among q ≡ true → HasPromised w q i b highest
   pub reported : (x : Vote) → highest ≡ Some x → (q : ℕ) × (to : ℕ) × IsIn (Sent (Promise q to i b (Some x))) w
-  pub is : v ≡ value_or_noop highest
+  pub is : z ≡ value_or_noop highest
 
 abbrev pub MaySend : Membership → Trace → Message → Type 0
 MaySend m w (Suggest p i t) = MaySuggest m w p i t
@@ -95,9 +95,9 @@ May m w (Heard k p) = Unit {0}
 May m w (Lost k p) = Unit {0}
 May m w (Suspected p q) = Unit {0}
 May m w (Retried p) = Unit {0}
-May m w (Executed p) = (v : Value) × (learned w p (done w p) ≡ Some v)
+May m w (Executed p) = (z : Value) × (learned w p (done w p) ≡ Some z)
 May m w (Sent x) = MaySend m w x
-May m w (Learned p i v) = MayLearn m w i v
+May m w (Learned p i z) = MayLearn m w i z
 
 -- each line had its right when it came
 abbrev pub IsGrown : Membership → Trace → Type 0

@@ -57,8 +57,8 @@ by_noops : (p : ℕ) (is : List ℕ) → AreBy p (map (λ (i : ℕ). Learned p i
 by_noops p [] = tt
 by_noops p (i ∷ is) = (refl, by_noops p is)
 
-by_two : (p i n q j : ℕ) (a b : Bool)
-    → AreBy p (cond a (Sent (Skip p i n) ∷ []) [] ++ cond b (Sent (Accepted p q j 0) ∷ []) [])
+by_two : (p i n q j : ℕ) (a d : Bool)
+    → AreBy p (cond a (Sent (Skip p i n) ∷ []) [] ++ cond d (Sent (Accepted p q j 0) ∷ []) [])
 by_two p i n q j true true = (refl, (refl, tt))
 by_two p i n q j true false = (refl, tt)
 by_two p i n q j false true = (refl, tt)

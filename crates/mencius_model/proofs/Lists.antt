@@ -1,11 +1,16 @@
 -- Membership, tests and counts over plain lists.
-use Rattle.std.proofs.Common.{◌≡◌, ℕ, zero, suc, ◌+◌, ◌≤◌, Bool, true, false, cond, ◌&&◌, List, [], ◌∷◌, ◌++◌, length, ◌⊎◌, inl, inr, refl, arith, Some, slice_get, count_by, leb-true, le-leb}
+use Rattle.std.proofs.Common.{◌≡◌, ℕ, zero, suc, ◌+◌, ◌≤◌, Bool, true, false, cond, ◌&&◌, List, [], ◌∷◌, ◌++◌, length, ◌⊎◌, inl, inr, refl, arith, Some, slice_get, count_by, eqb, leb-true, le-leb}
 use Rattle.std.specs.List.{list_any}
+use Rattle.std.proofs.lemmas.Bool.Decides.{nat_tests}
 use Rattle.std.proofs.lemmas.List.Sums.{sum_by-cons, sum_by-le-sum_by}
 use Rattle.std.proofs.lemmas.List.FromFn.{length-range_with_len}
 use Rattle.std.proofs.lemmas.Bool.{or_cases, or_left, or_right, and_parts, cases_Bool}
 use Rattle.mencius_base.specs.Members.{Membership, majority, below}
 use Rattle.mencius_model.specs.Instance.{are_majority}
+
+-- an equality test can be turned round
+pub eqb_swap : (x y : ℕ) → eqb x y ≡ eqb y x
+eqb_swap x y = grind (arith, nat_tests)
 
 abbrev pub IsIn : {A : Type 0} → A → List A → Type 0
 IsIn a [] = ⊥
@@ -25,58 +30,61 @@ in_append a [] ys h = inr h
 in_append a (x ∷ xs) ys (inl e) = inl (inl e)
 in_append a (x ∷ xs) ys (inr h) = elim (in_append a xs ys h) [ inl k ↦ inl (inr k) | inr k ↦ inr k ]
 
-pub any_in : {A : Type 0} (p : A → Bool) (xs : List A) → list_any p xs ≡ true → (x : A) × IsIn x xs × (p x ≡ true)
-any_in p [] h = absurd (cc)
-any_in p (x ∷ xs) h =
-    elim (or_cases (p x) (list_any p xs) h) [
+pub any_in : {A : Type 0} (test : A → Bool) (xs : List A) → list_any test xs ≡ true
+    → (x : A) × IsIn x xs × (test x ≡ true)
+any_in test [] h = absurd (cc)
+any_in test (x ∷ xs) h =
+    elim (or_cases (test x) (list_any test xs) h) [
       | inl e ↦ (x, inl refl, e)
-      | inr k ↦ let r = any_in p xs k in (r.0, inr r.1, r.2)
+      | inr k ↦ let r = any_in test xs k in (r.0, inr r.1, r.2)
     ]
 
-pub in_any : {A : Type 0} (p : A → Bool) (x : A) (xs : List A) → IsIn x xs → p x ≡ true → list_any p xs ≡ true
-in_any p x [] h e = absurd h
-in_any p x (y ∷ xs) (inl k) e = or_left (p y) (list_any p xs) (rw (← k) e)
-in_any p x (y ∷ xs) (inr k) e = or_right (p y) (list_any p xs) (in_any p x xs k e)
+pub in_any : {A : Type 0} (test : A → Bool) (x : A) (xs : List A) → IsIn x xs → test x ≡ true → list_any test xs ≡ true
+in_any test x [] h e = absurd h
+in_any test x (y ∷ xs) (inl k) e = or_left (test y) (list_any test xs) (rw (← k) e)
+in_any test x (y ∷ xs) (inr k) e = or_right (test y) (list_any test xs) (in_any test x xs k e)
 
-pub none_in : {A : Type 0} (p : A → Bool) (x : A) (xs : List A) → list_any p xs ≡ false → IsIn x xs → p x ≡ true → ⊥
-none_in p x xs h k e = let t : list_any p xs ≡ true = in_any p x xs k e in cc
+pub none_in : {A : Type 0} (test : A → Bool) (x : A) (xs : List A) → list_any test xs ≡ false → IsIn x xs
+    → test x ≡ true → ⊥
+none_in test x xs h k e = let t : list_any test xs ≡ true = in_any test x xs k e in cc
 
 pub get_in : {A : Type 0} (xs : List A) (k : ℕ) (x : A) → slice_get xs k ≡ Some x → IsIn x xs
 get_in [] k x h = absurd (cc)
 get_in (y ∷ xs) zero x h = inl (cc)
 get_in (y ∷ xs) (suc k) x h = inr (get_in xs k x h)
 
-one_more : (a b : Bool) → cond a 1 0 + cond b 1 0 ≤ 1 + cond (a && b) 1 0
+one_more : (a d : Bool) → cond a 1 0 + cond d 1 0 ≤ 1 + cond (a && d) 1 0
 one_more true true = omega arith
 one_more true false = omega arith
 one_more false true = omega arith
 one_more false false = omega arith
 
-count_cons : (p : ℕ → Bool) (x : ℕ) (xs : List ℕ) → count_by p (x ∷ xs) ≡ cond (p x) 1 0 + count_by p xs
-count_cons p x xs = sum_by-cons (λ y. cond (p y) 1 0) x xs
+count_cons : (test : ℕ → Bool) (x : ℕ) (xs : List ℕ) → count_by test (x ∷ xs) ≡ cond (test x) 1 0 + count_by test xs
+count_cons test x xs = sum_by-cons (λ y. cond (test y) 1 0) x xs
 
-both_count : (p q : ℕ → Bool) (xs : List ℕ) → count_by p xs + count_by q xs ≤ length xs + count_by (λ x. p x && q x) xs
-both_count p q [] = omega arith
-both_count p q (x ∷ xs) =
+both_count : (test other : ℕ → Bool) (xs : List ℕ)
+    → count_by test xs + count_by other xs ≤ length xs + count_by (λ x. test x && other x) xs
+both_count test other [] = omega arith
+both_count test other (x ∷ xs) =
     omega (
       arith,
-      count_cons p x xs,
-      count_cons q x xs,
-      count_cons (λ y. p y && q y) x xs,
-      one_more (p x) (q x),
-      both_count p q xs,
+      count_cons test x xs,
+      count_cons other x xs,
+      count_cons (λ y. test y && other y) x xs,
+      one_more (test x) (other x),
+      both_count test other xs,
     )
 
-bit_none : (b : Bool) → b ≡ false → cond b 1 0 ≤ 0
+bit_none : (a : Bool) → a ≡ false → cond a 1 0 ≤ 0
 bit_none true e = absurd (cc)
 bit_none false e = omega arith
 
-counted : (p : ℕ → Bool) (xs : List ℕ) → 1 ≤ count_by p xs → (x : ℕ) × (p x ≡ true)
-counted p [] h = absurd (omega arith)
-counted p (x ∷ xs) h =
-    elim (cases_Bool (p x)) [
+counted : (test : ℕ → Bool) (xs : List ℕ) → 1 ≤ count_by test xs → (x : ℕ) × (test x ≡ true)
+counted test [] h = absurd (omega arith)
+counted test (x ∷ xs) h =
+    elim (cases_Bool (test x)) [
       | inl e ↦ (x, e)
-      | inr e ↦ counted p xs (omega (arith, count_cons p x xs, bit_none (p x) e, h))
+      | inr e ↦ counted test xs (omega (arith, count_cons test x xs, bit_none (test x) e, h))
     ]
 
 pub length_below : (n : ℕ) → length (below n) ≡ n
@@ -84,24 +92,26 @@ unfolding below
 length_below n = length-range_with_len 0 n
 
 -- two majorities share a member
-pub majorities_meet : (m : Membership) (p q : ℕ → Bool) → are_majority m p ≡ true → are_majority m q ≡ true
-    → (x : ℕ) × (p x ≡ true) × (q x ≡ true)
-majorities_meet m p q h k =
-    let a : majority m ≤ count_by p (below m.count) = leb-true _ _ h in
-    let b : majority m ≤ count_by q (below m.count) = leb-true _ _ k in
-    let both = both_count p q (below m.count) in
-    let r = counted (λ x. p x && q x) (below m.count) (omega (arith, a, b, both, length_below m.count)) in
-    let parts = and_parts (p r.0) (q r.0) r.1 in
+pub majorities_meet : (m : Membership) (test other : ℕ → Bool) → are_majority m test ≡ true
+    → are_majority m other ≡ true
+    → (x : ℕ) × (test x ≡ true) × (other x ≡ true)
+majorities_meet m test other h k =
+    let a : majority m ≤ count_by test (below m.count) = leb-true _ _ h in
+    let b : majority m ≤ count_by other (below m.count) = leb-true _ _ k in
+    let both = both_count test other (below m.count) in
+    let r = counted (λ x. test x && other x) (below m.count) (omega (arith, a, b, both, length_below m.count)) in
+    let parts = and_parts (test r.0) (other r.0) r.1 in
     (r.0, parts.0, parts.1)
 
-bit_le : (a b : Bool) → (a ≡ true → b ≡ true) → cond a 1 0 ≤ cond b 1 0
-bit_le true b h = let e : b ≡ true = h refl in rw e (omega arith)
-bit_le false b h = omega arith
+bit_le : (a d : Bool) → (a ≡ true → d ≡ true) → cond a 1 0 ≤ cond d 1 0
+bit_le true d h = let e : d ≡ true = h refl in rw e (omega arith)
+bit_le false d h = omega arith
 
-pub majority_more : (m : Membership) (p q : ℕ → Bool) → ((x : ℕ) → p x ≡ true → q x ≡ true) → are_majority m p ≡ true
-    → are_majority m q ≡ true
-majority_more m p q h k =
-    let a : majority m ≤ count_by p (below m.count) = leb-true _ _ k in
-    let s = sum_by-le-sum_by (λ y. cond (p y) 1 0) (λ y. cond (q y) 1 0) (below m.count)
-    (λ x. bit_le (p x) (q x) (h x)) in
+pub majority_more : (m : Membership) (test other : ℕ → Bool) → ((x : ℕ) → test x ≡ true → other x ≡ true)
+    → are_majority m test ≡ true
+    → are_majority m other ≡ true
+majority_more m test other h k =
+    let a : majority m ≤ count_by test (below m.count) = leb-true _ _ k in
+    let s = sum_by-le-sum_by (λ y. cond (test y) 1 0) (λ y. cond (other y) 1 0) (below m.count)
+    (λ x. bit_le (test x) (other x) (h x)) in
     le-leb _ _ (omega (arith, a, s))

@@ -31,14 +31,14 @@ map-below_same f g n d e =
     map-below_by g (map f (below n)) n d (length-map-below f n) (λ k h. get_or-map-below f n k d h ∙ e k h)
 
 -- a write at one place
-pub map-below_set : {X : Type 0} (f g : ℕ → X) (n i : ℕ) (v d : X) → g i ≡ v
-    → ((k : ℕ) → k < n → (k ≡ i → ⊥) → f k ≡ g k) → set (map f (below n)) i v ≡ map g (below n)
-map-below_set f g n i v d here there =
-    map-below_by g (set (map f (below n)) i v) n d (length-set _ _ _ ∙ length-map-below f n)
+pub map-below_set : {X : Type 0} (f g : ℕ → X) (n i : ℕ) (x d : X) → g i ≡ x
+    → ((k : ℕ) → k < n → (k ≡ i → ⊥) → f k ≡ g k) → set (map f (below n)) i x ≡ map g (below n)
+map-below_set f g n i x d here there =
+    map-below_by g (set (map f (below n)) i x) n d (length-set _ _ _ ∙ length-map-below f n)
     (λ k h. ⊎_elim
     (λ (e : k ≡ i). let within : i < length (map f (below n)) = rw (length-map-below f n) (omega arith) in
-    get_or-set_at (map f (below n)) i k v d e within ∙ sym here ∙ ap g (sym e))
-    (λ (ne : k ≡ i → ⊥). get_or-set_other (map f (below n)) i k v d ne ∙ get_or-map-below f n k d h ∙ there k h ne)
+    get_or-set_at (map f (below n)) i k x d e within ∙ sym here ∙ ap g (sym e))
+    (λ (ne : k ≡ i → ⊥). get_or-set_other (map f (below n)) i k x d ne ∙ get_or-map-below f n k d h ∙ there k h ne)
     (cases_eq k i))
 
 -- one value everywhere
@@ -49,7 +49,7 @@ map-below_constant f n y e =
 
 -- a count over a list of tests
 counts_alike : (f : ℕ → Bool) (n : ℕ) (xs : List ℕ)
-    → fold (λ (k : ℕ) (b : Bool). k + cond b 1 0) n (map f xs) ≡ fold (λ (k : ℕ) (x : ℕ). k + cond (f x) 1 0) n xs
+    → fold (λ (k : ℕ) (a : Bool). k + cond a 1 0) n (map f xs) ≡ fold (λ (k : ℕ) (x : ℕ). k + cond (f x) 1 0) n xs
 counts_alike f n [] = refl
 counts_alike f n (x ∷ xs) = counts_alike f (n + cond (f x) 1 0) xs
 
@@ -67,9 +67,9 @@ pub get_or-map-instances : {X : Type 0} (f : ℕ → X) (i : ℕ) (d : X) → i 
     → get_or (map f instances) i d ≡ f i
 get_or-map-instances f i d h = rw instances-below (get_or-map-below f instance_count i d h)
 
-pub map-instances_set : {X : Type 0} (f g : ℕ → X) (i : ℕ) (v d : X) → g i ≡ v
-    → ((k : ℕ) → k < instance_count → (k ≡ i → ⊥) → f k ≡ g k) → set (map f instances) i v ≡ map g instances
-map-instances_set f g i v d here there = rw instances-below (map-below_set f g instance_count i v d here there)
+pub map-instances_set : {X : Type 0} (f g : ℕ → X) (i : ℕ) (x d : X) → g i ≡ x
+    → ((k : ℕ) → k < instance_count → (k ≡ i → ⊥) → f k ≡ g k) → set (map f instances) i x ≡ map g instances
+map-instances_set f g i x d here there = rw instances-below (map-below_set f g instance_count i x d here there)
 
 pub below-more : (n : ℕ) → below (n + 1) ≡ below n ++ n ∷ []
 unfolding below
@@ -148,8 +148,8 @@ pub record IsFound (test : ℕ → Bool) (n k : ℕ) : Type 0 where
   pub passes : test k ≡ true
   pub small : k < n
 
-found_at : (test : ℕ → Bool) (a n k : ℕ) (c : Bool) → test a ≡ c
-    → cond c (Some a) (find test (range_with_len (a + 1) n)) ≡ Some k
+found_at : (test : ℕ → Bool) (a n k : ℕ) (d : Bool) → test a ≡ d
+    → cond d (Some a) (find test (range_with_len (a + 1) n)) ≡ Some k
     → (find test (range_with_len (a + 1) n) ≡ Some k → IsFound test (a + 1 + n) k) → IsFound test (a + suc n) k
 found_at test a n k true here e rest =
     let same : a ≡ k = cc in record { passes = rw (← same) here; small = omega arith }
@@ -258,20 +258,20 @@ any-instances_found test h = any-range_found test 0 instance_count h
 pub any-filter : (g f : ℕ → Bool) (xs : List ℕ) → list_any f (filter g xs) ≡ list_any (λ (x : ℕ). g x && f x) xs
 any-filter g f [] = refl
 any-filter g f (x ∷ xs) = go (g x) (any-filter g f xs) where
-  go : (b : Bool) → list_any f (filter g xs) ≡ list_any (λ (y : ℕ). g y && f y) xs
-      → list_any f (cond b (x ∷ filter g xs) (filter g xs)) ≡ ((b && f x) || list_any (λ (y : ℕ). g y && f y) xs)
-  go true e = ap (λ (c : Bool). f x || c) e
+  go : (a : Bool) → list_any f (filter g xs) ≡ list_any (λ (y : ℕ). g y && f y) xs
+      → list_any f (cond a (x ∷ filter g xs) (filter g xs)) ≡ ((a && f x) || list_any (λ (y : ℕ). g y && f y) xs)
+  go true e = ap (λ (d : Bool). f x || d) e
   go false e = e
 
 pub map-filter_same : {X : Type 0} (f f' : ℕ → X) (g g' : ℕ → Bool) → ((j : ℕ) → f j ≡ f' j) → ((j : ℕ) → g j ≡ g' j)
     → (xs : List ℕ) → map f (filter g xs) ≡ map f' (filter g' xs)
 map-filter_same f f' g g' e h [] = refl
 map-filter_same f f' g g' e h (x ∷ xs) =
-    ap (λ (b : Bool). map f (cond b (x ∷ filter g xs) (filter g xs))) (h x)
+    ap (λ (a : Bool). map f (cond a (x ∷ filter g xs) (filter g xs))) (h x)
     ∙ go (g' x) (map-filter_same f f' g g' e h xs)
   where
-    go : (b : Bool) → map f (filter g xs) ≡ map f' (filter g' xs)
-        → map f (cond b (x ∷ filter g xs) (filter g xs)) ≡ map f' (cond b (x ∷ filter g' xs) (filter g' xs))
+    go : (a : Bool) → map f (filter g xs) ≡ map f' (filter g' xs)
+        → map f (cond a (x ∷ filter g xs) (filter g xs)) ≡ map f' (cond a (x ∷ filter g' xs) (filter g' xs))
     go true r = rw (e x, r)
     go false r = r
 
@@ -280,14 +280,14 @@ map-filter-range_same : {X : Type 0} (f f' : ℕ → X) (g g' : ℕ → Bool) (a
     → map f (filter g (range_with_len a n)) ≡ map f' (filter g' (range_with_len a n))
 map-filter-range_same f f' g g' a zero e h = refl
 map-filter-range_same f f' g g' a (suc n) e h =
-    ap (λ (b : Bool). map f
-    (cond b (a ∷ filter g (range_with_len (a + 1) n)) (filter g (range_with_len (a + 1) n)))) (h a (omega arith))
+    ap (λ (d : Bool). map f
+    (cond d (a ∷ filter g (range_with_len (a + 1) n)) (filter g (range_with_len (a + 1) n)))) (h a (omega arith))
     ∙ go (g' a)
     (map-filter-range_same f f' g g' (a + 1) n (λ j l. e j (omega arith)) (λ j l. h j (omega arith)))
   where
-    go : (b : Bool) → map f (filter g (range_with_len (a + 1) n)) ≡ map f' (filter g' (range_with_len (a + 1) n))
-        → map f (cond b (a ∷ filter g (range_with_len (a + 1) n)) (filter g (range_with_len (a + 1) n)))
-        ≡ map f' (cond b (a ∷ filter g' (range_with_len (a + 1) n)) (filter g' (range_with_len (a + 1) n)))
+    go : (d : Bool) → map f (filter g (range_with_len (a + 1) n)) ≡ map f' (filter g' (range_with_len (a + 1) n))
+        → map f (cond d (a ∷ filter g (range_with_len (a + 1) n)) (filter g (range_with_len (a + 1) n)))
+        ≡ map f' (cond d (a ∷ filter g' (range_with_len (a + 1) n)) (filter g' (range_with_len (a + 1) n)))
     go true r = rw (e a (omega arith), r)
     go false r = r
 
@@ -336,6 +336,6 @@ pub filter-instances_same : (g g' : ℕ → Bool) → ((j : ℕ) → j < instanc
 unfolding below instances
 filter-instances_same g g' h = filter-range_same g g' 0 instance_count h
 
-pub any-map : (f : ℕ → Bool) (xs : List ℕ) → list_any f xs ≡ list_any (λ (b : Bool). b) (map f xs)
+pub any-map : (f : ℕ → Bool) (xs : List ℕ) → list_any f xs ≡ list_any (λ (a : Bool). a) (map f xs)
 any-map f [] = refl
-any-map f (x ∷ xs) = ap (λ (b : Bool). f x || b) (any-map f xs)
+any-map f (x ∷ xs) = ap (λ (a : Bool). f x || a) (any-map f xs)

@@ -39,7 +39,7 @@ abbrev pub IsAtMost : Option ℕ → ℕ → Type 0
 IsAtMost None n = Unit {0}
 IsAtMost (Some b) n = b ≤ n
 
-IsAtMost-cond : (t : Bool) (b : ℕ) → IsAtMost (cond t (Some b) None) (cond t b 0)
+IsAtMost-cond : (a : Bool) (b : ℕ) → IsAtMost (cond a (Some b) None) (cond a b 0)
 IsAtMost-cond true b = omega arith
 IsAtMost-cond false b = tt
 
@@ -49,7 +49,7 @@ IsAtMost-greater None (Some b) n k p q = omega arith
 IsAtMost-greater (Some a) None n k p q = omega arith
 IsAtMost-greater (Some a) (Some b) n k p q = either (ltb a b) a b n k p q
   where
-    either : (t : Bool) (a b n k : ℕ) → a ≤ n → b ≤ k → IsAtMost (cond t (Some b) (Some a)) (max n k)
+    either : (d : Bool) (a b n k : ℕ) → a ≤ n → b ≤ k → IsAtMost (cond d (Some b) (Some a)) (max n k)
     either true a b n k p q = omega arith
     either false a b n k p q = omega arith
 

@@ -19,32 +19,32 @@ Backed w i b None = Unit {0}
 Backed w i b (Some u) = (u.ballot < b) × (proposed w i u.ballot ≡ Some u.value)
 
 -- a promise by q at (i, b) with this vote: whatever q accepted below b, the vote's ballot is none of the lesser
-pub record IsKept (w : Trace) (q i b : ℕ) (v : Option Vote) : Type 0 where
-  pub covers : (to c : ℕ) → IsIn (Sent (Accepted q to i c)) w → c < b → Reaches v c
-  pub backed : Backed w i b v
+pub record IsKept (w : Trace) (q i b : ℕ) (o : Option Vote) : Type 0 where
+  pub covers : (to c : ℕ) → IsIn (Sent (Accepted q to i c)) w → c < b → Reaches o c
+  pub backed : Backed w i b o
 
 -- a proposal of v at (i, b): a majority accepts nothing below b any more, and v is the value of the greatest
 -- vote of theirs, or no-op where they have none
-pub record IsSafe (m : Membership) (w : Trace) (i b : ℕ) (v : Value) : Type 0 where
+pub record IsSafe (m : Membership) (w : Trace) (i b : ℕ) (z : Value) : Type 0 where
   pub among : ℕ → Bool
   pub majority : are_majority m among ≡ true
   pub highest : Option Vote
   pub bound : (q : ℕ) → among q ≡ true → b ≤ promised w q i
   pub covers : (q to c : ℕ) → among q ≡ true → IsIn (Sent (Accepted q to i c)) w → c < b → Reaches highest c
   pub backed : Backed w i b highest
-  pub is : v ≡ value_or_noop highest
+  pub is : z ≡ value_or_noop highest
 
-backed_more : (l : Line) (w : Trace) (i b : ℕ) (v : Option Vote) → Backed w i b v → Backed (l ∷ w) i b v
+backed_more : (l : Line) (w : Trace) (i b : ℕ) (o : Option Vote) → Backed w i b o → Backed (l ∷ w) i b o
 backed_more l w i b None h = h
 backed_more l w i b (Some u) h = (h.0, proposed_more l w i u.ballot u.value h.1)
 
-backed_from : (w : Trace) (i b : ℕ) (h : Option Vote) → ((v : Vote) → h ≡ Some v → Backed w i b (Some v))
+backed_from : (w : Trace) (i b : ℕ) (h : Option Vote) → ((z : Vote) → h ≡ Some z → Backed w i b (Some z))
     → Backed w i b h
 backed_from w i b None f = tt
-backed_from w i b (Some v) f = f v refl
+backed_from w i b (Some z) f = f z refl
 
 -- a vote that covers a ballot is covered by each vote that is not less
-reaches_through : (v h : Option Vote) (c : ℕ) → Reaches v c → ((y : Vote) → v ≡ Some y → Reaches h y.ballot)
+reaches_through : (o h : Option Vote) (c : ℕ) → Reaches o c → ((y : Vote) → o ≡ Some y → Reaches h y.ballot)
     → Reaches h c
 reaches_through None h c r f = absurd r
 reaches_through (Some y) None c r f = f y refl
@@ -52,7 +52,7 @@ reaches_through (Some y) (Some x) c r f = let k : y.ballot ≤ x.ballot = f y re
 
 -- what is accepted was proposed
 pub accepted_proposed : (m : Membership) (w : Trace) → IsGrown m w → (q to i b : ℕ)
-    → IsIn (Sent (Accepted q to i b)) w → (v : Value) × (proposed w i b ≡ Some v)
+    → IsIn (Sent (Accepted q to i b)) w → (z : Value) × (proposed w i b ≡ Some z)
 accepted_proposed m [] g q to i b h = absurd h
 accepted_proposed m (l ∷ w) g q to i b (inl e) =
     let may : MayAccept w q to i b = rw (← e) at g.1 in
@@ -83,32 +83,32 @@ vote_kept m w g q i b (Some x) e a =
     }
 
 -- nothing is accepted below a promise, but what its vote covers
-pub promise_covers : (m : Membership) (w : Trace) → IsGrown m w → (q to i b : ℕ) (v : Option Vote)
-    → IsIn (Sent (Promise q to i b v)) w → IsKept w q i b v
-promise_covers m [] g q to i b v h = absurd h
-promise_covers m (l ∷ w) g q to i b v (inl e) =
-    let may : MayPromise w q to i b v = rw (← e) at g.1 in
-    let k : IsKept w q i b v = rw may.is (vote_kept m w g.0 q i b (accepted w q i) refl may.above) in
+pub promise_covers : (m : Membership) (w : Trace) → IsGrown m w → (q to i b : ℕ) (o : Option Vote)
+    → IsIn (Sent (Promise q to i b o)) w → IsKept w q i b o
+promise_covers m [] g q to i b o h = absurd h
+promise_covers m (l ∷ w) g q to i b o (inl e) =
+    let may : MayPromise w q to i b o = rw (← e) at g.1 in
+    let k : IsKept w q i b o = rw may.is (vote_kept m w g.0 q i b (accepted w q i) refl may.above) in
     record {
       covers = λ t c h lt. elim h [ inl x ↦ absurd (cc) | inr x ↦ k.covers t c x lt ];
-      backed = backed_more l w i b v k.backed;
+      backed = backed_more l w i b o k.backed;
     }
-promise_covers m (l ∷ w) g q to i b v (inr h) =
-    let k = promise_covers m w g.0 q to i b v h in
-    let s = promise_within w q to i b v h in
+promise_covers m (l ∷ w) g q to i b o (inr h) =
+    let k = promise_covers m w g.0 q to i b o h in
+    let s = promise_within w q to i b o h in
     record {
       covers =
           λ t c y lt. elim y [
             | inl x ↦ let may : MayAccept w q t i c = rw (← x) at g.1 in absurd (omega (arith, may.free, s, lt))
             | inr x ↦ k.covers t c x lt
           ];
-      backed = backed_more l w i b v k.backed;
+      backed = backed_more l w i b o k.backed;
     }
 
 -- and stays safe
-safe_more : (m : Membership) (l : Line) (w : Trace) (i b : ℕ) (v : Value) → May m w l → IsSafe m w i b v
-    → IsSafe m (l ∷ w) i b v
-safe_more m l w i b v may s =
+safe_more : (m : Membership) (l : Line) (w : Trace) (i b : ℕ) (z : Value) → May m w l → IsSafe m w i b z
+    → IsSafe m (l ∷ w) i b z
+safe_more m l w i b z may s =
     record {
       among = s.among;
       majority = s.majority;
@@ -125,9 +125,9 @@ safe_more m l w i b v may s =
     }
 
 -- a proposal is safe when it is made
-safe_at : (m : Membership) (w : Trace) (p i b : ℕ) (v : Value) → IsGrown m w → MayPropose m w p i b v
-    → IsSafe m w i b v
-safe_at m w p i b v g may =
+safe_at : (m : Membership) (w : Trace) (p i b : ℕ) (z : Value) → IsGrown m w → MayPropose m w p i b z
+    → IsSafe m w i b z
+safe_at m w p i b z g may =
     record {
       among = may.among;
       majority = may.majority;
@@ -145,23 +145,23 @@ safe_at m w p i b v g may =
     }
 
 -- every proposal is safe by a majority
-pub propose_safe : (m : Membership) (w : Trace) → IsGrown m w → (p i b : ℕ) (v : Value)
-    → IsIn (Sent (Propose p i b v)) w → IsSafe m w i b v
-propose_safe m [] g p i b v h = absurd h
-propose_safe m (l ∷ w) g p i b v (inl e) =
-    let may : MayPropose m w p i b v = rw (← e) at g.1 in
-    safe_more m l w i b v g.1 (safe_at m w p i b v g.0 may)
-propose_safe m (l ∷ w) g p i b v (inr h) = safe_more m l w i b v g.1 (propose_safe m w g.0 p i b v h)
+pub propose_safe : (m : Membership) (w : Trace) → IsGrown m w → (p i b : ℕ) (z : Value)
+    → IsIn (Sent (Propose p i b z)) w → IsSafe m w i b z
+propose_safe m [] g p i b z h = absurd h
+propose_safe m (l ∷ w) g p i b z (inl e) =
+    let may : MayPropose m w p i b z = rw (← e) at g.1 in
+    safe_more m l w i b z g.1 (safe_at m w p i b z g.0 may)
+propose_safe m (l ∷ w) g p i b z (inr h) = safe_more m l w i b z g.1 (propose_safe m w g.0 p i b z h)
 
-proposal_safe : (m : Membership) (w : Trace) → IsGrown m w → (i b : ℕ) (v : Value) → 0 < b
-    → proposed w i b ≡ Some v → IsSafe m w i b v
-proposal_safe m w g i b v pos h = let r = proposal_in w i b v pos h in propose_safe m w g r.0 i b v r.1
+proposal_safe : (m : Membership) (w : Trace) → IsGrown m w → (i b : ℕ) (z : Value) → 0 < b
+    → proposed w i b ≡ Some z → IsSafe m w i b z
+proposal_safe m w g i b z pos h = let r = proposal_in w i b z pos h in propose_safe m w g r.0 i b z r.1
 
 -- where v was chosen at ballot c: every proposal at a greater ballot has v
-module _ (m : Membership) (w : Trace) (g : IsGrown m w) (i c : ℕ) (v : Value) (start : proposed w i c ≡ Some v)
+module _ (m : Membership) (w : Trace) (g : IsGrown m w) (i c : ℕ) (z : Value) (start : proposed w i c ≡ Some z)
     (chosen : are_majority m (has_accepted w i c) ≡ true) where
   above : (b : ℕ) (x : Value) (h : Option Vote) → Reaches h c → Backed w i b h → x ≡ value_or_noop h
-      → ((above : ℕ) (y : Value) → above < b → c < above → proposed w i above ≡ Some y → y ≡ v) → x ≡ v
+      → ((above : ℕ) (y : Value) → above < b → c < above → proposed w i above ≡ Some y → y ≡ z) → x ≡ z
   above b x None r k is rest = absurd r
   above b x (Some u) r k is rest =
       elim (cases_lt c u.ballot) [
@@ -169,7 +169,7 @@ module _ (m : Membership) (w : Trace) (g : IsGrown m w) (i c : ℕ) (v : Value) 
         | inr ge ↦ let e : u.ballot ≡ c = omega (arith, r, ge) in let s = k.1 in cc
       ]
 
-  pub chosen_above_to : (n b : ℕ) (x : Value) → b ≤ n → c < b → proposed w i b ≡ Some x → x ≡ v
+  pub chosen_above_to : (n b : ℕ) (x : Value) → b ≤ n → c < b → proposed w i b ≡ Some x → x ≡ z
   chosen_above_to zero b x le lt h = absurd (omega arith)
   chosen_above_to (suc n) b x le lt h =
       let s = proposal_safe m w g i b x (omega arith) h in
@@ -178,7 +178,7 @@ module _ (m : Membership) (w : Trace) (g : IsGrown m w) (i c : ℕ) (v : Value) 
       above b x s.highest (s.covers q.0 a.0 c q.1 a.1 lt) s.backed s.is
       (λ d y below past. chosen_above_to n d y (omega (arith, below, le)) past)
 
-  pub chosen_above : (b : ℕ) (x : Value) → c < b → proposed w i b ≡ Some x → x ≡ v
+  pub chosen_above : (b : ℕ) (x : Value) → c < b → proposed w i b ≡ Some x → x ≡ z
   chosen_above b x lt h = chosen_above_to b b x (omega arith) lt h
 
 module _ (m : Membership) (w : Trace) (g : IsGrown m w) (i : ℕ) where

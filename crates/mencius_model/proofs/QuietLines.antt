@@ -26,7 +26,7 @@ pub record IsUncounted (i b : ℕ) (x : Message) : Type 0 where
   pub report : vote_reported i b x ≡ None
 
 -- what p says of one instance is quiet for another
-both-false : (t : Bool) → (t && false) ≡ false
+both-false : (a : Bool) → (a && false) ≡ false
 both-false true = refl
 both-false false = refl
 
@@ -35,13 +35,13 @@ quiet_accepted p q i b j ne =
     let other : (eqb p p && eqb i j) ≡ false = rw (ne_eqb i j (λ e. ne (sym e))) (both-false (eqb p p)) in
     record { promised = rw other; proposed = λ c. refl; accepted = rw other; learned = refl; tried = refl }
 
-pub quiet_promise : (p q i b j : ℕ) (v : Option Vote) → (j ≡ i → ⊥) → IsQuiet p j (Sent (Promise p q i b v))
-quiet_promise p q i b j v ne =
+pub quiet_promise : (p q i b j : ℕ) (o : Option Vote) → (j ≡ i → ⊥) → IsQuiet p j (Sent (Promise p q i b o))
+quiet_promise p q i b j o ne =
     let other : (eqb p p && eqb i j) ≡ false = rw (ne_eqb i j (λ e. ne (sym e))) (both-false (eqb p p)) in
     record { promised = rw other; proposed = λ c. refl; accepted = refl; learned = refl; tried = refl }
 
-pub quiet_propose : (p i b j : ℕ) (v : Value) → (j ≡ i → ⊥) → IsQuiet p j (Sent (Propose p i b v))
-quiet_propose p i b j v ne =
+pub quiet_propose : (p i b j : ℕ) (z : Value) → (j ≡ i → ⊥) → IsQuiet p j (Sent (Propose p i b z))
+quiet_propose p i b j z ne =
     let other : eqb i j ≡ false = ne_eqb i j (λ e. ne (sym e)) in
     record { promised = refl; proposed = λ c. rw other; accepted = refl; learned = refl; tried = refl }
 
@@ -50,8 +50,8 @@ quiet_suggest p i t j ne =
     let other : eqb i j ≡ false = ne_eqb i j (λ e. ne (sym e)) in
     record { promised = refl; proposed = λ c. rw other; accepted = refl; learned = refl; tried = refl }
 
-pub quiet_learned : (p i j : ℕ) (v : Value) → (j ≡ i → ⊥) → IsQuiet p j (Learned p i v)
-quiet_learned p i j v ne =
+pub quiet_learned : (p i j : ℕ) (z : Value) → (j ≡ i → ⊥) → IsQuiet p j (Learned p i z)
+quiet_learned p i j z ne =
     let other : (eqb p p && eqb i j) ≡ false = rw (ne_eqb i j (λ e. ne (sym e))) (both-false (eqb p p)) in
     record { promised = refl; proposed = λ c. refl; accepted = refl; learned = rw other; tried = refl }
 
@@ -59,5 +59,5 @@ pub quiet_skip : (p q first stop i : ℕ) → IsQuiet p i (Sent (Skip q first st
 quiet_skip p q first stop i =
     record { promised = refl; proposed = λ c. refl; accepted = refl; learned = refl; tried = refl }
 
-pub quiet_learn : (p q i j : ℕ) (v : Value) → IsQuiet p j (Sent (Learn q i v))
-quiet_learn p q i j v = record { promised = refl; proposed = λ c. refl; accepted = refl; learned = refl; tried = refl }
+pub quiet_learn : (p q i j : ℕ) (z : Value) → IsQuiet p j (Sent (Learn q i z))
+quiet_learn p q i j z = record { promised = refl; proposed = λ c. refl; accepted = refl; learned = refl; tried = refl }

@@ -18,44 +18,45 @@ use Rattle.mencius_model.proofs.Tickets.{identity_once, Submission}
 -- ---- the first place
 
 -- k is the first place of an item that passes
-pub record IsPlace (A : Type 0) (p : A → Bool) (xs : List A) (k : ℕ) : Type 0 where
+pub record IsPlace (A : Type 0) (test : A → Bool) (xs : List A) (k : ℕ) : Type 0 where
   pub item : A
   pub there : slice_get xs k ≡ Some item
-  pub passes : p item ≡ true
-  pub first : (j : ℕ) (x : A) → slice_get xs j ≡ Some x → p x ≡ true → k ≤ j
+  pub passes : test item ≡ true
+  pub first : (j : ℕ) (x : A) → slice_get xs j ≡ Some x → test x ≡ true → k ≤ j
 
 -- a place after the first
 mapped : (o : Option ℕ) (k : ℕ) → option_map suc o ≡ Some k → (j : ℕ) × (o ≡ Some j) × (k ≡ suc j)
 mapped None k h = absurd (cc)
 mapped (Some j) k h = (j, refl, cc)
 
-later_place : {A : Type 0} (p : A → Bool) (x : A) (xs : List A) (i : ℕ) → p x ≡ false
-    → ((j : ℕ) (y : A) → slice_get xs j ≡ Some y → p y ≡ true → i ≤ j)
-    → (j : ℕ) (y : A) → slice_get (x ∷ xs) j ≡ Some y → p y ≡ true → suc i ≤ j
-later_place p x xs i miss f zero y a b = let s : x ≡ y = cc in absurd (let t = rw s at miss in cc)
-later_place p x xs i miss f (suc j) y a b = omega (arith, f j y a b)
+later_place : {A : Type 0} (test : A → Bool) (x : A) (xs : List A) (i : ℕ) → test x ≡ false
+    → ((j : ℕ) (y : A) → slice_get xs j ≡ Some y → test y ≡ true → i ≤ j)
+    → (j : ℕ) (y : A) → slice_get (x ∷ xs) j ≡ Some y → test y ≡ true → suc i ≤ j
+later_place test x xs i miss f zero y a b = let s : x ≡ y = cc in absurd (let t = rw s at miss in cc)
+later_place test x xs i miss f (suc j) y a b = omega (arith, f j y a b)
 
-place_next : {A : Type 0} (p : A → Bool) (x : A) (xs : List A) (i k : ℕ) → k ≡ suc i → p x ≡ false → IsPlace A p xs i
-    → IsPlace A p (x ∷ xs) k
-place_next p x xs i k e miss s =
+place_next : {A : Type 0} (test : A → Bool) (x : A) (xs : List A) (i k : ℕ) → k ≡ suc i → test x ≡ false
+    → IsPlace A test xs i
+    → IsPlace A test (x ∷ xs) k
+place_next test x xs i k e miss s =
     rw e (record {
       item = s.item;
       there = s.there;
       passes = s.passes;
-      first = λ j y a b. later_place p x xs i miss s.first j y a b;
+      first = λ j y a b. later_place test x xs i miss s.first j y a b;
     })
 
 -- `place_of` answers the first place of an item that passes
-place_is : {A : Type 0} (p : A → Bool) (xs : List A) (k : ℕ) → place_of p xs ≡ Some k → IsPlace A p xs k
-place_is p [] k h = absurd (cc)
-place_is p (x ∷ xs) k h =
-    elim (cases_Bool (p x)) [
+place_is : {A : Type 0} (test : A → Bool) (xs : List A) (k : ℕ) → place_of test xs ≡ Some k → IsPlace A test xs k
+place_is test [] k h = absurd (cc)
+place_is test (x ∷ xs) k h =
+    elim (cases_Bool (test x)) [
       | inl e ↦
           let z : 0 ≡ k = (let s = rw e at h in cc) in
           rw (← z) (record { item = x; there = refl; passes = e; first = λ j y a b. omega arith })
       | inr e ↦
-          let r = mapped (place_of p xs) k (rw e at h) in
-          place_next p x xs r.0 k r.2 e (place_is p xs r.0 r.1)
+          let r = mapped (place_of test xs) k (rw e at h) in
+          place_next test x xs r.0 k r.2 e (place_is test xs r.0 r.1)
     ]
 
 mapped_none : (o : Option ℕ) → option_map suc o ≡ None → o ≡ None
@@ -63,30 +64,30 @@ mapped_none None h = refl
 mapped_none (Some k) h = absurd (cc)
 
 -- and none exactly where no item passes
-no_place : {A : Type 0} (p : A → Bool) (xs : List A) → place_of p xs ≡ None → list_any p xs ≡ false
-no_place p [] h = refl
-no_place p (x ∷ xs) h =
-    elim (cases_Bool (p x)) [
+no_place : {A : Type 0} (test : A → Bool) (xs : List A) → place_of test xs ≡ None → list_any test xs ≡ false
+no_place test [] h = refl
+no_place test (x ∷ xs) h =
+    elim (cases_Bool (test x)) [
       | inl e ↦ absurd (let s = rw e at h in cc)
-      | inr e ↦ rw e (no_place p xs (mapped_none (place_of p xs) (rw e at h)))
+      | inr e ↦ rw e (no_place test xs (mapped_none (place_of test xs) (rw e at h)))
     ]
 
-some_place : {A : Type 0} (p : A → Bool) (xs : List A) → list_any p xs ≡ false → place_of p xs ≡ None
-some_place p [] h = refl
-some_place p (x ∷ xs) h =
-    let r = or_parts (p x) (list_any p xs) h in
-    rw (r.0, some_place p xs r.1)
+some_place : {A : Type 0} (test : A → Bool) (xs : List A) → list_any test xs ≡ false → place_of test xs ≡ None
+some_place test [] h = refl
+some_place test (x ∷ xs) h =
+    let r = or_parts (test x) (list_any test xs) h in
+    rw (r.0, some_place test xs r.1)
 
 -- ---- the reply
 
 -- who has the identity of a third has the identity of each other
-same_ids : (a b id : CommandId) → is_same_id a id ≡ true → is_same_id b id ≡ true → is_same_id a b ≡ true
-same_ids a b id h k =
+same_ids : (a d id : CommandId) → is_same_id a id ≡ true → is_same_id d id ≡ true → is_same_id a d ≡ true
+same_ids a d id h k =
     let r = and_parts (eqb a.client id.client) (eqb a.number id.number) h in
-    let s = and_parts (eqb b.client id.client) (eqb b.number id.number) k in
-    let c = eqb-true a.client id.client r.0 ∙ sym (eqb-true b.client id.client s.0) in
-    let n = eqb-true a.number id.number r.1 ∙ sym (eqb-true b.number id.number s.1) in
-    rw (eq-eqb a.client b.client c, eq-eqb a.number b.number n)
+    let s = and_parts (eqb d.client id.client) (eqb d.number id.number) k in
+    let c = eqb-true a.client id.client r.0 ∙ sym (eqb-true d.client id.client s.0) in
+    let n = eqb-true a.number id.number r.1 ∙ sym (eqb-true d.number id.number s.1) in
+    rw (eq-eqb a.client d.client c, eq-eqb a.number d.number n)
 
 module _ (m : Membership) (few : 1 ≤ m.count) (w : Trace) (g : IsGrown m w) (id : CommandId) where
   abbrev is_id : Submission → Bool
@@ -99,26 +100,26 @@ module _ (m : Membership) (few : 1 ≤ m.count) (w : Trace) (g : IsGrown m w) (i
   same_submission : (t u : ℕ) (x y : Submission) → slice_get (submitted w) t ≡ Some x
       → slice_get (submitted w) u ≡ Some y
       → is_same_id x.0.id id ≡ true → is_same_id y.0.id id ≡ true → (t ≡ u) × (x ≡ y)
-  same_submission t u x y a b h k =
-      let e = identity_once m w g t u x y a b (same_ids x.0.id y.0.id id h k) in
-      let c = rw (← e) at b in
+  same_submission t u x y a d h k =
+      let e = identity_once m w g t u x y a d (same_ids x.0.id y.0.id id h k) in
+      let c = rw (← e) at d in
       (e, cc)
 
   -- it stands at one place of its home's history, so it has one reply
   pub reply_once : (x y : Option (List ℕ)) → IsReply w id x → IsReply w id y → x ≡ y
-  reply_once x y a b =
-      let s = same_submission a.ticket b.ticket (a.command, a.home) (b.command, b.home) a.given b.given a.same b.same in
-      let parts = some_pair_parts a.command b.command a.home b.home (ap Some s.1) in
-      let there : slice_get (executed w a.home) b.place ≡ Some a.ticket = rw (parts.1, s.0) b.there in
-      let p = history_once m few w g a.home a.place b.place a.ticket a.there there in
-      a.is ∙ (rw (parts.0, parts.1, p) (sym b.is))
+  reply_once x y a d =
+      let s = same_submission a.ticket d.ticket (a.command, a.home) (d.command, d.home) a.given d.given a.same d.same in
+      let parts = some_pair_parts a.command d.command a.home d.home (ap Some s.1) in
+      let there : slice_get (executed w a.home) d.place ≡ Some a.ticket = rw (parts.1, s.0) d.there in
+      let p = history_once m few w g a.home a.place d.place a.ticket a.there there in
+      a.is ∙ (rw (parts.0, parts.1, p) (sym d.is))
 
   -- a reply is not given and awaited at once
   not_both : (r : Option (List ℕ)) → IsReply w id r → IsPending w id → ⊥
-  not_both r a b =
-      let s = same_submission a.ticket b.ticket (a.command, a.home) (b.command, b.home) a.given b.given a.same b.same in
-      let parts = some_pair_parts a.command b.command a.home b.home (ap Some s.1) in
-      b.absent a.place (rw (← parts.1, ← s.0) a.there)
+  not_both r a d =
+      let s = same_submission a.ticket d.ticket (a.command, a.home) (d.command, d.home) a.given d.given a.same d.same in
+      let parts = some_pair_parts a.command d.command a.home d.home (ap Some s.1) in
+      d.absent a.place (rw (← parts.1, ← s.0) a.there)
 
   -- ---- what `reply_of` answers is so
 
@@ -137,7 +138,7 @@ module _ (m : Membership) (few : 1 ≤ m.count) (w : Trace) (g : IsGrown m w) (i
         given = a;
         same = s;
         there = p.there ∙ ap Some same;
-        first = λ j b. p.first j t b (eq-eqb t t refl);
+        first = λ j d. p.first j t d (eq-eqb t t refl);
         is = cc;
       }
 
@@ -180,7 +181,7 @@ module _ (m : Membership) (few : 1 ≤ m.count) (w : Trace) (g : IsGrown m w) (i
 
   -- ---- and what is so it answers
 
-  not_true : (b : Bool) → (b ≡ true → ⊥) → b ≡ false
+  not_true : (d : Bool) → (d ≡ true → ⊥) → d ≡ false
   not_true true h = absurd (h refl)
   not_true false h = refl
 

@@ -31,48 +31,48 @@ Stands v None = Unit {0}
 Stands None (Some u) = ⊥
 Stands (Some v) (Some u) = u.ballot ≤ v.ballot
 
-pub higher_vote-stands : (v u : Option Vote) → Stands v u → higher_vote v u ≡ v
+pub higher_vote-stands : (o r : Option Vote) → Stands o r → higher_vote o r ≡ o
 higher_vote-stands None None stands = refl
-higher_vote-stands (Some v) None stands = refl
-higher_vote-stands None (Some u) stands = absurd stands
-higher_vote-stands (Some v) (Some u) stands = rw (le-ltb v.ballot u.ballot stands)
+higher_vote-stands (Some o) None stands = refl
+higher_vote-stands None (Some r) stands = absurd stands
+higher_vote-stands (Some o) (Some r) stands = rw (le-ltb o.ballot r.ballot stands)
 
-Stands-higher_vote_right : (v u : Option Vote) → Stands (higher_vote v u) u
-Stands-higher_vote_right v None = tt
-Stands-higher_vote_right None (Some u) = omega arith
-Stands-higher_vote_right (Some v) (Some u) =
+Stands-higher_vote_right : (o r : Option Vote) → Stands (higher_vote o r) r
+Stands-higher_vote_right o None = tt
+Stands-higher_vote_right None (Some r) = omega arith
+Stands-higher_vote_right (Some o) (Some r) =
     ⊎_elim
-    (λ (less : v.ballot < u.ballot). rw (lt-ltb v.ballot u.ballot less) (omega arith))
-    (λ (more : u.ballot ≤ v.ballot). rw (le-ltb v.ballot u.ballot more) more)
-    (cases_lt v.ballot u.ballot)
+    (λ (less : o.ballot < r.ballot). rw (lt-ltb o.ballot r.ballot less) (omega arith))
+    (λ (more : r.ballot ≤ o.ballot). rw (le-ltb o.ballot r.ballot more) more)
+    (cases_lt o.ballot r.ballot)
 
-Stands-higher_vote_left : (v x u : Option Vote) → Stands v u → Stands (higher_vote v x) u
-Stands-higher_vote_left v x None stands = tt
-Stands-higher_vote_left None x (Some u) stands = absurd stands
-Stands-higher_vote_left (Some v) None (Some u) stands = stands
-Stands-higher_vote_left (Some v) (Some x) (Some u) stands =
+Stands-higher_vote_left : (o x r : Option Vote) → Stands o r → Stands (higher_vote o x) r
+Stands-higher_vote_left o x None stands = tt
+Stands-higher_vote_left None x (Some r) stands = absurd stands
+Stands-higher_vote_left (Some o) None (Some r) stands = stands
+Stands-higher_vote_left (Some o) (Some x) (Some r) stands =
     ⊎_elim
-    (λ (less : v.ballot < x.ballot). rw (lt-ltb v.ballot x.ballot less) (omega arith))
-    (λ (more : x.ballot ≤ v.ballot). rw (le-ltb v.ballot x.ballot more) stands)
-    (cases_lt v.ballot x.ballot)
+    (λ (less : o.ballot < x.ballot). rw (lt-ltb o.ballot x.ballot less) (omega arith))
+    (λ (more : x.ballot ≤ o.ballot). rw (le-ltb o.ballot x.ballot more) stands)
+    (cases_lt o.ballot x.ballot)
 
 -- a vote reported twice counts once
-pub higher_vote_twice : (v u : Option Vote) → higher_vote (higher_vote v u) u ≡ higher_vote v u
-higher_vote_twice v u = higher_vote-stands (higher_vote v u) u (Stands-higher_vote_right v u)
+pub higher_vote_twice : (o r : Option Vote) → higher_vote (higher_vote o r) r ≡ higher_vote o r
+higher_vote_twice o r = higher_vote-stands (higher_vote o r) r (Stands-higher_vote_right o r)
 
-Stands-fold : (vs : List (Option Vote)) (v u : Option Vote) → Stands v u → Stands (fold higher_vote v vs) u
-Stands-fold [] v u stands = stands
-Stands-fold (x ∷ vs) v u stands = Stands-fold vs (higher_vote v x) u (Stands-higher_vote_left v x u stands)
+Stands-fold : (vs : List (Option Vote)) (o r : Option Vote) → Stands o r → Stands (fold higher_vote o vs) r
+Stands-fold [] o r stands = stands
+Stands-fold (x ∷ vs) o r stands = Stands-fold vs (higher_vote o x) r (Stands-higher_vote_left o x r stands)
 
-Stands-fold_heard : (report : Message → Option Vote) (hs : List Message) (x : Message) (v : Option Vote)
-    → Contains hs x → Stands (fold higher_vote v (map report hs)) (report x)
-Stands-fold_heard report [] x v has = absurd (let few = has.1 in omega arith)
-Stands-fold_heard report (h ∷ hs) x v has =
+Stands-fold_heard : (report : Message → Option Vote) (hs : List Message) (x : Message) (o : Option Vote)
+    → Contains hs x → Stands (fold higher_vote o (map report hs)) (report x)
+Stands-fold_heard report [] x o has = absurd (let few = has.1 in omega arith)
+Stands-fold_heard report (h ∷ hs) x o has =
     ⊎_elim
-    (λ (same : h ≡ x). Stands-fold (map report hs) (higher_vote v (report h)) (report x)
-    (subst (λ (y : Message). Stands (higher_vote v (report h)) (report y)) same
-    (Stands-higher_vote_right v (report h))))
-    (λ (later : Contains hs x). Stands-fold_heard report hs x (higher_vote v (report h)) later)
+    (λ (same : h ≡ x). Stands-fold (map report hs) (higher_vote o (report h)) (report x)
+    (subst (λ (y : Message). Stands (higher_vote o (report h)) (report y)) same
+    (Stands-higher_vote_right o (report h))))
+    (λ (later : Contains hs x). Stands-fold_heard report hs x (higher_vote o (report h)) later)
     (contains_cases h x hs has)
 
 -- the highest vote stands against each that was heard
@@ -88,66 +88,66 @@ any_again test hs x has =
     ∙ ⊎_elim
     (λ (yes : test x ≡ true). let found : list_any test hs
     ≡ true = list_any_at test hs has.0 x has.1 (ap test has.2 ∙ yes) in rw found)
-    (λ (other : test x ≡ false). ap (λ (b : Bool). list_any test hs || b) other ∙ or_false (list_any test hs))
+    (λ (other : test x ≡ false). ap (λ (a : Bool). list_any test hs || a) other ∙ or_false (list_any test hs))
     (cases_Bool (test x))
   where
-    or_false : (b : Bool) → (b || false) ≡ b
+    or_false : (a : Bool) → (a || false) ≡ a
     or_false true = refl
     or_false false = refl
 
 -- the highest of two votes is one of them
-higher_vote-cases : (v u : Option Vote) (x : Vote) → higher_vote v u ≡ Some x → (v ≡ Some x) ⊎ (u ≡ Some x)
-higher_vote-cases None u x e = inr e
-higher_vote-cases (Some v) None x e = inl e
-higher_vote-cases (Some v) (Some u) x e = either (ltb v.ballot u.ballot) e
+higher_vote-cases : (o r : Option Vote) (x : Vote) → higher_vote o r ≡ Some x → (o ≡ Some x) ⊎ (r ≡ Some x)
+higher_vote-cases None r x e = inr e
+higher_vote-cases (Some o) None x e = inl e
+higher_vote-cases (Some o) (Some r) x e = either (ltb o.ballot r.ballot) e
   where
-    either : (c : Bool) → cond c (Some u) (Some v) ≡ Some x → (Some v ≡ Some x) ⊎ (Some u ≡ Some x)
+    either : (d : Bool) → cond d (Some r) (Some o) ≡ Some x → (Some o ≡ Some x) ⊎ (Some r ≡ Some x)
     either true e = inr e
     either false e = inl e
 
 -- only a promise reports a vote
-promise_reported : (i b : ℕ) (x : Message) (v : Vote) → vote_reported i b x ≡ Some v
-    → (from : ℕ) × (to : ℕ) × (x ≡ Promise from to i b (Some v))
-promise_reported i b (Promise from to inst ballot vote) v e = either (eqb inst i) (eqb ballot b) refl refl e
+promise_reported : (i b : ℕ) (x : Message) (z : Vote) → vote_reported i b x ≡ Some z
+    → (from : ℕ) × (to : ℕ) × (x ≡ Promise from to i b (Some z))
+promise_reported i b (Promise from to inst ballot vote) z e = either (eqb inst i) (eqb ballot b) refl refl e
   where
-    either : (c d : Bool) → eqb inst i ≡ c → eqb ballot b ≡ d → cond (c && d) vote None ≡ Some v
-        → (p : ℕ) × (t : ℕ) × (Promise from to inst ballot vote ≡ Promise p t i b (Some v))
+    either : (a d : Bool) → eqb inst i ≡ a → eqb ballot b ≡ d → cond (a && d) vote None ≡ Some z
+        → (p : ℕ) × (t : ℕ) × (Promise from to inst ballot vote ≡ Promise p t i b (Some z))
     either true true here at e =
         let inst_is : inst ≡ i = eqb-true inst i here in
         let ballot_is : ballot ≡ b = eqb-true ballot b at in
         (from, to, rw (inst_is, ballot_is, e))
     either true false here at e = absurd (cc)
     either false d here at e = absurd (cc)
-promise_reported i b (Suggest from inst ticket) v e = absurd (cc)
-promise_reported i b (Skip from first stop) v e = absurd (cc)
-promise_reported i b (Accepted from to inst ballot) v e = absurd (cc)
-promise_reported i b (Prepare from inst ballot) v e = absurd (cc)
-promise_reported i b (Propose from inst ballot value) v e = absurd (cc)
-promise_reported i b (Learn from inst value) v e = absurd (cc)
+promise_reported i b (Suggest from inst ticket) z e = absurd (cc)
+promise_reported i b (Skip from first stop) z e = absurd (cc)
+promise_reported i b (Accepted from to inst ballot) z e = absurd (cc)
+promise_reported i b (Prepare from inst ballot) z e = absurd (cc)
+promise_reported i b (Propose from inst ballot value) z e = absurd (cc)
+promise_reported i b (Learn from inst value) z e = absurd (cc)
 
 abbrev IsReported : List Message → ℕ → ℕ → Vote → Type 0
 IsReported hs i b v = (from : ℕ) × (to : ℕ) × Contains hs (Promise from to i b (Some v))
 
-fold_heard : (i b : ℕ) (v : Vote) (hs : List Message) (u : Option Vote)
-    → fold higher_vote u (map (vote_reported i b) hs) ≡ Some v
-    → (u ≡ Some v) ⊎ IsReported hs i b v
-fold_heard i b v [] u e = inl e
-fold_heard i b v (h ∷ hs) u e =
+fold_heard : (i b : ℕ) (z : Vote) (hs : List Message) (o : Option Vote)
+    → fold higher_vote o (map (vote_reported i b) hs) ≡ Some z
+    → (o ≡ Some z) ⊎ IsReported hs i b z
+fold_heard i b z [] o e = inl e
+fold_heard i b z (h ∷ hs) o e =
     ⊎_elim
-    (λ (first : higher_vote u (vote_reported i b h) ≡ Some v). ⊎_elim
-    (λ (before : u ≡ Some v). inl before)
-    (λ (here : vote_reported i b h ≡ Some v).
-    let said = promise_reported i b h v here in
+    (λ (first : higher_vote o (vote_reported i b h) ≡ Some z). ⊎_elim
+    (λ (before : o ≡ Some z). inl before)
+    (λ (here : vote_reported i b h ≡ Some z).
+    let said = promise_reported i b h z here in
     inr (said.0, said.1, subst (λ (y : Message). Contains (h ∷ hs) y) said.2 (contains_here h hs)))
-    (higher_vote-cases u (vote_reported i b h) v first))
-    (λ (later : IsReported hs i b v). inr (later.0, later.1, contains_later h _ hs later.2))
-    (fold_heard i b v hs (higher_vote u (vote_reported i b h)) e)
+    (higher_vote-cases o (vote_reported i b h) z first))
+    (λ (later : IsReported hs i b z). inr (later.0, later.1, contains_later h _ hs later.2))
+    (fold_heard i b z hs (higher_vote o (vote_reported i b h)) e)
 
 -- the highest vote was heard
-pub highest_vote-heard : (i b : ℕ) (v : Vote) (hs : List Message) → highest_vote (map (vote_reported i b) hs) ≡ Some v
-    → (from : ℕ) × (to : ℕ) × Contains hs (Promise from to i b (Some v))
-highest_vote-heard i b v hs e =
+pub highest_vote-heard : (i b : ℕ) (z : Vote) (hs : List Message) → highest_vote (map (vote_reported i b) hs) ≡ Some z
+    → (from : ℕ) × (to : ℕ) × Contains hs (Promise from to i b (Some z))
+highest_vote-heard i b z hs e =
     ⊎_elim
-    (λ (none : None ≡ Some v). absurd (cc))
-    (λ (heard : IsReported hs i b v). heard)
-    (fold_heard i b v hs None e)
+    (λ (none : None ≡ Some z). absurd (cc))
+    (λ (heard : IsReported hs i b z). heard)
+    (fold_heard i b z hs None e)

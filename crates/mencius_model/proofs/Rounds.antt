@@ -31,8 +31,8 @@ IsLowBallot m _ = Unit {0}
 abbrev AreLowBallots : Membership → List Line → Type 0
 AreLowBallots m ls = AreAll (IsLowBallot m) ls
 
-low_two : (m : Membership) (p q i j n : ℕ) (a b : Bool)
-    → AreLowBallots m (cond a (Sent (Skip p i n) ∷ []) [] ++ cond b (Sent (Accepted p q j 0) ∷ []) [])
+low_two : (m : Membership) (p q i j n : ℕ) (a d : Bool)
+    → AreLowBallots m (cond a (Sent (Skip p i n) ∷ []) [] ++ cond d (Sent (Accepted p q j 0) ∷ []) [])
 low_two m p q i j n true true = (tt, (tt, tt))
 low_two m p q i j n true false = (tt, tt)
 low_two m p q i j n false true = (tt, tt)

@@ -23,9 +23,9 @@ use Rattle.mencius_model.proofs.Senders.{acceptance_asked, own_untried, propose_
 pub record IsSound (m : Membership) (w : Trace) : Type 0 where
   -- an instance has one suggestion, and a ballot of it one proposal
   pub one_suggest : (k q i t : ℕ) → slice_get (sent w) k ≡ Some (Suggest q i t) → proposed w i 0 ≡ Some (Ticket t)
-  pub one_propose : (k q i b : ℕ) (v : Value) → slice_get (sent w) k ≡ Some (Propose q i b v) → proposed w i b ≡ Some v
+  pub one_propose : (k q i b : ℕ) (z : Value) → slice_get (sent w) k ≡ Some (Propose q i b z) → proposed w i b ≡ Some z
   -- only what was proposed is accepted
-  pub voted : (p i b : ℕ) → accepted w p i ≡ Some b → (v : Value) × (proposed w i b ≡ Some v)
+  pub voted : (p i b : ℕ) → accepted w p i ≡ Some b → (z : Value) × (proposed w i b ≡ Some z)
   -- who accepts the owner's ballot tells the owner
   pub to_owner : (k q p i : ℕ) → slice_get (sent w) k ≡ Some (Accepted q p i 0) → owner m i ≡ p
   -- an owner tries nothing at its own instances, and suggests nothing from its front on
@@ -43,14 +43,14 @@ module _ (m : Membership) (few : 1 ≤ m.count) (w : Trace) (g : IsGrown m w) wh
       let o = suggest_once m w few g q s.0 i t s.1 h s.2 in
       r.1 ∙ ap Some (s.3 ∙ ap Ticket (sym o.1))
 
-  one_propose_at : (q i b : ℕ) (v : Value) → IsIn (Sent (Propose q i b v)) w → proposed w i b ≡ Some v
-  one_propose_at q i b v h =
-      let pos = propose_positive m w g q i b v h in
-      let r = propose_proposed w q i b v pos h in
+  one_propose_at : (q i b : ℕ) (z : Value) → IsIn (Sent (Propose q i b z)) w → proposed w i b ≡ Some z
+  one_propose_at q i b z h =
+      let pos = propose_positive m w g q i b z h in
+      let r = propose_proposed w q i b z pos h in
       let s = proposal_in w i b r.0 pos r.1 in
-      r.1 ∙ ap Some (sym (propose_once m w g q s.0 i b v r.0 h s.1).1)
+      r.1 ∙ ap Some (sym (propose_once m w g q s.0 i b z r.0 h s.1).1)
 
-  voted_at : (p i b : ℕ) → accepted w p i ≡ Some b → (v : Value) × (proposed w i b ≡ Some v)
+  voted_at : (p i b : ℕ) → accepted w p i ≡ Some b → (z : Value) × (proposed w i b ≡ Some z)
   voted_at p i b h = let r = accepted_in w p i b h in accepted_proposed m w g p r.0 i b r.1
 
   to_owner_at : (q p i : ℕ) → IsIn (Sent (Accepted q p i 0)) w → owner m i ≡ p
@@ -62,8 +62,8 @@ module _ (m : Membership) (few : 1 ≤ m.count) (w : Trace) (g : IsGrown m w) wh
 
   own_unsaid_at : (p i : ℕ) → owner m i ≡ p → front m w p ≤ i → (o : Option Value) → proposed w i 0 ≡ o → o ≡ None
   own_unsaid_at p i mine past None e = refl
-  own_unsaid_at p i mine past (Some v) e =
-      let s = start_in w i v e in
+  own_unsaid_at p i mine past (Some z) e =
+      let s = start_in w i z e in
       let same : s.0 ≡ p = sym (suggest_owner m w g s.0 i s.1 s.2) ∙ mine in
       let f = suggest_front m w s.0 i s.1 few s.2 in
       absurd (omega (arith, past, rw same at f))
@@ -71,7 +71,7 @@ module _ (m : Membership) (few : 1 ≤ m.count) (w : Trace) (g : IsGrown m w) wh
   sound_grown : IsSound m w
   sound_grown = record {
     one_suggest = λ k q i t h. one_suggest_at q i t (message_in k (Suggest q i t) h);
-    one_propose = λ k q i b v h. one_propose_at q i b v (message_in k (Propose q i b v) h);
+    one_propose = λ k q i b z h. one_propose_at q i b z (message_in k (Propose q i b z) h);
     voted = voted_at;
     to_owner = λ k q p i h. to_owner_at q p i (message_in k (Accepted q p i 0) h);
     own_untried = λ p i mine. own_untried m w g p i mine;

@@ -19,34 +19,34 @@ use Rattle.mencius_model.proofs.Decisions as decisions
 use Rattle.mencius_model.proofs.Tickets as tickets
 
 -- the acceptances that came after a promise
-later_acceptance : (m : Membership) (newer : List Line) (older : Trace) (q to i b : ℕ) (v : Option Vote)
-    → IsGrown m (newer ++ Sent (Promise q to i b v) ∷ older)
+later_acceptance : (m : Membership) (newer : List Line) (older : Trace) (q to i b : ℕ) (o : Option Vote)
+    → IsGrown m (newer ++ Sent (Promise q to i b o) ∷ older)
     → (c t : ℕ) → IsIn (Sent (Accepted q t i c)) newer → b ≤ c
-later_acceptance m [] older q to i b v g c t h = absurd h
-later_acceptance m (l ∷ newer) older q to i b v g c t (inl e) =
-    let w = newer ++ Sent (Promise q to i b v) ∷ older in
+later_acceptance m [] older q to i b o g c t h = absurd h
+later_acceptance m (l ∷ newer) older q to i b o g c t (inl e) =
+    let w = newer ++ Sent (Promise q to i b o) ∷ older in
     let may : MayAccept w q t i c = rw (← e) at g.1 in
-    let p = promise_within w q to i b v
-    (in_past (Sent (Promise q to i b v)) newer (Sent (Promise q to i b v) ∷ older) (inl refl)) in
+    let p = promise_within w q to i b o
+    (in_past (Sent (Promise q to i b o)) newer (Sent (Promise q to i b o) ∷ older) (inl refl)) in
     omega (arith, may.free, p)
-later_acceptance m (l ∷ newer) older q to i b v g c t (inr h) = later_acceptance m newer older q to i b v g.0 c t h
+later_acceptance m (l ∷ newer) older q to i b o g c t (inr h) = later_acceptance m newer older q to i b o g.0 c t h
 
 module _ (m : Membership) (few : 1 ≤ m.count) (w : Trace) (r : IsReached m w) where
   grown : IsGrown m w
   grown = reached_grown m w r
 
   -- 1. after a promise at a ballot, its sender accepts nothing below the ballot
-  pub no_acceptance_below_promise : (newer : List Line) (older : Trace) (q to i b : ℕ) (v : Option Vote)
-      → w ≡ newer ++ Sent (Promise q to i b v) ∷ older
+  pub no_acceptance_below_promise : (newer : List Line) (older : Trace) (q to i b : ℕ) (o : Option Vote)
+      → w ≡ newer ++ Sent (Promise q to i b o) ∷ older
       → (c t : ℕ) → IsIn (Sent (Accepted q t i c)) newer → b ≤ c
-  no_acceptance_below_promise newer older q to i b v e c t h =
-      later_acceptance m newer older q to i b v (rw e at grown) c t h
+  no_acceptance_below_promise newer older q to i b o e c t h =
+      later_acceptance m newer older q to i b o (rw e at grown) c t h
 
   -- 2. before a proposal a majority promised its ballot, and it has the value of the greatest vote that was
   -- heard of, or no-op
-  pub proposal_by_majority : (newer : List Line) (older : Trace) (p i b : ℕ) (v : Value)
-      → w ≡ newer ++ Sent (Propose p i b v) ∷ older → MayPropose m older p i b v
-  proposal_by_majority newer older p i b v e = right_at m newer (Sent (Propose p i b v)) older (rw e at grown)
+  pub proposal_by_majority : (newer : List Line) (older : Trace) (p i b : ℕ) (o : Value)
+      → w ≡ newer ++ Sent (Propose p i b o) ∷ older → MayPropose m older p i b o
+  proposal_by_majority newer older p i b o e = right_at m newer (Sent (Propose p i b o)) older (rw e at grown)
 
   -- 3. an instance has one suggestion at most
   pub one_suggestion : (p q i t u : ℕ) → IsIn (Sent (Suggest p i t)) w → IsIn (Sent (Suggest q i u)) w
@@ -60,9 +60,9 @@ module _ (m : Membership) (few : 1 ≤ m.count) (w : Trace) (r : IsReached m w) 
       owners.skip_free m w few grown (owner m i) first stop q i t refl from to h k
 
   -- 4. where a value is chosen at a ballot, every proposal at a greater ballot has it
-  pub chosen_is_proposed_above : (i c b : ℕ) (v x : Value) → proposed w i c ≡ Some v
-      → are_majority m (has_accepted w i c) ≡ true → c < b → proposed w i b ≡ Some x → x ≡ v
-  chosen_is_proposed_above i c b v x start chosen lt h = paxos.chosen_above m w grown i c v start chosen b x lt h
+  pub chosen_is_proposed_above : (i c b : ℕ) (o x : Value) → proposed w i c ≡ Some o
+      → are_majority m (has_accepted w i c) ≡ true → c < b → proposed w i b ≡ Some x → x ≡ o
+  chosen_is_proposed_above i c b o x start chosen lt h = paxos.chosen_above m w grown i c o start chosen b x lt h
 
   -- and where the owner skipped an instance, every proposal there is no-op
   pub skipped_is_proposed_noop : (i b : ℕ) (x : Value) → IsSkipped m w i → proposed w i b ≡ Some x → x ≡ Noop

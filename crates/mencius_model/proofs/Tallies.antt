@@ -17,24 +17,24 @@ pub heard_more : (w : Trace) (k p : ℕ) (x : Message) → slice_get (sent w) k 
     → heard (Heard k p ∷ w) p ≡ heard w p ++ x ∷ []
 heard_more w k p x e = rw (eq-eqb p p refl, e)
 
-or-false : (b : Bool) → (b || false) ≡ b
+or-false : (a : Bool) → (a || false) ≡ a
 or-false true = refl
 or-false false = refl
 
-pub or-true : (b : Bool) → (b || true) ≡ true
+pub or-true : (a : Bool) → (a || true) ≡ true
 or-true true = refl
 or-true false = refl
 
 pub any_more : (test : Message → Bool) (hs : List Message) (x : Message)
     → list_any test (hs ++ x ∷ []) ≡ (list_any test hs || test x)
-any_more test hs x = list_any-append test hs (x ∷ []) ∙ ap (λ (b : Bool). list_any test hs || b) (or-false (test x))
+any_more test hs x = list_any-append test hs (x ∷ []) ∙ ap (λ (d : Bool). list_any test hs || d) (or-false (test x))
 
 -- a message that is none of the tally's
 pub tally_quiet : (test : ℕ → Message → Bool) (hs : List Message) (x : Message) (n : ℕ) → ((q : ℕ) → test q x ≡ false)
     → map (λ (q : ℕ). list_any (test q) (hs ++ x ∷ [])) (below n) ≡ map (λ (q : ℕ). list_any (test q) hs) (below n)
 tally_quiet test hs x n e =
     map-below_same _ _ n false
-    (λ q h. any_more (test q) hs x ∙ ap (λ (b : Bool). list_any (test q) hs || b) (e q)
+    (λ q h. any_more (test q) hs x ∙ ap (λ (d : Bool). list_any (test q) hs || d) (e q)
     ∙ or-false (list_any (test q) hs))
 
 -- one of the tally's, by a server
@@ -44,15 +44,15 @@ pub tally_more : (test : ℕ → Message → Bool) (hs : List Message) (x : Mess
     ≡ set (map (λ (q : ℕ). list_any (test q) hs) (below n)) from true
 tally_more test hs x n from e =
     sym (map-below_set (λ (q : ℕ). list_any (test q) hs) (λ (q : ℕ). list_any (test q) (hs ++ x ∷ [])) n from true false
-    (any_more (test from) hs x ∙ ap (λ (b : Bool). list_any (test from) hs || b) (e from ∙ eq-eqb from from refl)
+    (any_more (test from) hs x ∙ ap (λ (a : Bool). list_any (test from) hs || a) (e from ∙ eq-eqb from from refl)
     ∙ or-true (list_any (test from) hs))
     (λ k h ne. sym (any_more (test k) hs x
-    ∙ ap (λ (b : Bool). list_any (test k) hs || b) (e k ∙ ne_eqb from k (λ same. ne (sym same)))
+    ∙ ap (λ (a : Bool). list_any (test k) hs || a) (e k ∙ ne_eqb from k (λ same. ne (sym same)))
     ∙ or-false (list_any (test k) hs))))
 
-higher_vote-none : (u : Option Vote) → higher_vote u None ≡ u
+higher_vote-none : (o : Option Vote) → higher_vote o None ≡ o
 higher_vote-none None = refl
-higher_vote-none (Some u) = refl
+higher_vote-none (Some o) = refl
 
 pub votes_more : (report : Message → Option Vote) (hs : List Message) (x : Message)
     → highest_vote (map report (hs ++ x ∷ [])) ≡ higher_vote (highest_vote (map report hs)) (report x)

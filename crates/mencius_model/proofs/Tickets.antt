@@ -143,12 +143,12 @@ module _ (m : Membership) where
 
 -- ---- identities
 
-same_id_back : (a b : CommandId) → is_same_id a b ≡ true → is_same_id b a ≡ true
-same_id_back a b h =
-    let r = and_parts (eqb a.client b.client) (eqb a.number b.number) h in
-    let s = eqb-true a.client b.client r.0 in
-    let t = eqb-true a.number b.number r.1 in
-    rw (eq-eqb b.client a.client (sym s), eq-eqb b.number a.number (sym t))
+same_id_back : (a d : CommandId) → is_same_id a d ≡ true → is_same_id d a ≡ true
+same_id_back a d h =
+    let r = and_parts (eqb a.client d.client) (eqb a.number d.number) h in
+    let s = eqb-true a.client d.client r.0 in
+    let t = eqb-true a.number d.number r.1 in
+    rw (eq-eqb d.client a.client (sym s), eq-eqb d.number a.number (sym t))
 
 -- an item of a longer list stood there before, or is the new one
 pub get_push : {A : Type 0} (xs : List A) (x y : A) (k : ℕ) → slice_get (xs ++ x ∷ []) k ≡ Some y

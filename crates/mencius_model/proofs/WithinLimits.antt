@@ -79,29 +79,29 @@ lower_ballot m b c some le within =
     ballot_within m c some (omega (arith, lower, within.small))
 
 module _ (m : Membership) (w : Trace) (g : IsGrown m w) (some : 1 ≤ m.count) where
-  start_within : (i : ℕ) (v : Value) → proposed w i 0 ≡ Some v → IsValueWithin w v
-  start_within i v e =
-      let s = start_in w i v e in
+  start_within : (i : ℕ) (z : Value) → proposed w i 0 ≡ Some z → IsValueWithin w z
+  start_within i z e =
+      let s = start_in w i z e in
       rw s.3 (ticket_submitted m w g s.0 i s.1 s.2)
 
-  proposed_within : (i b : ℕ) (v : Value) → proposed w i b ≡ Some v → IsValueWithin w v
-  proposed_within i b v e =
-      elim (origin m w g i b v e) [
+  proposed_within : (i b : ℕ) (z : Value) → proposed w i b ≡ Some z → IsValueWithin w z
+  proposed_within i b z e =
+      elim (origin m w g i b z e) [
         | inl noop ↦ rw noop tt
-        | inr start ↦ start_within i v start
+        | inr start ↦ start_within i z start
       ]
 
-  decided_within : (i : ℕ) (v : Value) → IsDecided m w i v → IsValueWithin w v
+  decided_within : (i : ℕ) (z : Value) → IsDecided m w i z → IsValueWithin w z
   decided_within i Noop d = tt
   decided_within i (Ticket t) d = decided_submitted m w g i t d
 
   vote_within : (p q i b : ℕ) (o : Option Vote) → IsBallotWithin m b → IsIn (Sent (Promise p q i b o)) w
       → IsVoteWithin m w o
   vote_within p q i b None within h = tt
-  vote_within p q i b (Some v) within h =
-      let backed = (promise_covers m w g p q i b (Some v) h).backed in (
-        lower_ballot m b v.ballot some (omega (arith, backed.0)) within,
-        proposed_within i v.ballot v.value backed.1,
+  vote_within p q i b (Some z) within h =
+      let backed = (promise_covers m w g p q i b (Some z) h).backed in (
+        lower_ballot m b z.ballot some (omega (arith, backed.0)) within,
+        proposed_within i z.ballot z.value backed.1,
       )
 
 -- ---- messages
@@ -113,8 +113,8 @@ module _ (m : Membership) (w : Trace) (few : m.count ≤ most_servers) (r : IsRe
   prepared_within : (p i b : ℕ) → IsIn (Sent (Prepare p i b)) w → IsBallotWithin m b
   prepared_within p i b h = ballot_within m b some (prepared_low m w r p i b h)
 
-  proposal_within : (p i b : ℕ) (v : Value) → IsIn (Sent (Propose p i b v)) w → IsBallotWithin m b
-  proposal_within p i b v h = prepared_within p i b (propose_prepared m w grown p i b v h)
+  proposal_within : (p i b : ℕ) (z : Value) → IsIn (Sent (Propose p i b z)) w → IsBallotWithin m b
+  proposal_within p i b z h = prepared_within p i b (propose_prepared m w grown p i b z h)
 
   asked_within : (q p i b : ℕ) → IsIn (Sent (Accepted q p i b)) w → (p < m.count) × IsBallotWithin m b
   asked_within q p i b h =
@@ -148,16 +148,16 @@ module _ (m : Membership) (w : Trace) (few : m.count ≤ most_servers) (r : IsRe
         ballot,
         vote_within m w grown some q p i b o ballot h,
       )
-  message_within (Propose p i b v) h k e =
-      let small = sent_small m few w r (Propose p i b v) h in (
+  message_within (Propose p i b z) h k e =
+      let small = sent_small m few w r (Propose p i b z) h in (
         small.0,
         small.1,
-        proposal_within p i b v h,
-        proposed_within m w grown some i b v ((sound m w r).one_propose k p i b v e),
+        proposal_within p i b z h,
+        proposed_within m w grown some i b z ((sound m w r).one_propose k p i b z e),
       )
-  message_within (Learn p i v) h k e =
-      let small = sent_small m few w r (Learn p i v) h in
-      (small.0, small.1, decided_within m w grown some i v ((all_decided m w grown).messages p i v h))
+  message_within (Learn p i z) h k e =
+      let small = sent_small m few w r (Learn p i z) h in
+      (small.0, small.1, decided_within m w grown some i z ((all_decided m w grown).messages p i z h))
 
 pub messages_within : MessagesWithinLimits
 messages_within m w few r k x e =

@@ -1,5 +1,6 @@
 -- What the servers executed: each one's history is a list of tickets.
-use Rattle.std.specs.Prelude.{◌≡◌, ◌⊎◌, List, ◌++◌}
+use Rattle.std.specs.Prelude.{◌⊎◌, List}
+pub use mathlib.Core.List.{IsPrefix}
 use Rattle.std.specs.List.{filter_map}
 use Rattle.mencius_base.specs.Numbers.{ServerId, TicketNo}
 use Rattle.mencius_base.specs.Members.{below}
@@ -11,10 +12,6 @@ use Rattle.mencius_model.specs.Server.{done, ticket_of}
 abbrev pub executed : Trace → ServerId → List TicketNo
 executed w p = filter_map (λ i. ticket_of (learned w p i)) (below (done w p))
 
--- xs is a prefix of ys
-abbrev pub IsPrefix : {A : Type 0} → List A → List A → Type 0
-IsPrefix {A} xs ys = (rest : List A) × (ys ≡ xs ++ rest)
-
--- one of them is a prefix of the other
-abbrev pub IsComparable : List TicketNo → List TicketNo → Type 0
+-- one of two lists is a prefix of the other
+abbrev pub IsComparable : {A : Type 0} → List A → List A → Type 0
 IsComparable xs ys = IsPrefix xs ys ⊎ IsPrefix ys xs

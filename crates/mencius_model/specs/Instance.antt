@@ -131,7 +131,7 @@ value_or_noop (Some v) = v.value
 
 -- what p accepted at i had been proposed, as in every trace that comes about
 pub record IsVoted (w : Trace) (p : ServerId) (i : Inst) : Type 0 where
-  pub proposal : (b : BallotNo) → accepted w p i ≡ Some b → (v : Value) × (proposed w i b ≡ Some v)
+  pub proposal : (b : BallotNo) → accepted w p i ≡ Some b → (z : Value) × (proposed w i b ≡ Some z)
 
 -- nothing came yet of ballot b of i: p heard no promise of it and no acceptance, and nothing is proposed at it
 pub record IsUntried (w : Trace) (p : ServerId) (i : Inst) (b : BallotNo) : Type 0 where

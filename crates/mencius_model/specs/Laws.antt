@@ -44,7 +44,7 @@ DecidedValuesAgree =
 abbrev pub LearnedIsDecided : Type 0
 LearnedIsDecided =
     (m : Membership) (journal : List Event) (w : Trace) → IsCourse m journal w
-    → (p : ServerId) (i : Inst) (v : Value) → learned w p i ≡ Some v → IsDecided m w i v
+    → (p : ServerId) (i : Inst) (z : Value) → learned w p i ≡ Some z → IsDecided m w i z
 
 -- of the histories of any two servers, at any two moments, one is a prefix of the other
 abbrev pub HistoriesComparable : Type 0
@@ -182,15 +182,15 @@ HearsReport w p i b v = (from : ServerId) × (to : ServerId) × Contains (heard 
 -- the vote reported is one of those in the promises heard, and none of them has a greater ballot
 abbrev pub ReportedWasHeard : Type 0
 ReportedWasHeard =
-    (w : Trace) (p : ServerId) (i : Inst) (b : BallotNo) (v : Vote) → reported w p i b ≡ Some v
-    → HearsReport w p i b v
+    (w : Trace) (p : ServerId) (i : Inst) (b : BallotNo) (z : Vote) → reported w p i b ≡ Some z
+    → HearsReport w p i b z
 
 abbrev pub ReportedIsGreatest : Type 0
 ReportedIsGreatest =
-    (w : Trace) (p : ServerId) (i : Inst) (b : BallotNo) (v x : Vote) → reported w p i b ≡ Some v
-    → HearsReport w p i b x → x.ballot ≤ v.ballot
+    (w : Trace) (p : ServerId) (i : Inst) (b : BallotNo) (z x : Vote) → reported w p i b ≡ Some z
+    → HearsReport w p i b x → x.ballot ≤ z.ballot
 
 -- where a vote was heard, one is reported
 abbrev pub ReportedWhereHeard : Type 0
 ReportedWhereHeard =
-    (w : Trace) (p : ServerId) (i : Inst) (b : BallotNo) (v : Vote) → HearsReport w p i b v → reported w p i b ≢ None
+    (w : Trace) (p : ServerId) (i : Inst) (b : BallotNo) (z : Vote) → HearsReport w p i b z → reported w p i b ≢ None

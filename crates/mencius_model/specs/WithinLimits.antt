@@ -56,7 +56,7 @@ MessagesWithinLimits =
 abbrev pub LearnedWithinLimits : Type 0
 LearnedWithinLimits =
     (m : Membership) (w : Trace) → m.count ≤ most_servers → IsReached m w
-    → (p : ServerId) (i : Inst) (v : Value) → learned w p i ≡ Some v → (i < instance_count) × IsValueWithin w v
+    → (p : ServerId) (i : Inst) (z : Value) → learned w p i ≡ Some z → (i < instance_count) × IsValueWithin w z
 
 -- a sent message may be delivered to each member that it goes to
 abbrev pub MessagesAddressed : Type 0

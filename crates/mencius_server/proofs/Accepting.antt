@@ -26,13 +26,13 @@ module _ (s : ServerState) (i t : ℕ) where
   pub nothing_accepted : leb (slot s i).promised 0 ≡ false → s ≡ with_slot s i accepted
   nothing_accepted fails =
       let vote : Option Vote = Some (record { ballot = 0; value = Ticket t }) in
-      sym (ap (λ (b : Bool). with_slot s i (cond b (record (slot s i) { promised = 0; vote = vote }) (slot s i))) fails
+      sym (ap (λ (a : Bool). with_slot s i (cond a (record (slot s i) { promised = 0; vote = vote }) (slot s i))) fails
       ∙ ap (λ (xs : List SlotState). record s { slots = xs }) (set-get_or s.slots i (new_slot s.members)))
 
   -- the front stays where the suggestion is not past it
   pub front_stays : ltb s.front i ≡ false → with_slot s i accepted ≡ after_suggest s i t
-  front_stays fails = sym (ap (λ (b : Bool). with_slot_and_front s i accepted
-      (cond b (first_owned s.members s.id (i + 1)) s.front)) fails)
+  front_stays fails = sym (ap (λ (a : Bool). with_slot_and_front s i accepted
+      (cond a (first_owned s.members s.id (i + 1)) s.front)) fails)
 
   pub front_moves : (mid : ServerState) → mid ≡ with_slot s i accepted
       → record mid { front = next_front mid i } ≡ after_suggest s i t
@@ -41,7 +41,7 @@ module _ (s : ServerState) (i t : ℕ) where
   pub nothing_skipped : (xs : List Message) → ltb s.front i ≡ false → xs ≡ xs ++ skip_sent s i
   nothing_skipped xs fails =
       let skip = Skip s.id s.front (first_owned s.members s.id (i + 1)) in
-      sym (ap (λ (b : Bool). xs ++ messages_of (cond b (Sent skip ∷ []) [])) fails ∙ append-nil xs)
+      sym (ap (λ (a : Bool). xs ++ messages_of (cond a (Sent skip ∷ []) [])) fails ∙ append-nil xs)
 
   pub skip_says : (mid : ServerState) → mid ≡ with_slot s i accepted → skip_sent mid i ≡ skip_sent s i
   skip_says mid is = ap (λ (x : ServerState). skip_sent x i) is
@@ -52,12 +52,12 @@ module _ (s : ServerState) (i t : ℕ) where
   acceptance_sent xs q p own holds =
       append_assoc xs (skip_sent s i) (Accepted p q i 0 ∷ [])
       ∙ ap (λ (n : ℕ). xs ++ (skip_sent s i ++ (Accepted n q i 0 ∷ []))) own
-      ∙ ap (λ (b : Bool). xs ++ (skip_sent s i ++ messages_of (cond b (Sent (Accepted s.id q i 0) ∷ []) [])))
+      ∙ ap (λ (a : Bool). xs ++ (skip_sent s i ++ messages_of (cond a (Sent (Accepted s.id q i 0) ∷ []) [])))
       (sym holds)
 
   pub no_acceptance : (xs : List Message) (q : ℕ) → leb (slot s i).promised 0 ≡ false
       → xs ++ skip_sent s i ≡ xs ++ suggest_sent s q i
   no_acceptance xs q fails =
       ap (λ (ys : List Message). xs ++ ys) (sym (append-nil (skip_sent s i)))
-      ∙ ap (λ (b : Bool). xs ++ (skip_sent s i ++ messages_of (cond b (Sent (Accepted s.id q i 0) ∷ []) [])))
+      ∙ ap (λ (a : Bool). xs ++ (skip_sent s i ++ messages_of (cond a (Sent (Accepted s.id q i 0) ∷ []) [])))
       (sym fails)

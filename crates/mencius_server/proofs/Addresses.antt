@@ -4,7 +4,7 @@ use Rattle.std.specs.Prelude.{◌&&◌}
 use Rattle.std.specs.List.{range_with_len}
 use Rattle.std.proofs.lemmas.Bool.{and_from, and_parts, cases_Bool, le-leb, lt-ltb, ltb-true}
 use Rattle.std.proofs.lemmas.List.Elements.{All-append, All-cons, All-nil}
-use Rattle.mencius_base.specs.Limits.{greatest_front, instance_count}
+use Rattle.mencius_base.specs.Limits.{greatest_front, instance_count, most_servers}
 use Rattle.mencius_base.specs.Members.{Membership, below, first_owned, instances, round}
 use Rattle.mencius_base.specs.Message.{is_within}
 use Rattle.mencius_base.specs.declared.message.Message.{Message}
@@ -34,15 +34,16 @@ module _ (m : Membership) where
   one : (x : Message) → is_within m x ≡ true → AreHearable m (x ∷ [])
   one x within = one_more x [] within nothing
 
-  one_where : (c : Bool) (x : Message) → (c ≡ true → is_within m x ≡ true)
-      → AreHearable m (messages_of (cond c (Sent x ∷ []) []))
+  one_where : (d : Bool) (x : Message) → (d ≡ true → is_within m x ≡ true)
+      → AreHearable m (messages_of (cond d (Sent x ∷ []) []))
   one_where true x within = one x (within refl)
   one_where false x within = nothing
 
   named : (p i : ℕ) → p < m.count → i < instance_count → (ltb p m.count && ltb i instance_count) ≡ true
   named p i member small = and_from _ _ (lt-ltb p m.count member) (lt-ltb i instance_count small)
 
-  stop_small : (p i : ℕ) → p < m.count → m.count ≤ 7 → i < instance_count → first_owned m p (i + 1) ≤ greatest_front
+  stop_small : (p i : ℕ) → p < m.count → m.count ≤ most_servers → i < instance_count
+      → first_owned m p (i + 1) ≤ greatest_front
   stop_small p i member few small =
       let near : (p + m.count - (i + 1) % m.count) % m.count < m.count = omega arith in
       omega arith
@@ -87,7 +88,7 @@ unfolding below instances
 suspect_addresses s member q = prepared_hearable s member (is_suspected s q) 0 instance_count (omega arith)
 
 -- what is sent on a message
-module _ (s : ServerState) (member : s.id < s.members.count) (few : s.members.count ≤ 7) where
+module _ (s : ServerState) (member : s.id < s.members.count) (few : s.members.count ≤ most_servers) where
   sender : ltb s.id s.members.count ≡ true
   sender = lt-ltb s.id s.members.count member
 

@@ -1,11 +1,11 @@
 -- A loop over the slots that starts first phases at some.
-use Rattle.std.proofs.Common.{◌≡◌, ℕ, ◌+◌, ◌*◌, ◌/◌, ◌<◌, ◌≤◌, Some, Bool, true, false, cond, eqb, List, [], ◌∷◌, ◌++◌, filter, length, map, max, refl, sym, ◌∙◌, ap, subst, arith, append-nil, append_assoc, ⊎_elim}
+use Rattle.std.proofs.Common.{◌≡◌, ℕ, ◌+◌, ◌*◌, ◌/◌, ◌<◌, ◌≤◌, Option, Some, Bool, true, false, cond, eqb, List, [], ◌∷◌, ◌++◌, filter, length, map, max, refl, sym, ◌∙◌, ap, subst, arith, append-nil, append_assoc, ⊎_elim}
 use Rattle.std.specs.List.{count_by, list_any}
 use Rattle.std.specs.Prelude.{is_none, ◌&&◌}
 use Rattle.std.proofs.Math.Nat.{mul-le-mul_right}
 use Rattle.std.proofs.lemmas.List.{get_or_past, length-map, map-append}
 use Rattle.std.proofs.lemmas.List.Sums.{length-filter}
-use Rattle.std.proofs.lemmas.Bool.{and_parts, cases_Bool, cases_lt, eqb-true, ltb-false, ne_eqb}
+use Rattle.std.proofs.lemmas.Bool.{and_parts, cases_Bool, cases_eq, cases_lt, eqb-true, ltb-false, ne_eqb}
 use Rattle.mencius_base.specs.declared.refusal.Refusal.TheVariants.{NothingToRevoke, RoundsFull}
 use Rattle.mencius_base.specs.Outbox.{Outgoing, outbox_full}
 use Rattle.mencius_base.specs.Members.{first_item, Membership, below, instances, owner}
@@ -28,7 +28,7 @@ pub sent_none : (f : ℕ → Message) (test : ℕ → Bool) (before : List Messa
 sent_none f test before =
     record { sent = sym (ap (λ (xs : List ℕ). before ++ map f xs) (filter-below_zero test) ∙ append-nil before) }
 
-one_sent : (f : ℕ → Message) (i : ℕ) (b : Bool) → map f (cond b (i ∷ []) []) ≡ cond b (f i ∷ []) []
+one_sent : (f : ℕ → Message) (i : ℕ) (a : Bool) → map f (cond a (i ∷ []) []) ≡ cond a (f i ∷ []) []
 one_sent f i true = refl
 one_sent f i false = refl
 
@@ -55,7 +55,7 @@ room_none test n room h = record { enough = omega (arith, h) }
 pub room_here : (test : ℕ → Bool) (n room i : ℕ) → i < n → test i ≡ true → HasRoomFrom test n room i → 0 < room
 room_here test n room i within here has =
     let more : count_by test (below (i + 1)) ≡ count_by test (below i) + 1 =
-    count_by-below_more test i ∙ ap (λ (b : Bool). count_by test (below i) + cond b 1 0) here in
+    count_by-below_more test i ∙ ap (λ (a : Bool). count_by test (below i) + cond a 1 0) here in
     let all : count_by test (below (i + 1)) ≤ count_by test (below n) =
     count_by-below_le test (i + 1) n (omega arith) in
     omega (arith, more, all, has.enough)
@@ -123,13 +123,13 @@ none_given g xs = go (filter g xs) ∙ ap (λ (n : ℕ). eqb n 0) (length-filter
   go [] = refl
   go (y ∷ ys) = sym (ne_eqb (length (y ∷ ys)) 0 (λ e. absurd (omega arith)))
 
-pub suspect_cause_is : (s : ServerState) (o : Outgoing) (q : ℕ) (b d : Bool) → eqb s.id q ≡ false
-    → eqb (count_by (is_suspected s q) instances) 0 ≡ b
+pub suspect_cause_is : (s : ServerState) (o : Outgoing) (q : ℕ) (a d : Bool) → eqb s.id q ≡ false
+    → eqb (count_by (is_suspected s q) instances) 0 ≡ a
     → list_any (is_round_full s) (filter (is_suspected s q) instances) ≡ d
     → suspect_cause s o q
-    ≡ cond b (Some NothingToRevoke)
+    ≡ cond a (Some NothingToRevoke)
     (cond d (Some RoundsFull) (outbox_full o (count_by (is_suspected s q) instances)))
-suspect_cause_is s o q b d other none full =
+suspect_cause_is s o q a d other none full =
     let many : length (suspect_sent s q) ≡ count_by (is_suspected s q) instances =
     length-map (filter (is_suspected s q) instances) (prepare_for s) ∙ length-filter (is_suspected s q) instances in
     rw (other, none_given (is_suspected s q) instances, none, full, many)
@@ -145,3 +145,20 @@ rounds_small s q none j small covered =
     absurd (cc))
     (λ (room : is_round_full s j ≡ false). ltb-false greatest_round (round_after s.members (slot s j)) room)
     (cases_Bool (is_round_full s j))
+
+-- what holds of each slot at which a first phase began, where it holds of one more
+pub begun_each : (begins : ℕ → Bool) (now new : ℕ → Option SlotState) (Holds : SlotState → Type 0) (i next : ℕ)
+    → ((j : ℕ) → i + 1 ≤ j → j < next → begins j ≡ false)
+    → ((j : ℕ) → (j ≡ i → ⊥) → new j ≡ now j)
+    → ((j : ℕ) (s : SlotState) → j < i → begins j ≡ true → now j ≡ Some s → Holds s)
+    → ((s : SlotState) → begins i ≡ true → new i ≡ Some s → Holds s)
+    → (j : ℕ) (s : SlotState) → j < next → begins j ≡ true → new j ≡ Some s → Holds s
+begun_each begins now new Holds i next between off before here j s less begun stands =
+    ⊎_elim
+    (λ (low : j < i). before j s low begun (sym (off j (λ e. absurd (omega arith))) ∙ stands))
+    (λ (from : i ≤ j). ⊎_elim
+    (λ (at : j ≡ i). here s (sym (ap begins at) ∙ begun) (sym (ap new at) ∙ stands))
+    (λ (past : j ≡ i → ⊥).
+    let both : true ≡ false = sym begun ∙ between j (omega arith) less in absurd (cc))
+    (cases_eq j i))
+    (cases_lt j i)

@@ -34,34 +34,34 @@ in_own a j e = sym (eqb-true _ _ (and_parts _ _ (and_parts _ _ e).0).0)
 in_low : (a : Stretch) (j : ℕ) → is_in a j ≡ true → j < a.stop
 in_low a j e = ltb-true j a.stop (and_parts _ _ e).1
 
-clash : (b : Bool) → b ≡ true → b ≡ false → ⊥
+clash : (a : Bool) → a ≡ true → a ≡ false → ⊥
 clash true e f = cc
 clash false e f = cc
 
 -- messages for the instances that pass, where tests and messages are the same
-sent_same : (f g : ℕ → Message) (a b : ℕ → Bool) (n : ℕ) → ((j : ℕ) → j < n → a j ≡ b j)
+sent_same : (f g : ℕ → Message) (a test : ℕ → Bool) (n : ℕ) → ((j : ℕ) → j < n → a j ≡ test j)
     → ((j : ℕ) → j < n → a j ≡ true → f j ≡ g j)
-    → map f (filter a (below n)) ≡ map g (filter b (below n))
-sent_same f g a b zero e h = ap (map f) (filter-below_zero a) ∙ sym (ap (map g) (filter-below_zero b))
-sent_same f g a b (suc n) e h =
+    → map f (filter a (below n)) ≡ map g (filter test (below n))
+sent_same f g a test zero e h = ap (map f) (filter-below_zero a) ∙ sym (ap (map g) (filter-below_zero test))
+sent_same f g a test (suc n) e h =
     let next : suc n ≡ n + 1 = omega arith in
-    let before = sent_same f g a b n (λ j l. e j (omega arith)) (λ j l k. h j (omega arith) k) in
-    let tests : a n ≡ b n = e n (omega arith) in
+    let before = sent_same f g a test n (λ j l. e j (omega arith)) (λ j l k. h j (omega arith) k) in
+    let tests : a n ≡ test n = e n (omega arith) in
     rw next
     (ap (map f) (filter-below_more a n) ∙ map-append f (filter a (below n)) _
     ∙ ap (λ xs. xs ++ map f (cond (a n) (n ∷ []) [])) before
-    ∙ ap (λ xs. map g (filter b (below n)) ++ xs) (last (a n) refl ∙ ap (λ c. map g (cond c (n ∷ []) [])) tests)
-    ∙ sym (ap (map g) (filter-below_more b n) ∙ map-append g (filter b (below n)) _))
+    ∙ ap (λ xs. map g (filter test (below n)) ++ xs) (last (a n) refl ∙ ap (λ d. map g (cond d (n ∷ []) [])) tests)
+    ∙ sym (ap (map g) (filter-below_more test n) ∙ map-append g (filter test (below n)) _))
   where
-    last : (c : Bool) → a n ≡ c → map f (cond (a n) (n ∷ []) []) ≡ map g (cond (a n) (n ∷ []) [])
+    last : (d : Bool) → a n ≡ d → map f (cond (a n) (n ∷ []) []) ≡ map g (cond (a n) (n ∷ []) [])
     last true k = rw k (ap (λ x. x ∷ []) (h n (omega arith) k))
     last false k = rw k refl
 
 -- rounds are left where nothing was heard
-unspent_unheard : (m : Membership) (b : Bool) → is_spent m (unheard m b) ≡ false
-unspent_unheard m b = go b (0 / m.count) refl (zero-div m.count)
+unspent_unheard : (m : Membership) (a : Bool) → is_spent m (unheard m a) ≡ false
+unspent_unheard m a = go a (0 / m.count) refl (zero-div m.count)
   where
-    go : (b : Bool) (n : ℕ) → 0 / m.count ≡ n → n ≡ 0 → is_spent m (unheard m b) ≡ false
+    go : (a : Bool) (n : ℕ) → 0 / m.count ≡ n → n ≡ 0 → is_spent m (unheard m a) ≡ false
     go true n is e = rw (is, e) refl
     go false n is e = rw (is, e) refl
 
@@ -90,8 +90,8 @@ module _ (m : Membership) (slots : List (Option SlotState)) (rs : List (List Spa
         → (is_in a j && not (covers r j)) ≡ is_open_in now a j
     open_bare j l e = elim (cases_Bool (is_in a j)) [
       | inl i ↦
-          ap (λ b. b && not (covers r j)) i ∙ ap not (covered_is j i)
-          ∙ sym (ap (λ b. b && is_none (known_slot now j).learned) i
+          ap (λ z. z && not (covers r j)) i ∙ ap not (covered_is j i)
+          ∙ sym (ap (λ z. z && is_none (known_slot now j).learned) i
           ∙ ap (λ (s : SlotState). is_none s.learned) (seen_none m slots rs now shown j l e)
           ∙ open_unheard m (is_passed m rs j))
       | inr i ↦ and_left _ _ i ∙ sym (and_left _ _ i)
@@ -102,7 +102,7 @@ module _ (m : Membership) (slots : List (Option SlotState)) (rs : List (List Spa
     lacking_open j l None e h =
         let parts = and_parts _ _ h in
         let clear = (and_parts _ _ parts.1).0 in
-        sym (open_bare j l e) ∙ ap (λ b. b && not (covers r j)) parts.0 ∙ clear
+        sym (open_bare j l e) ∙ ap (λ z. z && not (covers r j)) parts.0 ∙ clear
     lacking_open j l (Some s) e h =
         absurd (clash (is_none (stand_at slots j)) (and_parts _ _ (and_parts _ _ h).1).1 (ap is_none e))
 
@@ -124,17 +124,17 @@ module _ (m : Membership) (slots : List (Option SlotState)) (rs : List (List Spa
           → known_at m new rs j ≡ known_at m slots rs j
       stood_known j (Some s) e = ap (λ o. unwrap_or o (unheard m (is_passed m rs j))) (stood_some j s e ∙ sym e)
       stood_known j None e = elim (cases_Bool (is_in a j && not (covers r j))) [
-        | inl b ↦
-            let parts = and_parts _ _ b in
+        | inl z ↦
+            let parts = and_parts _ _ z in
             let clear : is_passed m rs j ≡ false = sym (covered_is j parts.0) ∙ turned (covers r j) parts.1 in
             ap (λ o. unwrap_or o (unheard m (is_passed m rs j))) (stood_none j e
-            ∙ ap (λ c. cond c (Some (new_slot a.members)) None) b)
+            ∙ ap (λ c. cond c (Some (new_slot a.members)) None) z)
             ∙ ap new_slot members ∙ sym (ap (λ o. unwrap_or o (unheard m (is_passed m rs j))) e ∙ ap (unheard m) clear)
-        | inr b ↦ ap (λ o. unwrap_or o (unheard m (is_passed m rs j))) (stood_none j e
-            ∙ ap (λ c. cond c (Some (new_slot a.members)) None) b ∙ sym e)
+        | inr z ↦ ap (λ o. unwrap_or o (unheard m (is_passed m rs j))) (stood_none j e
+            ∙ ap (λ c. cond c (Some (new_slot a.members)) None) z ∙ sym e)
       ]
         where
-          turned : (b : Bool) → not b ≡ true → b ≡ false
+          turned : (z : Bool) → not z ≡ true → z ≡ false
           turned true y = absurd (cc)
           turned false y = refl
 
@@ -142,12 +142,12 @@ module _ (m : Membership) (slots : List (Option SlotState)) (rs : List (List Spa
           → is_some (stand_at new j) ≡ (has_slot now j || is_open_in now a j)
       stood_stands j l (Some s) e =
           ap is_some (stood_some j s e)
-          ∙ sym (ap (λ b. b || is_open_in now a j) (seen_stands m slots rs now shown j l ∙ ap is_some e))
+          ∙ sym (ap (λ z. z || is_open_in now a j) (seen_stands m slots rs now shown j l ∙ ap is_some e))
       stood_stands j l None e =
           ap is_some (stood_none j e) ∙ made (is_in a j && not (covers r j)) ∙ open_bare j l e
-          ∙ sym (ap (λ b. b || is_open_in now a j) (seen_stands m slots rs now shown j l ∙ ap is_some e))
+          ∙ sym (ap (λ z. z || is_open_in now a j) (seen_stands m slots rs now shown j l ∙ ap is_some e))
         where
-          made : (b : Bool) → is_some (cond b (Some (new_slot a.members)) None) ≡ b
+          made : (z : Bool) → is_some (cond z (Some (new_slot a.members)) None) ≡ z
           made true = refl
           made false = refl
 
@@ -180,10 +180,10 @@ module _ (m : Membership) (slots : List (Option SlotState)) (rs : List (List Spa
               let same : old ≡ s = cc in
               subst (λ (x : SlotState). is_none x.learned ≡ false) same (sound.told j old l passed e)
           told j s l passed None e stands = elim (cases_Bool (is_in a j && not (covers r j))) [
-            | inl b ↦ let parts =
-                and_parts _ _ b in absurd (clash (not (covers r j)) parts.1 (ap not (covered_is j parts.0 ∙ passed)))
-            | inr b ↦ let no : Some s ≡ None =
-                sym stands ∙ stood_none j e ∙ ap (λ c. cond c (Some (new_slot a.members)) None) b in absurd (cc)
+            | inl z ↦ let parts =
+                and_parts _ _ z in absurd (clash (not (covers r j)) parts.1 (ap not (covered_is j parts.0 ∙ passed)))
+            | inr z ↦ let no : Some s ≡ None =
+                sym stands ∙ stood_none j e ∙ ap (λ c. cond c (Some (new_slot a.members)) None) z in absurd (cc)
           ]
 
   -- ---- first phases at slots that stand
@@ -195,8 +195,8 @@ module _ (m : Membership) (slots : List (Option SlotState)) (rs : List (List Spa
         ∙ sym (ap (λ (s : SlotState). is_in a j && is_none s.learned) (seen_some m slots rs now shown j s l e))
     begun_is j l None e =
         ap (λ o. is_in a j && is_unlearned o) e ∙ and_right _ _ refl ∙ sym (elim (cases_Bool (is_open_in now a j)) [
-          | inl b ↦ absurd (clash (has_slot now j) (stand j l b) (seen_stands m slots rs now shown j l ∙ ap is_some e))
-          | inr b ↦ b
+          | inl z ↦ absurd (clash (has_slot now j) (stand j l z) (seen_stands m slots rs now shown j l ∙ ap is_some e))
+          | inr z ↦ z
         ])
 
     pub begun_count : count_by (is_begun a slots) (below a.stop) ≡ count_by (is_open_in now a) (below a.stop)
@@ -208,9 +208,9 @@ module _ (m : Membership) (slots : List (Option SlotState)) (rs : List (List Spa
         → round_after now.members (known_slot now j) ≤ greatest_round)
         → (j : ℕ) (s : SlotState) → is_begun a slots j ≡ true → stand_at slots j ≡ Some s
         → round_after a.members s ≤ greatest_round
-    begun_rounds rounds j s b e =
-        let l = in_small j (and_parts _ _ b).0 in
-        let opens = sym (begun_is j l (stand_at slots j) refl) ∙ b in
+    begun_rounds rounds j s z e =
+        let l = in_small j (and_parts _ _ z).0 in
+        let opens = sym (begun_is j l (stand_at slots j) refl) ∙ z in
         subst (λ n. round_after n s ≤ greatest_round) (sym alike)
         (subst (λ (s : SlotState). round_after now.members s ≤ greatest_round)
         (seen_some m slots rs now shown j s l e) (rounds j l opens))
@@ -222,8 +222,8 @@ module _ (m : Membership) (slots : List (Option SlotState)) (rs : List (List Spa
         (λ j. Prepare p j
         (ballot_after now.members p (known_slot now j))) (is_begun a slots) (is_open_in now a) a.stop
         (λ j l. begun_is j (omega (arith, small)) (stand_at slots j) refl)
-        (λ j l b. ap (λ (s : SlotState). Prepare p j (ballot_after a.members p s))
-        (there j (omega (arith, small)) (stand_at slots j) refl (and_parts _ _ b).1)
+        (λ j l z. ap (λ (s : SlotState). Prepare p j (ballot_after a.members p s))
+        (there j (omega (arith, small)) (stand_at slots j) refl (and_parts _ _ z).1)
         ∙ ap (λ n. Prepare p j (ballot_after n p (known_slot now j))) alike)
       where
         there : (j : ℕ) → j < instance_count → (o : Option SlotState) → stand_at slots j ≡ o
@@ -247,11 +247,11 @@ module _ (m : Membership) (slots : List (Option SlotState)) (rs : List (List Spa
           ap (λ o. unwrap_or o (unheard m (is_passed m rs j))) (begins j ∙ ap (begun_at a p j) e
           ∙ nothing (is_in a j && false))
           ∙ sym (seen_none m slots rs now shown j l e)
-          ∙ sym (ap (λ b. cond b
+          ∙ sym (ap (λ z. cond z
           (after_begin (known_slot now j)
           (ballot_after now.members p (known_slot now j))) (known_slot now j)) closed)
         where
-          nothing : (b : Bool) → cond b (option_map (begun a.members p) None) None ≡ None
+          nothing : (z : Bool) → cond z (option_map (begun a.members p) None) None ≡ None
           nothing true = refl
           nothing false = refl
       begun_known j l (Some s) e =
@@ -263,11 +263,11 @@ module _ (m : Membership) (slots : List (Option SlotState)) (rs : List (List Spa
           ∙ ap (λ n. cond (is_in a j && is_none s.learned) (after_begin s (ballot_after n p s)) s)
           (sym alike))
         where
-          made : (d b : Bool) → is_none s.learned ≡ b
+          made : (d z : Bool) → is_none s.learned ≡ z
               → unwrap_or (cond (d && is_none s.learned) (option_map (begun a.members p) (Some s)) (Some s))
               (unheard m (is_passed m rs j))
               ≡ cond (d && is_none s.learned) (after_begin s (ballot_after a.members p s)) s
-          made false b h = refl
+          made false z h = refl
           made true true h = rw h refl
           made true false h = rw h refl
 
@@ -276,7 +276,7 @@ module _ (m : Membership) (slots : List (Option SlotState)) (rs : List (List Spa
           → known_at m new rs j ≡ known_at m slots rs j
       begun_closed j l closed =
           begun_known j l (stand_at slots j) refl
-          ∙ ap (λ b. cond b
+          ∙ ap (λ z. cond z
           (after_begin (known_slot now j) (ballot_after now.members p (known_slot now j))) (known_slot now j)) closed
           ∙ seen m slots rs now shown j l
 
@@ -291,7 +291,7 @@ module _ (m : Membership) (slots : List (Option SlotState)) (rs : List (List Spa
       begun_stands j o e =
           ap is_some (begins j) ∙ kept (is_in a j && is_unlearned (stand_at slots j)) (stand_at slots j)
         where
-          kept : (b : Bool) (x : Option SlotState) → is_some (cond b (option_map (begun a.members p) x) x) ≡ is_some x
+          kept : (z : Bool) (x : Option SlotState) → is_some (cond z (option_map (begun a.members p) x) x) ≡ is_some x
           kept true None = refl
           kept true (Some s) = refl
           kept false x = refl
@@ -313,9 +313,9 @@ module _ (m : Membership) (slots : List (Option SlotState)) (rs : List (List Spa
           ap (λ (s : SlotState). is_none s.learned) (begun_known j l (stand_at slots j) refl)
           ∙ kept (is_open_in now a j) ∙ ap (λ (s : SlotState). is_none s.learned) (seen m slots rs now shown j l)
         where
-          kept : (b : Bool)
+          kept : (z : Bool)
               → is_none
-              (cond b (after_begin (known_slot now j)
+              (cond z (after_begin (known_slot now j)
               (ballot_after now.members p (known_slot now j))) (known_slot now j)).learned
               ≡ is_none (known_slot now j).learned
           kept true = refl
@@ -328,9 +328,9 @@ module _ (m : Membership) (slots : List (Option SlotState)) (rs : List (List Spa
           → is_spent a.members s ≡ false) where
         unspent_new : (j : ℕ) → is_begun a slots j ≡ true → (o : Option SlotState) → stand_at new j ≡ o
             → is_spent m (known_at m new rs j) ≡ false
-        unspent_new j b (Some s) e =
-            ap (is_spent m) (known_there m new rs j s e) ∙ ap (λ n. is_spent n s) (sym members) ∙ last j s b e
-        unspent_new j b None e =
+        unspent_new j z (Some s) e =
+            ap (is_spent m) (known_there m new rs j s e) ∙ ap (λ n. is_spent n s) (sym members) ∙ last j s z e
+        unspent_new j z None e =
             ap (λ o. is_spent m (unwrap_or o (unheard m (is_passed m rs j)))) e ∙ unspent_unheard m (is_passed m rs j)
 
         unspent_old : (j : ℕ) → j < instance_count → is_open_in now a j ≡ true
@@ -397,16 +397,16 @@ module _ (now : KnownState) (q front : ℕ) (a : Stretch) (o : IsOpenStretch now
       ∙ sent_same (λ j. Prepare p j (ballot_after now.members p (known_slot now j)))
       (λ j. Prepare p j
       (ballot_after now.members p (known_slot now j))) (is_open_in now a) (is_open now q front) instance_count
-      (open_same now q front a o) (λ j l b. refl)
+      (open_same now q front a o) (λ j l d. refl)
       ∙ ap (λ xs. map (λ j. Prepare p j (ballot_after now.members p (known_slot now j)))
       (filter (is_open now q front) xs)) (sym instances-below)
 
   pub stood_has : (j : ℕ) → j < instance_count → is_open_in now a j ≡ true → has_slot (known_stood now a) j ≡ true
   stood_has j l e =
-      get_or-map-instances (λ i. has_slot now i || is_open_in now a i) j false l ∙ ap (λ b. has_slot now j || b) e
+      get_or-map-instances (λ i. has_slot now i || is_open_in now a i) j false l ∙ ap (λ d. has_slot now j || d) e
       ∙ or-true (has_slot now j)
     where
-      or-true : (b : Bool) → (b || true) ≡ true
+      or-true : (d : Bool) → (d || true) ≡ true
       or-true true = refl
       or-true false = refl
 
@@ -418,7 +418,7 @@ module _ (now : KnownState) (q front : ℕ) (a : Stretch) (o : IsOpenStretch now
       (λ j. cond (is_open now q front j)
       (after_begin (known_slot now j) (ballot_after now.members p (known_slot now j))) (known_slot now j))
       (λ j. has_slot now j || is_open_in now a j) (λ j. has_slot now j || is_open now q front j)
-      (λ j l. ap (λ b. cond b
+      (λ j l. ap (λ d. cond d
       (after_begin (known_slot now j) (ballot_after now.members p (known_slot now j))) (known_slot now j))
       (open_same now q front a o j l))
-      (λ j l. ap (λ b. has_slot now j || b) (open_same now q front a o j l))
+      (λ j l. ap (λ d. has_slot now j || d) (open_same now q front a o j l))

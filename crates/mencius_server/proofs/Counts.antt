@@ -33,10 +33,62 @@ count_same f g (suc n) e =
     let here : bit (f n) ≡ bit (g n) = ap bit (e n (omega arith)) in
     rw next (omega (arith, count_by-below_more f n, count_by-below_more g n, before, here))
 
--- what passes and lies in a range
-pub count_within : (test : ℕ → Bool) (first stop n : ℕ) → first ≤ stop
-    → count_by (λ j. test j && is_within first stop j) (below n) + count_by test (below (min n first))
+and-true : (a : Bool) → (a && true) ≡ a
+and-true true = refl
+and-true false = refl
+
+-- as many as pass below the range's end, less those before it, pass below n and lie in the range
+abbrev IsCountWithin : (ℕ → Bool) → ℕ → ℕ → ℕ → Type 0
+IsCountWithin test first stop n =
+    count_by (λ j. test j && is_within first stop j) (below n) + count_by test (below (min n first))
     ≡ count_by test (below (min n stop))
+
+module _ (test : ℕ → Bool) (first stop n : ℕ) (before : IsCountWithin test first stop n) where
+  count_before : first ≤ stop → n < first → IsCountWithin test first stop (n + 1)
+  count_before h less =
+      let more = count_by-below_more (λ j. test j && is_within first stop j) n in
+      let out : (test n && is_within first stop n) ≡ false = and_right _ _ (within_before first stop n less) in
+      let none : bit (test n && is_within first stop n) ≡ 0 = ap bit out in
+      let a_now : min n first ≡ n = omega arith in
+      let b_now : min n stop ≡ n = omega arith in
+      let a_next : min (n + 1) first ≡ n + 1 = omega arith in
+      let b_next : min (n + 1) stop ≡ n + 1 = omega arith in
+      let old : count_by (λ j. test j && is_within first stop j) (below n) + count_by test (below n)
+      ≡ count_by test (below n) =
+      rw (a_now, b_now) at before in
+      rw (a_next, b_next) (omega (arith, more, none, old))
+
+  count_inside : first ≤ n → n < stop → IsCountWithin test first stop (n + 1)
+  count_inside from within =
+      let more = count_by-below_more (λ j. test j && is_within first stop j) n in
+      let a_now : min n first ≡ first = omega arith in
+      let a_next : min (n + 1) first ≡ first = omega arith in
+      let here : (test n && is_within first stop n) ≡ test n =
+      ap (λ (a : Bool). test n && a) (within_yes first stop n from within) ∙ and-true (test n) in
+      let one : bit (test n && is_within first stop n) ≡ bit (test n) = ap bit here in
+      let b_now : min n stop ≡ n = omega arith in
+      let b_next : min (n + 1) stop ≡ n + 1 = omega arith in
+      let old : count_by (λ j. test j && is_within first stop j) (below n) + count_by test (below first)
+      ≡ count_by test (below n) =
+      rw (a_now, b_now) at before in
+      rw (a_next, b_next) (omega (arith, more, one, old, count_by-below_more test n))
+
+  count_behind : first ≤ n → stop ≤ n → IsCountWithin test first stop (n + 1)
+  count_behind from past =
+      let more = count_by-below_more (λ j. test j && is_within first stop j) n in
+      let a_now : min n first ≡ first = omega arith in
+      let a_next : min (n + 1) first ≡ first = omega arith in
+      let out : (test n && is_within first stop n) ≡ false = and_right _ _ (within_past first stop n past) in
+      let none : bit (test n && is_within first stop n) ≡ 0 = ap bit out in
+      let b_now : min n stop ≡ stop = omega arith in
+      let b_next : min (n + 1) stop ≡ stop = omega arith in
+      let old : count_by (λ j. test j && is_within first stop j) (below n) + count_by test (below first)
+      ≡ count_by test (below stop) =
+      rw (a_now, b_now) at before in
+      rw (a_next, b_next) (omega (arith, more, none, old))
+
+-- what passes and lies in a range
+pub count_within : (test : ℕ → Bool) (first stop n : ℕ) → first ≤ stop → IsCountWithin test first stop n
 count_within test first stop zero h =
     let low : min 0 first ≡ 0 = omega arith in
     let high : min 0 stop ≡ 0 = omega arith in
@@ -44,48 +96,13 @@ count_within test first stop zero h =
 count_within test first stop (suc n) h =
     let next : suc n ≡ n + 1 = omega arith in
     let before = count_within test first stop n h in
-    let more = count_by-below_more (λ j. test j && is_within first stop j) n in
     rw next (⊎_elim
-    (λ (less : n < first).
-    let out : (test n && is_within first stop n) ≡ false = and_right _ _ (within_before first stop n less) in
-    let none : bit (test n && is_within first stop n) ≡ 0 = ap bit out in
-    let a_now : min n first ≡ n = omega arith in
-    let b_now : min n stop ≡ n = omega arith in
-    let a_next : min (n + 1) first ≡ n + 1 = omega arith in
-    let b_next : min (n + 1) stop ≡ n + 1 = omega arith in
-    let old : count_by (λ j. test j && is_within first stop j) (below n) + count_by test (below n)
-    ≡ count_by test (below n) =
-    rw (a_now, b_now) at before in
-    rw (a_next, b_next) (omega (arith, more, none, old)))
-    (λ (from : first ≤ n).
-    let a_now : min n first ≡ first = omega arith in
-    let a_next : min (n + 1) first ≡ first = omega arith in
-    ⊎_elim
-    (λ (within : n < stop).
-    let here : (test n && is_within first stop n) ≡ test n =
-    ap (λ (c : Bool). test n && c) (within_yes first stop n from within) ∙ and-true (test n) in
-    let one : bit (test n && is_within first stop n) ≡ bit (test n) = ap bit here in
-    let b_now : min n stop ≡ n = omega arith in
-    let b_next : min (n + 1) stop ≡ n + 1 = omega arith in
-    let old : count_by (λ j. test j && is_within first stop j) (below n) + count_by test (below first)
-    ≡ count_by test (below n) =
-    rw (a_now, b_now) at before in
-    rw (a_next, b_next) (omega (arith, more, one, old, count_by-below_more test n)))
-    (λ (past : stop ≤ n).
-    let out : (test n && is_within first stop n) ≡ false = and_right _ _ (within_past first stop n past) in
-    let none : bit (test n && is_within first stop n) ≡ 0 = ap bit out in
-    let b_now : min n stop ≡ stop = omega arith in
-    let b_next : min (n + 1) stop ≡ stop = omega arith in
-    let old : count_by (λ j. test j && is_within first stop j) (below n) + count_by test (below first)
-    ≡ count_by test (below stop) =
-    rw (a_now, b_now) at before in
-    rw (a_next, b_next) (omega (arith, more, none, old)))
+    (λ (less : n < first). count_before test first stop n before h less)
+    (λ (from : first ≤ n). ⊎_elim
+    (λ (within : n < stop). count_inside test first stop n before from within)
+    (λ (past : stop ≤ n). count_behind test first stop n before from past)
     (cases_lt n stop))
     (cases_lt n first))
-  where
-    and-true : (c : Bool) → (c && true) ≡ c
-    and-true true = refl
-    and-true false = refl
 
 -- ---- a server's instances
 
@@ -112,6 +129,9 @@ apart n q x j here there less =
     one_round : (n x : ℕ) → n * (x + 1) ≡ n * x + n
     one_round n x = grind arith
 
+mul-zero : (n : ℕ) → n * 0 ≡ 0
+mul-zero n = grind arith
+
 -- how many instances of q there are below a place, by its first one from there on
 pub owned_place : (m : Membership) (q : ℕ) → q < m.count → (j : ℕ) → m.count * owned_below m q j + q ≡ first_owned m q j
 owned_place m q member zero =
@@ -122,9 +142,6 @@ owned_place m q member zero =
     let is : first_owned m q 0 ≡ q = sym (mod-eq_of_lt small) ∙ own in
     let nothing : m.count * owned_below m q 0 ≡ 0 = ap (λ x. m.count * x) none ∙ mul-zero m.count in
     omega (arith, nothing, is)
-  where
-    mul-zero : (n : ℕ) → n * 0 ≡ 0
-    mul-zero n = grind arith
 owned_place m q member (suc j) =
     let next : suc j ≡ j + 1 = omega arith in
     let before = owned_place m q member j in
@@ -205,11 +222,20 @@ covers_before low (r ∷ rs) j h less =
     rw (within_before r.first r.stop j (omega (arith, h.0)))
     (covers_before (r.stop + 1) rs j h.2 (omega (arith, h.0, h.1)))
 
-one_of_two : (p w c : Bool) → (w ≡ true → c ≡ false) → bit (p && (w || c)) ≡ bit (p && w) + bit (p && c)
-one_of_two true true c h = let e : c ≡ false = h refl in rw e (omega arith)
+one_of_two : (a d x : Bool) → (d ≡ true → x ≡ false) → bit (a && (d || x)) ≡ bit (a && d) + bit (a && x)
+one_of_two true true x h = let e : x ≡ false = h refl in rw e (omega arith)
 one_of_two true false true h = omega arith
 one_of_two true false false h = omega arith
-one_of_two false w c h = omega arith
+one_of_two false d x h = omega arith
+
+distribute : (n x y : ℕ) → n * (x + y) ≡ n * x + n * y
+distribute n x y = grind arith
+
+count_none : (n : ℕ) → count_by (λ j. false) (below n) ≡ 0
+count_none zero = count_by-below_zero (λ j. false)
+count_none (suc n) =
+    let next : suc n ≡ n + 1 = omega arith in
+    rw next (count_by-below_more (λ j. false) n ∙ add-zero _ ∙ count_none n)
 
 -- so have all ranges of a server
 pub count_covered : (m : Membership) (q n low : ℕ) (rs : List Span) → q < m.count → IsRising low rs
@@ -219,15 +245,6 @@ count_covered m q n low [] member h own =
     let none : count_by (λ j. eqb (owner m j) q && false) (below n) ≡ 0 =
     count_same (λ j. eqb (owner m j) q && false) (λ j. false) n (λ j l. and_right _ _ refl) ∙ count_none n in
     ap (λ x. m.count * x) none ∙ mul-zero m.count
-  where
-    mul-zero : (n : ℕ) → n * 0 ≡ 0
-    mul-zero n = grind arith
-
-    count_none : (n : ℕ) → count_by (λ j. false) (below n) ≡ 0
-    count_none zero = count_by-below_zero (λ j. false)
-    count_none (suc n) =
-        let next : suc n ≡ n + 1 = omega arith in
-        rw next (count_by-below_more (λ j. false) n ∙ add-zero _ ∙ count_none n)
 count_covered m q n low (r ∷ rs) member h own =
     let split = count_split (λ j. eqb (owner m j) q && (is_within r.first r.stop j || covers rs j))
     (λ j. eqb (owner m j) q && is_within r.first r.stop j) (λ j. eqb (owner m j) q && covers rs j) n
@@ -245,9 +262,6 @@ count_covered m q n low (r ∷ rs) member h own =
           (count_by (λ j. eqb (owner m j) q && covers rs j) (below n)),
     )
   where
-    distribute : (n x y : ℕ) → n * (x + y) ≡ n * x + n * y
-    distribute n x y = grind arith
-
     apart_from : (j : ℕ) → is_within r.first r.stop j ≡ true → covers rs j ≡ false
     apart_from j e =
         ⊎_elim

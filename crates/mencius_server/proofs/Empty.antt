@@ -15,7 +15,7 @@ use Rattle.mencius_server.specs.Notes.{nothing_noted}
 use Rattle.mencius_server.specs.State.{new_server}
 use Rattle.mencius_server.specs.Reached.{server_at}
 use Rattle.mencius_server.proofs.Keeps.{IsServer-new, new_unsaid, new_waits}
-use Rattle.mencius_base.specs.Limits.{instance_count}
+use Rattle.mencius_base.specs.Limits.{instance_count, most_servers}
 
 new_slots : (m : Membership) → replicate instance_count (new_slot m) ≡ map (λ (j : ℕ). new_slot m) instances
 new_slots m = map-below_constant (λ (j : ℕ). new_slot m) instance_count (new_slot m) (λ i h. refl)
@@ -28,7 +28,8 @@ new_shown m p s made =
     ap (λ (xs : List SlotState). record { members = m; id = p; front = p; slots = xs })
     (ap (λ (x : KnownState). x.slots) made ∙ sym (new_slots m))
 
-pub IsKept-new : (m : Membership) (p : ℕ) → p < m.count → m.count ≤ 7 → IsKept (new_server m p) m nothing_noted
+pub IsKept-new : (m : Membership) (p : ℕ) → p < m.count → m.count ≤ most_servers
+    → IsKept (new_server m p) m nothing_noted
 IsKept-new m p member few = record {
   bound = omega arith;
   free = λ j low. absurd (omega arith);

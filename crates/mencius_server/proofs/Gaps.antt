@@ -10,7 +10,7 @@ use Rattle.coord_paxos.specs.SlotState.{SlotState}
 use Rattle.mencius_server.specs.State.{ServerState, slot}
 use Rattle.mencius_server.specs.Machine.{is_free_at, is_revoked, is_skipped, slot_given}
 use Rattle.mencius_server.proofs.Begins.{HasRoomFrom, IsSentUpTo}
-use Rattle.mencius_server.proofs.Lost.{eqb_swap}
+use Rattle.mencius_model.proofs.Lists.{eqb_swap}
 use Rattle.mencius_server.proofs.Skips.{IsCountUpTo}
 
 -- below a server's least instance from a place on, it owns none
@@ -112,7 +112,7 @@ pub skipped_here : (m : Membership) (q first stop j : ℕ) → owner m j ≡ q �
 skipped_here m q first stop j mine low high =
     rw (eq-eqb q (owner m j) (sym mine), le-leb first j low) (lt-ltb j stop high)
 
-pub one_at_most : (b : Bool) → cond b 1 0 ≤ 1
+pub one_at_most : (a : Bool) → cond a 1 0 ≤ 1
 one_at_most true = omega arith
 one_at_most false = omega arith
 

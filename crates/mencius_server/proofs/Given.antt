@@ -17,4 +17,4 @@ given_kept m q first stop j (Some s) e = ap (λ x. Some x) (slot_kept m q first 
 pub given_at : (m : Membership) (q first stop j : ℕ) (o : Option SlotState) → is_skipped m q first stop j ≡ true
     → option_map (slot_given m q first stop j) o ≡ option_map (λ s. after_learn s Noop) o
 given_at m q first stop j None e = refl
-given_at m q first stop j (Some s) e = ap (λ (b : Bool). Some (cond b (after_learn s Noop) s)) e
+given_at m q first stop j (Some s) e = ap (λ (a : Bool). Some (cond a (after_learn s Noop) s)) e

@@ -29,42 +29,42 @@ use Rattle.mencius_base.specs.Limits.{instance_count}
 
 -- ---- Learn
 
-uncounted_learn : (q i : ℕ) (v : Value) (j c : ℕ) → IsUncounted j c (Learn q i v)
-uncounted_learn q i v j c = record { promise = λ r. refl; acceptance = λ r. refl; report = refl }
+uncounted_learn : (q i : ℕ) (z : Value) (j c : ℕ) → IsUncounted j c (Learn q i z)
+uncounted_learn q i z j c = record { promise = λ r. refl; acceptance = λ r. refl; report = refl }
 
-learn_cases : (m : Membership) (w : Trace) (k p q i : ℕ) (v : Value) → i < instance_count
-    → slice_get (sent w) k ≡ Some (Learn q i v)
-    → (o : Option Value) → learned w p i ≡ o → Meets m w k p (Learn q i v) (cond (is_none o) (Learned p i v ∷ []) [])
-learn_cases m w k p q i v small e None un = record {
+learn_cases : (m : Membership) (w : Trace) (k p q i : ℕ) (z : Value) → i < instance_count
+    → slice_get (sent w) k ≡ Some (Learn q i z)
+    → (o : Option Value) → learned w p i ≡ o → Meets m w k p (Learn q i z) (cond (is_none o) (Learned p i z ∷ []) [])
+learn_cases m w k p q i z small e None un = record {
   sends = refl;
   learns = rw (slot-server_at m w p i small, un);
   state =
-      ap (λ (s : SlotState). with_slot (server_at m w p) i (after_learn s v)) (slot-server_at m w p i small)
+      ap (λ (s : SlotState). with_slot (server_at m w p) i (after_learn s z)) (slot-server_at m w p i small)
       ∙ ap (λ (o : Option Value). with_slot (server_at m w p) i
-      (cond (is_none o) (record (slot_at m w p i) { learned = Some v }) (slot_at m w p i))) un
-      ∙ server_written m w (Learned p i v ∷ Heard k p ∷ w) p i (front m w p) _ (omega arith)
-      (slot_at-learned m (Heard k p ∷ w) p i v (rw un)
-      ∙ ap (λ (s : SlotState). record s { learned = Some v })
-      (slot_at-heard m w k p i _ e (uncounted_learn q i v i (trying w p i))))
-      (λ j ne. slot_at-quiet m (Heard k p ∷ w) (Learned p i v) p j (quiet_learned p i j v ne) refl
-      ∙ slot_at-heard m w k p j _ e (uncounted_learn q i v j (trying w p j)));
+      (cond (is_none o) (record (slot_at m w p i) { learned = Some z }) (slot_at m w p i))) un
+      ∙ server_written m w (Learned p i z ∷ Heard k p ∷ w) p i (front m w p) _ (omega arith)
+      (slot_at-learned m (Heard k p ∷ w) p i z (rw un)
+      ∙ ap (λ (s : SlotState). record s { learned = Some z })
+      (slot_at-heard m w k p i _ e (uncounted_learn q i z i (trying w p i))))
+      (λ j ne. slot_at-quiet m (Heard k p ∷ w) (Learned p i z) p j (quiet_learned p i j z ne) refl
+      ∙ slot_at-heard m w k p j _ e (uncounted_learn q i z j (trying w p j)));
 }
-learn_cases m w k p q i v small e (Some u) un = record {
+learn_cases m w k p q i z small e (Some u) un = record {
   sends = refl;
   learns = rw (slot-server_at m w p i small, un);
   state =
-      ap (λ (s : SlotState). with_slot (server_at m w p) i (after_learn s v)) (slot-server_at m w p i small)
+      ap (λ (s : SlotState). with_slot (server_at m w p) i (after_learn s z)) (slot-server_at m w p i small)
       ∙ ap (λ (o : Option Value). with_slot (server_at m w p) i
-      (cond (is_none o) (record (slot_at m w p i) { learned = Some v }) (slot_at m w p i))) un
+      (cond (is_none o) (record (slot_at m w p i) { learned = Some z }) (slot_at m w p i))) un
       ∙ server_written m w (Heard k p ∷ w) p i (front m w p) _ (omega arith)
-      (slot_at-heard m w k p i _ e (uncounted_learn q i v i (trying w p i)))
-      (λ j ne. slot_at-heard m w k p j _ e (uncounted_learn q i v j (trying w p j)));
+      (slot_at-heard m w k p i _ e (uncounted_learn q i z i (trying w p i)))
+      (λ j ne. slot_at-heard m w k p j _ e (uncounted_learn q i z j (trying w p j)));
 }
 
-pub meets_learn : (m : Membership) (w : Trace) (k p q i : ℕ) (v : Value) → i < instance_count
-    → slice_get (sent w) k ≡ Some (Learn q i v)
-    → Meets m w k p (Learn q i v) (on_learn w p i v)
-meets_learn m w k p q i v small e = learn_cases m w k p q i v small e (learned w p i) refl
+pub meets_learn : (m : Membership) (w : Trace) (k p q i : ℕ) (z : Value) → i < instance_count
+    → slice_get (sent w) k ≡ Some (Learn q i z)
+    → Meets m w k p (Learn q i z) (on_learn w p i z)
+meets_learn m w k p q i z small e = learn_cases m w k p q i z small e (learned w p i) refl
 
 -- ---- Prepare
 
@@ -72,22 +72,22 @@ uncounted_prepare : (q i b : ℕ) (j c : ℕ) → IsUncounted j c (Prepare q i b
 uncounted_prepare q i b j c = record { promise = λ r. refl; acceptance = λ r. refl; report = refl }
 
 -- the state by what p learned and whether the ballot is above the promised one
-prepare_state : (m : Membership) (w : Trace) (p i b : ℕ) (o : Option Value) (c : Bool) → i < instance_count
-    → learned w p i ≡ o → ltb (promised w p i) b ≡ c
+prepare_state : (m : Membership) (w : Trace) (p i b : ℕ) (o : Option Value) (a : Bool) → i < instance_count
+    → learned w p i ≡ o → ltb (promised w p i) b ≡ a
     → after_prepare_at (server_at m w p) i b ≡ with_slot (server_at m w p) i
-    (cond (is_none o && c) (record (slot_at m w p i) { promised = b }) (slot_at m w p i))
-prepare_state m w p i b o c small known above =
+    (cond (is_none o && a) (record (slot_at m w p i) { promised = b }) (slot_at m w p i))
+prepare_state m w p i b o a small known above =
     ap (λ (s : SlotState). with_slot (server_at m w p) i (after_prepare s b)) (slot-server_at m w p i small)
-    ∙ ap (λ (c : Bool). with_slot (server_at m w p) i
-    (cond c (record (slot_at m w p i) { promised = b }) (slot_at m w p i))) tests
+    ∙ ap (λ (a : Bool). with_slot (server_at m w p) i
+    (cond a (record (slot_at m w p i) { promised = b }) (slot_at m w p i))) tests
   where
-    tests : (is_none (learned w p i) && ltb (promised w p i) b) ≡ (is_none o && c)
+    tests : (is_none (learned w p i) && ltb (promised w p i) b) ≡ (is_none o && a)
     tests = rw (known, above)
 
 unlearned_cases : (m : Membership) (w : Trace) (k p q i b : ℕ) → i < instance_count
     → slice_get (sent w) k ≡ Some (Prepare q i b)
-    → learned w p i ≡ None → (c : Bool) → ltb (promised w p i) b ≡ c
-    → Meets m w k p (Prepare q i b) (answer_lines p q i b (cond c (Promised (vote w p i)) Silent))
+    → learned w p i ≡ None → (a : Bool) → ltb (promised w p i) b ≡ a
+    → Meets m w k p (Prepare q i b) (answer_lines p q i b (cond a (Promised (vote w p i)) Silent))
 unlearned_cases m w k p q i b small e un true high = record {
   sends = rw (slot-server_at m w p i small, un, high);
   learns = refl;
@@ -146,13 +146,13 @@ pub record IsSkipping (m : Membership) (w v : Trace) (p f : ℕ) : Type 0 where
 
 suggest_accepts : (m : Membership) (w v : Trace) (p q i f : ℕ) (t : ℕ) → IsSkipping m w v p f
     → proposed v i 0 ≡ Some (Ticket t)
-    → (c : Bool) → leb (promised w p i) 0 ≡ c
+    → (a : Bool) → leb (promised w p i) 0 ≡ a
     → with_slot_and_front (server_at m w p) i
-    (cond c (record (slot_at m w p i) {
+    (cond a (record (slot_at m w p i) {
       promised = 0;
       vote = Some (record { ballot = 0; value = Ticket t });
     }) (slot_at m w p i)) f
-    ≡ server_at m (followed_by v (cond c (Sent (Accepted p q i 0) ∷ []) [])) p
+    ≡ server_at m (followed_by v (cond a (Sent (Accepted p q i 0) ∷ []) [])) p
 suggest_accepts m w v p q i f t skips said true free =
     let none : promised v p i ≡ promised w p i = ap (λ (s : SlotState). s.promised) (skips.slots i) in
     let zero : promised w p i ≤ 0 = leb-true _ _ free in
@@ -168,10 +168,10 @@ suggest_accepts m w v p q i f t skips said false taken =
 
 suggest_skips : (m : Membership) (w : Trace) (k p q i t : ℕ) → i < instance_count
     → slice_get (sent w) k ≡ Some (Suggest q i t)
-    → (c : Bool) → ltb (front m w p) i ≡ c
+    → (a : Bool) → ltb (front m w p) i ≡ a
     → IsSkipping m w
-    (followed_by (Heard k p ∷ w) (cond c (Sent (Skip p (front m w p) (first_owned m p (i + 1))) ∷ []) [])) p
-    (cond c (first_owned m p (i + 1)) (front m w p))
+    (followed_by (Heard k p ∷ w) (cond a (Sent (Skip p (front m w p) (first_owned m p (i + 1))) ∷ []) [])) p
+    (cond a (first_owned m p (i + 1)) (front m w p))
 suggest_skips m w k p q i t small e true ahead = record {
   slots = λ j. slot_at-quiet m (Heard k p ∷ w) (Sent (Skip p (front m w p) (first_owned m p (i + 1)))) p j
       (quiet_skip p p _ _ j) refl
@@ -185,60 +185,60 @@ suggest_skips m w k p q i t small e false behind = record {
 
 suggest_cases : (m : Membership) (w : Trace) (k p q i t : ℕ) → i < instance_count
     → slice_get (sent w) k ≡ Some (Suggest q i t) → proposed w i 0 ≡ Some (Ticket t)
-    → (c d : Bool) → ltb (front m w p) i ≡ c → leb (promised w p i) 0 ≡ d
+    → (a d : Bool) → ltb (front m w p) i ≡ a → leb (promised w p i) 0 ≡ d
     → Meets m w k p (Suggest q i t)
-    (cond c (Sent (Skip p (front m w p) (first_owned m p (i + 1))) ∷ []) [] ++ cond d (Sent (Accepted p q i 0) ∷ []) [])
-suggest_cases m w k p q i t small e said c d ahead free = record {
-  sends = rw (slot-server_at m w p i small, ahead, free) (suggest_messages c d);
-  learns = suggest_learnings c d;
+    (cond a (Sent (Skip p (front m w p) (first_owned m p (i + 1))) ∷ []) [] ++ cond d (Sent (Accepted p q i 0) ∷ []) [])
+suggest_cases m w k p q i t small e said a d ahead free = record {
+  sends = rw (slot-server_at m w p i small, ahead, free) (suggest_messages a d);
+  learns = suggest_learnings a d;
   state =
       ap (λ (s : SlotState). with_slot_and_front (server_at m w p) i (after_accept s 0 (Ticket t))
       (next_front (server_at m w p) i)) (slot-server_at m w p i small)
-      ∙ ap (λ (b : Bool). with_slot_and_front (server_at m w p) i
-      (cond b (record (slot_at m w p i) {
+      ∙ ap (λ (x : Bool). with_slot_and_front (server_at m w p) i
+      (cond x (record (slot_at m w p i) {
         promised = 0;
         vote = Some (record { ballot = 0; value = Ticket t });
       }) (slot_at m w p i))
       (next_front (server_at m w p) i)) free
-      ∙ ap (λ (b : Bool). with_slot_and_front (server_at m w p) i
+      ∙ ap (λ (x : Bool). with_slot_and_front (server_at m w p) i
       (cond d (record (slot_at m w p i) {
         promised = 0;
         vote = Some (record { ballot = 0; value = Ticket t });
       }) (slot_at m w p i))
-      (cond b (first_owned m p (i + 1)) (front m w p))) ahead
-      ∙ suggest_world c d ahead free;
+      (cond x (first_owned m p (i + 1)) (front m w p))) ahead
+      ∙ suggest_world a d ahead free;
 }
   where
-    suggest_messages : (c d : Bool)
-        → (messages_of (cond c (Sent (Skip p (front m w p) (first_owned m p (i + 1))) ∷ []) [])
+    suggest_messages : (a d : Bool)
+        → (messages_of (cond a (Sent (Skip p (front m w p) (first_owned m p (i + 1))) ∷ []) [])
         ++ messages_of (cond d (Sent (Accepted p q i 0) ∷ []) []))
         ≡ messages_of
-        (cond c (Sent (Skip p (front m w p) (first_owned m p (i + 1))) ∷ []) []
+        (cond a (Sent (Skip p (front m w p) (first_owned m p (i + 1))) ∷ []) []
         ++ cond d (Sent (Accepted p q i 0) ∷ []) [])
     suggest_messages true true = refl
     suggest_messages true false = refl
     suggest_messages false true = refl
     suggest_messages false false = refl
 
-    suggest_learnings : (c d : Bool)
+    suggest_learnings : (a d : Bool)
         → 0 ≡ learnings
-        (cond c (Sent (Skip p (front m w p) (first_owned m p (i + 1))) ∷ []) []
+        (cond a (Sent (Skip p (front m w p) (first_owned m p (i + 1))) ∷ []) []
         ++ cond d (Sent (Accepted p q i 0) ∷ []) [])
     suggest_learnings true true = refl
     suggest_learnings true false = refl
     suggest_learnings false true = refl
     suggest_learnings false false = refl
 
-    suggest_world : (c d : Bool) → ltb (front m w p) i ≡ c → leb (promised w p i) 0 ≡ d
+    suggest_world : (a d : Bool) → ltb (front m w p) i ≡ a → leb (promised w p i) 0 ≡ d
         → with_slot_and_front (server_at m w p) i
         (cond d (record (slot_at m w p i) {
           promised = 0;
           vote = Some (record { ballot = 0; value = Ticket t });
         }) (slot_at m w p i))
-        (cond c (first_owned m p (i + 1)) (front m w p))
+        (cond a (first_owned m p (i + 1)) (front m w p))
         ≡ server_at m
         (followed_by (Heard k p ∷ w)
-        (cond c (Sent (Skip p (front m w p) (first_owned m p (i + 1))) ∷ []) []
+        (cond a (Sent (Skip p (front m w p) (first_owned m p (i + 1))) ∷ []) []
         ++ cond d (Sent (Accepted p q i 0) ∷ []) [])) p
     suggest_world true d ahead free =
         suggest_accepts m w _ p q i _ t (suggest_skips m w k p q i t small e true ahead) (rw said) d free
@@ -268,10 +268,10 @@ own_said m p i b o mine =
     (cases_lt 0 b)
 
 -- only the unlearned learn
-unlearned_learns : (o : Option Value) (c : Bool) (x : Option Value) (v : Value)
-    → cond (is_none o && c) x None ≡ Some v → o ≡ None
-unlearned_learns None c x v e = refl
-unlearned_learns (Some y) c x v e = absurd (cc)
+unlearned_learns : (o : Option Value) (a : Bool) (x : Option Value) (z : Value)
+    → cond (is_none o && a) x None ≡ Some z → o ≡ None
+unlearned_learns None a x z e = refl
+unlearned_learns (Some y) a x z e = absurd (cc)
 
 learn_decided : (m : Membership) (w : Trace) (k p from i : ℕ) → i < instance_count
     → slice_get (sent w) k ≡ Some (Accepted from p i (trying w p i))
@@ -302,7 +302,7 @@ accepted_tried m w k p from i small e =
     let answer : accept_answer (slot (server_at m w p) i) from (trying w p i)
     ≡ to_learn (with_accept (slot_at m w p i) from) =
     ap (λ (s : SlotState). accept_answer s from (trying w p i)) (slot-server_at m w p i small)
-    ∙ ap (λ (c : Bool). cond c (to_learn (with_accept (slot_at m w p i) from)) None)
+    ∙ ap (λ (a : Bool). cond a (to_learn (with_accept (slot_at m w p i) from)) None)
     (eq-eqb (trying w p i) (trying w p i) refl) in
     record {
       sends = ap (λ (o : Option Value). messages_of (decision_lines p i o)) answer;
@@ -310,8 +310,8 @@ accepted_tried m w k p from i small e =
       state =
           ap (λ (s : SlotState). with_slot (server_at m w p) i (after_acceptance s from (trying w p i)))
           (slot-server_at m w p i small)
-          ∙ ap (λ (c : Bool). with_slot (server_at m w p) i
-          (cond c (learning (with_accept (slot_at m w p i) from)
+          ∙ ap (λ (a : Bool). with_slot (server_at m w p) i
+          (cond a (learning (with_accept (slot_at m w p i) from)
           (to_learn (with_accept (slot_at m w p i) from))) (slot_at m w p i)))
           (eq-eqb (trying w p i) (trying w p i) refl)
           ∙ learn_decided m w k p from i small e (to_learn (with_accept (slot_at m w p i) from)) refl;
@@ -324,13 +324,13 @@ accepted_lines : (m : Membership) (w : Trace) (k p from i : ℕ) → (trying w p
     ≡ on_accepted m w (Heard k p ∷ w) p i (trying w p i)
 accepted_lines m w k p from i mine e =
     ap (decision_lines p i)
-    (ap (λ (c : Bool). cond c (to_learn (with_accept (slot_at m w p i) from)) None)
+    (ap (λ (a : Bool). cond a (to_learn (with_accept (slot_at m w p i) from)) None)
     (sym (eq-eqb (trying w p i) (trying w p i) refl))
     ∙ acceptance_answered m w k p i from (trying w p i) e mine)
 
 accepted_cases : (m : Membership) (w : Trace) (k p from i b : ℕ) → i < instance_count → (b ≡ 0 → owner m i ≡ p)
     → slice_get (sent w) k ≡ Some (Accepted from p i b)
-    → (c : Bool) → eqb b (trying w p i) ≡ c
+    → (d : Bool) → eqb b (trying w p i) ≡ d
     → Meets m w k p (Accepted from p i b) (on_accepted m w (Heard k p ∷ w) p i b)
 accepted_cases m w k p from i b small mine e true same =
     let tried : trying w p i ≡ b = sym (eqb-true b (trying w p i) same) in
@@ -346,8 +346,8 @@ accepted_cases m w k p from i b small mine e false other = record {
   learns = ap (λ (o : Option Value). learnings (decision_lines p i o)) (stale from) ∙ ap learnings no_lines;
   state =
       ap (λ (s : SlotState). with_slot (server_at m w p) i (after_acceptance s from b)) (slot-server_at m w p i small)
-      ∙ ap (λ (c : Bool). with_slot (server_at m w p) i
-      (cond c (learning (with_accept (slot_at m w p i) from)
+      ∙ ap (λ (d : Bool). with_slot (server_at m w p) i
+      (cond d (learning (with_accept (slot_at m w p i) from)
       (to_learn (with_accept (slot_at m w p i) from))) (slot_at m w p i))) other
       ∙ server_written m w (Heard k p ∷ w) p i (front m w p) _ (omega arith)
       (slot_at-heard m w k p i _ e (uncounted_accepted from p i b i (trying w p i) (rw (eq-eqb i i refl, other))))
@@ -358,15 +358,15 @@ accepted_cases m w k p from i b small mine e false other = record {
   where
     no_lines : [] ≡ on_accepted m w (Heard k p ∷ w) p i b
     no_lines = ap
-        (λ (c : Bool). decision_lines p i
-        (cond c (decision_due (learned w p i) (proposed w i b)
+        (λ (d : Bool). decision_lines p i
+        (cond d (decision_due (learned w p i) (proposed w i b)
         (are_majority m (accepters (Heard k p ∷ w) p i b))) None))
         (sym other)
 
     stale : (from : ℕ) → accept_answer (slot (server_at m w p) i) from b ≡ None
     stale from =
         ap (λ (s : SlotState). accept_answer s from b) (slot-server_at m w p i small)
-        ∙ ap (λ (c : Bool). cond c (to_learn (with_accept (slot_at m w p i) from)) None) other
+        ∙ ap (λ (d : Bool). cond d (to_learn (with_accept (slot_at m w p i) from)) None) other
 
 pub meets_accepted : (m : Membership) (w : Trace) (k p from i b : ℕ) → i < instance_count → (b ≡ 0 → owner m i ≡ p)
     → slice_get (sent w) k ≡ Some (Accepted from p i b)
@@ -375,9 +375,9 @@ meets_accepted m w k p from i b small mine e = accepted_cases m w k p from i b s
 
 -- ---- Promise
 
-uncounted_promise : (from to i b : ℕ) (v : Option Vote) (j c : ℕ) → (eqb i j && eqb b c) ≡ false
-    → IsUncounted j c (Promise from to i b v)
-uncounted_promise from to i b v j c other =
+uncounted_promise : (from to i b : ℕ) (o : Option Vote) (j c : ℕ) → (eqb i j && eqb b c) ≡ false
+    → IsUncounted j c (Promise from to i b o)
+uncounted_promise from to i b o j c other =
     record { promise = λ r. rw other; acceptance = λ r. refl; report = rw other }
 
 counts_proposal : (p i b : ℕ) (o : Option Value) → 0 ≡ learnings (proposal_lines p i b o)
@@ -385,24 +385,24 @@ counts_proposal p i b None = refl
 counts_proposal p i b (Some v) = refl
 
 -- only where nothing was proposed is there a proposal
-unsaid_proposes : (c d : Bool) (o x : Option Value) (v : Value) → cond ((c && is_none o) && d) x None ≡ Some v
+unsaid_proposes : (a d : Bool) (o x : Option Value) (z : Value) → cond ((a && is_none o) && d) x None ≡ Some z
     → o ≡ None
-unsaid_proposes true d None x v e = refl
-unsaid_proposes true d (Some y) x v e = absurd (cc)
-unsaid_proposes false d o x v e = absurd (cc)
+unsaid_proposes true d None x z e = refl
+unsaid_proposes true d (Some y) x z e = absurd (cc)
+unsaid_proposes false d o x z e = absurd (cc)
 
-propose_decided : (m : Membership) (w : Trace) (k p from i : ℕ) (v : Option Vote) → i < instance_count
+propose_decided : (m : Membership) (w : Trace) (k p from i : ℕ) (r : Option Vote) → i < instance_count
     → 0 < trying w p i → IsVoted w p i
-    → slice_get (sent w) k ≡ Some (Promise from p i (trying w p i) v)
-    → (o : Option Value) → to_propose (with_promise (slot_at m w p i) from v) ≡ o
-    → with_slot (server_at m w p) i (proposing (with_promise (slot_at m w p i) from v) o)
+    → slice_get (sent w) k ≡ Some (Promise from p i (trying w p i) r)
+    → (o : Option Value) → to_propose (with_promise (slot_at m w p i) from r) ≡ o
+    → with_slot (server_at m w p) i (proposing (with_promise (slot_at m w p i) from r) o)
     ≡ server_at m (followed_by (Heard k p ∷ w) (proposal_lines p i (trying w p i) o)) p
-propose_decided m w k p from i v small high voted e None un =
+propose_decided m w k p from i r small high voted e None un =
     server_written m w (Heard k p ∷ w) p i (front m w p) _ (omega arith)
-    (slot_at-heard_promise m w k p i from v e)
+    (slot_at-heard_promise m w k p i from r e)
     (λ j ne. slot_at-heard m w k p j _ e
-    (uncounted_promise from p i (trying w p i) v j (trying w p j) (elsewhere i j (trying w p i) (trying w p j) ne)))
-propose_decided m w k p from i v small high voted e (Some x) decided =
+    (uncounted_promise from p i (trying w p i) r j (trying w p j) (elsewhere i j (trying w p i) (trying w p j) ne)))
+propose_decided m w k p from i r small high voted e (Some x) decided =
     let ahead : front m (Sent (Propose p i (trying w p i) x) ∷ Heard k p ∷ w) p ≡ front m w p = omega arith in
     let tried : trying w p i ≡ trying (Heard k p ∷ w) p i = omega arith in
     let unsaid : proposed w i (trying w p i) ≡ None =
@@ -410,11 +410,11 @@ propose_decided m w k p from i v small high voted e (Some x) decided =
     ∙ unsaid_proposes _ _ _ _ x decided in
     server_written m w (Sent (Propose p i (trying w p i) x) ∷ Heard k p ∷ w) p i (front m w p) _ ahead
     (slot_at-proposed m (Heard k p ∷ w) p i (trying w p i) x (voted_after m w k p i voted) high tried (rw unsaid)
-    ∙ ap (λ (s : SlotState). record s { proposal = Some x }) (slot_at-heard_promise m w k p i from v e))
+    ∙ ap (λ (s : SlotState). record s { proposal = Some x }) (slot_at-heard_promise m w k p i from r e))
     (λ j ne. slot_at-quiet m (Heard k p ∷ w) (Sent (Propose p i (trying w p i) x)) p j
     (quiet_propose p i (trying w p i) j x ne) refl
     ∙ slot_at-heard m w k p j _ e
-    (uncounted_promise from p i (trying w p i) v j (trying w p j) (elsewhere i j (trying w p i) (trying w p j) ne)))
+    (uncounted_promise from p i (trying w p i) r j (trying w p j) (elsewhere i j (trying w p i) (trying w p j) ne)))
   where
     voted_after : (m : Membership) (w : Trace) (k p i : ℕ) → IsVoted w p i → IsVoted (Heard k p ∷ w) p i
     voted_after m w k p i voted = record {
@@ -422,82 +422,82 @@ propose_decided m w k p from i v small high voted e (Some x) decided =
     }
 
 -- the row of the table is the slot's answer
-promise_lines : (m : Membership) (w : Trace) (k p from i : ℕ) (v : Option Vote) → 0 < trying w p i
-    → slice_get (sent w) k ≡ Some (Promise from p i (trying w p i) v)
-    → proposal_lines p i (trying w p i) (to_propose (with_promise (slot_at m w p i) from v))
+promise_lines : (m : Membership) (w : Trace) (k p from i : ℕ) (o : Option Vote) → 0 < trying w p i
+    → slice_get (sent w) k ≡ Some (Promise from p i (trying w p i) o)
+    → proposal_lines p i (trying w p i) (to_propose (with_promise (slot_at m w p i) from o))
     ≡ on_promise m w (Heard k p ∷ w) p i (trying w p i)
-promise_lines m w k p from i v high e =
+promise_lines m w k p from i o high e =
     ap (proposal_lines p i (trying w p i))
-    (ap (λ (c : Bool). cond c (to_propose (with_promise (slot_at m w p i) from v)) None)
+    (ap (λ (a : Bool). cond a (to_propose (with_promise (slot_at m w p i) from o)) None)
     (sym (eq-eqb (trying w p i) (trying w p i) refl))
-    ∙ promise_answered m w k p i from (trying w p i) v e high)
+    ∙ promise_answered m w k p i from (trying w p i) o e high)
 
-promise_tried : (m : Membership) (w : Trace) (k p from i : ℕ) (v : Option Vote) → i < instance_count
+promise_tried : (m : Membership) (w : Trace) (k p from i : ℕ) (r : Option Vote) → i < instance_count
     → 0 < trying w p i → IsVoted w p i
-    → slice_get (sent w) k ≡ Some (Promise from p i (trying w p i) v)
-    → Meets m w k p (Promise from p i (trying w p i) v)
-    (proposal_lines p i (trying w p i) (to_propose (with_promise (slot_at m w p i) from v)))
-promise_tried m w k p from i v small high voted e =
-    let answer : promise_answer (slot (server_at m w p) i) from (trying w p i) v
-    ≡ to_propose (with_promise (slot_at m w p i) from v) =
-    ap (λ (s : SlotState). promise_answer s from (trying w p i) v) (slot-server_at m w p i small)
-    ∙ ap (λ (c : Bool). cond c (to_propose (with_promise (slot_at m w p i) from v)) None)
+    → slice_get (sent w) k ≡ Some (Promise from p i (trying w p i) r)
+    → Meets m w k p (Promise from p i (trying w p i) r)
+    (proposal_lines p i (trying w p i) (to_propose (with_promise (slot_at m w p i) from r)))
+promise_tried m w k p from i r small high voted e =
+    let answer : promise_answer (slot (server_at m w p) i) from (trying w p i) r
+    ≡ to_propose (with_promise (slot_at m w p i) from r) =
+    ap (λ (s : SlotState). promise_answer s from (trying w p i) r) (slot-server_at m w p i small)
+    ∙ ap (λ (a : Bool). cond a (to_propose (with_promise (slot_at m w p i) from r)) None)
     (eq-eqb (trying w p i) (trying w p i) refl) in
     record {
       sends = ap (λ (o : Option Value). messages_of (proposal_lines p i (trying w p i) o)) answer;
-      learns = counts_proposal p i (trying w p i) (to_propose (with_promise (slot_at m w p i) from v));
+      learns = counts_proposal p i (trying w p i) (to_propose (with_promise (slot_at m w p i) from r));
       state =
-          ap (λ (s : SlotState). with_slot (server_at m w p) i (after_promise s from (trying w p i) v))
+          ap (λ (s : SlotState). with_slot (server_at m w p) i (after_promise s from (trying w p i) r))
           (slot-server_at m w p i small)
-          ∙ ap (λ (c : Bool). with_slot (server_at m w p) i
-          (cond c (proposing (with_promise (slot_at m w p i) from v)
-          (to_propose (with_promise (slot_at m w p i) from v))) (slot_at m w p i)))
+          ∙ ap (λ (a : Bool). with_slot (server_at m w p) i
+          (cond a (proposing (with_promise (slot_at m w p i) from r)
+          (to_propose (with_promise (slot_at m w p i) from r))) (slot_at m w p i)))
           (eq-eqb (trying w p i) (trying w p i) refl)
-          ∙ propose_decided m w k p from i v small high voted e
-          (to_propose (with_promise (slot_at m w p i) from v)) refl;
+          ∙ propose_decided m w k p from i r small high voted e
+          (to_propose (with_promise (slot_at m w p i) from r)) refl;
     }
 
-promise_cases : (m : Membership) (w : Trace) (k p from i b : ℕ) (v : Option Vote) → i < instance_count → 0 < b
-    → IsVoted w p i → slice_get (sent w) k ≡ Some (Promise from p i b v)
-    → (c : Bool) → eqb b (trying w p i) ≡ c
-    → Meets m w k p (Promise from p i b v) (on_promise m w (Heard k p ∷ w) p i b)
-promise_cases m w k p from i b v small high voted e true same =
+promise_cases : (m : Membership) (w : Trace) (k p from i b : ℕ) (r : Option Vote) → i < instance_count → 0 < b
+    → IsVoted w p i → slice_get (sent w) k ≡ Some (Promise from p i b r)
+    → (d : Bool) → eqb b (trying w p i) ≡ d
+    → Meets m w k p (Promise from p i b r) (on_promise m w (Heard k p ∷ w) p i b)
+promise_cases m w k p from i b r small high voted e true same =
     let tried : trying w p i ≡ b = sym (eqb-true b (trying w p i) same) in
     let P : ℕ → Type 0 =
-    λ a. 0 < a → slice_get (sent w) k ≡ Some (Promise from p i a v)
-    → Meets m w k p (Promise from p i a v) (on_promise m w (Heard k p ∷ w) p i a) in
+    λ a. 0 < a → slice_get (sent w) k ≡ Some (Promise from p i a r)
+    → Meets m w k p (Promise from p i a r) (on_promise m w (Heard k p ∷ w) p i a) in
     subst P tried
-    (λ above said. subst (λ (ls : List Line). Meets m w k p (Promise from p i (trying w p i) v) ls)
-    (promise_lines m w k p from i v above said) (promise_tried m w k p from i v small above voted said))
+    (λ above said. subst (λ (ls : List Line). Meets m w k p (Promise from p i (trying w p i) r) ls)
+    (promise_lines m w k p from i r above said) (promise_tried m w k p from i r small above voted said))
     high e
-promise_cases m w k p from i b v small high voted e false other = record {
+promise_cases m w k p from i b r small high voted e false other = record {
   sends = ap (λ (o : Option Value). messages_of (proposal_lines p i b o)) stale ∙ ap messages_of no_lines;
   learns = ap learnings no_lines;
   state =
-      ap (λ (s : SlotState). with_slot (server_at m w p) i (after_promise s from b v)) (slot-server_at m w p i small)
-      ∙ ap (λ (c : Bool). with_slot (server_at m w p) i
-      (cond c (proposing (with_promise (slot_at m w p i) from v)
-      (to_propose (with_promise (slot_at m w p i) from v))) (slot_at m w p i))) other
+      ap (λ (s : SlotState). with_slot (server_at m w p) i (after_promise s from b r)) (slot-server_at m w p i small)
+      ∙ ap (λ (d : Bool). with_slot (server_at m w p) i
+      (cond d (proposing (with_promise (slot_at m w p i) from r)
+      (to_propose (with_promise (slot_at m w p i) from r))) (slot_at m w p i))) other
       ∙ server_written m w (Heard k p ∷ w) p i (front m w p) _ (omega arith)
-      (slot_at-heard m w k p i _ e (uncounted_promise from p i b v i (trying w p i) (rw (eq-eqb i i refl, other))))
+      (slot_at-heard m w k p i _ e (uncounted_promise from p i b r i (trying w p i) (rw (eq-eqb i i refl, other))))
       (λ j ne. slot_at-heard m w k p j _ e
-      (uncounted_promise from p i b v j (trying w p j) (elsewhere i j b (trying w p j) ne)))
+      (uncounted_promise from p i b r j (trying w p j) (elsewhere i j b (trying w p j) ne)))
       ∙ ap (λ (ls : List Line). server_at m (followed_by (Heard k p ∷ w) ls) p) no_lines;
 }
   where
     no_lines : [] ≡ on_promise m w (Heard k p ∷ w) p i b
     no_lines = ap
-        (λ (c : Bool). proposal_lines p i b
-        (cond c (proposal_due (learned w p i) (proposed w i b) (are_majority m (promisers (Heard k p ∷ w) p i b))
+        (λ (d : Bool). proposal_lines p i b
+        (cond d (proposal_due (learned w p i) (proposed w i b) (are_majority m (promisers (Heard k p ∷ w) p i b))
         (reported (Heard k p ∷ w) p i b)) None)) (sym other)
 
-    stale : promise_answer (slot (server_at m w p) i) from b v ≡ None
+    stale : promise_answer (slot (server_at m w p) i) from b r ≡ None
     stale =
-        ap (λ (s : SlotState). promise_answer s from b v) (slot-server_at m w p i small)
-        ∙ ap (λ (c : Bool). cond c (to_propose (with_promise (slot_at m w p i) from v)) None) other
+        ap (λ (s : SlotState). promise_answer s from b r) (slot-server_at m w p i small)
+        ∙ ap (λ (d : Bool). cond d (to_propose (with_promise (slot_at m w p i) from r)) None) other
 
-pub meets_promise : (m : Membership) (w : Trace) (k p from i b : ℕ) (v : Option Vote) → i < instance_count → 0 < b
-    → IsVoted w p i → slice_get (sent w) k ≡ Some (Promise from p i b v)
-    → Meets m w k p (Promise from p i b v) (on_promise m w (Heard k p ∷ w) p i b)
-meets_promise m w k p from i b v small high voted e =
-    promise_cases m w k p from i b v small high voted e (eqb b (trying w p i)) refl
+pub meets_promise : (m : Membership) (w : Trace) (k p from i b : ℕ) (o : Option Vote) → i < instance_count → 0 < b
+    → IsVoted w p i → slice_get (sent w) k ≡ Some (Promise from p i b o)
+    → Meets m w k p (Promise from p i b o) (on_promise m w (Heard k p ∷ w) p i b)
+meets_promise m w k p from i b o small high voted e =
+    promise_cases m w k p from i b o small high voted e (eqb b (trying w p i)) refl

@@ -1,12 +1,12 @@
 -- A Skip.
 use Rattle.std.proofs.Common.{◌≡◌, ℕ, ◌+◌, ◌<◌, ◌≤◌, Bool, true, false, List, [], ◌∷◌, Option, Some, None, map, refl, sym, ◌∙◌, ap, arith, cond, eqb, zero, suc, add-zero, ◌&&◌, ◌||◌, ⊎_elim}
-use Rattle.std.specs.Prelude.{slice_get, is_none, nat_le, nat_lt}
+use Rattle.std.specs.Prelude.{slice_get, is_none}
 use Rattle.std.specs.List.{count_by, filter, fold, list_any, range_with_len}
 use Rattle.std.proofs.lemmas.Bool.{cases_eq, eq-eqb, eqb-false, eqb-true, ne_eqb}
 use Rattle.mencius_base.specs.declared.message.Message.TheVariants.{Skip}
 use Rattle.mencius_base.specs.declared.message.Value.{Value}
 use Rattle.mencius_base.specs.declared.message.Value.TheVariants.{Noop}
-use Rattle.mencius_base.specs.Members.{Membership, below, instances, owner}
+use Rattle.mencius_base.specs.Members.{Membership, below, instances}
 use Rattle.mencius_model.specs.Trace.{Heard, Learned, Line, Trace, earlier, followed_by, sent, messages_of}
 use Rattle.mencius_model.specs.Instance.{learned, trying}
 use Rattle.mencius_model.specs.Server.{front}
@@ -28,19 +28,19 @@ abbrev noop_at : ℕ → ℕ → Line
 noop_at p j = Learned p j Noop
 
 -- the first value that is learned stays
-after_learn_is : (s : SlotState) (v : Value) (o : Option Value) → s.learned ≡ o
-    → after_learn s v ≡ record s { learned = earlier s.learned (Some v) }
-after_learn_is s v None e =
-    ap (λ (o : Option Value). cond (is_none o) (record s { learned = Some v }) s) e
-    ∙ ap (λ (o : Option Value). record s { learned = earlier o (Some v) }) (sym e)
-after_learn_is s v (Some x) e =
-    ap (λ (o : Option Value). cond (is_none o) (record s { learned = Some v }) s) e
+after_learn_is : (s : SlotState) (z : Value) (o : Option Value) → s.learned ≡ o
+    → after_learn s z ≡ record s { learned = earlier s.learned (Some z) }
+after_learn_is s z None e =
+    ap (λ (o : Option Value). cond (is_none o) (record s { learned = Some z }) s) e
+    ∙ ap (λ (o : Option Value). record s { learned = earlier o (Some z) }) (sym e)
+after_learn_is s z (Some x) e =
+    ap (λ (o : Option Value). cond (is_none o) (record s { learned = Some z }) s) e
     ∙ ap (λ (o : Option Value). record s { learned = o }) e
-    ∙ ap (λ (o : Option Value). record s { learned = earlier o (Some v) }) (sym e)
+    ∙ ap (λ (o : Option Value). record s { learned = earlier o (Some z) }) (sym e)
 
 -- one more line, for a slot that may know already
-noop_cases : (m : Membership) (v : Trace) (p i j : ℕ) (c : Bool) → eqb i j ≡ c
-    → slot_at m (Learned p i Noop ∷ v) p j ≡ cond c (after_learn (slot_at m v p j) Noop) (slot_at m v p j)
+noop_cases : (m : Membership) (v : Trace) (p i j : ℕ) (a : Bool) → eqb i j ≡ a
+    → slot_at m (Learned p i Noop ∷ v) p j ≡ cond a (after_learn (slot_at m v p j) Noop) (slot_at m v p j)
 noop_cases m v p i j true e =
     ap (λ (i : ℕ). slot_at m (Learned p i Noop ∷ v) p j) (eqb-true i j e) ∙ slot_at-learning m v p j Noop
     ∙ sym (after_learn_is (slot_at m v p j) Noop (learned v p j) refl)
@@ -51,9 +51,9 @@ learned_noop : (m : Membership) (v : Trace) (p i j : ℕ)
     → slot_at m (Learned p i Noop ∷ v) p j ≡ cond (eqb i j) (after_learn (slot_at m v p j) Noop) (slot_at m v p j)
 learned_noop m v p i j = noop_cases m v p i j (eqb i j) refl
 
-earlier-twice : (o : Option Value) (v : Value) → earlier (earlier o (Some v)) (Some v) ≡ earlier o (Some v)
-earlier-twice None v = refl
-earlier-twice (Some x) v = refl
+earlier-twice : (o : Option Value) (z : Value) → earlier (earlier o (Some z)) (Some z) ≡ earlier o (Some z)
+earlier-twice None z = refl
+earlier-twice (Some x) z = refl
 
 after_learn-twice : (x : SlotState) → after_learn (after_learn x Noop) Noop ≡ after_learn x Noop
 after_learn-twice x =
@@ -72,9 +72,9 @@ learned_noops m p j (i ∷ js) v =
     ∙ ap (λ (s : SlotState). cond (list_any (λ (i : ℕ). eqb i j) js) (after_learn s Noop) s) (learned_noop m v p i j)
     ∙ either (eqb i j) (list_any (λ (i : ℕ). eqb i j) js) (slot_at m v p j)
   where
-    either : (c d : Bool) (s : SlotState)
-        → cond d (after_learn (cond c (after_learn s Noop) s) Noop) (cond c (after_learn s Noop) s)
-        ≡ cond (c || d) (after_learn s Noop) s
+    either : (a d : Bool) (s : SlotState)
+        → cond d (after_learn (cond a (after_learn s Noop) s) Noop) (cond a (after_learn s Noop) s)
+        ≡ cond (a || d) (after_learn s Noop) s
     either true true s = after_learn-twice s
     either true false s = refl
     either false d s = refl
@@ -89,21 +89,21 @@ unsent_noops p [] = refl
 unsent_noops p (i ∷ js) = unsent_noops p js
 
 -- the instances among those that pass are those that pass
-and-false : (c : Bool) → (c && false) ≡ false
+and-false : (a : Bool) → (a && false) ≡ false
 and-false true = refl
 and-false false = refl
 
-among_cases : (i j : ℕ) (test : ℕ → Bool) (c d y x : Bool) → test i ≡ c → eqb i j ≡ d → y ≡ (test j && x)
-    → cond c (d || y) y ≡ (test j && (d || x))
+among_cases : (i j : ℕ) (test : ℕ → Bool) (a d y x : Bool) → test i ≡ a → eqb i j ≡ d → y ≡ (test j && x)
+    → cond a (d || y) y ≡ (test j && (d || x))
 among_cases i j test true true y x here same rest = sym (rw (← eqb-true i j same, here))
 among_cases i j test false true y x here same rest =
     let at_j : test j ≡ false = rw (← eqb-true i j same) here in rw (rest, at_j)
 among_cases i j test true false y x here same rest = rest
 among_cases i j test false false y x here same rest = rest
 
-any-cond : (j i : ℕ) (c : Bool) (ys : List ℕ)
-    → list_any (λ (i : ℕ). eqb i j) (cond c (i ∷ ys) ys)
-    ≡ cond c (eqb i j || list_any (λ (i : ℕ). eqb i j) ys) (list_any (λ (i : ℕ). eqb i j) ys)
+any-cond : (j i : ℕ) (a : Bool) (ys : List ℕ)
+    → list_any (λ (i : ℕ). eqb i j) (cond a (i ∷ ys) ys)
+    ≡ cond a (eqb i j || list_any (λ (i : ℕ). eqb i j) ys) (list_any (λ (i : ℕ). eqb i j) ys)
 any-cond j i true ys = refl
 any-cond j i false ys = refl
 
@@ -132,13 +132,13 @@ counts_from : (p n : ℕ) (test : ℕ → Bool) (xs : List ℕ)
 counts_from p n test [] = refl
 counts_from p n test (a ∷ xs) = step (test a) (counts_from p (n + cond (test a) 1 0) test xs)
   where
-    step : (c : Bool)
-        → fold (λ (total : ℕ) (x : ℕ). total + cond (test x) 1 0) (n + cond c 1 0) xs
-        ≡ fold (λ (total : ℕ) (l : Line). total + cond (is_learning l) 1 0) (n + cond c 1 0)
+    step : (d : Bool)
+        → fold (λ (total : ℕ) (x : ℕ). total + cond (test x) 1 0) (n + cond d 1 0) xs
+        ≡ fold (λ (total : ℕ) (l : Line). total + cond (is_learning l) 1 0) (n + cond d 1 0)
         (map (noop_at p) (filter test xs))
-        → fold (λ (total : ℕ) (x : ℕ). total + cond (test x) 1 0) (n + cond c 1 0) xs
+        → fold (λ (total : ℕ) (x : ℕ). total + cond (test x) 1 0) (n + cond d 1 0) xs
         ≡ fold (λ (total : ℕ) (l : Line). total + cond (is_learning l) 1 0) n
-        (map (noop_at p) (cond c (a ∷ filter test xs) (filter test xs)))
+        (map (noop_at p) (cond d (a ∷ filter test xs) (filter test xs)))
     step true e = e
     step false e =
         e ∙ ap (λ (y : ℕ). fold (λ (total : ℕ) (l : Line). total + cond (is_learning l) 1 0) y
@@ -155,7 +155,7 @@ counts_same : (f g : ℕ → Bool) (total a n : ℕ) → ((j : ℕ) → j < a + 
     ≡ fold (λ (y : ℕ) (x : ℕ). y + cond (g x) 1 0) total (range_with_len a n)
 counts_same f g total a zero e = refl
 counts_same f g total a (suc n) e =
-    ap (λ (b : Bool). fold (λ (y : ℕ) (x : ℕ). y + cond (f x) 1 0) (total + cond b 1 0)
+    ap (λ (d : Bool). fold (λ (y : ℕ) (x : ℕ). y + cond (f x) 1 0) (total + cond d 1 0)
     (range_with_len (a + 1) n)) (e a (omega arith))
     ∙ counts_same f g (total + cond (g a) 1 0) (a + 1) n (λ j h. e j (omega arith))
 
@@ -165,12 +165,12 @@ unfolding below instances
 count_by-instances_same f g e = counts_same f g 0 0 instance_count e
 
 -- the test of the row, and the slot's
-given_either : (s : SlotState) (b : Bool) (o : Option Value) → s.learned ≡ o
-    → cond b (after_learn s Noop) s ≡ cond (b && is_none s.learned) (after_learn s Noop) s
+given_either : (s : SlotState) (a : Bool) (o : Option Value) → s.learned ≡ o
+    → cond a (after_learn s Noop) s ≡ cond (a && is_none s.learned) (after_learn s Noop) s
 given_either s false o e = refl
 given_either s true None e =
     ap (λ (x : Option Value). cond (is_none x) (after_learn s Noop) (after_learn s Noop)) (sym e)
-    ∙ ap (λ (c : Bool). cond c (after_learn s Noop) (after_learn s Noop)) refl ∙ known
+    ∙ ap (λ (d : Bool). cond d (after_learn s Noop) (after_learn s Noop)) refl ∙ known
   where
     known : cond (is_none s.learned) (after_learn s Noop) (after_learn s Noop)
         ≡ cond (is_none s.learned) (after_learn s Noop) s
@@ -199,9 +199,9 @@ meets_skip m w k p q first stop e = record {
       (λ j small.
       ap (λ (x : SlotState). slot_given m q first stop j x) (slot-server_at m w p j small)
       ∙ given_cond m q first stop j (slot_at m w p j) (learned w p j) refl
-      ∙ ap (λ (c : Bool). cond c (after_learn (slot_at m w p j) Noop) (slot_at m w p j))
+      ∙ ap (λ (a : Bool). cond a (after_learn (slot_at m w p j) Noop) (slot_at m w p j))
       (sym (among (is_given_up m w p q first stop) instances j
-      ∙ ap (λ (c : Bool). is_given_up m w p q first stop j && c) (is_instance j small)
+      ∙ ap (λ (a : Bool). is_given_up m w p q first stop j && a) (is_instance j small)
       ∙ and-true (is_given_up m w p q first stop j)))
       ∙ ap (λ (x : SlotState). cond
       (list_any (λ (i : ℕ). eqb i j) (filter (is_given_up m w p q first stop) instances)) (after_learn x Noop) x)
@@ -209,7 +209,7 @@ meets_skip m w k p q first stop e = record {
       ∙ sym (learned_noops m p j (filter (is_given_up m w p q first stop) instances) (Heard k p ∷ w))));
 }
   where
-    and-true : (c : Bool) → (c && true) ≡ c
+    and-true : (a : Bool) → (a && true) ≡ a
     and-true true = refl
     and-true false = refl
 

@@ -23,7 +23,7 @@ use Rattle.mencius_server.proofs.Keeps.{IsServer-with_slot, KeepsAt-fits, KeepsA
 use Rattle.mencius_server.proofs.Lost.{SaysSame, moved_later, past_same, tickets_later, waits_later, waits_none}
 use Rattle.mencius_server.proofs.SkipShows.{IsServer-skip}
 use Rattle.mencius_server.proofs.SlotLaws.{SameAttempt-cond, SameAttempt-learn, SameAttempt-self}
-use Rattle.mencius_base.specs.Limits.{greatest_front, greatest_round, instance_count}
+use Rattle.mencius_base.specs.Limits.{greatest_front, greatest_round, instance_count, most_servers}
 
 with_slots : (m : Membership) (p f : ℕ) (xs ys : List SlotState) → xs ≡ ys
     → ◌≡◌ {A = ServerState} (record { members = m; id = p; front = f; slots = xs })
@@ -86,7 +86,7 @@ same_keeps s x m n after said server full members ahead early next marks since p
 -- a slot written that keeps an own proposal
 put_says : (s : ServerState) (i f : ℕ) (x : SlotState) → FitsAt s f i x → SaysSame s (with_slot_and_front s i x f)
 put_says s i f x fits = record { same = λ j small. go j (eqb (owner s.members j) s.id) refl } where
-  go : (j : ℕ) (c : Bool) → eqb (owner s.members j) s.id ≡ c
+  go : (j : ℕ) (a : Bool) → eqb (owner s.members j) s.id ≡ a
       → suggested_at (with_slot_and_front s i x f) j ≡ suggested_at s j
   go j false other = rw other refl
   go j true mine =
@@ -158,8 +158,8 @@ skip_since s q first stop l lost j low small noop =
       | inr not_given ↦ inl (rw (skip_slot s q first stop j small, not_given) at noop)
     ]
 
-given_learned : (b : Bool) (s : SlotState) → is_none s.learned ≡ false
-    → is_none (cond b (after_learn s Noop) s).learned ≡ false
+given_learned : (a : Bool) (s : SlotState) → is_none s.learned ≡ false
+    → is_none (cond a (after_learn s Noop) s).learned ≡ false
 given_learned true s known = rw known known
 given_learned false s known = known
 
@@ -207,21 +207,21 @@ suspect_own s q j other small mine =
     ∙ rw (unrevoked_other s.members q s.front j (slot s j)
     (ne_eqb (owner s.members j) q (λ theirs. other (sym mine ∙ theirs)))) refl
 
-suspect_says : (s : ServerState) (q j : ℕ) → (s.id ≡ q → ⊥) → j < instance_count → (c : Bool)
-    → eqb (owner s.members j) s.id ≡ c → suggested_at (after_suspect s q) j ≡ suggested_at s j
+suspect_says : (s : ServerState) (q j : ℕ) → (s.id ≡ q → ⊥) → j < instance_count → (a : Bool)
+    → eqb (owner s.members j) s.id ≡ a → suggested_at (after_suspect s q) j ≡ suggested_at s j
 suspect_says s q j other small true mine =
     rw mine (ap (λ (x : SlotState). ticket_of x.proposal) (suspect_own s q j other small (eqb-true _ _ mine)))
 suspect_says s q j other small false theirs = rw theirs refl
 
 suspect_since : (s : ServerState) (q j : ℕ) → (s.id ≡ q → ⊥) → j < instance_count
-    → is_noop (slot (after_suspect s q) j).learned ≡ true → (c : Bool) → eqb (owner s.members j) s.id ≡ c
+    → is_noop (slot (after_suspect s q) j).learned ≡ true → (a : Bool) → eqb (owner s.members j) s.id ≡ a
     → (is_noop (slot s j).learned ≡ true) ⊎ (suggested_at s j ≡ None)
 suspect_since s q j other small noop true mine =
     inl (subst (λ (x : SlotState). is_noop x.learned ≡ true) (suspect_own s q j other small (eqb-true _ _ mine)) noop)
 suspect_since s q j other small noop false theirs = inr (rw theirs refl)
 
-revoked_learned : (b : Bool) (s : SlotState) (ballot : ℕ) → is_none s.learned ≡ false
-    → is_none (cond b (after_begin s ballot) s).learned ≡ false
+revoked_learned : (a : Bool) (s : SlotState) (ballot : ℕ) → is_none s.learned ≡ false
+    → is_none (cond a (after_begin s ballot) s).learned ≡ false
 revoked_learned true s ballot known = known
 revoked_learned false s ballot known = known
 
@@ -281,7 +281,7 @@ module _ (m : Membership) (p f : ℕ) (y : KnownState) (now : ServerState) (q : 
 
 -- a suggestion
 pub place_keeps : (s : ServerState) (m : Membership) (i t : ℕ) (n : Noted) (next : ℕ) (marks : List Bool)
-    → 1 ≤ s.members.count → s.members.count ≤ 7 → IsFree s i
+    → 1 ≤ s.members.count → s.members.count ≤ most_servers → IsFree s i
     → n.next_ticket ≤ next → t < next → length marks ≤ s.front
     → ((j : ℕ) → get_or marks j false
     ≡ (get_or n.moved j false || is_ticket t (suggested_in s.members s.id j (slot s j))))
@@ -323,6 +323,10 @@ place_shows m p f old new now i t y shown same written made =
     ∙ ap (λ (n : Membership). set old.slots i
     (record (get_or old.slots i (new_slot n)) { proposal = Some (Ticket t) })) same))
 
+or-false : (a : Bool) → (a || false) ≡ a
+or-false true = refl
+or-false false = refl
+
 -- the marks that a suggestion makes, as others see the server before it
 pub place_marks : (m : Membership) (p f : ℕ) (old new : KnownState) (now : ServerState) (i t : ℕ) (y : SlotState)
     (marked_before blank marks : List Bool)
@@ -341,12 +345,12 @@ place_marks m p f old new now i t y marked_before blank marks shown same written
     (⊎_elim
     (λ (low : j < min f instance_count).
     marked j (omega arith) (omega arith)
-    ∙ ap (λ (b : Bool). b || is_ticket t (suggested_in m p j (known_slot new j))) (kept j)
+    ∙ ap (λ (a : Bool). a || is_ticket t (suggested_in m p j (known_slot new j))) (kept j)
     ∙ ap (λ (x : SlotState). get_or marked_before j false || is_ticket t (suggested_in m p j x))
     (slot_is (λ at. absurd (omega arith))))
     (λ (high : min f instance_count ≤ j).
     rest j high ∙ kept j
-    ∙ sym (ap (λ (b : Bool). get_or marked_before j false || b) (untold (eqb (owner m j) p) refl high)
+    ∙ sym (ap (λ (a : Bool). get_or marked_before j false || a) (untold (eqb (owner m j) p) refl high)
     ∙ or-false (get_or marked_before j false)))
     (cases_lt j (min f instance_count)))
   where
@@ -356,11 +360,7 @@ place_marks m p f old new now i t y marked_before blank marks shown same written
         ∙ get_or-set_other old.slots i j y (new_slot old.members) off
         ∙ ap (λ (n : Membership). get_or old.slots j (new_slot n)) same
 
-    or-false : (b : Bool) → (b || false) ≡ b
-    or-false true = refl
-    or-false false = refl
-
-    untold : (b : Bool) → eqb (owner m j) p ≡ b → min f instance_count ≤ j
+    untold : (a : Bool) → eqb (owner m j) p ≡ a → min f instance_count ≤ j
         → is_ticket t (suggested_in m p j (get_or old.slots j (new_slot m))) ≡ false
     untold false other high = rw other refl
     untold true mine high =

@@ -17,7 +17,7 @@ use Rattle.mencius_server.specs.State.{FitsAt, IsFree, ServerState, slot, with_s
 use Rattle.mencius_server.proofs.Invariant.{kept_as, place_keeps, place_marks, place_shows, put_keeps, put_shows, skip_keeps, skip_shown, suspect_keeps, suspect_shown}
 use Rattle.mencius_server.proofs.Keeps.{FitsAt-slot}
 use Rattle.mencius_server.proofs.SlotLaws.{FitsAt-promise, FitsAt-same, SameAttempt-accept, SameAttempt-acceptance, SameAttempt-learn, SameAttempt-prepare}
-use Rattle.mencius_base.specs.Limits.{instance_count}
+use Rattle.mencius_base.specs.Limits.{instance_count, most_servers}
 
 -- what callers see of a server that knows this
 abbrev pub seen : Membership → ℕ → ℕ → KnownState → ServerState
@@ -104,7 +104,7 @@ module _ (m : Membership) (p f : ℕ) (s new : KnownState) (before after : Noted
       (suspect_keeps (seen m p f s) s.members q before other kept))
 
   -- a suggestion, for which the notes were widened first
-  pub place_kept : (mid : Noted) (i t n : ℕ) → n ≡ m.count → 1 ≤ n → n ≤ 7 → IsFree (seen m p f s) i
+  pub place_kept : (mid : Noted) (i t n : ℕ) → n ≡ m.count → 1 ≤ n → n ≤ most_servers → IsFree (seen m p f s) i
       → new ≡ known_after_suggest s i t
       → mid.lost_from ≡ before.lost_from → mid.next_ticket ≡ before.next_ticket
       → ((j : ℕ) → get_or mid.moved j false ≡ get_or before.moved j false)

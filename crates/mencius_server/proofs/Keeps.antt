@@ -10,7 +10,7 @@ use Rattle.coord_paxos.specs.Fresh.{new_slot}
 use Rattle.mencius_server.specs.Machine.{suggested_at, waits_at, waits_with}
 use Rattle.mencius_model.specs.Server.{ticket_of}
 use Rattle.mencius_server.specs.State.{ServerState, FitsAt, IsServer, new_server, slot, with_slot_and_front}
-use Rattle.mencius_base.specs.Limits.{greatest_front, instance_count}
+use Rattle.mencius_base.specs.Limits.{greatest_front, instance_count, most_servers}
 
 -- past the last slot there are new ones
 pub past-replicate : (n i : ℕ) (s : SlotState) → get_or (replicate n s) i s ≡ s
@@ -22,7 +22,7 @@ past-replicate n i s =
     (cases_lt i n)
 
 -- a new server keeps all this
-pub IsServer-new : (m : Membership) (p : ℕ) → p < m.count → m.count ≤ 7 → IsServer (new_server m p)
+pub IsServer-new : (m : Membership) (p : ℕ) → p < m.count → m.count ≤ most_servers → IsServer (new_server m p)
 IsServer-new m p member few = record {
   member = member;
   near = omega arith;
@@ -32,8 +32,8 @@ IsServer-new m p member few = record {
 }
 
 -- a new server suggested nothing, and no ticket waits there
-none_said : (m : Membership) (p j : ℕ) (c : Bool)
-    → cond c (ticket_of (get_or (replicate instance_count (new_slot m)) j (new_slot m)).proposal) None ≡ None
+none_said : (m : Membership) (p j : ℕ) (a : Bool)
+    → cond a (ticket_of (get_or (replicate instance_count (new_slot m)) j (new_slot m)).proposal) None ≡ None
 none_said m p j true = ap (λ (s : SlotState). ticket_of s.proposal) (past-replicate instance_count j (new_slot m))
 none_said m p j false = refl
 

@@ -47,17 +47,17 @@ pub known_there : (m : Membership) (slots : List (Option SlotState)) (rs : List 
 known_there m slots rs j s e = ap (λ o. unwrap_or o (unheard m (is_passed m rs j))) e
 
 -- of an instance at which no slot stands, nothing was promised, accepted, tried or proposed
-pub unheard_quiet : (m : Membership) (b : Bool)
-    → ((unheard m b).promised ≡ 0) × ((unheard m b).trying ≡ 0) × ((unheard m b).proposal ≡ None)
+pub unheard_quiet : (m : Membership) (a : Bool)
+    → ((unheard m a).promised ≡ 0) × ((unheard m a).trying ≡ 0) × ((unheard m a).proposal ≡ None)
 unheard_quiet m true = (refl, refl, refl)
 unheard_quiet m false = (refl, refl, refl)
 
 -- two states that agree at each instance are the same
-pub same_known : (m : Membership) (f g : ℕ → SlotState) (a b : ℕ → Bool) → ((j : ℕ) → j < instance_count → f j ≡ g j)
-    → ((j : ℕ) → j < instance_count → a j ≡ b j)
+pub same_known : (m : Membership) (f g : ℕ → SlotState) (a test : ℕ → Bool) → ((j : ℕ) → j < instance_count → f j ≡ g j)
+    → ((j : ℕ) → j < instance_count → a j ≡ test j)
     → ◌≡◌ {A = KnownState} (record { members = m; slots = map f instances; stands = map a instances })
-    (record { members = m; slots = map g instances; stands = map b instances })
-same_known m f g a b e h = rw (map-instances_same f g (new_slot m) e, map-instances_same a b false h)
+    (record { members = m; slots = map g instances; stands = map test instances })
+same_known m f g a test e h = rw (map-instances_same f g (new_slot m) e, map-instances_same a test false h)
 
 -- ---- nothing yet
 
@@ -276,7 +276,7 @@ module _ (m : Membership) (slots new : List (Option SlotState)) (rs : List (List
       stays e = ap is_none same ∙ e
 
 -- a change leaves what was learned
-pub changed_learned : (s : SlotState) (c : Change) → is_none s.learned ≡ false → is_none (changed s c).learned ≡ false
+pub changed_learned : (s : SlotState) (a : Change) → is_none s.learned ≡ false → is_none (changed s a).learned ≡ false
 changed_learned s (Promise b) h = rw h h
 changed_learned s (Accept b v) h = either (nat_le s.promised b)
   where
@@ -305,9 +305,9 @@ changed_learned s (CountAccept q b) h = counted (eqb b s.trying)
     counted false = h
 changed_learned s (Learn v) h = rw h h
 
-pub none_there : {A : Type 0} (o : Option A) (b : Bool) → b ≡ is_some o → b ≡ false → o ≡ None
-none_there None b e f = refl
-none_there (Some x) b e f = absurd (cc)
+pub none_there : {A : Type 0} (o : Option A) (a : Bool) → a ≡ is_some o → a ≡ false → o ≡ None
+none_there None a e f = refl
+none_there (Some x) a e f = absurd (cc)
 
 pub some_there : {A : Type 0} (o : Option A) → is_some o ≡ true → IsSome o
 some_there o e = e
@@ -315,15 +315,15 @@ some_there o e = e
 -- how many slots stand
 pub stand_count : (m : Membership) (slots : List (Option SlotState)) (rs : List (List Span)) (now : KnownState)
     → known_of m slots rs ≡ now → length slots ≡ instance_count
-    → count_by is_some slots ≡ count_by (λ b. b) now.stands
+    → count_by is_some slots ≡ count_by (λ a. a) now.stands
 stand_count m slots rs now shown all =
     ap (count_by is_some) (map-below_by (stand_at slots) slots instance_count None all (λ j l. refl))
     ∙ counts (below instance_count)
-    ∙ ap (λ xs. count_by (λ b. b) (map (λ j. is_some (stand_at slots j)) xs)) (sym instances-below)
-    ∙ ap (λ (s : KnownState). count_by (λ b. b) s.stands) shown
+    ∙ ap (λ xs. count_by (λ a. a) (map (λ j. is_some (stand_at slots j)) xs)) (sym instances-below)
+    ∙ ap (λ (s : KnownState). count_by (λ a. a) s.stands) shown
   where
     counts : (xs : List ℕ)
-        → count_by is_some (map (stand_at slots) xs) ≡ count_by (λ b. b) (map (λ j. is_some (stand_at slots j)) xs)
+        → count_by is_some (map (stand_at slots) xs) ≡ count_by (λ a. a) (map (λ j. is_some (stand_at slots j)) xs)
     counts [] = refl
     counts (x ∷ xs) =
         let rest = counts xs in
@@ -331,6 +331,6 @@ stand_count m slots rs now shown all =
           arith,
           rest,
           sum_by-cons (λ (o : Option SlotState). cond (is_some o) 1 0) (stand_at slots x) (map (stand_at slots) xs),
-          sum_by-cons (λ (b : Bool). cond b 1 0) (is_some (stand_at slots x))
+          sum_by-cons (λ (a : Bool). cond a 1 0) (is_some (stand_at slots x))
               (map (λ j. is_some (stand_at slots j)) xs),
         )

@@ -8,6 +8,7 @@ use Rattle.std.proofs.lemmas.Grind.{get_or-set_at}
 use Rattle.mencius_base.specs.declared.message.Value.{Value}
 use Rattle.mencius_base.specs.declared.message.Value.TheVariants.{Ticket}
 use Rattle.mencius_base.specs.Members.{instances, owner}
+use Rattle.mencius_model.proofs.Lists.{eqb_swap}
 use Rattle.mencius_model.proofs.NumberLists.{any-instances, any-instances_found}
 use Rattle.coord_paxos.specs.SlotState.{SlotState}
 use Rattle.coord_paxos.specs.Fresh.{new_slot}
@@ -17,8 +18,8 @@ use Rattle.mencius_server.specs.State.{IsServer, ServerState, slot}
 use Rattle.mencius_base.specs.Limits.{instance_count}
 
 -- two tests that follow from each other
-pub both_ways : (a b : Bool) → (a ≡ true → b ≡ true) → (b ≡ true → a ≡ true) → a ≡ b
-both_ways true b f g = sym (f refl)
+pub both_ways : (a d : Bool) → (a ≡ true → d ≡ true) → (d ≡ true → a ≡ true) → a ≡ d
+both_ways true d f g = sym (f refl)
 both_ways false true f g = g refl
 both_ways false false f g = refl
 
@@ -37,7 +38,7 @@ past_same s x said t i =
     any-instances (is_suggested_past x t i) f.0 f.1
     (ap (λ (o : Option ℕ). ltb i f.0 && is_ticket t o) (said.same f.0 f.1) ∙ f.2))
 
-unless_none : (b : Bool) (t : ℕ) → unless b (Some t) ≡ None → b ≡ true
+unless_none : (d : Bool) (t : ℕ) → unless d (Some t) ≡ None → d ≡ true
 unless_none true t h = refl
 unless_none false t h = absurd (cc)
 
@@ -78,22 +79,18 @@ said_before s kept j t e =
     (λ (past : s.front ≤ j). absurd (unsaid past (eqb (owner s.members j) s.id) refl))
     (cases_lt j s.front)
   where
-    unsaid : s.front ≤ j → (c : Bool) → eqb (owner s.members j) s.id ≡ c → ⊥
+    unsaid : s.front ≤ j → (a : Bool) → eqb (owner s.members j) s.id ≡ a → ⊥
     unsaid past true mine =
         let none : (slot s j).proposal ≡ None = kept.unsaid j (eqb-true _ _ mine) past in
         let k = rw (mine, none) at e in cc
     unsaid past false other = let k = rw other at e in cc
 
-pub eqb_swap : (a b : ℕ) → eqb a b ≡ eqb b a
-eqb_swap a b =
-    both_ways (eqb a b) (eqb b a) (λ h. eq-eqb b a (sym (eqb-true a b h))) (λ h. eq-eqb a b (sym (eqb-true b a h)))
-
-either_no : (a b : Bool) → (a ≡ true → ⊥) → (b ≡ true → ⊥) → (a || b) ≡ false
-either_no true b f g = absurd (f refl)
+either_no : (a d : Bool) → (a ≡ true → ⊥) → (d ≡ true → ⊥) → (a || d) ≡ false
+either_no true d f g = absurd (f refl)
 either_no false true f g = absurd (g refl)
 either_no false false f g = refl
 
-and-true : (b : Bool) → (b && true) ≡ b
+and-true : (a : Bool) → (a && true) ≡ a
 and-true true = refl
 and-true false = refl
 
@@ -172,10 +169,10 @@ module _ (s : ServerState) (i t : ℕ) (kept : IsServer s) (mine : owner s.membe
           let known : (slot later i).learned ≡ None = ap (λ (y : SlotState). y.learned) here ∙ e in rw known refl
       free (Some v) e = let i = rw e at blank in absurd (cc)
 
-      longer : (a b c : Bool) (u : ℕ) → (a || b) ≡ true → unless (a || (b || c)) (Some u) ≡ None
-      longer true b c u h = refl
-      longer false true c u h = refl
-      longer false false c u h = absurd (cc)
+      longer : (a d z : Bool) (u : ℕ) → (a || d) ≡ true → unless (a || (d || z)) (Some u) ≡ None
+      longer true d z u h = refl
+      longer false true z u h = refl
+      longer false false z u h = absurd (cc)
 
       kept_waiting : (j ≡ i → ⊥) → (o : Option ℕ) → suggested_at s j ≡ o → waits_with later j o ≡ None
       kept_waiting off None e = refl
@@ -215,9 +212,9 @@ module _ (s : ServerState) (i t : ℕ) (kept : IsServer s) (mine : owner s.membe
           let said : suggested_at s j ≡ Some u = sym (said_there j off) ∙ e in
           let low : j < s.front = said_before s kept j u said in
           let before : j < i = omega arith in
-          ap (λ (b : Bool). list_any (is_suggested_past s u j) instances || (eqb t u && b)) (lt-ltb j i before)
-          ∙ ap (λ (b : Bool). b || (eqb t u && true)) (marks j u inside said)
-          ∙ ap (λ (b : Bool). get_or old j false || b) (and-true (eqb t u) ∙ eqb_swap t u)
+          ap (λ (d : Bool). list_any (is_suggested_past s u j) instances || (eqb t u && d)) (lt-ltb j i before)
+          ∙ ap (λ (d : Bool). d || (eqb t u && true)) (marks j u inside said)
+          ∙ ap (λ (d : Bool). get_or old j false || d) (and-true (eqb t u) ∙ eqb_swap t u)
           ∙ sym (marked j ∙ ap (λ (o : Option ℕ). get_or old j false || is_ticket t o) said)
 
   pub tickets_later : (n next : ℕ) → n ≤ next → t < next

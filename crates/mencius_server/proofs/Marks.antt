@@ -9,11 +9,11 @@ use Rattle.mencius_server.specs.Machine.{is_ticket, suggested_in}
 use Rattle.mencius_model.specs.Server.{ticket_of}
 use Rattle.mencius_server.proofs.Gaps.{unowned}
 
-or-false : (b : Bool) → (b || false) ≡ b
+or-false : (a : Bool) → (a || false) ≡ a
 or-false true = refl
 or-false false = refl
 
-or-true : (b : Bool) → (b || true) ≡ true
+or-true : (d : Bool) → (d || true) ≡ true
 or-true true = refl
 or-true false = refl
 
@@ -34,32 +34,32 @@ pub marked_start : (m : Membership) (p t end next : ℕ) (slots : ℕ → SlotSt
     → ((i : ℕ) → 0 ≤ i → owner m i ≡ p → next ≤ i) → IsMarkedUpTo m p t end slots old old next
 marked_start m p t end next slots old least = record {
   marked = λ j low inside. sym
-      (ap (λ (b : Bool). get_or old j false || b)
+      (ap (λ (a : Bool). get_or old j false || a)
       (other_unsaid m p t j (slots j) (unowned m p 0 next least j (omega arith) low)) ∙ or-false (get_or old j false));
   rest = λ j high. refl;
   past = λ j high. refl;
 }
 
-pub marked_more : (m : Membership) (p t end i next : ℕ) (slots : ℕ → SlotState) (old now new : List Bool) (c : Bool)
+pub marked_more : (m : Membership) (p t end i next : ℕ) (slots : ℕ → SlotState) (old now new : List Bool) (a : Bool)
     → i < end → i < length now → owner m i ≡ p
     → ((j : ℕ) → i + 1 ≤ j → owner m j ≡ p → next ≤ j) → i + 1 ≤ next
-    → is_ticket t (ticket_of (slots i).proposal) ≡ c → new ≡ cond c (set now i true) now
+    → is_ticket t (ticket_of (slots i).proposal) ≡ a → new ≡ cond a (set now i true) now
     → IsMarkedUpTo m p t end slots old now i → IsMarkedUpTo m p t end slots old new next
-marked_more m p t end i next slots old now new c inside within mine least ahead here is before = record {
+marked_more m p t end i next slots old now new a inside within mine least ahead here is before = record {
   marked = λ j low small. ⊎_elim
-      (λ (done : j < i). off j (λ at. absurd (omega arith)) c is ∙ before.marked j done small)
+      (λ (done : j < i). off j (λ at. absurd (omega arith)) a is ∙ before.marked j done small)
       (λ (from : i ≤ j). ⊎_elim
-      (λ (at : j ≡ i). at_place j at c is here)
+      (λ (at : j ≡ i). at_place j at a is here)
       (λ (other : j ≡ i → ⊥).
       let after : i + 1 ≤ j = omega arith in
-      off j other c is ∙ before.rest j from
-      ∙ sym (ap (λ (b : Bool). get_or old j false || b)
+      off j other a is ∙ before.rest j from
+      ∙ sym (ap (λ (y : Bool). get_or old j false || y)
       (other_unsaid m p t j (slots j) (unowned m p (i + 1) next least j after low))
       ∙ or-false (get_or old j false)))
       (cases_eq j i))
       (cases_lt j i);
-  rest = λ j high. off j (λ at. absurd (omega arith)) c is ∙ before.rest j (omega arith);
-  past = λ j high. off j (λ at. absurd (omega arith)) c is ∙ before.past j high;
+  rest = λ j high. off j (λ at. absurd (omega arith)) a is ∙ before.rest j (omega arith);
+  past = λ j high. off j (λ at. absurd (omega arith)) a is ∙ before.past j high;
 }
   where
     off : (j : ℕ) → (j ≡ i → ⊥) → (d : Bool) → new ≡ cond d (set now i true) now
@@ -75,11 +75,11 @@ marked_more m p t end i next slots old now new c inside within mine least ahead 
         → get_or new j false ≡ (get_or old j false || is_ticket t (suggested_in m p j (slots j)))
     at_place j at true e said =
         ap (λ (xs : List Bool). get_or xs j false) e ∙ get_or-set_at now i j true false at within
-        ∙ sym (ap (λ (b : Bool). get_or old j false || b)
+        ∙ sym (ap (λ (y : Bool). get_or old j false || y)
         (ap (λ (x : ℕ). is_ticket t (suggested_in m p x (slots x))) at ∙ ticket_here ∙ said)
         ∙ or-true (get_or old j false))
     at_place j at false e said =
         ap (λ (xs : List Bool). get_or xs j false) e ∙ before.rest j (omega arith)
-        ∙ sym (ap (λ (b : Bool). get_or old j false || b)
+        ∙ sym (ap (λ (y : Bool). get_or old j false || y)
         (ap (λ (x : ℕ). is_ticket t (suggested_in m p x (slots x))) at ∙ ticket_here ∙ said)
         ∙ or-false (get_or old j false))

@@ -14,12 +14,12 @@ use Rattle.mencius_server.specs.declared.ranges.Span.{Span}
 use Rattle.mencius_server.specs.declared.stretch.Stretch.{Stretch}
 use Rattle.mencius_server.proofs.Counts.{bit, count_covered, count_split}
 use Rattle.mencius_server.proofs.Gaps.{count_gap}
-use Rattle.mencius_server.proofs.Lost.{eqb_swap}
+use Rattle.mencius_model.proofs.Lists.{eqb_swap}
 use Rattle.mencius_server.proofs.Skips.{count_none}
 use Rattle.mencius_server.proofs.Spans.{covers_joined, owned_joined, rising_joined}
 use Rattle.mencius_base.specs.Limits.{instance_count}
 
-more_or_old : (c w : Bool) → bit (c || w) ≡ bit c + bit (w && not c)
+more_or_old : (a d : Bool) → bit (a || d) ≡ bit a + bit (d && not a)
 more_or_old true true = omega arith
 more_or_old true false = omega arith
 more_or_old false true = omega arith
@@ -50,15 +50,15 @@ fresh_split a rs ss j =
     ∙ split (eqb a.server (owner a.members j)) (nat_le a.first j) (nat_lt j a.stop) (covers rs j)
     (is_learned (stand_at ss j))
   where
-    split : (o d b c e : Bool)
-        → bit (o && ((d && b) && not c)) ≡ bit (((o && d) && b) && (not c && e))
-        + bit (((o && d) && b) && (not c && not e))
+    split : (o d x y e : Bool)
+        → bit (o && ((d && x) && not y)) ≡ bit (((o && d) && x) && (not y && e))
+        + bit (((o && d) && x) && (not y && not e))
     split true true true true e = omega arith
     split true true true false true = omega arith
     split true true true false false = omega arith
-    split true true false c e = omega arith
-    split true false b c e = omega arith
-    split false d b c e = omega arith
+    split true true false y e = omega arith
+    split true false x y e = omega arith
+    split false d x y e = omega arith
 
 -- at how many instances the range is news
 pub news_count : (a : Stretch) (rs : List Span) (ss : List (Option SlotState)) (further told : ℕ)

@@ -32,7 +32,7 @@ open_before m slots rs low now shown sound q front first least near j high =
     (cases_lt j low))
 
 -- where no slot stands, an instance is open unless a range has it
-pub open_unheard : (m : Membership) (b : Bool) → is_none (unheard m b).learned ≡ not b
+pub open_unheard : (m : Membership) (a : Bool) → is_none (unheard m a).learned ≡ not a
 open_unheard m true = refl
 open_unheard m false = refl
 

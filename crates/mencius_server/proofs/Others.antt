@@ -5,6 +5,7 @@ use Rattle.std.proofs.lemmas.Bool.{and_parts, eqb-true, ltb-true, ne_eqb}
 use Rattle.mencius_base.specs.declared.event.Event.{Event}
 use Rattle.mencius_base.specs.declared.event.Event.TheVariants.{Lose, Execute}
 use Rattle.mencius_base.specs.declared.refusal.Refusal.TheVariants.{EventsFull}
+use Rattle.mencius_base.specs.declared.message.Message.{Message}
 use Rattle.mencius_base.specs.declared.message.Message.TheVariants.{Suggest, Skip, Accepted, Prepare, Promise, Propose, Learn}
 use Rattle.mencius_base.specs.declared.message.Value.{Value}
 use Rattle.mencius_base.specs.declared.message.Vote.{Vote}
@@ -53,12 +54,12 @@ module _ (p q : ℕ) (ne : p ≡ q → ⊥) where
     prepare_quiet from j b e =
         record { promised = refl; proposed = λ c. refl; accepted = refl; learned = refl; tried = rw (not_q from e) }
 
-    promise_quiet : (from to j b : ℕ) (v : Option Vote) → from ≡ p → IsQuiet q i (Sent (Promise from to j b v))
-    promise_quiet from to j b v e =
+    promise_quiet : (from to j b : ℕ) (o : Option Vote) → from ≡ p → IsQuiet q i (Sent (Promise from to j b o))
+    promise_quiet from to j b o e =
         record { promised = rw (not_q from e); proposed = λ c. refl; accepted = refl; learned = refl; tried = refl }
 
-    learned_quiet : (from j : ℕ) (v : Value) → from ≡ p → IsQuiet q i (Learned from j v)
-    learned_quiet from j v e =
+    learned_quiet : (from j : ℕ) (o : Value) → from ≡ p → IsQuiet q i (Learned from j o)
+    learned_quiet from j o e =
         record { promised = refl; proposed = λ c. refl; accepted = refl; learned = rw (not_q from e); tried = refl }
 
     voted : IsGrown m w → IsVoted w q i
@@ -76,40 +77,44 @@ module _ (p q : ℕ) (ne : p ≡ q → ⊥) where
     suggest_other from j t b own false e =
         ap (if_own m q i b) (oldest_quiet (proposed_by i b) (Sent (Suggest from j t)) w (rw e))
 
-    propose_other : (from j b : ℕ) (v : Value) (c : ℕ) → owner m b ≡ p → (0 < c → owner m c ≡ q) → (d : Bool)
+    propose_other : (from j b : ℕ) (o : Value) (c : ℕ) → owner m b ≡ p → (0 < c → owner m c ≡ q) → (d : Bool)
         → ((eqb j i && eqb b c) && ltb 0 c) ≡ d
-        → if_own m q i c (proposed (Sent (Propose from j b v) ∷ w) i c) ≡ if_own m q i c (proposed w i c)
-    propose_other from j b v c own tried true e =
+        → if_own m q i c (proposed (Sent (Propose from j b o) ∷ w) i c) ≡ if_own m q i c (proposed w i c)
+    propose_other from j b o c own tried true e =
         let r = and_parts (eqb j i && eqb b c) (ltb 0 c) e in
         let here = eqb-true b c (and_parts (eqb j i) (eqb b c) r.0).1 in
         absurd (ne (sym own ∙ ap (owner m) here ∙ tried (ltb-true 0 c r.1)))
-    propose_other from j b v c own tried false e =
-        ap (if_own m q i c) (oldest_quiet (proposed_by i c) (Sent (Propose from j b v)) w (rw e))
+    propose_other from j b o c own tried false e =
+        ap (if_own m q i c) (oldest_quiet (proposed_by i c) (Sent (Propose from j b o)) w (rw e))
 
-    slot_other : (l : Line) → IsGrown m (l ∷ w) → IsBy p l → slot_at m (l ∷ w) q i ≡ slot_at m w q i
-    slot_other (Sent (Suggest from j t)) g by =
+    sent_other : (x : Message) → IsGrown m (Sent x ∷ w) → IsBy p (Sent x)
+        → slot_at m (Sent x ∷ w) q i ≡ slot_at m w q i
+    sent_other (Suggest from j t) g by =
         let may : MaySuggest m w from j t = g.1 in
         slot_at-proposing m w (Sent (Suggest from j t)) q i
         (if_own m q i (trying w q i) (proposed w i (trying w q i))) (voted g.0) refl refl refl refl refl
         (suggest_other from j t (trying w q i) (may.own ∙ by) (eqb j i && eqb (trying w q i) 0) refl)
-    slot_other (Sent (Skip from f s)) g by = slot_at-quiet m w (Sent (Skip from f s)) q i (skip_quiet from f s) refl
-    slot_other (Sent (Accepted from to j b)) g by =
+    sent_other (Skip from f s) g by = slot_at-quiet m w (Sent (Skip from f s)) q i (skip_quiet from f s) refl
+    sent_other (Accepted from to j b) g by =
         slot_at-quiet m w (Sent (Accepted from to j b)) q i (accepted_quiet from to j b by) refl
-    slot_other (Sent (Prepare from j b)) g by =
+    sent_other (Prepare from j b) g by =
         slot_at-quiet m w (Sent (Prepare from j b)) q i (prepare_quiet from j b by) refl
-    slot_other (Sent (Promise from to j b v)) g by =
-        slot_at-quiet m w (Sent (Promise from to j b v)) q i (promise_quiet from to j b v by) refl
-    slot_other (Sent (Propose from j b v)) g by =
-        slot_at-proposing m w (Sent (Propose from j b v)) q i
+    sent_other (Promise from to j b o) g by =
+        slot_at-quiet m w (Sent (Promise from to j b o)) q i (promise_quiet from to j b o by) refl
+    sent_other (Propose from j b o) g by =
+        slot_at-proposing m w (Sent (Propose from j b o)) q i
         (if_own m q i (trying w q i) (proposed w i (trying w q i))) (voted g.0) refl refl refl refl refl
-        (propose_other from j b v (trying w q i)
-        ((propose_ballot m (Sent (Propose from j b v) ∷ w) g from j b v (inl refl)).1
+        (propose_other from j b o (trying w q i)
+        ((propose_ballot m (Sent (Propose from j b o) ∷ w) g from j b o (inl refl)).1
         ∙ by) (tried_owner m w g.0 q i)
         ((eqb j i && eqb b (trying w q i)) && ltb 0 (trying w q i)) refl)
-    slot_other (Sent (Learn from j v)) g by =
-        slot_at-quiet m w (Sent (Learn from j v)) q i
+    sent_other (Learn from j o) g by =
+        slot_at-quiet m w (Sent (Learn from j o)) q i
         (record { promised = refl; proposed = λ b. refl; accepted = refl; learned = refl; tried = refl }) refl
-    slot_other (Learned s j v) g by = slot_at-quiet m w (Learned s j v) q i (learned_quiet s j v by) refl
+
+    slot_other : (l : Line) → IsGrown m (l ∷ w) → IsBy p l → slot_at m (l ∷ w) q i ≡ slot_at m w q i
+    slot_other (Sent x) g by = sent_other x g by
+    slot_other (Learned s j o) g by = slot_at-quiet m w (Learned s j o) q i (learned_quiet s j o by) refl
     slot_other (Heard k d) g by =
         slot_at-quiet m w (Heard k d) q i
         (record {
@@ -140,10 +145,10 @@ module _ (p q : ℕ) (ne : p ≡ q → ⊥) where
   front_other m (Sent (Skip from f s)) by = rw (not_q from by)
   front_other m (Sent (Accepted from to j b)) by = refl
   front_other m (Sent (Prepare from j b)) by = refl
-  front_other m (Sent (Promise from to j b v)) by = refl
-  front_other m (Sent (Propose from j b v)) by = refl
-  front_other m (Sent (Learn from j v)) by = refl
-  front_other m (Learned s j v) by = refl
+  front_other m (Sent (Promise from to j b o)) by = refl
+  front_other m (Sent (Propose from j b o)) by = refl
+  front_other m (Sent (Learn from j o)) by = refl
+  front_other m (Learned s j o) by = refl
   front_other m (Heard k d) by = refl
   front_other m (Submitted c s) by = refl
   front_other m (Lost k d) by = refl

@@ -264,20 +264,20 @@ module _ (places wide : List (Option ℕ)) (slots : List SlotState) (now : List 
 
 -- ---- what the table says of one instance, as the code reads it
 
-pub none_read : (places : List (Option ℕ)) (slots : List SlotState) (i : ℕ) (o : Option ℕ) (b : Bool)
+pub none_read : (places : List (Option ℕ)) (slots : List SlotState) (i : ℕ) (o : Option ℕ) (a : Bool)
     → length places ≤ instance_count → i < length places → o ≡ get_or places i o
-    → is_some o ≡ not b → b ≡ true → stand_at (standing places slots) i ≡ None
-none_read places slots i o b few within read tells true_is =
+    → is_some o ≡ not a → a ≡ true → stand_at (standing places slots) i ≡ None
+none_read places slots i o a few within read tells true_is =
     stands_nowhere places slots few i (get_or_default places i None o within ∙ sym read ∙ go o (tells ∙ ap not true_is))
   where
     go : (o : Option ℕ) → is_some o ≡ false → o ≡ None
     go None f = refl
     go (Some place) f = absurd (cc)
 
-pub some_read : (places : List (Option ℕ)) (slots : List SlotState) (n i : ℕ) (o : Option ℕ) (b : Bool)
+pub some_read : (places : List (Option ℕ)) (slots : List SlotState) (n i : ℕ) (o : Option ℕ) (a : Bool)
     → n ≡ length slots → IsPlaced places n → i < length places → o ≡ get_or places i o
-    → is_some o ≡ not b → b ≡ false → is_none (stand_at (standing places slots) i) ≡ false
-some_read places slots n i o b e h within read tells false_is =
+    → is_some o ≡ not a → a ≡ false → is_none (stand_at (standing places slots) i) ≡ false
+some_read places slots n i o a e h within read tells false_is =
     turn (stand_at (standing places slots) i)
     (somewhere places slots n e h i ∙ ap is_some (get_or_default places i None o within ∙ sym read) ∙ tells
     ∙ ap not false_is)

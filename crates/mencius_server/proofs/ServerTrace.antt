@@ -54,14 +54,14 @@ pub record Meets (m : Membership) (w : Trace) (k p : ℕ) (x : Message) (ls : Li
   pub state : after_hearing (server_at m w p) x ≡ server_at m (followed_by (Heard k p ∷ w) ls) p
 
 -- an acceptance after a message that is in no tally
-accepting : (m : Membership) (w : Trace) (k p q i b : ℕ) (v : Value) (x : Message) → slice_get (sent w) k ≡ Some x
+accepting : (m : Membership) (w : Trace) (k p q i b : ℕ) (z : Value) (x : Message) → slice_get (sent w) k ≡ Some x
     → ((j c : ℕ) → IsUncounted j c x)
-    → promised w p i ≤ b → proposed w i b ≡ Some v
+    → promised w p i ≤ b → proposed w i b ≡ Some z
     → slot_at m (Sent (Accepted p q i b) ∷ Heard k p ∷ w) p i
-    ≡ record (slot_at m w p i) { promised = b; vote = Some (record { ballot = b; value = v }) }
-accepting m w k p q i b v x e un high said =
-    slot_at-accepted m (Heard k p ∷ w) p q i b v (omega arith) (rw said)
-    ∙ ap (λ (s : SlotState). record s { promised = b; vote = Some (record { ballot = b; value = v }) })
+    ≡ record (slot_at m w p i) { promised = b; vote = Some (record { ballot = b; value = z }) }
+accepting m w k p q i b z x e un high said =
+    slot_at-accepted m (Heard k p ∷ w) p q i b z (omega arith) (rw said)
+    ∙ ap (λ (s : SlotState). record s { promised = b; vote = Some (record { ballot = b; value = z }) })
     (slot_at-heard m w k p i x e (un i (trying w p i)))
 
 accepting_elsewhere : (m : Membership) (w : Trace) (k p q i b j : ℕ) (x : Message) → slice_get (sent w) k ≡ Some x
@@ -71,45 +71,45 @@ accepting_elsewhere m w k p q i b j x e un ne =
     slot_at-quiet m (Heard k p ∷ w) (Sent (Accepted p q i b)) p j (quiet_accepted p q i b j ne) refl
     ∙ slot_at-heard m w k p j x e (un j (trying w p j))
 
-uncounted_propose : (q i b : ℕ) (v : Value) (j c : ℕ) → IsUncounted j c (Propose q i b v)
-uncounted_propose q i b v j c = record { promise = λ r. refl; acceptance = λ r. refl; report = refl }
+uncounted_propose : (q i b : ℕ) (z : Value) (j c : ℕ) → IsUncounted j c (Propose q i b z)
+uncounted_propose q i b z j c = record { promise = λ r. refl; acceptance = λ r. refl; report = refl }
 
 -- the state by whether the ballot is accepted
-propose_state : (m : Membership) (w : Trace) (p i b : ℕ) (v : Value) (c : Bool) → i < instance_count
-    → leb (promised w p i) b ≡ c
-    → after_propose (server_at m w p) i b v ≡ with_slot (server_at m w p) i
-    (cond c (record (slot_at m w p i) { promised = b; vote = Some (record { ballot = b; value = v }) })
+propose_state : (m : Membership) (w : Trace) (p i b : ℕ) (z : Value) (a : Bool) → i < instance_count
+    → leb (promised w p i) b ≡ a
+    → after_propose (server_at m w p) i b z ≡ with_slot (server_at m w p) i
+    (cond a (record (slot_at m w p i) { promised = b; vote = Some (record { ballot = b; value = z }) })
     (slot_at m w p i))
-propose_state m w p i b v c small e =
-    ap (λ (s : SlotState). with_slot (server_at m w p) i (after_accept s b v)) (slot-server_at m w p i small)
-    ∙ ap (λ (c : Bool). with_slot (server_at m w p) i
-    (cond c (record (slot_at m w p i) { promised = b; vote = Some (record { ballot = b; value = v }) })
+propose_state m w p i b z a small e =
+    ap (λ (s : SlotState). with_slot (server_at m w p) i (after_accept s b z)) (slot-server_at m w p i small)
+    ∙ ap (λ (a : Bool). with_slot (server_at m w p) i
+    (cond a (record (slot_at m w p i) { promised = b; vote = Some (record { ballot = b; value = z }) })
     (slot_at m w p i))) e
 
-propose_cases : (m : Membership) (w : Trace) (k p q i b : ℕ) (v : Value) → i < instance_count
-    → slice_get (sent w) k ≡ Some (Propose q i b v) → proposed w i b ≡ Some v
-    → (c : Bool) → leb (promised w p i) b ≡ c
-    → Meets m w k p (Propose q i b v) (cond c (Sent (Accepted p q i b) ∷ []) [])
-propose_cases m w k p q i b v small e said true high = record {
+propose_cases : (m : Membership) (w : Trace) (k p q i b : ℕ) (z : Value) → i < instance_count
+    → slice_get (sent w) k ≡ Some (Propose q i b z) → proposed w i b ≡ Some z
+    → (a : Bool) → leb (promised w p i) b ≡ a
+    → Meets m w k p (Propose q i b z) (cond a (Sent (Accepted p q i b) ∷ []) [])
+propose_cases m w k p q i b z small e said true high = record {
   sends = rw (slot-server_at m w p i small, high);
   learns = refl;
   state =
-      propose_state m w p i b v true small high
+      propose_state m w p i b z true small high
       ∙ server_written m w (Sent (Accepted p q i b) ∷ Heard k p ∷ w) p i (front m w p) _ (omega arith)
-      (accepting m w k p q i b v _ e (uncounted_propose q i b v) (leb-true _ _ high) said)
-      (λ j ne. accepting_elsewhere m w k p q i b j _ e (uncounted_propose q i b v) ne);
+      (accepting m w k p q i b z _ e (uncounted_propose q i b z) (leb-true _ _ high) said)
+      (λ j ne. accepting_elsewhere m w k p q i b j _ e (uncounted_propose q i b z) ne);
 }
-propose_cases m w k p q i b v small e said false low = record {
+propose_cases m w k p q i b z small e said false low = record {
   sends = rw (slot-server_at m w p i small, low);
   learns = refl;
   state =
-      propose_state m w p i b v false small low
+      propose_state m w p i b z false small low
       ∙ server_written m w (Heard k p ∷ w) p i (front m w p) _ (omega arith)
-      (slot_at-heard m w k p i _ e (uncounted_propose q i b v i (trying w p i)))
-      (λ j ne. slot_at-heard m w k p j _ e (uncounted_propose q i b v j (trying w p j)));
+      (slot_at-heard m w k p i _ e (uncounted_propose q i b z i (trying w p i)))
+      (λ j ne. slot_at-heard m w k p j _ e (uncounted_propose q i b z j (trying w p j)));
 }
 
-pub meets_propose : (m : Membership) (w : Trace) (k p q i b : ℕ) (v : Value) → i < instance_count
-    → slice_get (sent w) k ≡ Some (Propose q i b v) → proposed w i b ≡ Some v
-    → Meets m w k p (Propose q i b v) (on_propose w p q i b)
-meets_propose m w k p q i b v small e said = propose_cases m w k p q i b v small e said (leb (promised w p i) b) refl
+pub meets_propose : (m : Membership) (w : Trace) (k p q i b : ℕ) (z : Value) → i < instance_count
+    → slice_get (sent w) k ≡ Some (Propose q i b z) → proposed w i b ≡ Some z
+    → Meets m w k p (Propose q i b z) (on_propose w p q i b)
+meets_propose m w k p q i b z small e said = propose_cases m w k p q i b z small e said (leb (promised w p i) b) refl

@@ -25,225 +25,225 @@ use Rattle.mencius_server.proofs.Knows.{same_known, seen}
 use Rattle.mencius_server.proofs.Spans.{within_before, within_past, within_yes}
 use Rattle.mencius_base.specs.Limits.{instance_count}
 
-noop_again : (b : Bool) (t : SlotState)
-    → cond b (after_learn (after_learn t Noop) Noop) (after_learn t Noop) ≡ after_learn t Noop
-noop_again false t = refl
-noop_again true t = go (is_none t.learned) refl
+noop_again : (a : Bool) (s : SlotState)
+    → cond a (after_learn (after_learn s Noop) Noop) (after_learn s Noop) ≡ after_learn s Noop
+noop_again false s = refl
+noop_again true s = go (is_none s.learned) refl
   where
-    go : (d : Bool) → is_none t.learned ≡ d → after_learn (after_learn t Noop) Noop ≡ after_learn t Noop
+    go : (d : Bool) → is_none s.learned ≡ d → after_learn (after_learn s Noop) Noop ≡ after_learn s Noop
     go true e = rw e refl
     go false e = rw (e, e) refl
 
 -- where no slot stands
-unheard_given : (t : Stretch) (m : Membership) (j : ℕ) (b w : Bool) → is_in t j ≡ w
-    → unheard m (b || w) ≡ given t j (unheard m b)
-unheard_given t m j true w e = sym (noop_again (is_in t j) (new_slot m))
-unheard_given t m j false true e = rw e refl
-unheard_given t m j false false e = rw e refl
+unheard_given : (a : Stretch) (m : Membership) (j : ℕ) (d x : Bool) → is_in a j ≡ x
+    → unheard m (d || x) ≡ given a j (unheard m d)
+unheard_given a m j true x e = sym (noop_again (is_in a j) (new_slot m))
+unheard_given a m j false true e = rw e refl
+unheard_given a m j false false e = rw e refl
 
-stays_learned : (t : Stretch) (j : ℕ) (u : SlotState) → is_none u.learned ≡ false
-    → is_none (given t j u).learned ≡ false
-stays_learned t j u h = go (is_in t j)
+stays_learned : (a : Stretch) (j : ℕ) (s : SlotState) → is_none s.learned ≡ false
+    → is_none (given a j s).learned ≡ false
+stays_learned a j s h = go (is_in a j)
   where
-    go : (b : Bool) → is_none (cond b (after_learn u Noop) u).learned ≡ false
+    go : (d : Bool) → is_none (cond d (after_learn s Noop) s).learned ≡ false
     go false = h
     go true = rw h h
 
-pub learned_noop : (u : SlotState) → is_none (after_learn u Noop).learned ≡ false
-learned_noop u = go (is_none u.learned) refl
+pub learned_noop : (s : SlotState) → is_none (after_learn s Noop).learned ≡ false
+learned_noop s = go (is_none s.learned) refl
   where
-    go : (d : Bool) → is_none u.learned ≡ d → is_none (after_learn u Noop).learned ≡ false
+    go : (d : Bool) → is_none s.learned ≡ d → is_none (after_learn s Noop).learned ≡ false
     go true e = rw e refl
     go false e = rw (e, e) refl
 
 -- a slot at which nothing is given up
-given_none : (t : Stretch) (j : ℕ) (u : SlotState) → (is_in t j && is_none u.learned) ≡ false → given t j u ≡ u
-given_none t j u e = go (is_in t j) (is_none u.learned) refl e
+given_none : (d : Stretch) (j : ℕ) (s : SlotState) → (is_in d j && is_none s.learned) ≡ false → given d j s ≡ s
+given_none d j s e = go (is_in d j) (is_none s.learned) refl e
   where
-    go : (a b : Bool) → is_none u.learned ≡ b → (a && b) ≡ false → cond a (after_learn u Noop) u ≡ u
-    go false b k h = refl
+    go : (a x : Bool) → is_none s.learned ≡ x → (a && x) ≡ false → cond a (after_learn s Noop) s ≡ s
+    go false x k h = refl
     go true false k h = rw k refl
     go true true k h = absurd (cc)
 
-module _ (m : Membership) (t : Stretch) (members : t.members ≡ m) (slots new : List (Option SlotState))
-    (rs : List (List Span)) (member : t.server < length rs)
-    (ys : List Span) (covered : (j : ℕ) → j < instance_count → owner t.members j ≡ t.server
-    → covers ys j ≡ (covers (get_or rs t.server []) j || is_within t.first t.stop j))
-    (gives : (j : ℕ) → j < instance_count → stand_at new j ≡ option_map (given t j) (stand_at slots j)) where
-  passed_theirs : (j : ℕ) → (owner m j ≡ t.server → ⊥) → is_passed m (set rs t.server ys) j ≡ is_passed m rs j
-  passed_theirs j other = ap (λ xs. covers xs j) (get_or-set_other rs t.server (owner m j) ys [] other)
+module _ (m : Membership) (a : Stretch) (members : a.members ≡ m) (slots new : List (Option SlotState))
+    (rs : List (List Span)) (member : a.server < length rs)
+    (ys : List Span) (covered : (j : ℕ) → j < instance_count → owner a.members j ≡ a.server
+    → covers ys j ≡ (covers (get_or rs a.server []) j || is_within a.first a.stop j))
+    (gives : (j : ℕ) → j < instance_count → stand_at new j ≡ option_map (given a j) (stand_at slots j)) where
+  passed_theirs : (j : ℕ) → (owner m j ≡ a.server → ⊥) → is_passed m (set rs a.server ys) j ≡ is_passed m rs j
+  passed_theirs j other = ap (λ xs. covers xs j) (get_or-set_other rs a.server (owner m j) ys [] other)
 
-  passed_own : (j : ℕ) → j < instance_count → owner m j ≡ t.server
-      → is_passed m (set rs t.server ys) j ≡ (is_passed m rs j || is_within t.first t.stop j)
+  passed_own : (j : ℕ) → j < instance_count → owner m j ≡ a.server
+      → is_passed m (set rs a.server ys) j ≡ (is_passed m rs j || is_within a.first a.stop j)
   passed_own j small own =
-      ap (λ xs. covers xs j) (get_or-set_at rs t.server (owner m j) ys [] own member)
+      ap (λ xs. covers xs j) (get_or-set_at rs a.server (owner m j) ys [] own member)
       ∙ covered j small (ap (λ n. owner n j) members ∙ own)
-      ∙ ap (λ x. covers (get_or rs x []) j || is_within t.first t.stop j) (sym own)
+      ∙ ap (λ x. covers (get_or rs x []) j || is_within a.first a.stop j) (sym own)
 
-  in_own : (j : ℕ) → owner m j ≡ t.server → is_in t j ≡ is_within t.first t.stop j
-  in_own j own = rw (eq-eqb t.server (owner t.members j) (sym (ap (λ n. owner n j) members ∙ own))) refl
+  in_own : (j : ℕ) → owner m j ≡ a.server → is_in a j ≡ is_within a.first a.stop j
+  in_own j own = rw (eq-eqb a.server (owner a.members j) (sym (ap (λ n. owner n j) members ∙ own))) refl
 
-  in_theirs : (j : ℕ) → (owner m j ≡ t.server → ⊥) → is_in t j ≡ false
+  in_theirs : (j : ℕ) → (owner m j ≡ a.server → ⊥) → is_in a j ≡ false
   in_theirs j other =
-      unskipped_other t.members t.server t.first t.stop j
-      (ne_eqb (owner t.members j) t.server (λ e. other (sym (ap (λ n. owner n j) members) ∙ e)))
+      unskipped_other a.members a.server a.first a.stop j
+      (ne_eqb (owner a.members j) a.server (λ e. other (sym (ap (λ n. owner n j) members) ∙ e)))
 
   skip_at : (j : ℕ) → j < instance_count → (o : Option SlotState) → stand_at slots j ≡ o
-      → known_at m new (set rs t.server ys) j ≡ given t j (known_at m slots rs j)
-  skip_at j small (Some u) e =
-      ap (λ o. unwrap_or o (unheard m (is_passed m (set rs t.server ys) j))) (gives j small
-      ∙ ap (option_map (given t j)) e)
-      ∙ sym (ap (λ o. given t j (unwrap_or o (unheard m (is_passed m rs j)))) e)
+      → known_at m new (set rs a.server ys) j ≡ given a j (known_at m slots rs j)
+  skip_at j small (Some r) e =
+      ap (λ o. unwrap_or o (unheard m (is_passed m (set rs a.server ys) j))) (gives j small
+      ∙ ap (option_map (given a j)) e)
+      ∙ sym (ap (λ o. given a j (unwrap_or o (unheard m (is_passed m rs j)))) e)
   skip_at j small None e =
-      ap (λ o. unwrap_or o (unheard m (is_passed m (set rs t.server ys) j))) (gives j small
-      ∙ ap (option_map (given t j)) e)
+      ap (λ o. unwrap_or o (unheard m (is_passed m (set rs a.server ys) j))) (gives j small
+      ∙ ap (option_map (given a j)) e)
       ∙ ⊎_elim
-      (λ (own : owner m j ≡ t.server). ap (unheard m) (passed_own j small own)
-      ∙ unheard_given t m j (is_passed m rs j) (is_within t.first t.stop j) (in_own j own))
-      (λ (other : owner m j ≡ t.server → ⊥).
+      (λ (own : owner m j ≡ a.server). ap (unheard m) (passed_own j small own)
+      ∙ unheard_given a m j (is_passed m rs j) (is_within a.first a.stop j) (in_own j own))
+      (λ (other : owner m j ≡ a.server → ⊥).
       ap (unheard m) (passed_theirs j other)
       ∙ sym (ap
-      (λ b. cond b (after_learn (unheard m (is_passed m rs j)) Noop)
+      (λ d. cond d (after_learn (unheard m (is_passed m rs j)) Noop)
       (unheard m (is_passed m rs j))) (in_theirs j other)))
-      (cases_eq (owner m j) t.server)
-      ∙ sym (ap (λ o. given t j (unwrap_or o (unheard m (is_passed m rs j)))) e)
+      (cases_eq (owner m j) a.server)
+      ∙ sym (ap (λ o. given a j (unwrap_or o (unheard m (is_passed m rs j)))) e)
 
   -- no-op is learned at each instance that is given up
   pub skip_given : (j : ℕ) → j < instance_count
-      → known_at m new (set rs t.server ys) j ≡ given t j (known_at m slots rs j)
+      → known_at m new (set rs a.server ys) j ≡ given a j (known_at m slots rs j)
   skip_given j small = skip_at j small (stand_at slots j) refl
 
   -- where nothing is given up, all that is known is as before
-  pub skip_kept : (j : ℕ) → j < instance_count → (is_in t j && is_none (known_at m slots rs j).learned) ≡ false
-      → known_at m new (set rs t.server ys) j ≡ known_at m slots rs j
-  skip_kept j small e = skip_at j small (stand_at slots j) refl ∙ given_none t j (known_at m slots rs j) e
+  pub skip_kept : (j : ℕ) → j < instance_count → (is_in a j && is_none (known_at m slots rs j).learned) ≡ false
+      → known_at m new (set rs a.server ys) j ≡ known_at m slots rs j
+  skip_kept j small e = skip_at j small (stand_at slots j) refl ∙ given_none a j (known_at m slots rs j) e
 
-  pub skip_theirs : (j : ℕ) → j < instance_count → (owner m j ≡ t.server → ⊥)
-      → known_at m new (set rs t.server ys) j ≡ known_at m slots rs j
+  pub skip_theirs : (j : ℕ) → j < instance_count → (owner m j ≡ a.server → ⊥)
+      → known_at m new (set rs a.server ys) j ≡ known_at m slots rs j
   skip_theirs j small other = skip_kept j small (and_left _ _ (in_theirs j other))
 
   stands_same : (j : ℕ) → j < instance_count → is_some (stand_at new j) ≡ is_some (stand_at slots j)
   stands_same j small = ap is_some (gives j small) ∙ kept (stand_at slots j)
     where
-      kept : (o : Option SlotState) → is_some (option_map (given t j) o) ≡ is_some o
+      kept : (o : Option SlotState) → is_some (option_map (given a j) o) ≡ is_some o
       kept None = refl
-      kept (Some u) = refl
+      kept (Some r) = refl
 
   pub skip_shows : (now : KnownState) → known_of m slots rs ≡ now
-      → known_of m new (set rs t.server ys) ≡ record now { slots = map (λ j. given t j (known_slot now j)) instances }
+      → known_of m new (set rs a.server ys) ≡ record now { slots = map (λ j. given a j (known_slot now j)) instances }
   skip_shows now shown =
-      same_known m (known_at m new (set rs t.server ys)) (λ j. given t j (known_slot now j))
+      same_known m (known_at m new (set rs a.server ys)) (λ j. given a j (known_slot now j))
       (λ j. is_some (stand_at new j)) (λ j. is_some (stand_at slots j))
       (λ j small. skip_at j small (stand_at slots j) refl
-      ∙ ap (given t j) (sym (seen m slots rs now shown j small))) stands_same
-      ∙ ap (λ (k : KnownState). record k { slots = map (λ j. given t j (known_slot now j)) instances }) shown
+      ∙ ap (given a j) (sym (seen m slots rs now shown j small))) stands_same
+      ∙ ap (λ (y : KnownState). record y { slots = map (λ j. given a j (known_slot now j)) instances }) shown
 
-  pub skip_sorted : IsRising 0 ys → IsOwned m t.server (first_owned m t.server instance_count) ys → IsSorted m rs
-      → IsSorted m (set rs t.server ys)
+  pub skip_sorted : IsRising 0 ys → IsOwned m a.server (first_owned m a.server instance_count) ys → IsSorted m rs
+      → IsSorted m (set rs a.server ys)
   skip_sorted rising owned h = record {
-    count = length-set rs t.server ys ∙ h.count;
+    count = length-set rs a.server ys ∙ h.count;
     rising = λ p inside. at_place (λ p xs. IsRising 0 xs) p (λ e. rising) (h.rising p inside);
     owned = λ p inside. at_place (λ p xs. IsOwned m p (first_owned m p instance_count) xs) p
         (λ e. subst (λ x. IsOwned m x (first_owned m x instance_count) ys) (sym e) owned) (h.owned p inside);
   }
     where
-      at_place : (P : ℕ → List Span → Type 0) (p : ℕ) → (p ≡ t.server → P p ys) → P p (get_or rs p [])
-          → P p (get_or (set rs t.server ys) p [])
+      at_place : (P : ℕ → List Span → Type 0) (p : ℕ) → (p ≡ a.server → P p ys) → P p (get_or rs p [])
+          → P p (get_or (set rs a.server ys) p [])
       at_place P p new_one old =
           ⊎_elim
-          (λ (e : p ≡ t.server). subst (P p) (sym (get_or-set_at rs t.server p ys [] e member)) (new_one e))
-          (λ (ne : p ≡ t.server → ⊥). subst (P p) (sym (get_or-set_other rs t.server p ys [] ne)) old)
-          (cases_eq p t.server)
+          (λ (e : p ≡ a.server). subst (P p) (sym (get_or-set_at rs a.server p ys [] e member)) (new_one e))
+          (λ (ne : p ≡ a.server → ⊥). subst (P p) (sym (get_or-set_other rs a.server p ys [] ne)) old)
+          (cases_eq p a.server)
 
-  pub skip_sound : (low more : ℕ) → IsSorted m (set rs t.server ys) → more ≤ instance_count
-      → ((j : ℕ) → low ≤ j → j < more → is_none (known_at m new (set rs t.server ys) j).learned ≡ false)
-      → (more < instance_count → is_none (known_at m new (set rs t.server ys) more).learned ≡ true)
-      → IsSound m slots rs low → IsSound m new (set rs t.server ys) more
+  pub skip_sound : (low more : ℕ) → IsSorted m (set rs a.server ys) → more ≤ instance_count
+      → ((j : ℕ) → low ≤ j → j < more → is_none (known_at m new (set rs a.server ys) j).learned ≡ false)
+      → (more < instance_count → is_none (known_at m new (set rs a.server ys) more).learned ≡ true)
+      → IsSound m slots rs low → IsSound m new (set rs a.server ys) more
   skip_sound low more sorted small further least h = record {
     sorted = sorted;
-    told = λ j u l passed stands. told_at j u l passed (stand_at slots j) refl (sym (gives j l) ∙ stands);
+    told = λ j r l passed stands. told_at j r l passed (stand_at slots j) refl (sym (gives j l) ∙ stands);
     small = small;
     known = λ j l. ⊎_elim
         (λ (before : j < low).
         let inside : j < instance_count = omega (arith, h.small) in
-        rw (skip_at j inside (stand_at slots j) refl) (stays_learned t j (known_at m slots rs j) (h.known j before)))
+        rw (skip_at j inside (stand_at slots j) refl) (stays_learned a j (known_at m slots rs j) (h.known j before)))
         (λ (from : low ≤ j). further j from l)
         (cases_lt j low);
     least = least;
   }
     where
-      told_at : (j : ℕ) (u : SlotState) → j < instance_count → is_passed m (set rs t.server ys) j ≡ true
-          → (o : Option SlotState) → stand_at slots j ≡ o → option_map (given t j) (stand_at slots j) ≡ Some u
-          → is_none u.learned ≡ false
-      told_at j u l passed None e stands =
-          let no : Some u ≡ None = sym stands ∙ ap (option_map (given t j)) e in absurd (cc)
-      told_at j u l passed (Some v) e stands =
-          let both : Some (given t j v) ≡ Some u = sym (ap (option_map (given t j)) e) ∙ stands in
-          let is : given t j v ≡ u = cc in
+      told_at : (j : ℕ) (r : SlotState) → j < instance_count → is_passed m (set rs a.server ys) j ≡ true
+          → (o : Option SlotState) → stand_at slots j ≡ o → option_map (given a j) (stand_at slots j) ≡ Some r
+          → is_none r.learned ≡ false
+      told_at j r l passed None e stands =
+          let no : Some r ≡ None = sym stands ∙ ap (option_map (given a j)) e in absurd (cc)
+      told_at j r l passed (Some v) e stands =
+          let both : Some (given a j v) ≡ Some r = sym (ap (option_map (given a j)) e) ∙ stands in
+          let is : given a j v ≡ r = cc in
           rw (← is)
           (⊎_elim
-          (λ (own : owner m j ≡ t.server). by_range (is_passed m rs j)
-          (is_within t.first t.stop j) refl (in_own j own) (sym (passed_own j l own)
-          ∙ passed) (λ k. h.told j v l k e))
-          (λ (other : owner m j ≡ t.server
-          → ⊥). stays_learned t j v (h.told j v l (sym (passed_theirs j other) ∙ passed) e))
-          (cases_eq (owner m j) t.server))
+          (λ (own : owner m j ≡ a.server). by_range (is_passed m rs j)
+          (is_within a.first a.stop j) refl (in_own j own) (sym (passed_own j l own)
+          ∙ passed) (λ y. h.told j v l y e))
+          (λ (other : owner m j ≡ a.server
+          → ⊥). stays_learned a j v (h.told j v l (sym (passed_theirs j other) ∙ passed) e))
+          (cases_eq (owner m j) a.server))
         where
-          by_range : (b w : Bool) → is_passed m rs j ≡ b → is_in t j ≡ w → (b || w) ≡ true
-              → (b ≡ true → is_none v.learned ≡ false) → is_none (given t j v).learned ≡ false
-          by_range true w p s k old = stays_learned t j v (old refl)
-          by_range false true p s k old = rw s (learned_noop v)
-          by_range false false p s k old = absurd (cc)
+          by_range : (d z : Bool) → is_passed m rs j ≡ d → is_in a j ≡ z → (d || z) ≡ true
+              → (d ≡ true → is_none v.learned ≡ false) → is_none (given a j v).learned ≡ false
+          by_range true z p s y old = stays_learned a j v (old refl)
+          by_range false true p s y old = rw s (learned_noop v)
+          by_range false false p s y old = absurd (cc)
 
 -- where the whole range was skipped before, all is as it was
-pub skip_again : (m : Membership) (t : Stretch) (slots : List (Option SlotState)) (rs : List (List Span))
-    (now : KnownState) → t.members ≡ m → known_of m slots rs ≡ now → IsTold m slots rs
-    → ((j : ℕ) → t.first ≤ j → j < t.stop → covers (get_or rs t.server []) j ≡ true)
-    → now ≡ record now { slots = map (λ j. given t j (known_slot now j)) instances }
-skip_again m t slots rs now members shown told covered =
+pub skip_again : (m : Membership) (d : Stretch) (slots : List (Option SlotState)) (rs : List (List Span))
+    (now : KnownState) → d.members ≡ m → known_of m slots rs ≡ now → IsTold m slots rs
+    → ((j : ℕ) → d.first ≤ j → j < d.stop → covers (get_or rs d.server []) j ≡ true)
+    → now ≡ record now { slots = map (λ j. given d j (known_slot now j)) instances }
+skip_again m d slots rs now members shown told covered =
     sym shown
-    ∙ same_known m (known_at m slots rs) (λ j. given t j (known_slot now j)) (λ j. is_some (stand_at slots j))
+    ∙ same_known m (known_at m slots rs) (λ j. given d j (known_slot now j)) (λ j. is_some (stand_at slots j))
     (λ j. is_some (stand_at slots j))
-    (λ j small. sym (given_none t j (known_at m slots rs j) (closed j small))
-    ∙ ap (given t j) (sym (seen m slots rs now shown j small))) (λ j small. refl)
-    ∙ ap (λ (k : KnownState). record k { slots = map (λ j. given t j (known_slot now j)) instances }) shown
+    (λ j small. sym (given_none d j (known_at m slots rs j) (closed j small))
+    ∙ ap (given d j) (sym (seen m slots rs now shown j small))) (λ j small. refl)
+    ∙ ap (λ (s : KnownState). record s { slots = map (λ j. given d j (known_slot now j)) instances }) shown
   where
-    closed : (j : ℕ) → j < instance_count → (is_in t j && is_none (known_at m slots rs j).learned) ≡ false
+    closed : (j : ℕ) → j < instance_count → (is_in d j && is_none (known_at m slots rs j).learned) ≡ false
     closed j small =
         ⊎_elim
-        (λ (inside : is_in t j ≡ true).
+        (λ (inside : is_in d j ≡ true).
         let parts = and_parts _ _ inside in
         let mine = and_parts _ _ parts.0 in
-        let own : owner m j ≡ t.server =
-        ap (λ n. owner n j) (sym members) ∙ sym (eqb-true t.server (owner t.members j) mine.0) in
+        let own : owner m j ≡ d.server =
+        ap (λ n. owner n j) (sym members) ∙ sym (eqb-true d.server (owner d.members j) mine.0) in
         and_right _ _ (told j small
-        (ap (λ k. covers (get_or rs k []) j) own
-        ∙ covered j (leb-true t.first j mine.1) (ltb-true j t.stop parts.1))))
-        (λ (out : is_in t j ≡ false). and_left _ _ out)
-        (cases_Bool (is_in t j))
+        (ap (λ s. covers (get_or rs s []) j) own
+        ∙ covered j (leb-true d.first j mine.1) (ltb-true j d.stop parts.1))))
+        (λ (out : is_in d j ≡ false). and_left _ _ out)
+        (cases_Bool (is_in d j))
 
 -- what a Skip gives up, by slots and ranges
-given_same : (m : Membership) (t : Stretch) (slots : List (Option SlotState)) (rs : List (List Span)) (low : ℕ)
-    → t.members ≡ m → IsSound m slots rs low
+given_same : (m : Membership) (d : Stretch) (slots : List (Option SlotState)) (rs : List (List Span)) (low : ℕ)
+    → d.members ≡ m → IsSound m slots rs low
     → (j : ℕ) → j < instance_count
-    → is_given_in t (get_or rs t.server []) slots j ≡ (is_in t j && is_none (known_at m slots rs j).learned)
-given_same m t slots rs low members h j small =
+    → is_given_in d (get_or rs d.server []) slots j ≡ (is_in d j && is_none (known_at m slots rs j).learned)
+given_same m d slots rs low members h j small =
     ⊎_elim
-    (λ (own : owner t.members j ≡ t.server).
-    ap (λ b. is_in t j && b)
+    (λ (own : owner d.members j ≡ d.server).
+    ap (λ y. is_in d j && y)
     (ap (λ x. not (covers (get_or rs x []) j) && not (is_learned (stand_at slots j))) (sym own
     ∙ ap (λ n. owner n j) members) ∙ go (stand_at slots j) refl (is_passed m rs j) refl))
-    (λ (other : owner t.members j ≡ t.server → ⊥).
-    let no = unskipped_other t.members t.server t.first t.stop j (ne_eqb (owner t.members j) t.server other) in
-    and_left _ (not (covers (get_or rs t.server []) j) && not (is_learned (stand_at slots j))) no
+    (λ (other : owner d.members j ≡ d.server → ⊥).
+    let no = unskipped_other d.members d.server d.first d.stop j (ne_eqb (owner d.members j) d.server other) in
+    and_left _ (not (covers (get_or rs d.server []) j) && not (is_learned (stand_at slots j))) no
     ∙ sym (and_left _ (is_none (known_at m slots rs j).learned) no))
-    (cases_eq (owner t.members j) t.server)
+    (cases_eq (owner d.members j) d.server)
   where
-    twice : (b : Bool) → not (not b) ≡ b
+    twice : (y : Bool) → not (not y) ≡ y
     twice true = refl
     twice false = refl
 
-    go : (o : Option SlotState) → stand_at slots j ≡ o → (b : Bool) → is_passed m rs j ≡ b
+    go : (o : Option SlotState) → stand_at slots j ≡ o → (y : Bool) → is_passed m rs j ≡ y
         → (not (is_passed m rs j) && not (is_learned (stand_at slots j))) ≡ is_none (known_at m slots rs j).learned
     go None e true p = rw (e, p) refl
     go None e false p = rw (e, p) refl
@@ -251,70 +251,70 @@ given_same m t slots rs low members h j small =
     go (Some u) e false p = rw (e, p) (twice (is_none u.learned))
 
 -- a stretch of q has its instances from one place on and below another
-pub record IsAligned (q first stop : ℕ) (t : Stretch) : Type 0 where
-  pub server : t.server ≡ q
-  pub above_first : first ≤ t.first
-  pub least_first : (i : ℕ) → first ≤ i → owner t.members i ≡ q → t.first ≤ i
-  pub above_stop : min stop instance_count ≤ t.stop
-  pub least_stop : (i : ℕ) → min stop instance_count ≤ i → owner t.members i ≡ q → t.stop ≤ i
+pub record IsAligned (q first stop : ℕ) (a : Stretch) : Type 0 where
+  pub server : a.server ≡ q
+  pub above_first : first ≤ a.first
+  pub least_first : (i : ℕ) → first ≤ i → owner a.members i ≡ q → a.first ≤ i
+  pub above_stop : min stop instance_count ≤ a.stop
+  pub least_stop : (i : ℕ) → min stop instance_count ≤ i → owner a.members i ≡ q → a.stop ≤ i
 
-pub aligned_in : (q first stop : ℕ) (t : Stretch) → IsAligned q first stop t → (j : ℕ) → j < instance_count
-    → is_in t j ≡ is_skipped t.members q first stop j
-aligned_in q first stop t al j small =
+pub aligned_in : (q first stop : ℕ) (d : Stretch) → IsAligned q first stop d → (j : ℕ) → j < instance_count
+    → is_in d j ≡ is_skipped d.members q first stop j
+aligned_in q first stop d al j small =
     ⊎_elim
-    (λ (own : owner t.members j ≡ q).
-    regroup (eqb t.server (owner t.members j)) (nat_le t.first j) (nat_lt j t.stop)
-    ∙ ap (λ k. eqb k (owner t.members j) && is_within t.first t.stop j) al.server
-    ∙ ap (λ b. eqb q (owner t.members j) && b) (within own)
-    ∙ sym (regroup (eqb q (owner t.members j)) (nat_le first j) (nat_lt j stop)))
-    (λ (other : owner t.members j ≡ q → ⊥).
-    unskipped_other t.members t.server t.first t.stop j
-    (ne_eqb (owner t.members j) t.server (λ e. other (e ∙ al.server)))
-    ∙ sym (unskipped_other t.members q first stop j (ne_eqb (owner t.members j) q other)))
-    (cases_eq (owner t.members j) q)
+    (λ (own : owner d.members j ≡ q).
+    regroup (eqb d.server (owner d.members j)) (nat_le d.first j) (nat_lt j d.stop)
+    ∙ ap (λ k. eqb k (owner d.members j) && is_within d.first d.stop j) al.server
+    ∙ ap (λ x. eqb q (owner d.members j) && x) (within own)
+    ∙ sym (regroup (eqb q (owner d.members j)) (nat_le first j) (nat_lt j stop)))
+    (λ (other : owner d.members j ≡ q → ⊥).
+    unskipped_other d.members d.server d.first d.stop j
+    (ne_eqb (owner d.members j) d.server (λ e. other (e ∙ al.server)))
+    ∙ sym (unskipped_other d.members q first stop j (ne_eqb (owner d.members j) q other)))
+    (cases_eq (owner d.members j) q)
   where
-    regroup : (a b c : Bool) → ((a && b) && c) ≡ (a && (b && c))
-    regroup true b c = refl
-    regroup false b c = refl
+    regroup : (a x y : Bool) → ((a && x) && y) ≡ (a && (x && y))
+    regroup true x y = refl
+    regroup false x y = refl
 
-    within : owner t.members j ≡ q → is_within t.first t.stop j ≡ is_within first stop j
+    within : owner d.members j ≡ q → is_within d.first d.stop j ≡ is_within first stop j
     within own =
         ⊎_elim
-        (λ (before : j < first). within_before t.first t.stop j (omega (arith, al.above_first))
+        (λ (before : j < first). within_before d.first d.stop j (omega (arith, al.above_first))
         ∙ sym (within_before first stop j before))
         (λ (from : first ≤ j).
         let low = al.least_first j from own in
         ⊎_elim
-        (λ (less : j < stop). within_yes t.first t.stop j low (omega (arith, al.above_stop))
+        (λ (less : j < stop). within_yes d.first d.stop j low (omega (arith, al.above_stop))
         ∙ sym (within_yes first stop j from less))
-        (λ (past : stop ≤ j). let high = al.least_stop j (omega arith) own in within_past t.first t.stop j high
+        (λ (past : stop ≤ j). let high = al.least_stop j (omega arith) own in within_past d.first d.stop j high
         ∙ sym (within_past first stop j past))
         (cases_lt j stop))
         (cases_lt j first)
 
 -- what the whole Skip makes, and at how many instances it is news
-module _ (q first stop : ℕ) (t : Stretch) (al : IsAligned q first stop t) (now : KnownState)
-    (same : t.members ≡ now.members) where
-  in_is : (j : ℕ) → j < instance_count → is_in t j ≡ is_skipped now.members q first stop j
-  in_is j small = aligned_in q first stop t al j small ∙ ap (λ n. is_skipped n q first stop j) same
+module _ (q first stop : ℕ) (a : Stretch) (al : IsAligned q first stop a) (now : KnownState)
+    (same : a.members ≡ now.members) where
+  in_is : (j : ℕ) → j < instance_count → is_in a j ≡ is_skipped now.members q first stop j
+  in_is j small = aligned_in q first stop a al j small ∙ ap (λ n. is_skipped n q first stop j) same
 
-  pub skip_is : ◌≡◌ {A = KnownState} (record now { slots = map (λ j. given t j (known_slot now j)) instances })
+  pub skip_is : ◌≡◌ {A = KnownState} (record now { slots = map (λ j. given a j (known_slot now j)) instances })
       (known_after_skip now q first stop)
   skip_is =
       ap (λ xs. record now { slots = xs })
-      (map-instances_same (λ j. given t j (known_slot now j))
+      (map-instances_same (λ j. given a j (known_slot now j))
       (λ j. slot_given now.members q first stop j (known_slot now j)) (new_slot now.members)
       (λ j small. ap (λ b. cond b (after_learn (known_slot now j) Noop) (known_slot now j)) (in_is j small)))
 
   pub news_is : (m : Membership) (slots : List (Option SlotState)) (rs : List (List Span)) (low : ℕ)
       → known_of m slots rs ≡ now → IsSound m slots rs low
-      → count_by (is_given_in t (get_or rs t.server []) slots) instances ≡ known_given now q first stop
+      → count_by (is_given_in a (get_or rs a.server []) slots) instances ≡ known_given now q first stop
   news_is m slots rs low shown sound =
-      let members : t.members ≡ m = same ∙ sym (ap (λ (k : KnownState). k.members) shown) in
-      ap (count_by (is_given_in t (get_or rs t.server []) slots)) instances-below
-      ∙ count_same (is_given_in t (get_or rs t.server []) slots)
+      let members : a.members ≡ m = same ∙ sym (ap (λ (x : KnownState). x.members) shown) in
+      ap (count_by (is_given_in a (get_or rs a.server []) slots)) instances-below
+      ∙ count_same (is_given_in a (get_or rs a.server []) slots)
       (λ j. is_given now.members q first stop j (known_slot now j)) instance_count
-      (λ j small. given_same m t slots rs low members sound j small
+      (λ j small. given_same m a slots rs low members sound j small
       ∙ ap (λ b. b && is_none (known_at m slots rs j).learned) (in_is j small)
       ∙ ap (λ (s : SlotState). is_skipped now.members q first stop j && is_none s.learned)
       (sym (seen m slots rs now shown j small)))

@@ -49,27 +49,27 @@ rising_from low less (r ∷ rs) le h = (omega (arith, h.0), h.1, h.2)
 
 -- ---- whether an instance is covered
 
-or-true : (b : Bool) → (b || true) ≡ true
+or-true : (a : Bool) → (a || true) ≡ true
 or-true true = refl
 or-true false = refl
 
-or-false : (b : Bool) → (b || false) ≡ b
+or-false : (a : Bool) → (a || false) ≡ a
 or-false true = refl
 or-false false = refl
 
-or-assoc : (a b c : Bool) → (a || (b || c)) ≡ ((a || b) || c)
-or-assoc true b c = refl
-or-assoc false b c = refl
+or-assoc : (a d x : Bool) → (a || (d || x)) ≡ ((a || d) || x)
+or-assoc true d x = refl
+or-assoc false d x = refl
 
-or-swap : (a b c : Bool) → (a || (b || c)) ≡ ((b || c) || a)
-or-swap true b c = sym (or-true (b || c))
-or-swap false b c = sym (or-false (b || c))
+or-swap : (a d x : Bool) → (a || (d || x)) ≡ ((d || x) || a)
+or-swap true d x = sym (or-true (d || x))
+or-swap false d x = sym (or-false (d || x))
 
-or-middle : (a b c : Bool) → (a || (b || c)) ≡ ((b || a) || c)
-or-middle true true c = refl
-or-middle true false c = refl
-or-middle false true c = refl
-or-middle false false c = refl
+or-middle : (a d x : Bool) → (a || (d || x)) ≡ ((d || a) || x)
+or-middle true true x = refl
+or-middle true false x = refl
+or-middle false true x = refl
+or-middle false false x = refl
 
 pub within_yes : (first stop j : ℕ) → first ≤ j → j < stop → is_within first stop j ≡ true
 within_yes first stop j low high = rw (le-leb first j low, lt-ltb j stop high) refl

@@ -41,8 +41,8 @@ pub record IsHead (m : Membership) (p : ℕ) (l : Line) : Type 0 where
   pub deaf : (w : Trace) → heard (l ∷ w) p ≡ heard w p
   pub still : front_by m p l ≡ 0
 
-head_submitted : (m : Membership) (c : Command) (q p : ℕ) → IsHead m p (Submitted c q)
-head_submitted m c q p = record {
+head_submitted : (m : Membership) (x : Command) (q p : ℕ) → IsHead m p (Submitted x q)
+head_submitted m x q p = record {
   quiet = λ i. record { promised = refl; proposed = λ b. refl; accepted = refl; learned = refl; tried = refl };
   deaf = λ w. refl;
   still = refl;
@@ -95,10 +95,10 @@ suggest_world m w l p t first facts (Some i) found =
     grown_front : (p f g i n : ℕ) → g ≡ f → max p f ≤ i → max p (max g (i + n)) ≡ i + n
     grown_front p f g i n e h = omega arith
 
-submit_causes : (w : Trace) (c : Command) (s : ServerState) (o : Outgoing) (i : Option ℕ)
-    → free_instance s.members w s.id ≡ i → submit_cause o i ≡ refusal_of w (Submit s.id c) s o
-submit_causes w c s o None none = rw none
-submit_causes w c s o (Some i) found = rw found
+submit_causes : (w : Trace) (x : Command) (s : ServerState) (o : Outgoing) (y : Option ℕ)
+    → free_instance s.members w s.id ≡ y → submit_cause o y ≡ refusal_of w (Submit s.id x) s o
+submit_causes w x s o None none = rw none
+submit_causes w x s o (Some y) found = rw found
 
 pub submit_is_event : SubmitIsEvent
 submit_is_event w s c t at next =
@@ -138,12 +138,12 @@ again_world w s at (Some t) =
     ∙ suggest_world s.members w (Retried s.id) s.id t (head_retried s.members s.id s.id)
     (sound s.members w at.reached) (free_instance s.members w s.id) refl
 
-retry_causes : (w : Trace) (s : ServerState) (o : Outgoing) (t i : Option ℕ) → first_item (waiting w s.id) ≡ t
-    → free_at s ≡ i → free_instance s.members w s.id ≡ i
-    → retry_cause s o t ≡ refusal_of w (Retry s.id) s o
-retry_causes w s o None i none here there = rw none
-retry_causes w s o (Some t) None first here there = rw (first, here, there)
-retry_causes w s o (Some t) (Some i) first here there = rw (first, here, there)
+retry_causes : (w : Trace) (s : ServerState) (o : Outgoing) (x y : Option ℕ) → first_item (waiting w s.id) ≡ x
+    → free_at s ≡ y → free_instance s.members w s.id ≡ y
+    → retry_cause s o x ≡ refusal_of w (Retry s.id) s o
+retry_causes w s o None y none here there = rw none
+retry_causes w s o (Some x) None first here there = rw (first, here, there)
+retry_causes w s o (Some x) (Some y) first here there = rw (first, here, there)
 
 pub retry_is_event : RetryIsEvent
 retry_is_event w s at =

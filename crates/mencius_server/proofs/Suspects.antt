@@ -73,8 +73,8 @@ abbrev ballot_for : Membership → Trace → ℕ → ℕ → ℕ
 ballot_for m w p j = ballot_of m (next_round m w p j) p
 
 -- which ballot is tried after the lines
-tried_cond : (p i j b x : ℕ) (f : ℕ → ℕ) (c : Bool) → eqb i j ≡ c
-    → max x (cond (eqb p p && eqb i j) (f i) 0) ≡ cond c (max x (f j)) x
+tried_cond : (p i j b x : ℕ) (f : ℕ → ℕ) (a : Bool) → eqb i j ≡ a
+    → max x (cond (eqb p p && eqb i j) (f i) 0) ≡ cond a (max x (f j)) x
 tried_cond p i j b x f true e = rw (same p, e, eqb-true i j e) refl
 tried_cond p i j b x f false e = rw (same p, e) (omega arith)
 
@@ -91,8 +91,8 @@ tried_after m w0 p j (i ∷ js) v =
     (tried_cond p i j 0 (trying v p j) (ballot_for m w0 p) (eqb i j) refl)
     ∙ either (eqb i j) (list_any (λ (i : ℕ). eqb i j) js) (trying v p j) (ballot_for m w0 p j)
   where
-    either : (c d : Bool) (x y : ℕ)
-        → cond d (max (cond c (max x y) x) y) (cond c (max x y) x) ≡ cond (c || d) (max x y) x
+    either : (a d : Bool) (x y : ℕ)
+        → cond d (max (cond a (max x y) x) y) (cond a (max x y) x) ≡ cond (a || d) (max x y) x
     either true true x y = max_twice x y
     either true false x y = refl
     either false d x y = refl
@@ -120,11 +120,11 @@ module _ (m : Membership) (w : Trace) (p j b : ℕ) (g : IsGrown m w) (mine : ow
       let within : b ≤ trying w p j = prepare_within w p j b h' in
       omega arith
 
-  unproposed : (q : ℕ) (v : Value) → IsIn (Sent (Propose q j b v)) w → ⊥
-  unproposed q v h =
-      let home : q ≡ p = sym (propose_ballot m w g q j b v h).1 ∙ mine in
-      let h' : IsIn (Sent (Propose p j b v)) w = subst (λ (x : ℕ). IsIn (Sent (Propose x j b v)) w) home h in
-      let within : b ≤ trying w p j = propose_within m w g p j b v h' in
+  unproposed : (q : ℕ) (z : Value) → IsIn (Sent (Propose q j b z)) w → ⊥
+  unproposed q z h =
+      let home : q ≡ p = sym (propose_ballot m w g q j b z h).1 ∙ mine in
+      let h' : IsIn (Sent (Propose p j b z)) w = subst (λ (x : ℕ). IsIn (Sent (Propose x j b z)) w) home h in
+      let within : b ≤ trying w p j = propose_within m w g p j b z h' in
       omega arith
 
   no_promiser : (q : ℕ) → promisers w p j b q ≡ false
@@ -149,7 +149,7 @@ module _ (m : Membership) (w : Trace) (p j b : ℕ) (g : IsGrown m w) (mine : ow
 
   no_proposal : (o : Option Value) → proposed w j b ≡ o → o ≡ None
   no_proposal None e = refl
-  no_proposal (Some v) e = let h = proposal_in w j b v (omega arith) e in absurd (unproposed h.0 v h.1)
+  no_proposal (Some z) e = let h = proposal_in w j b z (omega arith) e in absurd (unproposed h.0 z h.1)
 
   untried : IsUntried w p j b
   untried = record { unpromised = no_promiser; unaccepted = no_accepter; unsaid = no_proposal (proposed w j b) refl }
@@ -167,17 +167,17 @@ module _ (m : Membership) (w : Trace) (p q : ℕ) (r : IsReached m w) (member : 
   mine : (j : ℕ) → owner m (ballot_for m w p j) ≡ p
   mine j = mod-mul-add (next_round m w p j) m.count p member
 
-  tried_here : (j : ℕ) → j < instance_count → (c : Bool) → is_covered m w p q j ≡ c
-      → trying later p j ≡ cond c (ballot_for m w p j) (trying w p j)
-  tried_here j small c e =
-      let which : list_any (λ (i : ℕ). eqb i j) covered ≡ c =
+  tried_here : (j : ℕ) → j < instance_count → (a : Bool) → is_covered m w p q j ≡ a
+      → trying later p j ≡ cond a (ballot_for m w p j) (trying w p j)
+  tried_here j small a e =
+      let which : list_any (λ (i : ℕ). eqb i j) covered ≡ a =
       among (is_covered m w p q) instances j ∙ ap (λ (d : Bool). is_covered m w p q j && d) (is_instance j small)
       ∙ and-true (is_covered m w p q j) ∙ e in
       tried_after m w p j covered (Suspected p q ∷ w)
       ∙ ap (λ (t : ℕ). cond (list_any (λ (i : ℕ). eqb i j) covered) (max t (ballot_for m w p j)) t)
       (greatest_quiet (tried_by p j) (Suspected p q) w refl)
       ∙ ap (λ (d : Bool). cond d (max (trying w p j) (ballot_for m w p j)) (trying w p j)) which
-      ∙ ap (λ (t : ℕ). cond c t (trying w p j)) (greater_one (trying w p j) (ballot_for m w p j) (above j))
+      ∙ ap (λ (t : ℕ). cond a t (trying w p j)) (greater_one (trying w p j) (ballot_for m w p j) (above j))
     where
       and-true : (d : Bool) → (d && true) ≡ d
       and-true true = refl
@@ -190,10 +190,10 @@ module _ (m : Membership) (w : Trace) (p q : ℕ) (r : IsReached m w) (member : 
   slot_same j b =
       prepared_same m w p j b covered (Suspected p q ∷ w)
       ∙ trying_same m w (Suspected p q) p j b
-      (record { promised = refl; proposed = λ c. refl; accepted = refl; learned = refl }) refl
+      (record { promised = refl; proposed = λ a. refl; accepted = refl; learned = refl }) refl
 
-  slot_after : (j : ℕ) → j < instance_count → (c : Bool) → is_covered m w p q j ≡ c
-      → slot_at m later p j ≡ cond c (after_begin (slot_at m w p j) (ballot_for m w p j)) (slot_at m w p j)
+  slot_after : (j : ℕ) → j < instance_count → (a : Bool) → is_covered m w p q j ≡ a
+      → slot_at m later p j ≡ cond a (after_begin (slot_at m w p j) (ballot_for m w p j)) (slot_at m w p j)
   slot_after j small true e =
       slot_same j (trying later p j) ∙ ap (slot_trying m w p j) (tried_here j small true e)
       ∙ slot_untried m w p j (ballot_for m w p j)
@@ -223,10 +223,10 @@ module _ (m : Membership) (w : Trace) (p q : ℕ) (r : IsReached m w) (member : 
       (λ j small. ap (λ (s : SlotState). is_revoked m q (front m w p) j s) (slot-server_at m w p j small))
       ∙ sends_prepared m w p covered
 
-same_causes : (a b b' c c' d d' : Bool) → b ≡ b' → c ≡ c' → d ≡ d'
-    → first_cause ((a, SelfSuspect) ∷ (b, NothingToRevoke) ∷ (c, RoundsFull) ∷ (d, MessagesFull) ∷ [])
+same_causes : (a x b' y c' d d' : Bool) → x ≡ b' → y ≡ c' → d ≡ d'
+    → first_cause ((a, SelfSuspect) ∷ (x, NothingToRevoke) ∷ (y, RoundsFull) ∷ (d, MessagesFull) ∷ [])
     ≡ first_cause ((a, SelfSuspect) ∷ (b', NothingToRevoke) ∷ (c', RoundsFull) ∷ (d', MessagesFull) ∷ [])
-same_causes a b b' c c' d d' e f g = rw (e, f, g)
+same_causes a x b' y c' d d' e f g = rw (e, f, g)
 
 suspect_causes : (m : Membership) (w : Trace) (p q : ℕ) (s : ServerState) (o : Outgoing) → s ≡ server_at m w p
     → IsReached m w → p < m.count
@@ -237,7 +237,7 @@ suspect_causes m w p q s o e r member =
     (ap (λ (xs : List ℕ). is_none (first_item xs))
     (filter-instances_same (is_suspected (server_at m w p) q) (is_covered m w p q) covers))
     (any-map (is_round_full (server_at m w p)) (filter (is_suspected (server_at m w p) q) instances)
-    ∙ ap (list_any (λ (b : Bool). b))
+    ∙ ap (list_any (λ (a : Bool). a))
     (map-filter-instances_same (is_round_full (server_at m w p)) (λ (i : ℕ). ltb greatest_round (next_round m w p i))
     (is_suspected (server_at m w p) q) (is_covered m w p q)
     (λ j small. ap (λ (x : SlotState). ltb greatest_round (round_after m x)) (slot-server_at m w p j small)) covers)

@@ -16,108 +16,108 @@ use Rattle.mencius_server.proofs.SkipKnown.{learned_noop}
 use Rattle.mencius_server.proofs.Spans.{within_before, within_past}
 
 -- what passes below a place, once nothing between two others passes any more
-count_given : (p r : ℕ → Bool) (first stop n end count some : ℕ) → first ≤ stop → first ≤ n → end ≡ min stop n
-    → some + count_by p (below first) ≡ count_by p (below end) → count ≡ count_by p (below n)
-    → ((j : ℕ) → j < n → r j ≡ (p j && not (is_within first stop j)))
+count_given : (test r : ℕ → Bool) (first stop n end count some : ℕ) → first ≤ stop → first ≤ n → end ≡ min stop n
+    → some + count_by test (below first) ≡ count_by test (below end) → count ≡ count_by test (below n)
+    → ((j : ℕ) → j < n → r j ≡ (test j && not (is_within first stop j)))
     → count_by r (below n) + some ≡ count
-count_given p r first stop n end count some order low at some_is count_is rest =
+count_given test r first stop n end count some order low at some_is count_is rest =
     let low_is : min n first ≡ first = omega arith in
     let high_is : min n stop ≡ end = omega (arith, at) in
-    let within : count_by (λ j. p j && is_within first stop j) (below n) + count_by p (below first)
-    ≡ count_by p (below end) = rw (low_is, high_is) at (count_within p first stop n order) in
-    let split = count_split p (λ j. p j && is_within first stop j) (λ j. p j && not (is_within first stop j)) n
-    (λ j l. both (p j) (is_within first stop j)) in
-    let same = count_same r (λ j. p j && not (is_within first stop j)) n rest in
+    let within : count_by (λ j. test j && is_within first stop j) (below n) + count_by test (below first)
+    ≡ count_by test (below end) = rw (low_is, high_is) at (count_within test first stop n order) in
+    let split = count_split test (λ j. test j && is_within first stop j) (λ j. test j && not (is_within first stop j)) n
+    (λ j l. both (test j) (is_within first stop j)) in
+    let same = count_same r (λ j. test j && not (is_within first stop j)) n rest in
     omega (arith, within, split, same, some_is, count_is)
   where
-    both : (a b : Bool) → bit a ≡ bit (a && b) + bit (a && not b)
+    both : (a d : Bool) → bit a ≡ bit (a && d) + bit (a && not d)
     both true true = omega arith
     both true false = omega arith
-    both false b = omega arith
+    both false d = omega arith
 
-and-false : (b : Bool) → (b && false) ≡ false
+and-false : (a : Bool) → (a && false) ≡ false
 and-false true = refl
 and-false false = refl
 
-and-true : (b : Bool) → (b && true) ≡ b
+and-true : (a : Bool) → (a && true) ≡ a
 and-true true = refl
 and-true false = refl
 
-module _ (t : Stretch) (f : ℕ → SlotState) where
+module _ (a : Stretch) (f : ℕ → SlotState) where
   abbrev after : ℕ → SlotState
-  after j = given t j (f j)
+  after j = given a j (f j)
 
-  in_own : (j : ℕ) → owner t.members j ≡ t.server → is_in t j ≡ is_within t.first t.stop j
-  in_own j own = rw (eq-eqb t.server (owner t.members j) (sym own)) refl
+  in_own : (j : ℕ) → owner a.members j ≡ a.server → is_in a j ≡ is_within a.first a.stop j
+  in_own j own = rw (eq-eqb a.server (owner a.members j) (sym own)) refl
 
   -- nothing in the stretch is open then
-  given_open : (j : ℕ) → is_open_of t.members after t.server j
-      ≡ (is_open_of t.members f t.server j && not (is_within t.first t.stop j))
+  given_open : (j : ℕ) → is_open_of a.members after a.server j
+      ≡ (is_open_of a.members f a.server j && not (is_within a.first a.stop j))
   given_open j =
       ⊎_elim
-      (λ (own : owner t.members j ≡ t.server).
-      let e = eq-eqb (owner t.members j) t.server own in
-      rw e (go (is_within t.first t.stop j) (in_own j own)))
-      (λ (other : owner t.members j ≡ t.server → ⊥).
-      rw (ne_eqb (owner t.members j) t.server other) refl)
-      (cases_eq (owner t.members j) t.server)
+      (λ (own : owner a.members j ≡ a.server).
+      let e = eq-eqb (owner a.members j) a.server own in
+      rw e (go (is_within a.first a.stop j) (in_own j own)))
+      (λ (other : owner a.members j ≡ a.server → ⊥).
+      rw (ne_eqb (owner a.members j) a.server other) refl)
+      (cases_eq (owner a.members j) a.server)
     where
-      go : (w : Bool) → is_in t j ≡ w → is_none (after j).learned ≡ (is_none (f j).learned && not w)
+      go : (d : Bool) → is_in a j ≡ d → is_none (after j).learned ≡ (is_none (f j).learned && not d)
       go true e = rw e (learned_noop (f j) ∙ sym (and-false (is_none (f j).learned)))
       go false e = rw e (sym (and-true (is_none (f j).learned)))
 
-  given_full : (j : ℕ) → is_full_of t.members after t.server j
-      ≡ (is_full_of t.members f t.server j && not (is_within t.first t.stop j))
-  given_full j = ap (λ b. b && is_spent t.members (after j)) (given_open j) ∙ ⊎_elim
-      (λ (own : owner t.members j ≡ t.server).
-      go (is_open_of t.members f t.server j) (is_within t.first t.stop j) (in_own j own))
-      (λ (other : owner t.members j ≡ t.server → ⊥).
-      rw (ne_eqb (owner t.members j) t.server other) refl)
-      (cases_eq (owner t.members j) t.server)
+  given_full : (j : ℕ) → is_full_of a.members after a.server j
+      ≡ (is_full_of a.members f a.server j && not (is_within a.first a.stop j))
+  given_full j = ap (λ b. b && is_spent a.members (after j)) (given_open j) ∙ ⊎_elim
+      (λ (own : owner a.members j ≡ a.server).
+      go (is_open_of a.members f a.server j) (is_within a.first a.stop j) (in_own j own))
+      (λ (other : owner a.members j ≡ a.server → ⊥).
+      rw (ne_eqb (owner a.members j) a.server other) refl)
+      (cases_eq (owner a.members j) a.server)
     where
-      go : (o w : Bool) → is_in t j ≡ w
-          → ((o && not w) && is_spent t.members (after j)) ≡ ((o && is_spent t.members (f j)) && not w)
-      go true true e = sym (and-false (is_spent t.members (f j)))
-      go true false e = rw e (sym (and-true (is_spent t.members (f j))))
-      go false w e = refl
+      go : (o d : Bool) → is_in a j ≡ d
+          → ((o && not d) && is_spent a.members (after j)) ≡ ((o && is_spent a.members (f j)) && not d)
+      go true true e = sym (and-false (is_spent a.members (f j)))
+      go true false e = rw e (sym (and-true (is_spent a.members (f j))))
+      go false d e = refl
 
   -- where the stretch has no place below the end of the tally, it stays
-  pub less_none : (y : Tally) → min t.stop y.stop ≤ t.first → IsTally t.members f t.server y
-      → IsTally t.members after t.server y
+  pub less_none : (y : Tally) → min a.stop y.stop ≤ a.first → IsTally a.members f a.server y
+      → IsTally a.members after a.server y
   less_none y none h = record {
     small = h.small;
-    open_count = h.open_count ∙ count_same (is_open_of t.members f t.server) (is_open_of t.members after t.server)
-        y.stop (λ j l. sym (given_open j ∙ ap (λ b. is_open_of t.members f t.server j && not b) (out j l)
-        ∙ and-true (is_open_of t.members f t.server j)));
-    full_count = h.full_count ∙ count_same (is_full_of t.members f t.server) (is_full_of t.members after t.server)
-        y.stop (λ j l. sym (given_full j ∙ ap (λ b. is_full_of t.members f t.server j && not b) (out j l)
-        ∙ and-true (is_full_of t.members f t.server j)));
+    open_count = h.open_count ∙ count_same (is_open_of a.members f a.server) (is_open_of a.members after a.server)
+        y.stop (λ j l. sym (given_open j ∙ ap (λ b. is_open_of a.members f a.server j && not b) (out j l)
+        ∙ and-true (is_open_of a.members f a.server j)));
+    full_count = h.full_count ∙ count_same (is_full_of a.members f a.server) (is_full_of a.members after a.server)
+        y.stop (λ j l. sym (given_full j ∙ ap (λ b. is_full_of a.members f a.server j && not b) (out j l)
+        ∙ and-true (is_full_of a.members f a.server j)));
   }
     where
-      out : (j : ℕ) → j < y.stop → is_within t.first t.stop j ≡ false
+      out : (j : ℕ) → j < y.stop → is_within a.first a.stop j ≡ false
       out j l =
-          ⊎_elim (λ (before : j < t.first). within_before t.first t.stop j before)
-          (λ (from : t.first ≤ j). within_past t.first t.stop j (omega (arith, none)))
-          (cases_lt j t.first)
+          ⊎_elim (λ (before : j < a.first). within_before a.first a.stop j before)
+          (λ (from : a.first ≤ j). within_past a.first a.stop j (omega (arith, none)))
+          (cases_lt j a.first)
 
   -- and else it loses those below its end
-  pub less_some : (y some : Tally) → t.first < min t.stop y.stop → some.stop ≡ min t.stop y.stop
-      → IsTallyFrom t.members f t.server t.first some → IsTally t.members f t.server y
-      → IsTally t.members after t.server (lessened y some)
+  pub less_some : (y some : Tally) → a.first < min a.stop y.stop → some.stop ≡ min a.stop y.stop
+      → IsTallyFrom a.members f a.server a.first some → IsTally a.members f a.server y
+      → IsTally a.members after a.server (lessened y some)
   less_some y some order at counted h =
-      let order_open : t.first ≤ t.stop = omega arith in
-      let low : t.first ≤ y.stop = omega arith in
-      let opens = count_given (is_open_of t.members f t.server) (is_open_of t.members after t.server) t.first t.stop
+      let order_open : a.first ≤ a.stop = omega arith in
+      let low : a.first ≤ y.stop = omega arith in
+      let opens = count_given (is_open_of a.members f a.server) (is_open_of a.members after a.server) a.first a.stop
       y.stop some.stop y.open_count some.open_count order_open low at counted.open_count h.open_count
       (λ j l. given_open j) in
-      let fulls = count_given (is_full_of t.members f t.server) (is_full_of t.members after t.server) t.first t.stop
+      let fulls = count_given (is_full_of a.members f a.server) (is_full_of a.members after a.server) a.first a.stop
       y.stop some.stop y.full_count some.full_count order_open low at counted.full_count h.full_count
       (λ j l. given_full j) in
       record { small = h.small; open_count = omega (arith, opens); full_count = omega (arith, fulls) }
 
   -- there are as many
-  pub less_fits : (y some : Tally) → t.first < min t.stop y.stop → some.stop ≡ min t.stop y.stop
-      → IsTallyFrom t.members f t.server t.first some → IsTally t.members f t.server y
+  pub less_fits : (y some : Tally) → a.first < min a.stop y.stop → some.stop ≡ min a.stop y.stop
+      → IsTallyFrom a.members f a.server a.first some → IsTally a.members f a.server y
       → (some.open_count ≤ y.open_count) × (some.full_count ≤ y.full_count)
   less_fits y some order at counted h =
       let below_end : some.stop ≤ y.stop = omega (arith, at) in (
@@ -125,12 +125,12 @@ module _ (t : Stretch) (f : ℕ → SlotState) where
           arith,
           counted.open_count,
           h.open_count,
-          count_by-below_le (is_open_of t.members f t.server) some.stop y.stop below_end,
+          count_by-below_le (is_open_of a.members f a.server) some.stop y.stop below_end,
         ),
         omega (
           arith,
           counted.full_count,
           h.full_count,
-          count_by-below_le (is_full_of t.members f t.server) some.stop y.stop below_end,
+          count_by-below_le (is_full_of a.members f a.server) some.stop y.stop below_end,
         ),
       )

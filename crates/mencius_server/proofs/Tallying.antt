@@ -27,7 +27,7 @@ count_few f (suc n) =
     let next : suc n ≡ n + 1 = omega arith in
     rw next (omega (arith, count_by-below_more f n, count_few f n, bit_small (f n)))
   where
-    bit_small : (b : Bool) → bit b ≤ 1
+    bit_small : (a : Bool) → bit a ≤ 1
     bit_small true = omega arith
     bit_small false = omega arith
 
@@ -45,9 +45,9 @@ count_less f g (suc n) h =
     let here = bit_less (f n) (g n) (h n (omega arith)) in
     rw next (omega (arith, count_by-below_more f n, count_by-below_more g n, before, here))
   where
-    bit_less : (a b : Bool) → (a ≡ true → b ≡ true) → bit a ≤ bit b
-    bit_less false b k = omega arith
-    bit_less true b k = let one : bit b ≡ 1 = ap bit (k refl) in omega (arith, one)
+    bit_less : (a d : Bool) → (a ≡ true → d ≡ true) → bit a ≤ bit d
+    bit_less false d k = omega arith
+    bit_less true d k = let one : bit d ≡ 1 = ap bit (k refl) in omega (arith, one)
 
 -- two tests that differ at one place
 pub count_but : (f g : ℕ → Bool) (n i : ℕ) → i < n → ((j : ℕ) → (j ≡ i → ⊥) → f j ≡ g j)
@@ -103,27 +103,27 @@ own_full : (m : Membership) (f : ℕ → SlotState) (q j : ℕ) → owner m j �
 own_full m f q j own = ap (λ b. (b && is_none (f j).learned) && is_spent m (f j)) (eq-eqb (owner m j) q own)
 
 -- what is counted of two slots is the same
-pub record IsAlike (m : Membership) (s t : SlotState) : Type 0 where
-  pub open_count : is_none s.learned ≡ is_none t.learned
-  pub full_count : (is_none s.learned && is_spent m s) ≡ (is_none t.learned && is_spent m t)
+pub record IsAlike (m : Membership) (s r : SlotState) : Type 0 where
+  pub open_count : is_none s.learned ≡ is_none r.learned
+  pub full_count : (is_none s.learned && is_spent m s) ≡ (is_none r.learned && is_spent m r)
 
-pub alike_same : (m : Membership) (s t : SlotState) → s ≡ t → IsAlike m s t
-alike_same m s t e = record {
+pub alike_same : (m : Membership) (s r : SlotState) → s ≡ r → IsAlike m s r
+alike_same m s r e = record {
   open_count = ap (λ (x : SlotState). is_none x.learned) e;
   full_count = ap (λ (x : SlotState). is_none x.learned && is_spent m x) e;
 }
 
-pub tally_alike : (m : Membership) (f g : ℕ → SlotState) (q : ℕ) (t : Tally)
-    → ((j : ℕ) → j < instance_count → owner m j ≡ q → IsAlike m (f j) (g j)) → IsTally m f q t → IsTally m g q t
-tally_alike m f g q t alike h = record {
+pub tally_alike : (m : Membership) (f g : ℕ → SlotState) (q : ℕ) (a : Tally)
+    → ((j : ℕ) → j < instance_count → owner m j ≡ q → IsAlike m (f j) (g j)) → IsTally m f q a → IsTally m g q a
+tally_alike m f g q a alike h = record {
   small = h.small;
-  open_count = h.open_count ∙ count_same (is_open_of m f q) (is_open_of m g q) t.stop
+  open_count = h.open_count ∙ count_same (is_open_of m f q) (is_open_of m g q) a.stop
       (λ j l. ⊎_elim
       (λ (own : owner m j ≡ q). own_open m f q j own ∙ (alike j (omega (arith, h.small)) own).open_count
       ∙ sym (own_open m g q j own))
       (λ (other : owner m j ≡ q → ⊥). other_open m f q j other ∙ sym (other_open m g q j other))
       (cases_eq (owner m j) q));
-  full_count = h.full_count ∙ count_same (is_full_of m f q) (is_full_of m g q) t.stop
+  full_count = h.full_count ∙ count_same (is_full_of m f q) (is_full_of m g q) a.stop
       (λ j l. ⊎_elim
       (λ (own : owner m j ≡ q). own_full m f q j own ∙ (alike j (omega (arith, h.small)) own).full_count
       ∙ sym (own_full m g q j own))
@@ -132,14 +132,14 @@ tally_alike m f g q t alike h = record {
       (cases_eq (owner m j) q));
 }
 
-pub tally_none : (m : Membership) (f : ℕ → SlotState) (q : ℕ) (t : Tally) → t ≡ no_tally → IsTally m f q t
-tally_none m f q t e = rw e (record {
+pub tally_none : (m : Membership) (f : ℕ → SlotState) (q : ℕ) (a : Tally) → a ≡ no_tally → IsTally m f q a
+tally_none m f q a e = rw e (record {
   small = omega arith;
   open_count = sym (count_by-below_zero (is_open_of m f q));
   full_count = sym (count_by-below_zero (is_full_of m f q));
 })
 
-module _ (m : Membership) (f : ℕ → SlotState) (q i : ℕ) (t : Tally) (own : owner m i ≡ q) (h : IsTally m f q t) where
+module _ (m : Membership) (f : ℕ → SlotState) (q i : ℕ) (a : Tally) (own : owner m i ≡ q) (h : IsTally m f q a) where
   open_bit : bit (is_open_of m f q i) ≡ open_one (f i)
   open_bit = ap bit (own_open m f q i own)
 
@@ -147,12 +147,12 @@ module _ (m : Membership) (f : ℕ → SlotState) (q i : ℕ) (t : Tally) (own :
   full_bit = ap bit (own_full m f q i own)
 
   -- an instance below the place was counted
-  pub has_counted : i < t.stop → HasCounted m t (f i)
+  pub has_counted : i < a.stop → HasCounted m a (f i)
   has_counted less = record {
-    open_count = omega (arith, open_bit, h.open_count, count_one (is_open_of m f q) i t.stop less);
-    full_count = omega (arith, full_bit, h.full_count, count_one (is_full_of m f q) i t.stop less);
-    few = omega (arith, h.open_count, h.small, count_few (is_open_of m f q) t.stop);
-    fewer = omega (arith, h.full_count, h.small, count_few (is_full_of m f q) t.stop);
+    open_count = omega (arith, open_bit, h.open_count, count_one (is_open_of m f q) i a.stop less);
+    full_count = omega (arith, full_bit, h.full_count, count_one (is_full_of m f q) i a.stop less);
+    few = omega (arith, h.open_count, h.small, count_few (is_open_of m f q) a.stop);
+    fewer = omega (arith, h.full_count, h.small, count_few (is_full_of m f q) a.stop);
   }
 
   module _ (g : ℕ → SlotState) (rest : (j : ℕ) → (j ≡ i → ⊥) → f j ≡ g j) where
@@ -169,7 +169,7 @@ module _ (m : Membership) (f : ℕ → SlotState) (q i : ℕ) (t : Tally) (own :
     new_full : bit (is_full_of m g q i) ≡ full_one m (g i)
     new_full = ap bit (own_full m g q i own)
 
-    counted_anew : i < t.stop → IsTally m g q (tallied m (untallied m t (f i)) (g i))
+    counted_anew : i < a.stop → IsTally m g q (tallied m (untallied m a (f i)) (g i))
     counted_anew less =
         let was = has_counted less in
         record {
@@ -180,7 +180,7 @@ module _ (m : Membership) (f : ℕ → SlotState) (q i : ℕ) (t : Tally) (own :
             new_open,
             h.open_count,
             was.open_count,
-            count_but (is_open_of m f q) (is_open_of m g q) t.stop i less open_rest,
+            count_but (is_open_of m f q) (is_open_of m g q) a.stop i less open_rest,
           );
           full_count = omega (
             arith,
@@ -188,27 +188,27 @@ module _ (m : Membership) (f : ℕ → SlotState) (q i : ℕ) (t : Tally) (own :
             new_full,
             h.full_count,
             was.full_count,
-            count_but (is_full_of m f q) (is_full_of m g q) t.stop i less full_rest,
+            count_but (is_full_of m f q) (is_full_of m g q) a.stop i less full_rest,
           );
         }
 
     -- one slot is another one from now on
-    pub tally_moved : IsTally m g q (moved m i t (f i) (g i))
+    pub tally_moved : IsTally m g q (moved m i a (f i) (g i))
     tally_moved =
         ⊎_elim
-        (λ (less : i < t.stop).
-        subst (λ b. IsTally m g q (cond b (tallied m (untallied m t (f i)) (g i)) t)) (sym (lt-ltb i t.stop less))
+        (λ (less : i < a.stop).
+        subst (λ b. IsTally m g q (cond b (tallied m (untallied m a (f i)) (g i)) a)) (sym (lt-ltb i a.stop less))
         (counted_anew less))
-        (λ (past : t.stop ≤ i).
-        subst (λ b. IsTally m g q (cond b (tallied m (untallied m t (f i)) (g i)) t)) (sym (le-ltb i t.stop past))
+        (λ (past : a.stop ≤ i).
+        subst (λ b. IsTally m g q (cond b (tallied m (untallied m a (f i)) (g i)) a)) (sym (le-ltb i a.stop past))
         (record {
           small = h.small;
-          open_count = h.open_count ∙ count_same (is_open_of m f q) (is_open_of m g q) t.stop
+          open_count = h.open_count ∙ count_same (is_open_of m f q) (is_open_of m g q) a.stop
               (λ j l. open_rest j (λ e. absurd (omega arith)));
-          full_count = h.full_count ∙ count_same (is_full_of m f q) (is_full_of m g q) t.stop
+          full_count = h.full_count ∙ count_same (is_full_of m f q) (is_full_of m g q) a.stop
               (λ j l. full_rest j (λ e. absurd (omega arith)));
         }))
-        (cases_lt i t.stop)
+        (cases_lt i a.stop)
 
 -- ---- counting on
 
@@ -237,16 +237,16 @@ count_still f a n h none =
     ∙ count_by-below_none f a (n - a) (λ j low high. none j low (omega (arith, all)))
 
 -- so many of q's instances from one place on are counted, of which the last is below another place
-pub record IsTalliedTo (m : Membership) (f : ℕ → SlotState) (q first stop : ℕ) (t : Tally) (i : ℕ) : Type 0 where
+pub record IsTalliedTo (m : Membership) (f : ℕ → SlotState) (q first stop : ℕ) (a : Tally) (i : ℕ) : Type 0 where
   pub own : owner m i ≡ q
   pub over : (j : ℕ) → stop ≤ j → j < i → owner m j ≡ q → ⊥
-  pub opens : IsCountUpTo (is_open_of m f q) i (t.open_count + count_by (is_open_of m f q) (below first))
-  pub fulls : IsCountUpTo (is_full_of m f q) i (t.full_count + count_by (is_full_of m f q) (below first))
+  pub opens : IsCountUpTo (is_open_of m f q) i (a.open_count + count_by (is_open_of m f q) (below first))
+  pub fulls : IsCountUpTo (is_full_of m f q) i (a.full_count + count_by (is_full_of m f q) (below first))
 
 module _ (m : Membership) (f : ℕ → SlotState) (q first stop : ℕ) where
-  pub tallied_start : (t : Tally) (i : ℕ) → t.open_count ≡ 0 → t.full_count ≡ 0 → first ≤ stop → owner m i ≡ q
-      → first ≤ i → ((j : ℕ) → first ≤ j → owner m j ≡ q → i ≤ j) → IsTalliedTo m f q first stop t i
-  tallied_start t i no_open no_full ahead own low least = record {
+  pub tallied_start : (a : Tally) (i : ℕ) → a.open_count ≡ 0 → a.full_count ≡ 0 → first ≤ stop → owner m i ≡ q
+      → first ≤ i → ((j : ℕ) → first ≤ j → owner m j ≡ q → i ≤ j) → IsTalliedTo m f q first stop a i
+  tallied_start a i no_open no_full ahead own low least = record {
     own = own;
     over = λ j past less mine. let far = least j (omega arith) mine in absurd (omega (arith, far));
     opens = count_gap (is_open_of m f q) first i _ low unowned_open (record { counted = omega (arith, no_open) });
@@ -258,26 +258,26 @@ module _ (m : Membership) (f : ℕ → SlotState) (q first stop : ℕ) where
       unowned_open j from less =
           other_open m f q j (λ mine. let far = least j from mine in absurd (omega (arith, far)))
 
-  pub tallied_few : (t : Tally) (i : ℕ) → i < stop → stop ≤ instance_count → IsTalliedTo m f q first stop t i
-      → (t.open_count ≤ instance_count) × (t.full_count ≤ instance_count)
-  tallied_few t i less small h = (
+  pub tallied_few : (a : Tally) (i : ℕ) → i < stop → stop ≤ instance_count → IsTalliedTo m f q first stop a i
+      → (a.open_count ≤ instance_count) × (a.full_count ≤ instance_count)
+  tallied_few a i less small h = (
     omega (arith, h.opens.counted, count_few (is_open_of m f q) i),
     omega (arith, h.fulls.counted, count_few (is_full_of m f q) i),
   )
 
-  pub tallied_more : (t w : Tally) (i next : ℕ) → i < stop → i + 1 ≤ next → owner m next ≡ owner m i
-      → ((j : ℕ) → i + 1 ≤ j → owner m j ≡ owner m i → next ≤ j) → w ≡ tallied m t (f i)
-      → IsTalliedTo m f q first stop t i → IsTalliedTo m f q first stop w next
-  tallied_more t w i next less ahead own least is h =
+  pub tallied_more : (a d : Tally) (i next : ℕ) → i < stop → i + 1 ≤ next → owner m next ≡ owner m i
+      → ((j : ℕ) → i + 1 ≤ j → owner m j ≡ owner m i → next ≤ j) → d ≡ tallied m a (f i)
+      → IsTalliedTo m f q first stop a i → IsTalliedTo m f q first stop d next
+  tallied_more a d i next less ahead own least is h =
       subst (λ (x : Tally). IsTalliedTo m f q first stop x next) (sym is) (record {
         own = own ∙ h.own;
         over = λ j past before mine.
             let far = least j (omega arith) (mine ∙ sym h.own) in absurd (omega (arith, far));
         opens = count_gap (is_open_of m f q) (i + 1) next _ ahead between
-            (one_more (is_open_of m f q) t.open_count (open_one (f i)) (count_by (is_open_of m f q) (below first))
+            (one_more (is_open_of m f q) a.open_count (open_one (f i)) (count_by (is_open_of m f q) (below first))
             (sym (ap bit (own_open m f q i h.own))) h.opens);
         fulls = count_gap (is_full_of m f q) (i + 1) next _ ahead (λ j low high. and_left _ _ (between j low high))
-            (one_more (is_full_of m f q) t.full_count (full_one m (f i)) (count_by (is_full_of m f q) (below first))
+            (one_more (is_full_of m f q) a.full_count (full_one m (f i)) (count_by (is_full_of m f q) (below first))
             (sym (ap bit (own_full m f q i h.own))) h.fulls);
       })
     where
@@ -290,9 +290,9 @@ module _ (m : Membership) (f : ℕ → SlotState) (q first stop : ℕ) where
       one_more test count n base here before =
           let next = count_more test i (count + base) n here before in record { counted = omega (arith, next.counted) }
 
-  pub tallied_all : (t : Tally) (i : ℕ) → first ≤ stop → stop ≤ i → stop ≤ instance_count → t.stop ≡ stop
-      → IsTalliedTo m f q first stop t i → IsTallyFrom m f q first t
-  tallied_all t i ahead past small end h = record {
+  pub tallied_all : (a : Tally) (i : ℕ) → first ≤ stop → stop ≤ i → stop ≤ instance_count → a.stop ≡ stop
+      → IsTalliedTo m f q first stop a i → IsTallyFrom m f q first a
+  tallied_all a i ahead past small end h = record {
     ahead = omega (arith, end);
     small = omega (arith, end);
     open_count = (count_to (is_open_of m f q) i stop _ (λ j low high. absurd (omega arith))
@@ -307,52 +307,52 @@ module _ (m : Membership) (f : ℕ → SlotState) (q first stop : ℕ) where
 
 module _ (m : Membership) (f : ℕ → SlotState) (q first : ℕ) where
   -- nothing was counted yet
-  pub from_start : (t : Tally) → t.stop ≡ first → first ≤ instance_count → t.open_count ≡ 0 → t.full_count ≡ 0
-      → IsTallyFrom m f q first t
-  from_start t at small no_open no_full = record {
+  pub from_start : (d : Tally) → d.stop ≡ first → first ≤ instance_count → d.open_count ≡ 0 → d.full_count ≡ 0
+      → IsTallyFrom m f q first d
+  from_start d at small no_open no_full = record {
     ahead = omega (arith, at);
     small = omega (arith, at);
     open_count = rw at (omega (arith, no_open));
     full_count = rw at (omega (arith, no_full));
   }
 
-  pub from_few : (t : Tally) → IsTallyFrom m f q first t
-      → (t.open_count ≤ instance_count) × (t.full_count ≤ instance_count)
-  from_few t h = (
-    omega (arith, h.open_count, h.small, count_few (is_open_of m f q) t.stop),
-    omega (arith, h.full_count, h.small, count_few (is_full_of m f q) t.stop),
+  pub from_few : (d : Tally) → IsTallyFrom m f q first d
+      → (d.open_count ≤ instance_count) × (d.full_count ≤ instance_count)
+  from_few d h = (
+    omega (arith, h.open_count, h.small, count_few (is_open_of m f q) d.stop),
+    omega (arith, h.full_count, h.small, count_few (is_full_of m f q) d.stop),
   )
 
   -- past places where nothing is open come some where another test agrees
-  pub from_more : (g : ℕ → SlotState) (t u : Tally) (past : ℕ) → t.stop ≤ past
-      → ((j : ℕ) → t.stop ≤ j → j < past → owner m j ≡ q → is_none (f j).learned ≡ false)
-      → ((j : ℕ) → past ≤ j → j < u.stop → owner m j ≡ q → f j ≡ g j)
-      → IsTallyFrom m g q past u → IsTallyFrom m f q first t → IsTallyFrom m f q first (summed t u)
-  from_more g t u past ahead closed same further h = record {
+  pub from_more : (g : ℕ → SlotState) (d x : Tally) (past : ℕ) → d.stop ≤ past
+      → ((j : ℕ) → d.stop ≤ j → j < past → owner m j ≡ q → is_none (f j).learned ≡ false)
+      → ((j : ℕ) → past ≤ j → j < x.stop → owner m j ≡ q → f j ≡ g j)
+      → IsTallyFrom m g q past x → IsTallyFrom m f q first d → IsTallyFrom m f q first (summed d x)
+  from_more g d x past ahead closed same further h = record {
     ahead = omega (arith, h.ahead, further.ahead);
     small = further.small;
     open_count = omega (
       arith,
       h.open_count,
       further.open_count,
-      count_still (is_open_of m f q) t.stop past ahead shut,
-      count_between (is_open_of m f q) (is_open_of m g q) past u.stop further.ahead same_open,
+      count_still (is_open_of m f q) d.stop past ahead shut,
+      count_between (is_open_of m f q) (is_open_of m g q) past x.stop further.ahead same_open,
     );
     full_count = omega (
       arith,
       h.full_count,
       further.full_count,
-      count_still (is_full_of m f q) t.stop past ahead (λ j low high. and_left _ _ (shut j low high)),
-      count_between (is_full_of m f q) (is_full_of m g q) past u.stop further.ahead same_full,
+      count_still (is_full_of m f q) d.stop past ahead (λ j low high. and_left _ _ (shut j low high)),
+      count_between (is_full_of m f q) (is_full_of m g q) past x.stop further.ahead same_full,
     );
   }
     where
-      shut : (j : ℕ) → t.stop ≤ j → j < past → is_open_of m f q j ≡ false
+      shut : (j : ℕ) → d.stop ≤ j → j < past → is_open_of m f q j ≡ false
       shut j low high =
           ⊎_elim (λ (own : owner m j ≡ q). own_open m f q j own ∙ closed j low high own)
           (λ (other : owner m j ≡ q → ⊥). other_open m f q j other) (cases_eq (owner m j) q)
 
-      same_open : (j : ℕ) → past ≤ j → j < u.stop → is_open_of m f q j ≡ is_open_of m g q j
+      same_open : (j : ℕ) → past ≤ j → j < x.stop → is_open_of m f q j ≡ is_open_of m g q j
       same_open j low high =
           ⊎_elim
           (λ (own : owner m j ≡ q).
@@ -360,7 +360,7 @@ module _ (m : Membership) (f : ℕ → SlotState) (q first : ℕ) where
           (λ (other : owner m j ≡ q → ⊥). other_open m f q j other ∙ sym (other_open m g q j other))
           (cases_eq (owner m j) q)
 
-      same_full : (j : ℕ) → past ≤ j → j < u.stop → is_full_of m f q j ≡ is_full_of m g q j
+      same_full : (j : ℕ) → past ≤ j → j < x.stop → is_full_of m f q j ≡ is_full_of m g q j
       same_full j low high =
           ⊎_elim
           (λ (own : owner m j ≡ q).
@@ -380,15 +380,15 @@ sound_told m slots rs low h j small passed = go (stand_at slots j) refl
 
 -- past a range, where nothing is open, come instances that no range has
 pub from_gap : (m : Membership) (slots : List (Option SlotState)) (rs : List (List Span)) (q first : ℕ)
-    (ranges : List Span) (t u : Tally) (stop covered_to past end : ℕ) → IsTold m slots rs → q < length rs
-    → ranges ≡ get_or rs q ranges → t.stop ≤ stop → t.stop ≤ covered_to → past ≡ min covered_to stop → u.stop ≡ end
-    → ((j : ℕ) → t.stop ≤ j → j < covered_to → covers ranges j ≡ true)
+    (ranges : List Span) (d x : Tally) (stop covered_to past end : ℕ) → IsTold m slots rs → q < length rs
+    → ranges ≡ get_or rs q ranges → d.stop ≤ stop → d.stop ≤ covered_to → past ≡ min covered_to stop → x.stop ≡ end
+    → ((j : ℕ) → d.stop ≤ j → j < covered_to → covers ranges j ≡ true)
     → ((j : ℕ) → past ≤ j → j < end → covers ranges j ≡ false)
-    → IsTallyFrom m (known_by_slot m slots) q past u
-    → IsTallyFrom m (known_at m slots rs) q first t → IsTallyFrom m (known_at m slots rs) q first (summed t u)
-from_gap m slots rs q first ranges t u stop covered_to past end told member theirs within ahead past_is end_is covered
+    → IsTallyFrom m (known_by_slot m slots) q past x
+    → IsTallyFrom m (known_at m slots rs) q first d → IsTallyFrom m (known_at m slots rs) q first (summed d x)
+from_gap m slots rs q first ranges d x stop covered_to past end told member theirs within ahead past_is end_is covered
     clear further h =
-    from_more m (known_at m slots rs) q first (known_by_slot m slots) t u past (omega (arith, past_is))
+    from_more m (known_at m slots rs) q first (known_by_slot m slots) d x past (omega (arith, past_is))
     (λ j low high own. told j (omega (arith, high, further.ahead, further.small))
     (passed j own ∙ covered j low (omega (arith, high, past_is))))
     (λ j low high own. ap (λ b. unwrap_or (stand_at slots j) (unheard m b))
@@ -401,9 +401,9 @@ from_gap m slots rs q first ranges t u stop covered_to past end told member thei
         ∙ ap (λ xs. covers xs j) (sym (theirs ∙ get_or_default rs q ranges [] member))
 
 -- what is counted from a place on, below which nothing is open, is a tally
-pub tally_anew : (m : Membership) (f : ℕ → SlotState) (q first : ℕ) (t : Tally)
-    → ((j : ℕ) → j < first → is_none (f j).learned ≡ false) → IsTallyFrom m f q first t → IsTally m f q t
-tally_anew m f q first t closed h = record {
+pub tally_anew : (m : Membership) (f : ℕ → SlotState) (q first : ℕ) (d : Tally)
+    → ((j : ℕ) → j < first → is_none (f j).learned ≡ false) → IsTallyFrom m f q first d → IsTally m f q d
+tally_anew m f q first d closed h = record {
   small = h.small;
   open_count = omega (
     arith,
@@ -421,77 +421,77 @@ tally_anew m f q first t closed h = record {
 }
 
 -- what is counted on from past the end of a tally makes it longer, if nothing in between is open
-pub tally_further : (m : Membership) (f : ℕ → SlotState) (q first : ℕ) (t u : Tally) → t.stop ≤ first
-    → ((j : ℕ) → t.stop ≤ j → j < first → is_none (f j).learned ≡ false) → IsTally m f q t
-    → IsTallyFrom m f q first u → IsTally m f q (summed t u)
-tally_further m f q first t u ahead closed h further = record {
+pub tally_further : (m : Membership) (f : ℕ → SlotState) (q first : ℕ) (a d : Tally) → a.stop ≤ first
+    → ((j : ℕ) → a.stop ≤ j → j < first → is_none (f j).learned ≡ false) → IsTally m f q a
+    → IsTallyFrom m f q first d → IsTally m f q (summed a d)
+tally_further m f q first a d ahead closed h further = record {
   small = further.small;
   open_count = omega (
     arith,
     h.open_count,
     further.open_count,
-    count_still (is_open_of m f q) t.stop first ahead (λ j low high. and_right _ _ (closed j low high)),
+    count_still (is_open_of m f q) a.stop first ahead (λ j low high. and_right _ _ (closed j low high)),
   );
   full_count = omega (
     arith,
     h.full_count,
     further.full_count,
-    count_still (is_full_of m f q) t.stop first ahead
+    count_still (is_full_of m f q) a.stop first ahead
         (λ j low high. and_left _ _ (and_right (eqb (owner m j) q) _ (closed j low high))),
   );
 }
 
-pub tally_few : (m : Membership) (f : ℕ → SlotState) (q : ℕ) (t : Tally) → IsTally m f q t
-    → (t.open_count ≤ instance_count) × (t.full_count ≤ instance_count)
-tally_few m f q t h = (
-  omega (arith, h.open_count, h.small, count_few (is_open_of m f q) t.stop),
-  omega (arith, h.full_count, h.small, count_few (is_full_of m f q) t.stop),
+pub tally_few : (m : Membership) (f : ℕ → SlotState) (q : ℕ) (d : Tally) → IsTally m f q d
+    → (d.open_count ≤ instance_count) × (d.full_count ≤ instance_count)
+tally_few m f q d h = (
+  omega (arith, h.open_count, h.small, count_few (is_open_of m f q) d.stop),
+  omega (arith, h.full_count, h.small, count_few (is_full_of m f q) d.stop),
 )
 
 -- ---- what a suspicion would revoke
 
 module _ (m : Membership) (slots : List (Option SlotState)) (rs : List (List Span)) (now : KnownState)
-    (shown : known_of m slots rs ≡ now) (q front : ℕ) (t : Tally) (h : IsTally m (known_at m slots rs) q t)
-    (stop : t.stop ≡ min (front + 1) instance_count) where
+    (shown : known_of m slots rs ≡ now) (q front : ℕ) (d : Tally) (h : IsTally m (known_at m slots rs) q d)
+    (stop : d.stop ≡ min (front + 1) instance_count) where
   same_members : m ≡ now.members
-  same_members = ap (λ (k : KnownState). k.members) shown
+  same_members = ap (λ (x : KnownState). x.members) shown
 
-  open_at : (j : ℕ) → j < t.stop → is_open_of m (known_at m slots rs) q j ≡ is_open now q front j
+  open_at : (j : ℕ) → j < d.stop → is_open_of m (known_at m slots rs) q j ≡ is_open now q front j
   open_at j l =
       let reached : j ≤ front = omega (arith, stop) in
       let small : j < instance_count = omega (arith, stop) in
       ap (λ (s : SlotState). eqb (owner m j) q && is_none s.learned) (sym (seen m slots rs now shown j small))
       ∙ ap (λ n. eqb (owner n j) q && is_none (known_slot now j).learned) same_members
-      ∙ ap (λ b. b && is_none (known_slot now j).learned)
-      (sym (ap (λ b. eqb (owner now.members j) q && b) (le-leb j front reached)
+      ∙ ap (λ y. y && is_none (known_slot now j).learned)
+      (sym (ap (λ y. eqb (owner now.members j) q && y) (le-leb j front reached)
       ∙ and-true (eqb (owner now.members j) q)))
     where
-      and-true : (b : Bool) → (b && true) ≡ b
+      and-true : (y : Bool) → (y && true) ≡ y
       and-true true = refl
       and-true false = refl
 
-  full_at : (j : ℕ) → j < t.stop
+  full_at : (j : ℕ) → j < d.stop
       → is_full_of m (known_at m slots rs) q j ≡ (is_open now q front j && is_round_full_at now j)
   full_at j l =
       let small : j < instance_count = omega (arith, stop) in
-      ap (λ b. b && is_spent m (known_at m slots rs j)) (open_at j l)
+      ap (λ y. y && is_spent m (known_at m slots rs j)) (open_at j l)
       ∙ ap (λ (s : SlotState). is_open now q front j && is_spent m s) (sym (seen m slots rs now shown j small))
       ∙ ap (λ n. is_open now q front j && is_spent n (known_slot now j)) same_members
 
-  count_all : (f g : ℕ → Bool) → ((j : ℕ) → j < t.stop → f j ≡ g j)
-      → ((j : ℕ) → t.stop ≤ j → j < instance_count → g j ≡ false)
-      → count_by f (below t.stop) ≡ count_by g instances
+  count_all : (f g : ℕ → Bool) → ((j : ℕ) → j < d.stop → f j ≡ g j)
+      → ((j : ℕ) → d.stop ≤ j → j < instance_count → g j ≡ false)
+      → count_by f (below d.stop) ≡ count_by g instances
   count_all f g same past =
-      let all : t.stop + (instance_count - t.stop) ≡ instance_count = omega (arith, h.small) in
-      count_same f g t.stop same
+      let all : d.stop + (instance_count - d.stop) ≡ instance_count = omega (arith, h.small) in
+      count_same f g d.stop same
       ∙ sym (ap (count_by g) instances-below ∙ ap (λ n. count_by g (below n)) (sym all)
-      ∙ count_by-below_none g t.stop (instance_count - t.stop) (λ j low high. past j low (omega (arith, all))))
+      ∙ count_by-below_none g d.stop (instance_count - d.stop) (λ j low high. past j low (omega (arith, all))))
 
-  closed_past : (j : ℕ) → t.stop ≤ j → j < instance_count → is_open now q front j ≡ false
+  closed_past : (j : ℕ) → d.stop ≤ j → j < instance_count → is_open now q front j ≡ false
   closed_past j low small =
       unrevoked_past now.members q front j (known_slot now j) (omega (arith, stop))
 
-  pub tally_survey : IsSurvey now q front t
+  pub tally_survey : IsSurvey now q front d
   tally_survey = record {
     open_count =
         h.open_count ∙ count_all (is_open_of m (known_at m slots rs) q) (is_open now q front) open_at closed_past;
@@ -531,23 +531,23 @@ counts_kept m slots new rs ranges low next tallies sound alike h = record {
 
 -- one slot is another one
 pub counts_moved : (m : Membership) (slots new : List (Option SlotState)) (rs : List (List Span)) (low next i : ℕ)
-    (tallies more : List Tally) (s u : SlotState) → known_at m slots rs i ≡ s → known_at m new rs i ≡ u
+    (tallies more : List Tally) (s r : SlotState) → known_at m slots rs i ≡ s → known_at m new rs i ≡ r
     → ((j : ℕ) → (j ≡ i → ⊥) → known_at m slots rs j ≡ known_at m new rs j)
     → ((q : ℕ) → tally_of more q
-    ≡ cond (eqb q (owner m i)) (moved m i (tally_of tallies q) s u) (tally_of tallies q))
+    ≡ cond (eqb q (owner m i)) (moved m i (tally_of tallies q) s r) (tally_of tallies q))
     → IsSound m new rs next → IsKnown m slots rs low tallies → IsKnown m new rs next more
-counts_moved m slots new rs low next i tallies more s u was is rest moves sound h = record {
+counts_moved m slots new rs low next i tallies more s r was is rest moves sound h = record {
   sound = sound;
   counted = λ q. subst (IsTally m (known_at m new rs) q) (sym (moves q)) (⊎_elim
       (λ (own : owner m i ≡ q).
       subst (λ b. IsTally m (known_at m new rs) q
-      (cond b (moved m i (tally_of tallies q) s u) (tally_of tallies q))) (sym (eq-eqb q (owner m i) (sym own)))
-      (subst (λ x. IsTally m (known_at m new rs) q (moved m i (tally_of tallies q) x u)) was
+      (cond b (moved m i (tally_of tallies q) s r) (tally_of tallies q))) (sym (eq-eqb q (owner m i) (sym own)))
+      (subst (λ x. IsTally m (known_at m new rs) q (moved m i (tally_of tallies q) x r)) was
       (subst (λ x. IsTally m (known_at m new rs) q (moved m i (tally_of tallies q) (known_at m slots rs i) x)) is
       (tally_moved m (known_at m slots rs) q i (tally_of tallies q) own (h.counted q) (known_at m new rs) rest))))
       (λ (other : owner m i ≡ q → ⊥).
       subst (λ b. IsTally m (known_at m new rs) q
-      (cond b (moved m i (tally_of tallies q) s u) (tally_of tallies q)))
+      (cond b (moved m i (tally_of tallies q) s r) (tally_of tallies q)))
       (sym (ne_eqb q (owner m i) (λ e. other (sym e))))
       (tally_alike m (known_at m slots rs) (known_at m new rs) q (tally_of tallies q)
       (λ j small own. alike_same m _ _ (rest j (λ e. other (ap (owner m) (sym e) ∙ own)))) (h.counted q)))

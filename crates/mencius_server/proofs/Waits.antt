@@ -66,12 +66,12 @@ module _ (m : Membership) (w : Trace) (p : ℕ) (r : IsReached m w) where
   other_unsaid i ne None e = refl
   other_unsaid i ne (Some t) e = absurd (ne (suggest_owner m w grown p i t (suggested_in w p i t e)))
 
-  ticket_at : (i : ℕ) (c : Bool) → eqb (owner m i) p ≡ c
-      → cond c (ticket_of (if_own m p i (trying w p i) (proposed w i (trying w p i)))) None ≡ suggested w p i
+  ticket_at : (i : ℕ) (d : Bool) → eqb (owner m i) p ≡ d
+      → cond d (ticket_of (if_own m p i (trying w p i) (proposed w i (trying w p i)))) None ≡ suggested w p i
   ticket_at i true e =
       let mine = eqb-true (owner m i) p e in
       ap (λ (b : ℕ). ticket_of (if_own m p i b (proposed w i b))) (own_untried m w grown p i mine)
-      ∙ ap (λ (c : Bool). ticket_of (cond (c || ltb 0 0) (proposed w i 0) None)) e
+      ∙ ap (λ (d : Bool). ticket_of (cond (d || ltb 0 0) (proposed w i 0) None)) e
       ∙ owner_said i mine (proposed w i 0) refl
   ticket_at i false e =
       other_unsaid i (λ mine. let k : eqb (owner m i) p ≡ true = eq-eqb (owner m i) p mine in
@@ -90,15 +90,15 @@ module _ (m : Membership) (w : Trace) (p : ℕ) (r : IsReached m w) where
       (λ h.
       let a = any-instances_found (is_suggested_past (server_at m w p) t i) h in
       let b = and_parts (ltb i a.0) (is_ticket t (suggested_at (server_at m w p) a.0)) a.2 in
-      let c = sym (suggested_same a.0 a.1) ∙ ticket_is t (suggested_at (server_at m w p) a.0) b.1 in
-      in_any (is_suggestion_past p t i) (Sent (Suggest p a.0 t)) w (suggested_in w p a.0 t c) (rw (same p, same t) b.0))
+      let d = sym (suggested_same a.0 a.1) ∙ ticket_is t (suggested_at (server_at m w p) a.0) b.1 in
+      in_any (is_suggestion_past p t i) (Sent (Suggest p a.0 t)) w (suggested_in w p a.0 t d) (rw (same p, same t) b.0))
       (λ h.
       let a = any_in (is_suggestion_past p t i) w h in
       let b = past_line p t i a.0 a.2 in
-      let c : IsIn (Sent (Suggest p b.0 t)) w = rw b.2 at a.1 in
-      let small = suggest_small m w grown p b.0 t c in
+      let d : IsIn (Sent (Suggest p b.0 t)) w = rw b.2 at a.1 in
+      let small = suggest_small m w grown p b.0 t d in
       any-instances (is_suggested_past (server_at m w p) t i) b.0 small
-      (rw (b.1, suggested_same b.0 small, suggested_is b.0 t c) (same t)))
+      (rw (b.1, suggested_same b.0 small, suggested_is b.0 t d) (same t)))
 
   waits_same : (i : ℕ) → i < instance_count → (o : Option ℕ) → waits_with (server_at m w p) i o ≡ waits w p i o
   waits_same i small None = refl
@@ -106,7 +106,7 @@ module _ (m : Membership) (w : Trace) (p : ℕ) (r : IsReached m w) where
       ap (λ (s : SlotState). unless
       (not (is_noop s.learned) || list_any (is_suggested_past (server_at m w p) t i) instances) (Some t))
       (slot-server_at m w p i small)
-      ∙ ap (λ (c : Bool). unless (not (is_noop (learned w p i)) || c) (Some t)) (past_same i t)
+      ∙ ap (λ (d : Bool). unless (not (is_noop (learned w p i)) || d) (Some t)) (past_same i t)
 
   pub waiting_at_same : (i : ℕ) → i < instance_count → waits_at (server_at m w p) i ≡ waiting_at w p i
   waiting_at_same i small =

@@ -116,10 +116,10 @@ told_past a rs ss end none j past = ⊎_elim
     (λ (over : a.stop ≤ j). told_out a rs ss j (out_past a j over))
     (cases_lt j a.stop)
   where
-    nowhere : (c b : Bool) (o : Option SlotState) → o ≡ None → (c && (b && is_learned o)) ≡ false
+    nowhere : (d x : Bool) (o : Option SlotState) → o ≡ None → (d && (x && is_learned o)) ≡ false
     nowhere true true None e = refl
     nowhere true false o e = refl
-    nowhere false b o e = refl
+    nowhere false x o e = refl
     nowhere true true (Some s) e = absurd (cc)
 
 -- ---- first phases
@@ -132,7 +132,7 @@ pub begun_in : (a : Stretch) (p j : ℕ) (o : Option SlotState) → is_in a j �
 begun_in a p j None e = rw e refl
 begun_in a p j (Some s) e = rw e (go (is_none s.learned) refl)
   where
-    go : (b : Bool) → is_none s.learned ≡ b
+    go : (d : Bool) → is_none s.learned ≡ d
         → cond (is_none s.learned) (Some (begun a.members p s)) (Some s) ≡ Some (begun a.members p s)
     go true e = rw e refl
     go false e = rw e refl
@@ -145,11 +145,11 @@ pub unlearned_in : (a : Stretch) (ss : List (Option SlotState)) (j : ℕ) → is
 unlearned_in a ss j e = rw e refl
 
 -- the message for one instance
-pub prepare_here : (a : Stretch) (p i : ℕ) (ss : List (Option SlotState)) (b : Bool) (o : Option SlotState)
-    → stand_at ss i ≡ o → b ≡ is_unlearned o
-    → prepare_at a.members p i o ≡ cond b (prepare_of a p ss i ∷ []) []
-prepare_here a p i ss b None e h = rw h refl
-prepare_here a p i ss b (Some s) e h = rw (h, e) refl
+pub prepare_here : (a : Stretch) (p i : ℕ) (ss : List (Option SlotState)) (d : Bool) (o : Option SlotState)
+    → stand_at ss i ≡ o → d ≡ is_unlearned o
+    → prepare_at a.members p i o ≡ cond d (prepare_of a p ss i ∷ []) []
+prepare_here a p i ss d None e h = rw h refl
+prepare_here a p i ss d (Some s) e h = rw (h, e) refl
 
 -- ---- slots that are made to stand
 
@@ -168,12 +168,12 @@ stood_none a rs ss j e = go (stand_at ss j) refl
     go None is = let no : (is_in a j && not (covers rs j)) ≡ false =
         plain (is_in a j) (not (covers rs j))
         (sym (ap (λ o. is_in a j && (not (covers rs j) && is_none o)) is) ∙ e) in
-        ap (λ b. cond b (Some (new_slot a.members)) None) no
+        ap (λ x. cond x (Some (new_slot a.members)) None) no
       where
-        plain : (c b : Bool) → (c && (b && true)) ≡ false → (c && b) ≡ false
+        plain : (d x : Bool) → (d && (x && true)) ≡ false → (d && x) ≡ false
         plain true true e = e
         plain true false e = refl
-        plain false b e = refl
+        plain false x e = refl
 
 pub stood_in : (a : Stretch) (rs : List Span) (j : ℕ) (o : Option SlotState) → is_in a j ≡ true → covers rs j ≡ false
     → cond (is_none o) (Some (new_slot a.members)) o ≡ stood_at a rs j o
@@ -193,11 +193,11 @@ pub lacking_covered : (a : Stretch) (rs : List Span) (ss : List (Option SlotStat
 lacking_covered a rs ss j e = rw e (and_right (is_in a j) _ refl)
 
 -- a slot that is made where none stands
-pub made_yes : {X : Type 0} (b d : Bool) (x y : X) → d ≡ true → cond b x y ≡ cond (b && d) x y
+pub made_yes : {X : Type 0} (a d : Bool) (x y : X) → d ≡ true → cond a x y ≡ cond (a && d) x y
 made_yes true d x y e = rw e refl
 made_yes false d x y e = refl
 
-pub made_no : {X : Type 0} (b d : Bool) (x y : X) → d ≡ false → y ≡ cond (b && d) x y
+pub made_no : {X : Type 0} (a d : Bool) (x y : X) → d ≡ false → y ≡ cond (a && d) x y
 made_no true d x y e = rw e refl
 made_no false d x y e = refl
 
@@ -223,44 +223,53 @@ module _ (a : Stretch) (rs : List Span) (old : List (Option SlotState)) (now : L
     filled_room none = let some = room_here (is_lacking a rs old) a.stop (cap - len) i high (lacks ∙ none) room in
         omega (arith, some)
 
-    module _ (new : List (Option SlotState))
-        (made : (j : ℕ) → stand_at new j ≡ cond (eqb j i && is_none (stand_at now i)) (Some (new_slot a.members))
-        (stand_at now j)) where
-      pub filled_walked : IsWalked (stood_at a rs) (stand_at old) (stand_at new) next
-      filled_walked = walked_more (stood_at a rs) (stand_at old) (stand_at now) (stand_at new) i next ahead between
-          (made i ∙ ap (λ b. cond (b && is_none (stand_at now i)) (Some (new_slot a.members)) (stand_at now i))
-          (eq-eqb i i refl)
-          ∙ stood_in a rs i (stand_at now i) (in_here a i own low high) clear)
-          (λ j off. made j ∙ ap (λ b. cond (b && is_none (stand_at now i)) (Some (new_slot a.members))
-          (stand_at now j)) (ne_eqb j i off))
-          walked
-
-    pub filled_more : (more : ℕ) → more ≡ len + cond (is_none (stand_at now i)) 1 0
+    filled_more : (more : ℕ) → more ≡ len + cond (is_none (stand_at now i)) 1 0
         → HasRoomFrom (is_lacking a rs old) a.stop (cap - more) next
     filled_more more is = room_gap (is_lacking a rs old) a.stop (cap - more) (i + 1) next ahead gap
         (room_more (is_lacking a rs old) a.stop (cap - len) (cap - more) i (go (is_none (stand_at now i)) refl) room)
       where
-        go : (b : Bool) → is_none (stand_at now i) ≡ b → (cap - more) + cond (is_lacking a rs old i) 1 0 ≡ cap - len
+        go : (d : Bool) → is_none (stand_at now i) ≡ d → (cap - more) + cond (is_lacking a rs old i) 1 0 ≡ cap - len
         go true e = let fits = filled_room e in let one : more ≡ len + 1 = is
-            ∙ ap (λ b. len + cond b 1 0) e in rw (lacks ∙ e) (omega (arith, fits, one))
+            ∙ ap (λ d. len + cond d 1 0) e in rw (lacks ∙ e) (omega (arith, fits, one))
         go false e = let none : more ≡ len + 0 = is
-            ∙ ap (λ b. len + cond b 1 0) e in rw (lacks ∙ e) (omega (arith, none))
+            ∙ ap (λ d. len + cond d 1 0) e in rw (lacks ∙ e) (omega (arith, none))
+
+    module _ (new : List (Option SlotState))
+        (made : (j : ℕ) → stand_at new j ≡ cond (eqb j i && is_none (stand_at now i)) (Some (new_slot a.members))
+        (stand_at now j)) where
+      filled_walked : IsWalked (stood_at a rs) (stand_at old) (stand_at new) next
+      filled_walked = walked_more (stood_at a rs) (stand_at old) (stand_at now) (stand_at new) i next ahead between
+          (made i ∙ ap (λ d. cond (d && is_none (stand_at now i)) (Some (new_slot a.members)) (stand_at now i))
+          (eq-eqb i i refl)
+          ∙ stood_in a rs i (stand_at now i) (in_here a i own low high) clear)
+          (λ j off. made j ∙ ap (λ d. cond (d && is_none (stand_at now i)) (Some (new_slot a.members))
+          (stand_at now j)) (ne_eqb j i off))
+          walked
+
+      pub filled : (more : ℕ) → more ≡ len + cond (is_none (stand_at now i)) 1 0
+          → IsWalked (stood_at a rs) (stand_at old) (stand_at new) next
+          × HasRoomFrom (is_lacking a rs old) a.stop (cap - more) next
+      filled more is = (filled_walked, filled_more more is)
 
   -- where a slot stands
   pub stands_whole : is_none (stand_at now i) ≡ false → is_lacking a rs old i ≡ false
   stands_whole some = and_right (is_in a i) _ (and_right (not (covers rs i)) _ (ap is_none (sym start) ∙ some))
 
   module _ (whole : is_lacking a rs old i ≡ false) where
-    pub passed_walked : IsWalked (stood_at a rs) (stand_at old) (stand_at now) next
+    passed_walked : IsWalked (stood_at a rs) (stand_at old) (stand_at now) next
     passed_walked = walked_more (stood_at a rs) (stand_at old) (stand_at now) (stand_at now) i next ahead between
         (start ∙ sym (stood_none a rs old i whole) ∙ ap (stood_at a rs i) (sym start)) (λ j off. refl) walked
 
-    pub passed_room : HasRoomFrom (is_lacking a rs old) a.stop (cap - len) next
+    passed_room : HasRoomFrom (is_lacking a rs old) a.stop (cap - len) next
     passed_room = room_gap (is_lacking a rs old) a.stop (cap - len) i next (omega arith)
         (λ j l h. ⊎_elim
         (λ (at : j ≡ i). ap (is_lacking a rs old) at ∙ whole)
         (λ (off : j ≡ i → ⊥). gap j (omega arith) h)
         (cases_eq j i)) room
+
+    pub passed : IsWalked (stood_at a rs) (stand_at old) (stand_at now) next
+        × HasRoomFrom (is_lacking a rs old) a.stop (cap - len) next
+    passed = (passed_walked, passed_room)
 
 -- a count of none
 pub none_of_all : (test : ℕ → Bool) (n : ℕ) → count_by test (below n) ≤ 0 → (j : ℕ) → j < n → test j ≡ false
@@ -268,7 +277,7 @@ none_of_all test n few j less =
     ⊎_elim
     (λ (yes : test j ≡ true).
     let more : count_by test (below (j + 1)) ≡ count_by test (below j) + 1 = count_by-below_more test j
-    ∙ ap (λ (b : Bool). count_by test (below j) + cond b 1 0) yes in
+    ∙ ap (λ (a : Bool). count_by test (below j) + cond a 1 0) yes in
     let all : count_by test (below (j + 1)) ≤ count_by test (below n) =
     count_by-below_le test (j + 1) n (omega arith) in
     absurd (omega (arith, more, all, few)))

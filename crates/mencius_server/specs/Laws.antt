@@ -1,7 +1,7 @@
 -- What a server answers and does that is at a reached trace, who may hear what it sends, and what an event leaves.
 use Rattle.std.specs.Prelude.{◌≡◌, ◌<◌, ◌≤◌, IsTrue, List, Ok, Some, length, slice_get, true}
 use Rattle.std.specs.List.{All}
-use Rattle.mencius_base.specs.Limits.{instance_count}
+use Rattle.mencius_base.specs.Limits.{instance_count, most_servers}
 use Rattle.mencius_base.specs.Members.{Membership, first_item}
 use Rattle.mencius_base.specs.Message.{goes_to, is_addressed}
 use Rattle.mencius_base.specs.Numbers.{Inst, MessageNo, ServerId, TicketNo}
@@ -79,7 +79,7 @@ SubmitAddresses =
 
 abbrev pub HearAddresses : Type 0
 HearAddresses =
-    (s : ServerState) → s.id < s.members.count → s.members.count ≤ 7 → (x : Message)
+    (s : ServerState) → s.id < s.members.count → s.members.count ≤ most_servers → (x : Message)
     → IsTrue (is_addressed s.members s.id x) → AreHearable s.members (sent_on s x)
 
 abbrev pub SuspectAddresses : Type 0

@@ -35,19 +35,19 @@ abbrev pub is_full_of : Membership → (ℕ → SlotState) → ℕ → ℕ → B
 is_full_of m f q j = is_open_of m f q j && is_spent m (f j)
 
 -- these are the numbers of q's instances below a place, where f is known of each instance
-pub record IsTally (m : Membership) (f : ℕ → SlotState) (q : ℕ) (t : Tally) : Type 0 where
-  pub small : t.stop ≤ instance_count
-  pub open_count : t.open_count ≡ count_by (is_open_of m f q) (below t.stop)
-  pub full_count : t.full_count ≡ count_by (is_full_of m f q) (below t.stop)
+pub record IsTally (m : Membership) (f : ℕ → SlotState) (q : ℕ) (a : Tally) : Type 0 where
+  pub small : a.stop ≤ instance_count
+  pub open_count : a.open_count ≡ count_by (is_open_of m f q) (below a.stop)
+  pub full_count : a.full_count ≡ count_by (is_full_of m f q) (below a.stop)
 
 -- the same of its instances between two places
-pub record IsTallyFrom (m : Membership) (f : ℕ → SlotState) (q first : ℕ) (t : Tally) : Type 0 where
-  pub ahead : first ≤ t.stop
-  pub small : t.stop ≤ instance_count
-  pub open_count : t.open_count + count_by (is_open_of m f q) (below first)
-      ≡ count_by (is_open_of m f q) (below t.stop)
-  pub full_count : t.full_count + count_by (is_full_of m f q) (below first)
-      ≡ count_by (is_full_of m f q) (below t.stop)
+pub record IsTallyFrom (m : Membership) (f : ℕ → SlotState) (q first : ℕ) (d : Tally) : Type 0 where
+  pub ahead : first ≤ d.stop
+  pub small : d.stop ≤ instance_count
+  pub open_count : d.open_count + count_by (is_open_of m f q) (below first)
+      ≡ count_by (is_open_of m f q) (below d.stop)
+  pub full_count : d.full_count + count_by (is_full_of m f q) (below first)
+      ≡ count_by (is_full_of m f q) (below d.stop)
 
 -- what is known of an instance by a slot alone
 abbrev pub known_by_slot : Membership → List (Option SlotState) → ℕ → SlotState
@@ -80,20 +80,20 @@ abbrev pub untallied : Membership → Tally → SlotState → Tally
 untallied m t s = record t { open_count = t.open_count - open_one s; full_count = t.full_count - full_one m s }
 
 -- the instance was counted
-pub record HasCounted (m : Membership) (t : Tally) (s : SlotState) : Type 0 where
-  pub open_count : open_one s ≤ t.open_count
-  pub full_count : full_one m s ≤ t.full_count
-  pub few : t.open_count ≤ instance_count
-  pub fewer : t.full_count ≤ instance_count
+pub record HasCounted (m : Membership) (d : Tally) (s : SlotState) : Type 0 where
+  pub open_count : open_one s ≤ d.open_count
+  pub full_count : full_one m s ≤ d.full_count
+  pub few : d.open_count ≤ instance_count
+  pub fewer : d.full_count ≤ instance_count
 
 -- a slot is another one from now on
 abbrev pub moved : Membership → ℕ → Tally → SlotState → SlotState → Tally
 moved m i t s u = if nat_lt i t.stop then tallied m (untallied m t s) u else t
 
 -- what a suspicion of q would revoke, up to a front
-pub record IsSurvey (k : KnownState) (q front : ℕ) (t : Tally) : Type 0 where
-  pub open_count : t.open_count ≡ count_by (is_open k q front) instances
-  pub full_count : nat_lt 0 t.full_count ≡ list_any (is_round_full_at k) (filter (is_open k q front) instances)
+pub record IsSurvey (s : KnownState) (q front : ℕ) (d : Tally) : Type 0 where
+  pub open_count : d.open_count ≡ count_by (is_open s q front) instances
+  pub full_count : nat_lt 0 d.full_count ≡ list_any (is_round_full_at s) (filter (is_open s q front) instances)
 
 -- why a suspicion of which this was counted is refused, running out of memory aside
 abbrev pub tally_cause : Tally → Outgoing → Option Refusal
@@ -102,12 +102,12 @@ tally_cause t o = if t.open_count == 0
     else if nat_lt 0 t.full_count then Some RoundsFull else outbox_full o t.open_count
 
 -- the instances of q from one on before which none is open, up to a front
-pub record IsOpenStretch (k : KnownState) (q front : ℕ) (t : Stretch) : Type 0 where
-  pub stretch : IsStretch t
-  pub members : t.members ≡ k.members
-  pub server : t.server ≡ q
-  pub stop : t.stop ≡ min (front + 1) instance_count
-  pub before : (j : ℕ) → j < t.first → is_open k q front j ≡ false
+pub record IsOpenStretch (s : KnownState) (q front : ℕ) (a : Stretch) : Type 0 where
+  pub stretch : IsStretch a
+  pub members : a.members ≡ s.members
+  pub server : a.server ≡ q
+  pub stop : a.stop ≡ min (front + 1) instance_count
+  pub before : (j : ℕ) → j < a.first → is_open s q front j ≡ false
 
 -- what is known, and what was counted of it
 pub record IsKnown (m : Membership) (slots : List (Option SlotState)) (rs : List (List Span)) (low : ℕ)

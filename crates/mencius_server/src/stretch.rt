@@ -1,5 +1,5 @@
 //! The instances of one server between two places.
-ghost use Rattle.mencius_base.specs.Limits.{greatest_front};
+ghost use Rattle.mencius_base.specs.Limits.{greatest_front, most_servers};
 ghost use Rattle.mencius_base.specs.Members.{owner};
 ghost use Rattle.mencius_server.specs.Stretches.{IsStretch};
 ghost use Rattle.std.specs.Prelude.{◌≡◌, ℕ, ◌+◌, ◌<◌, ◌≤◌};
@@ -34,7 +34,7 @@ pub(crate) fn next_owned(members: Members, inst: u32) -> u32
     requires { inst ≤ greatest_front }
     ensures owned { owner members result ≡ owner members inst }
     ensures above { inst + 1 ≤ result }
-    ensures near { result ≤ inst + 7 }
+    ensures near { result ≤ inst + most_servers }
     ensures least { (i : ℕ) → inst + 1 ≤ i → owner members i ≡ owner members inst → result ≤ i }
 {
     inst + u32::from(members.count())

@@ -1,5 +1,5 @@
 //! How many instances a suspicion would revoke, counted while they change.
-ghost use Rattle.mencius_base.specs.Limits.{greatest_round, instance_count};
+ghost use Rattle.mencius_base.specs.Limits.{greatest_round, instance_count, most_servers};
 ghost use Rattle.mencius_base.specs.Members.{owner};
 ghost use Rattle.mencius_base.specs.Refusal.{IsRefusedFor};
 ghost use Rattle.mencius_server.specs.Changes.{IsSaid, changed};
@@ -10,7 +10,7 @@ ghost use Rattle.std.specs.Prelude.{◌≡◌, ℕ, ◌+◌, ◌<◌, ◌≤◌,
 use crate::change::Change;
 use crate::revocation::round_after;
 use coord_paxos::Slot;
-use mencius_base::{GREATEST_ROUND, Members, Outbox, Refusal};
+use mencius_base::{GREATEST_ROUND, MOST_SERVERS, Members, Outbox, Refusal};
 use std::marker::Model;
 
 /// What was counted of one server's instances.
@@ -126,7 +126,7 @@ pub(crate) fn is_last(members: Members, slot: &Slot) -> bool
 /// A tally for each server.
 #[derive(Drop)]
 pub(crate) struct Tallies {
-    by_server: [Tally; 7],
+    by_server: [Tally; MOST_SERVERS as usize],
     // No tally reaches past this place, so that a change from there on needs no look at them.
     reach: u32,
 }
@@ -149,14 +149,14 @@ impl Tallies {
         ensures { (q : ℕ) → tally_of result q ≡ no_tally }
     {
         Tallies {
-            by_server: [Tally::NOTHING; 7],
+            by_server: [Tally::NOTHING; MOST_SERVERS as usize],
             reach: 0,
         }
     }
 
     /// What was counted of a server's instances.
     pub(crate) fn get(&self, server: u8) -> Tally
-        requires { server < 7 }
+        requires { server < most_servers }
         ensures { result ≡ tally_of self.now server }
     {
         self.by_server[server as usize]
@@ -164,7 +164,7 @@ impl Tallies {
 
     /// The same if it was counted no further than to a place, and else nothing.
     pub(crate) fn up_to(&self, server: u8, stop: u32) -> Tally
-        requires { server < 7 }
+        requires { server < most_servers }
         ensures was { (result ≡ tally_of self.now server) ⊎ (result ≡ no_tally) }
         ensures low { result.stop ≤ stop }
     {
@@ -177,7 +177,7 @@ impl Tallies {
 
     /// Keeps what was counted of a server's instances.
     pub(crate) fn put(&mut self, server: u8, tally: Tally)
-        requires { server < 7 }
+        requires { server < most_servers }
         ensures { (q : ℕ) → tally_of self.new q ≡ (if q == server then tally else tally_of self.old q) }
     {
         self.by_server[server as usize] = tally;

@@ -1,5 +1,7 @@
 //! Worked tables and traces, given from outside.
 
+ghost use Rattle.std.specs.Prelude.{◌<◌};
+
 use crate::Server;
 use mencius_base::{Ballot, Members, Message, Outbox, Refusal, Value, Vote};
 use std::alloc::Global;
@@ -141,26 +143,67 @@ fn learn(from: u8, inst: u32, value: Value) -> Option<Message> {
     Some(Message::Learn { from, inst, value })
 }
 
+// One of three servers.
+fn new_server(alloc: Global, id: u8) -> Result<Server, Fail>
+    requires { id < 3 }
+{
+    let members = Members::new(3).ok_or("three")?;
+    Ok(Server::new(alloc, members, id)?)
+}
+
+fn new_servers(alloc: Global) -> Result<Vec<Server>, Fail> {
+    let mut servers = Vec::with_capacity(alloc, 3)?;
+    for id in 0..3u8 {
+        servers.push(new_server(alloc, id)?)?;
+    }
+    Ok(servers)
+}
+
 // Three servers, through the rows, and their fronts at the end.
 fn follow(rt: &impl Abort, alloc: Global, rows: &[Row], fronts: [u32; 3]) -> Result<(), Fail> {
-    let members = Members::new(3).ok_or("three")?;
     let mut out = Outbox::new(alloc, 100);
-    let mut zero = Server::new(alloc, members, 0)?;
-    let mut one = Server::new(alloc, members, 1)?;
-    let mut two = Server::new(alloc, members, 2)?;
-    for (words, sends, learns) in rows {
-        let before = out.len() as usize;
-        let event = event_of(rt, *words);
-        let learned = match place_of(rt, *words) {
-            0 => happen(rt, &mut zero, event, &mut out)?,
-            1 => happen(rt, &mut one, event, &mut out)?,
-            _ => happen(rt, &mut two, event, &mut out)?,
-        };
-        assert_eq!(rt; learned, *learns, "{words}");
-        assert_sent(rt, &out, before, sends);
+    let mut servers = new_servers(alloc)?;
+    for row in rows {
+        take_row(rt, servers.as_mut_slice(), row, &mut out);
     }
-    assert_eq!(rt; [zero.front(), one.front(), two.front()], fronts);
+    for (server, front) in servers.iter().zip(fronts) {
+        assert_eq!(rt; server.front(), front);
+    }
     Ok(())
+}
+
+// What a row says happens, and sends and teaches what it says.
+fn take_row(rt: &impl Abort, servers: &mut [Server], row: &Row, out: &mut Outbox) {
+    let (words, sends, learns) = row;
+    let before = out.len() as usize;
+    let event = event_of(rt, *words);
+    let Some(server) = servers.get_mut(place_of(rt, *words) as usize) else {
+        panic!(rt; "no server of {words}");
+    };
+    assert_happens(rt, server, event, out, Ok(*learns));
+    assert_sent(rt, out, before, sends);
+}
+
+// An event is answered so: with how many instances are learned, or with why it is refused.
+fn assert_happens(
+    rt: &impl Abort,
+    server: &mut Server,
+    event: Event,
+    out: &mut Outbox,
+    answer: Result<u32, Refusal>,
+) {
+    assert_eq!(rt; happen(rt, server, event, out), answer);
+}
+
+// A message teaches so many instances.
+fn assert_learns(
+    rt: &impl Abort,
+    server: &mut Server,
+    message: &Message,
+    out: &mut Outbox,
+    count: u32,
+) {
+    assert_eq!(rt; hear(rt, server, message, out), Ok(count));
 }
 
 // What stands on the outbox from a place on.
@@ -300,24 +343,25 @@ fn duelling_revokers(rt: HostRuntime) -> Result<(), Fail> {
     Ok(())
 }
 
+// There is no room for both messages that a suggestion calls for, so none is sent.
+fn assert_lacks_room(rt: &impl Abort, server: &mut Server, message: &Message, out: &mut Outbox) {
+    assert_eq!(rt; hear(rt, server, message, out), Err(Refusal::MessagesFull));
+    assert_eq!(rt; server.front(), 0);
+    assert!(rt; out.is_empty());
+}
+
 #[test]
 fn suggestion_heard_with_little_room(rt: HostRuntime) -> Result<(), Fail> {
-    let members = Members::new(3).ok_or("three")?;
     let message = Message::Suggest {
         from: 2,
         inst: 2,
         ticket: 0,
     };
-    let mut zero = Server::new(rt.alloc(), members, 0)?;
-    let mut out = Outbox::new(rt.alloc(), 1);
-    assert_eq!(rt;
-        hear(&rt, &mut zero, &message, &mut out),
-        Err(Refusal::MessagesFull)
-    );
-    assert_eq!(rt; zero.front(), 0);
-    assert!(rt; out.is_empty());
+    let mut zero = new_server(rt.alloc(), 0)?;
+    let mut little = Outbox::new(rt.alloc(), 1);
+    assert_lacks_room(&rt, &mut zero, &message, &mut little);
     let mut out = Outbox::new(rt.alloc(), 2);
-    assert_eq!(rt; hear(&rt, &mut zero, &message, &mut out), Ok(0));
+    assert_learns(&rt, &mut zero, &message, &mut out, 0);
     assert_sent(
         &rt,
         &out,
@@ -328,40 +372,24 @@ fn suggestion_heard_with_little_room(rt: HostRuntime) -> Result<(), Fail> {
     Ok(())
 }
 
-#[test]
-fn suspicions(rt: HostRuntime) -> Result<(), Fail> {
-    let members = Members::new(3).ok_or("three")?;
-    let four = Ballot::new(members, 1, 1).ok_or("ballot 4")?;
-    let seven = Ballot::new(members, 2, 1).ok_or("ballot 7")?;
-    let mut one = Server::new(rt.alloc(), members, 1)?;
-    // The limit of a fresh outbox, the event, the answer, and the ballot that is prepared then.
-    let calls = [
-        (0, "suspect 1 1", Err(Refusal::SelfSuspect), None),
-        (0, "suspect 1 2", Err(Refusal::NothingToRevoke), None),
-        (1, "submit 1 0", Ok(0), None),
-        (1, "submit 1 1", Ok(0), None),
-        (1, "submit 1 2", Ok(0), None),
-        (4, "suspect 1 0", Ok(0), Some(four)),
-        (3, "suspect 1 0", Err(Refusal::MessagesFull), None),
-        (4, "suspect 1 0", Ok(0), Some(seven)),
-    ];
-    for (limit, words, answer, ballot) in &calls {
-        let mut out = Outbox::new(rt.alloc(), *limit);
-        let event = event_of(&rt, *words);
-        assert_eq!(rt; happen(&rt, &mut one, event, &mut out), *answer);
-        match *ballot {
-            Some(ballot) => assert_prepared(&rt, &out, 0, ballot),
-            None => assert!(rt; answer.is_ok() || out.is_empty()),
-        }
+// The limit of a fresh outbox, an event, the answer, and the ballot that is prepared then.
+type Call = (u32, &'static str, Result<u32, Refusal>, Option<Ballot>);
+
+fn take_call(rt: &impl Abort, alloc: Global, server: &mut Server, call: &Call) {
+    let (limit, words, answer, prepared) = call;
+    let mut out = Outbox::new(alloc, *limit);
+    let event = event_of(rt, *words);
+    assert_happens(rt, server, event, &mut out, *answer);
+    match *prepared {
+        Some(ballot) => assert_prepared(rt, &out, ballot),
+        None => assert!(rt; answer.is_ok() || out.is_empty()),
     }
-    assert_eq!(rt; one.front(), 10);
-    Ok(())
 }
 
 // Server 1 prepares a ballot at 0, 3, 6 and 9.
-fn assert_prepared(rt: &impl Abort, out: &Outbox, before: usize, ballot: Ballot) {
+fn assert_prepared(rt: &impl Abort, out: &Outbox, ballot: Ballot) {
     let messages = out.messages();
-    let mut count = before;
+    let mut count = 0;
     for inst in [0, 3, 6, 9] {
         let message = Message::Prepare {
             from: 1,
@@ -376,76 +404,124 @@ fn assert_prepared(rt: &impl Abort, out: &Outbox, before: usize, ballot: Ballot)
 }
 
 #[test]
-fn tickets_wait_by_instance(rt: HostRuntime) -> Result<(), Fail> {
+fn suspicions(rt: HostRuntime) -> Result<(), Fail> {
     let members = Members::new(3).ok_or("three")?;
-    let lost = |inst: u32| Message::Learn {
+    let four = Ballot::new(members, 1, 1).ok_or("ballot 4")?;
+    let seven = Ballot::new(members, 2, 1).ok_or("ballot 7")?;
+    let calls: [Call; 8] = [
+        (0, "suspect 1 1", Err(Refusal::SelfSuspect), None),
+        (0, "suspect 1 2", Err(Refusal::NothingToRevoke), None),
+        (1, "submit 1 0", Ok(0), None),
+        (1, "submit 1 1", Ok(0), None),
+        (1, "submit 1 2", Ok(0), None),
+        (4, "suspect 1 0", Ok(0), Some(four)),
+        (3, "suspect 1 0", Err(Refusal::MessagesFull), None),
+        (4, "suspect 1 0", Ok(0), Some(seven)),
+    ];
+    let mut one = new_server(rt.alloc(), 1)?;
+    for call in &calls {
+        take_call(&rt, rt.alloc(), &mut one, call);
+    }
+    assert_eq!(rt; one.front(), 10);
+    Ok(())
+}
+
+// A no-op is learned at an instance, and then a ticket waits.
+fn lose(rt: &impl Abort, server: &mut Server, inst: u32, out: &mut Outbox, waiting: Option<u32>) {
+    let message = Message::Learn {
         from: 1,
         inst,
         value: Value::Noop,
     };
-    let mut zero = Server::new(rt.alloc(), members, 0)?;
+    assert_learns(rt, server, &message, out, 1);
+    assert_eq!(rt; server.waiting(), waiting);
+}
+
+// A ticket is suggested again, and then another waits, or none.
+fn retry(rt: &impl Abort, server: &mut Server, out: &mut Outbox, waiting: Option<u32>) {
+    assert_happens(rt, server, Event::Retry, out, Ok(0));
+    assert_eq!(rt; server.waiting(), waiting);
+}
+
+fn submit_three(rt: &impl Abort, server: &mut Server, out: &mut Outbox, tickets: [u32; 3]) {
+    for ticket in tickets {
+        assert_happens(rt, server, Event::Submit(ticket), out, Ok(0));
+    }
+}
+
+#[test]
+fn tickets_wait_by_instance(rt: HostRuntime) -> Result<(), Fail> {
+    let mut zero = new_server(rt.alloc(), 0)?;
     let mut out = Outbox::new(rt.alloc(), 5);
-    assert_eq!(rt; zero.submit(7, &mut out), Ok(()));
-    assert_eq!(rt; zero.submit(8, &mut out), Ok(()));
-    assert_eq!(rt; zero.submit(9, &mut out), Ok(()));
-    assert_eq!(rt; zero.retry(&mut out), Err(Refusal::NothingWaiting));
-    assert_eq!(rt; hear(&rt, &mut zero, &lost(6), &mut out), Ok(1));
-    assert_eq!(rt; zero.waiting(), Some(9));
-    assert_eq!(rt; hear(&rt, &mut zero, &lost(3), &mut out), Ok(1));
+    submit_three(&rt, &mut zero, &mut out, [7, 8, 9]);
+    let none = Err(Refusal::NothingWaiting);
+    assert_happens(&rt, &mut zero, Event::Retry, &mut out, none);
+    lose(&rt, &mut zero, 6, &mut out, Some(9));
+    lose(&rt, &mut zero, 3, &mut out, Some(8));
     assert_eq!(rt; zero.learned(3), Some(Value::Noop));
-    assert_eq!(rt; zero.waiting(), Some(8));
-    assert_eq!(rt; zero.retry(&mut out), Ok(()));
-    assert_eq!(rt; zero.waiting(), Some(9));
-    assert_eq!(rt; zero.retry(&mut out), Ok(()));
-    assert_eq!(rt; zero.waiting(), None);
+    retry(&rt, &mut zero, &mut out, Some(9));
+    retry(&rt, &mut zero, &mut out, None);
     assert_sent(&rt, &out, 3, &[suggest(0, 9, 8), suggest(0, 12, 9)]);
     Ok(())
 }
 
-#[test]
-fn keeps_little(rt: HostRuntime) -> Result<(), Fail> {
-    let members = Members::new(3).ok_or("three")?;
-    let mut out = Outbox::new(rt.alloc(), 2);
-    let skipped = |first: u32, stop: u32| Message::Skip {
+// Server 0 skips the instances from one of its own up to another, and one range stands then.
+fn take_skip(
+    rt: &impl Abort,
+    server: &mut Server,
+    out: &mut Outbox,
+    range: (u32, u32),
+    learns: u32,
+) {
+    let (first, stop) = range;
+    let message = Message::Skip {
         from: 0,
         first,
         stop,
     };
-    let mut one = Server::new(rt.alloc(), members, 1)?;
-    assert_eq!(rt; hear(&rt, &mut one, &skipped(3, 6), &mut out), Ok(1));
-    assert_eq!(rt; hear(&rt, &mut one, &skipped(0, 3), &mut out), Ok(1));
-    assert_eq!(rt; one.kept(), (0, 1));
+    assert_learns(rt, server, &message, out, learns);
+    assert_eq!(rt; server.kept(), (0, 1));
+}
+
+#[test]
+fn skips_keep_one_range(rt: HostRuntime) -> Result<(), Fail> {
+    let mut out = Outbox::new(rt.alloc(), 0);
+    let mut one = new_server(rt.alloc(), 1)?;
+    take_skip(&rt, &mut one, &mut out, (3, 6), 1);
+    take_skip(&rt, &mut one, &mut out, (0, 3), 1);
+    let mut other = new_server(rt.alloc(), 1)?;
+    take_skip(&rt, &mut other, &mut out, (0, 4095), 1365);
+    Ok(())
+}
+
+#[test]
+fn a_suggestion_keeps_one_slot(rt: HostRuntime) -> Result<(), Fail> {
+    let mut out = Outbox::new(rt.alloc(), 2);
+    let mut one = new_server(rt.alloc(), 1)?;
+    take_skip(&rt, &mut one, &mut out, (0, 6), 2);
     let late = Message::Suggest {
         from: 0,
         inst: 6,
         ticket: 0,
     };
-    assert_eq!(rt; hear(&rt, &mut one, &late, &mut out), Ok(0));
+    assert_learns(&rt, &mut one, &late, &mut out, 0);
     assert_eq!(rt; one.kept(), (1, 1));
     assert_eq!(rt; one.learned(3), Some(Value::Noop));
     assert_eq!(rt; one.learned(6), None);
-    let mut other = Server::new(rt.alloc(), members, 1)?;
-    assert_eq!(rt;
-        hear(&rt, &mut other, &skipped(0, 4095), &mut out),
-        Ok(1365)
-    );
-    assert_eq!(rt; other.kept(), (0, 1));
     Ok(())
 }
 
 #[test]
 fn a_refused_suspicion_keeps_nothing(rt: HostRuntime) -> Result<(), Fail> {
-    let members = Members::new(3).ok_or("three")?;
+    let mut one = new_server(rt.alloc(), 1)?;
     let mut out = Outbox::new(rt.alloc(), 4);
-    let mut one = Server::new(rt.alloc(), members, 1)?;
-    assert_eq!(rt; one.submit(0, &mut out), Ok(()));
-    assert_eq!(rt; one.submit(1, &mut out), Ok(()));
-    assert_eq!(rt; one.submit(2, &mut out), Ok(()));
+    submit_three(&rt, &mut one, &mut out, [0, 1, 2]);
     assert_eq!(rt; one.kept(), (3, 0));
-    assert_eq!(rt; one.suspect(0, &mut out), Err(Refusal::MessagesFull));
+    let full = Err(Refusal::MessagesFull);
+    assert_happens(&rt, &mut one, Event::Suspect(0), &mut out, full);
     assert_eq!(rt; one.kept(), (3, 0));
     let mut wide = Outbox::new(rt.alloc(), 4);
-    assert_eq!(rt; one.suspect(0, &mut wide), Ok(()));
+    assert_happens(&rt, &mut one, Event::Suspect(0), &mut wide, Ok(0));
     assert_eq!(rt; one.kept(), (7, 0));
     Ok(())
 }

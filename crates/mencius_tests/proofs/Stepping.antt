@@ -19,10 +19,10 @@ use Rattle.mencius_server.specs.Reached.{IsAt, server_at}
 use Rattle.mencius_server.specs.State.{ServerState}
 use Rattle.mencius_tests.specs.Hands.{AreAt}
 
-on_first : (b : Bool) (r : Refusal) (o p : Option Refusal) → cond b (Some r) o ≡ None → (o ≡ None → p ≡ None)
-    → cond b (Some r) p ≡ None
-on_first true r o p h g = absurd (cc)
-on_first false r o p h g = g h
+on_first : (a : Bool) (r : Refusal) (o x : Option Refusal) → cond a (Some r) o ≡ None → (o ≡ None → x ≡ None)
+    → cond a (Some r) x ≡ None
+on_first true r o x h g = absurd (cc)
+on_first false r o x h g = g h
 
 both_none : (cs ds : List (Bool × Refusal)) → first_cause cs ≡ None → first_cause ds ≡ None
     → first_cause (cs ++ ds) ≡ None
@@ -46,19 +46,20 @@ stays law m w k p s at same fine ne =
     }
 
 -- the message is what the receiver heard, and this is what the call left
-pub record IsHeard (k : ℕ) (x : Message) (w : Trace) (r after : ServerState) (o p : Outgoing) : Type 0 where
+pub record IsHeard (k : ℕ) (x : Message) (w : Trace) (r after : ServerState) (o sends : Outgoing) : Type 0 where
   pub addressed : IsTrue (is_addressed r.members r.id x)
   pub number : slice_get (sent w) k ≡ Some x
   pub early : early_cause r.members w (Deliver k r.id) ≡ None
   pub state : after ≡ after_hearing r x
-  pub messages : p.messages ≡ o.messages ++ sent_on r x
-  pub limit : p.limit ≡ o.limit
+  pub messages : sends.messages ≡ o.messages ++ sent_on r x
+  pub limit : sends.limit ≡ o.limit
   pub room : outbox_full o (length (sent_on r x)) ≡ None
 
-pub delivered : HearIsEvent → LeavesOthers → (w : Trace) (k : ℕ) (x : Message) (r after s t : ServerState)
-    (o p : Outgoing) → AreAt w r s t o → IsHeard k x w r after o p → s.members ≡ r.members → t.members ≡ r.members
-    → (r.id ≡ s.id → ⊥) → (r.id ≡ t.id → ⊥) → AreAt (with_event r.members w (Deliver k r.id)) after s t p
-delivered hear law w k x r after s t o p at h ms mt ns nt =
+pub delivered : HearIsEvent → LeavesOthers → (w : Trace) (k : ℕ) (x : Message) (r after s z : ServerState)
+    (o sends : Outgoing) → AreAt w r s z o → IsHeard k x w r after o sends → s.members ≡ r.members
+    → z.members ≡ r.members
+    → (r.id ≡ s.id → ⊥) → (r.id ≡ z.id → ⊥) → AreAt (with_event r.members w (Deliver k r.id)) after s z sends
+delivered hear law w k x r after s z o sends at h ms mt ns nt =
     let m = r.members in
     let e = Deliver k r.id in
     let part = hear w r k x at.first h.addressed h.number in
@@ -75,7 +76,7 @@ delivered hear law w k x r after s t o p at h ms mt ns nt =
       first = subst (λ (y : ServerState). IsAt (with_event m w e) y) (sym is)
           (record { reached = longer; state = refl });
       second = stays law m w k r.id s at.second ms fine ns;
-      third = stays law m w k r.id t at.third mt fine nt;
+      third = stays law m w k r.id z at.third mt fine nt;
       messages = h.messages ∙ ap (λ xs. xs ++ sent_on r x) at.messages ∙ ap (λ ys. sent w ++ ys) part.sent
           ∙ sym (sent-event m w e);
       limit = h.limit ∙ at.limit;
@@ -83,16 +84,16 @@ delivered hear law w k x r after s t o p at h ms mt ns nt =
 
 -- so it is after a call that was not refused
 pub delivered_then : HearIsEvent → LeavesOthers → (result : Result ℕ Refusal) (x : Message)
-    (r after s t : ServerState) (o p : Outgoing) → IsTrue (is_addressed r.members r.id x)
-    → OnOk result (p.messages ≡ o.messages ++ sent_on r x) → OnOk result (after ≡ after_hearing r x)
-    → IsRefusedFor (outbox_full o (length (sent_on r x))) result → p.limit ≡ o.limit
-    → s.members ≡ r.members → t.members ≡ r.members → (r.id ≡ s.id → ⊥) × (r.id ≡ t.id → ⊥)
-    → OnOk result ((w : Trace) (k : ℕ) → AreAt w r s t o → slice_get (sent w) k ≡ Some x
+    (r after s y : ServerState) (o z : Outgoing) → IsTrue (is_addressed r.members r.id x)
+    → OnOk result (z.messages ≡ o.messages ++ sent_on r x) → OnOk result (after ≡ after_hearing r x)
+    → IsRefusedFor (outbox_full o (length (sent_on r x))) result → z.limit ≡ o.limit
+    → s.members ≡ r.members → y.members ≡ r.members → (r.id ≡ s.id → ⊥) × (r.id ≡ y.id → ⊥)
+    → OnOk result ((w : Trace) (k : ℕ) → AreAt w r s y o → slice_get (sent w) k ≡ Some x
     → early_cause r.members w (Deliver k r.id) ≡ None
-    → AreAt (with_event r.members w (Deliver k r.id)) after s t p)
-delivered_then hear law (Err f) x r after s t o p addressed sends becomes room limit ms mt apart = tt
-delivered_then hear law (Ok n) x r after s t o p addressed sends becomes room limit ms mt apart = λ w k at number early.
-    delivered hear law w k x r after s t o p at
+    → AreAt (with_event r.members w (Deliver k r.id)) after s y z)
+delivered_then hear law (Err f) x r after s y o z addressed sends becomes room limit ms mt apart = tt
+delivered_then hear law (Ok n) x r after s y o z addressed sends becomes room limit ms mt apart = λ w k at number early.
+    delivered hear law w k x r after s y o z at
     (record {
       addressed = addressed;
       number = number;

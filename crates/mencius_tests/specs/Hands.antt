@@ -7,9 +7,9 @@ use Rattle.mencius_server.specs.Reached.{IsAt}
 use Rattle.mencius_server.specs.State.{ServerState}
 
 -- all three are at a trace, and the outbox has its messages
-pub record AreAt (w : Trace) (a b c : ServerState) (o : Outgoing) : Type 0 where
-  pub first : IsAt w a
-  pub second : IsAt w b
-  pub third : IsAt w c
+pub record AreAt (w : Trace) (r s z : ServerState) (o : Outgoing) : Type 0 where
+  pub first : IsAt w r
+  pub second : IsAt w s
+  pub third : IsAt w z
   pub messages : o.messages ≡ sent w
   pub limit : o.limit ≡ most_messages

@@ -28,6 +28,19 @@ fn replay_is_asked_for(rt: HostRuntime) -> Result<(), Fail> {
 }
 
 #[test]
+fn traces_and_checks_are_asked_for(rt: HostRuntime) -> Result<(), Fail> {
+    for (line, want) in [
+        ("mencius trace", Task::Trace),
+        ("mencius check", Task::Check),
+    ] {
+        let given = words(rt.alloc(), line)?;
+        let task = read_command_line(rt.alloc(), given.as_slice()).map_err(|_| "refused")?;
+        assert_eq!(rt; task, want, "at {line}");
+    }
+    Ok(())
+}
+
+#[test]
 fn runs_are_asked_for(rt: HostRuntime) -> Result<(), Fail> {
     for (line, with_journal, key) in [
         ("mencius run", false, None),
@@ -72,8 +85,8 @@ fn bad_command_lines(rt: HostRuntime) -> Result<(), Fail> {
     for (line, want) in [
         (
             "mencius",
-            "error: 'mencius' requires a subcommand but one was not provided\n  [subcommands: replay, run, help]\
-             \n\nUsage: mencius <COMMAND>\n",
+            "error: 'mencius' requires a subcommand but one was not provided\n  \
+             [subcommands: replay, trace, check, run, help]\n\nUsage: mencius <COMMAND>\n",
         ),
         (
             "mencius walk",
@@ -82,6 +95,14 @@ fn bad_command_lines(rt: HostRuntime) -> Result<(), Fail> {
         (
             "mencius replay now",
             "error: unexpected argument 'now' found\n\nUsage: mencius replay [OPTIONS] < SCENARIO\n",
+        ),
+        (
+            "mencius trace now",
+            "error: unexpected argument 'now' found\n\nUsage: mencius trace < SCENARIO\n",
+        ),
+        (
+            "mencius check --strict",
+            "error: unexpected argument '--strict' found\n\nUsage: mencius check < SCENARIO\n",
         ),
         (
             "mencius --loud replay",
@@ -136,6 +157,8 @@ Usage: mencius <COMMAND>
 
 Commands:
   replay  Steps a new cluster through the scenario on standard input and prints a report
+  trace   Steps a new cluster through the scenario on standard input and prints what each event did
+  check   Says where the scenario on standard input is wrong
   run     Lets workers choose what happens to a new cluster and prints a report
   help    Print this message or the help of the given subcommand(s)
 
@@ -149,11 +172,12 @@ Options:
 Examples, at the top of the repository:
   echo '{\"version\":1,\"servers\":1,\"events\":[\"submit 0 1.0 set a x\",
     \"deliver 0 0\",\"deliver 1 0\",\"execute 0\"]}' | ./mencius replay
+  ./mencius trace < examples/duelling_revokers.json
   ./mencius run --journal < examples/calm_run.json | sed -n 1p | ./mencius replay
 
-`./mencius replay --help` and `./mencius run --help` say what goes in and what comes out.
-The folder examples/ has schedules and runs to try, and docs/FORMATS.md describes both
-formats.
+`./mencius replay --help` and `./mencius run --help` say what goes in, and the help of each
+task what comes out. The folder examples/ has schedules and runs to try, and
+docs/FORMATS.md describes all formats.
 ";
 
 const REPLAY_HELP: &str = "\
@@ -207,7 +231,102 @@ Example, at the top of the repository:
   echo '{\"version\":1,\"servers\":1,\"events\":[\"submit 0 1.0 set a x\",
     \"deliver 0 0\",\"deliver 1 0\",\"execute 0\"]}' | ./mencius replay
 
-docs/FORMATS.md describes the format in full, and examples/ has schedules to try.
+`mencius trace` prints what each event did, and `mencius check` says where a bad scenario
+is wrong. docs/FORMATS.md describes the format in full, and examples/ has schedules to try.
+";
+
+const TRACE_HELP: &str = "\
+Steps a new cluster through the scenario on standard input and prints what each event did
+
+The scenario is one of `replay`, whose help says what it has. One fact is printed a line.
+Servers, events, messages and instances are numbered from 0. A value V is a command's ID,
+or no-op.
+
+  servers N                 once, at the beginning
+  event INDEX TEXT          an event, by its place; up to the next one follows what it did:
+  refused NAME              it was refused, and so did nothing
+  promises P instance I ballot B count C of M
+                            P heard a promise, as C servers have promised; M are a majority
+  acceptances P instance I ballot B count C of M
+                            P heard an acceptance, as C servers have accepted
+  ignored REASON            nothing came of a message: a greater ballot was promised
+                            (promised B), the receiver tries another one (tries B), it
+                            learned already (learned V), or it proposed already
+  learned P instance I value V
+                            P learned what stands at an instance
+  sent NUMBER KIND from S to D ..
+                            a message that was sent, to a server or to all, and what it
+                            says: Suggest, Skip, Accepted, Prepare, Promise, Propose or
+                            Learn; a Skip gives up its sender's instances I to J, without J
+  front P F                 the next own instance of P is now F
+  executed P instance I value V
+                            P executed its next instance
+  reply ID none             the reply of a command was given: nothing was at its key,
+  reply ID =TEXT            .. or this text
+
+After the last event:
+
+  server S front F executed D next I waiting ID ID ..
+                            for each server its next own instance, how many instances it
+                            executed, which is the next, and which commands lost their
+                            instance and wait for a retry, or - for none
+  unheard NUMBER KIND to D  for each message and server that it goes to, also its sender:
+                            it was neither heard there nor lost
+
+Usage: mencius trace < SCENARIO
+
+Options:
+  -h, --help
+          Print help (see a summary with '-h')
+
+Exit status:
+  0  done, whether events were refused or not
+  2  a bad command line
+  3  a bad scenario: 21 NotJson, 22 BadShape, 23 BadLimit
+  4  reading or writing failed: 24 ReadFailed, 25 WriteFailed
+  5  memory ran out: 26 NoMemory
+From 3 on, standard error has the line `mencius: fault NUMBER NAME`, and nothing was
+printed, unless writing failed.
+
+Examples, at the top of the repository:
+  ./mencius trace < examples/duelling_revokers.json
+  ./mencius run --journal < examples/calm_run.json | sed -n 1p | ./mencius trace
+
+`mencius check` says where a bad scenario is wrong. docs/FORMATS.md describes the trace in
+full, and examples/ has schedules to try.
+";
+
+const CHECK_HELP: &str = "\
+Says where the scenario on standard input is wrong
+
+The scenario is one of `replay`, whose help says what it has. No event of it is stepped.
+Where `replay` and `trace` would take it, a line is printed:
+
+  ok servers N events E     how many servers and how many events it has
+
+Where they would not, nothing is printed. Standard error then has the line of the fault
+that they give, and after it a line that says where and what it is.
+
+Usage: mencius check < SCENARIO
+
+Options:
+  -h, --help
+          Print help (see a summary with '-h')
+
+Exit status:
+  0  done: it is a scenario
+  2  a bad command line
+  3  a bad scenario: 21 NotJson, 22 BadShape, 23 BadLimit
+  4  reading or writing failed: 24 ReadFailed, 25 WriteFailed
+  5  memory ran out: 26 NoMemory
+From 3 on, standard error has the line `mencius: fault NUMBER NAME`; of a bad scenario
+there is a second line, unless memory for it ran out.
+
+Examples, at the top of the repository; the second finds a zero too many:
+  ./mencius check < examples/one_command.json
+  echo '{\"version\":1,\"servers\":3,\"events\":[\"deliver 00 0\"]}' | ./mencius check
+
+docs/FORMATS.md describes the format in full.
 ";
 
 const RUN_HELP: &str = "\
@@ -275,6 +394,9 @@ fn help(rt: HostRuntime) -> Result<(), Fail> {
         ("mencius --help", HELP),
         ("mencius replay --help", REPLAY_HELP),
         ("mencius help replay", REPLAY_HELP),
+        ("mencius trace --help", TRACE_HELP),
+        ("mencius help trace", TRACE_HELP),
+        ("mencius check --help", CHECK_HELP),
         ("mencius run --help", RUN_HELP),
         ("mencius help run", RUN_HELP),
         ("mencius --version", "mencius 0.1.0\n"),

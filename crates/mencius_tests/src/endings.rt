@@ -18,6 +18,11 @@ const REPORT: &str = "servers 1 messages 0 events 0\nserver 0 front 0 done 0 his
 const REFUSED_REPORT: &str = "refused 0 NothingWaiting\nservers 1 messages 0 events 0\n\
     server 0 front 0 done 0 history -\n";
 
+const TRACE: &str = "servers 1\nserver 0 front 0 executed 0 next 0 waiting -\n";
+
+const REFUSED_TRACE: &str = "servers 1\nevent 0 retry 0\nrefused NothingWaiting\n\
+    server 0 front 0 executed 0 next 0 waiting -\n";
+
 const NOT_TEXT: &str = "error: invalid UTF-8 was detected in one or more arguments\n\n\
     Usage: mencius <COMMAND>\n\nFor more information, try '--help'.\n";
 
@@ -100,6 +105,12 @@ fn endings(rt: HostRuntime) -> Result<(), Fail> {
             "",
             "mencius: fault 23 BadLimit\n",
         ),
+        ("trace", GOOD, 0, TRACE, ""),
+        ("trace", REFUSED, 0, REFUSED_TRACE, ""),
+        ("trace", "{", 3, "", "mencius: fault 21 NotJson\n"),
+        ("trace", NINE_SERVERS, 3, "", "mencius: fault 23 BadLimit\n"),
+        ("check", GOOD, 0, "ok servers 1 events 0\n", ""),
+        ("check", REFUSED, 0, "ok servers 1 events 1\n", ""),
         ("run", GOOD, 3, "", "mencius: fault 22 BadShape\n"),
         ("--version", "", 0, "mencius 0.1.0\n", ""),
         ("walk", "", 2, "", UNKNOWN),
@@ -114,9 +125,33 @@ fn endings(rt: HostRuntime) -> Result<(), Fail> {
     Ok(())
 }
 
+// Of a bad scenario a check says the fault, and behind it where it is, in the words of `explain`.
+#[test]
+fn checks(rt: HostRuntime) -> Result<(), Fail> {
+    for (input, fault) in [
+        ("{", "mencius: fault 21 NotJson\n"),
+        ("{}", "mencius: fault 22 BadShape\n"),
+        (NINE_SERVERS, "mencius: fault 23 BadLimit\n"),
+    ] {
+        let answer = ended(&rt, rt.alloc(), "check", input, Trouble::None)?;
+        assert_eq!(rt; answer.0, 3, "at {input}");
+        assert_eq!(rt; answer.1.as_str(), "", "at {input}");
+        let words = answer.2.as_str().strip_prefix(fault).ok_or("no fault")?;
+        assert!(rt; words.len() > 1 && words.ends_with('\n'), "at {input}");
+    }
+    Ok(())
+}
+
 #[test]
 fn failed_writes(rt: HostRuntime) -> Result<(), Fail> {
-    for line in ["replay", "replay --strict", "--help", "--version"] {
+    for line in [
+        "replay",
+        "replay --strict",
+        "trace",
+        "check",
+        "--help",
+        "--version",
+    ] {
         let answer = ended(&rt, rt.alloc(), line, GOOD, Trouble::Error)?;
         assert_eq!(rt; answer.0, 4, "at {line}");
         assert_eq!(rt; answer.1.as_str(), "", "at {line}");

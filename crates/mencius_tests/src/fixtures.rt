@@ -1,6 +1,6 @@
 //! Readers and writers that do as they are told, and scenarios made in memory.
 
-use mencius_app::{AppFault, Sink, Source, Std, replay, report};
+use mencius_app::{AppFault, Sink, Source, Std, replay, report, trace};
 use mencius_cluster::Cluster;
 use std::alloc::{AllocError, Global};
 use std::io;
@@ -108,6 +108,26 @@ pub fn replay_from<R: Source>(
     replay(alloc, source, &mut sink)
 }
 
+/// What a trace over a reader and a writer without trouble answers and writes.
+pub fn traced(alloc: Global, scenario: &[u8], written: &mut Vec<u8>) -> Result<(), AppFault> {
+    let mut source = Std::new(Pieces {
+        bytes: scenario,
+        piece: usize::MAX,
+        interruptions: 0,
+        calls: 0,
+        fails_at: None,
+    });
+    let mut sink = Std::new(Page {
+        taken: written,
+        piece: usize::MAX,
+        interruptions: 0,
+        calls: 0,
+        trouble: Trouble::None,
+        trouble_at: 0,
+    });
+    trace(alloc, &mut source, &mut sink)
+}
+
 /// The report of a cluster.
 pub fn report_of<R: Abort>(rt: &R, alloc: Global, cluster: &Cluster) -> Vec<u8> {
     let mut taken = Vec::new(alloc);
@@ -136,6 +156,17 @@ impl Script {
         let mut text = String::new(alloc);
         write!(text, "{{\"version\":1,\"servers\":{servers},\"events\":[")?;
         Ok(Script { text })
+    }
+
+    /// The bytes of a scenario of so many servers with these events, which commas set apart.
+    pub fn of(alloc: Global, servers: u8, events: &str) -> Result<Vec<u8>, AllocError> {
+        let mut script = Script::new(alloc, servers)?;
+        for event in events.split(',') {
+            if !event.is_empty() {
+                script.add(event)?;
+            }
+        }
+        script.finish()
     }
 
     /// One more event.

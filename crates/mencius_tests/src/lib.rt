@@ -4,9 +4,11 @@
 //!
 //! The modules [`conclusions`], [`hands`] and [`readings`] are no tests: they prove what a caller of a
 //! cluster, of single servers, or of a board and its readers, can conclude from public clauses alone.
-//! [`same`] compares the answers of two clusters.
+//! [`same`] compares the answers of two clusters, [`again`] makes a cluster from the journal of another one, and
+//! [`walk`] steps one and asks the laws of its answers after each event ([`observed`]).
 #![tactic(auto)]
 
+pub mod again;
 #[cfg(test)]
 mod calls;
 #[cfg(test)]
@@ -25,7 +27,10 @@ pub mod hands;
 mod journal_again;
 #[cfg(test)]
 mod limits;
+pub mod observed;
 pub mod readings;
+#[cfg(test)]
+mod rotation;
 #[cfg(test)]
 mod runs;
 pub mod same;
@@ -33,6 +38,9 @@ pub mod same;
 mod schedules;
 #[cfg(test)]
 mod streams;
+#[cfg(test)]
+mod traces;
+pub mod walk;
 #[cfg(test)]
 mod walks;
 #[cfg(test)]

@@ -1,6 +1,6 @@
 //! The greatest schedules that a cluster takes: each runs into one of its limits.
 
-use crate::fixtures::{Script, replayed};
+use crate::fixtures::{Script, replayed, traced};
 use mencius_base::{Command, CommandId, Event, Key, Members, Op};
 use mencius_cluster::{Cluster, Effect};
 use std::alloc::{AllocError, Global};
@@ -157,9 +157,8 @@ fn messages_full(rt: HostRuntime) -> Result<(), Fail> {
     Ok(())
 }
 
-#[test]
-fn events_full(rt: HostRuntime) -> Result<(), Fail> {
-    let alloc = rt.alloc();
+// A submission, its acceptance, and repeats of that until one event is too many.
+fn repeats(alloc: Global) -> Result<Script, AllocError> {
     let mut script = Script::new(alloc, 1)?;
     script.add("submit 0 1.0 set a x")?;
     script.add("deliver 0 0")?;
@@ -167,11 +166,50 @@ fn events_full(rt: HostRuntime) -> Result<(), Fail> {
         script.add("deliver 1 0")?;
     }
     script.add("execute 5")?;
+    Ok(script)
+}
+
+#[test]
+fn events_full(rt: HostRuntime) -> Result<(), Fail> {
+    let alloc = rt.alloc();
+    let script = repeats(alloc)?;
     let mut want = String::new(alloc);
     want.push_str("refused 262144 EventsFull\n")?;
     want.push_str("servers 1 messages 3 events 262144\n")?;
     want.push_str("server 0 front 1 done 0 history -\n")?;
     expect_pending(&mut want, 1)?;
     assert_prints(&rt, alloc, script, &want)?;
+    Ok(())
+}
+
+// What a trace says of these events.
+fn repeats_told(alloc: Global) -> Result<String, AllocError> {
+    let mut want = String::new(alloc);
+    want.push_str(
+        "servers 1\nevent 0 submit 0 1.0 set a x\n\
+        sent 0 Suggest from 0 to all instance 0 ballot 0 value 1.0\nfront 0 1\n\
+        event 1 deliver 0 0\nsent 1 Accepted from 0 to 0 instance 0 ballot 0\n\
+        event 2 deliver 1 0\nacceptances 0 instance 0 ballot 0 count 1 of 1\n\
+        learned 0 instance 0 value 1.0\nsent 2 Learn from 0 to all instance 0 value 1.0\n",
+    )?;
+    for place in 3..262_144 {
+        writeln!(want, "event {place} deliver 1 0\nignored learned 1.0")?;
+    }
+    want.push_str(
+        "event 262144 execute 5\nrefused EventsFull\n\
+        server 0 front 1 executed 0 next 0 waiting -\nunheard 2 Learn to 0\n",
+    )?;
+    Ok(want)
+}
+
+#[test]
+fn greatest_trace(rt: HostRuntime) -> Result<(), Fail> {
+    let alloc = rt.alloc();
+    let scenario = repeats(alloc)?.finish()?;
+    let want = repeats_told(alloc)?;
+    let mut written = Vec::new(alloc);
+    let answer = traced(alloc, scenario.as_slice(), &mut written);
+    assert_eq!(rt; answer, Ok(()));
+    assert!(rt; written.as_slice() == want.as_bytes());
     Ok(())
 }

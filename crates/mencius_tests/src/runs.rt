@@ -25,7 +25,8 @@ const TWO_WORKERS: &str = "{\"version\":1,\"servers\":3,\"workers\":2,\"seed\":1
     \"loss\":4,\"commands\":[[\"1.0 set a x\"],[\"2.0 get a\"],[\"3.0 del a\"]]}";
 
 // Five servers and eight workers, and half of the choices lose a message.
-const EIGHT_WORKERS: &str = "{\"version\":1,\"servers\":5,\"workers\":8,\"seed\":7,\"turns\":2000,\
+pub const EIGHT_WORKERS: &str =
+    "{\"version\":1,\"servers\":5,\"workers\":8,\"seed\":7,\"turns\":2000,\
     \"loss\":32,\"commands\":[[\"1.0 set a x\",\"1.1 get a\"],[\"2.0 set a y\"],[\"3.0 del a\"],\
     [\"4.0 get a\"],[\"5.0 set b z\"]]}";
 

@@ -9,7 +9,7 @@ pub struct Schedule {
     pub text: &'static str,
 }
 
-pub const SCHEDULES: [Schedule; 19] = [
+pub const SCHEDULES: [Schedule; 20] = [
     Schedule {
         name: "no_events",
         servers: 1,
@@ -220,6 +220,16 @@ pub const SCHEDULES: [Schedule; 19] = [
         text: "servers 3 messages 10 events 16\n\
             server 0 front 0 done 0 history -\n\
             server 1 front 1 done 1 history -\n\
+            server 2 front 2 done 0 history -\n",
+    },
+    Schedule {
+        name: "promise_after_the_proposal",
+        servers: 3,
+        events: "suspect 1 0,deliver 0 1,deliver 0 0,deliver 0 2,deliver 1 1,deliver 2 1,\
+            deliver 3 1",
+        text: "servers 3 messages 5 events 7\n\
+            server 0 front 0 done 0 history -\n\
+            server 1 front 1 done 0 history -\n\
             server 2 front 2 done 0 history -\n",
     },
     Schedule {

@@ -1,13 +1,14 @@
-//! The histories of all servers, compared after each event of worked schedules.
+//! The laws, asked after each event of worked schedules, and of what hostile networks make of them.
 
-use crate::courses::{named, new_cluster, scenario_of};
-use mencius_base::Refusal;
-use mencius_cluster::Cluster;
-use std::alloc::{AllocError, Global};
+use crate::courses::{named, scenario_of};
+use crate::walk::{Stop, Walk};
+use mencius_base::Event;
+use std::alloc::Global;
 use std::process::Abort;
 use std::test::Fail;
 
-const WALKED: [&str; 5] = [
+const WALKED: [&str; 6] = [
+    "skip_before_a_suggestion",
     "wrong_suspicion_keeps_the_command",
     "late_suggestion_decided_further_on",
     "duelling_revokers",
@@ -15,39 +16,38 @@ const WALKED: [&str; 5] = [
     "prepare_answered_with_learn",
 ];
 
-// Adds the history of each server to those seen so far. Of each two, one is a prefix of the other.
-fn see<R: Abort>(
-    rt: &R,
-    alloc: Global,
-    name: &str,
-    cluster: &Cluster,
-    seen: &mut Vec<Vec<u32>>,
-) -> Result<(), AllocError> {
-    for server in 0..cluster.servers() {
-        let history = cluster.history(server).unwrap_or(&[]);
-        for other in seen.iter() {
-            let begins = history.starts_with(other) || other.starts_with(history);
-            assert!(rt; begins, "server {server} in {name}");
-        }
-        seen.push(history.to_vec(alloc)?)?;
+// Delivers each message that was sent so far to every server that it goes to, from the last to the first.
+fn deliver_backwards(walk: &mut Walk, sent: u32) -> Result<(), Stop> {
+    for back in 1..=sent {
+        walk.deliver_everywhere(sent - back)?;
     }
     Ok(())
 }
 
+// After the events, everything comes once more, backwards, and then once more again.
+fn attack(walk: &mut Walk, events: Vec<Event>) -> Result<(), Stop> {
+    for event in events {
+        walk.take(event)?;
+    }
+    let sent = walk.cluster().messages();
+    deliver_backwards(walk, sent)?;
+    deliver_backwards(walk, sent)?;
+    walk.execute_all()
+}
+
+fn assert_lawful<R: Abort>(rt: &R, alloc: Global, name: &str) -> Result<(), Fail> {
+    let scenario = scenario_of(rt, alloc, named(rt, name))?;
+    let events = scenario.events.into_iter().collect(alloc)?;
+    let mut walk = Walk::new(alloc, scenario.members)?;
+    let answer = attack(&mut walk, events);
+    assert_eq!(rt; answer, Ok(()), "in {name}");
+    Ok(())
+}
+
 #[test]
-fn histories_stay_comparable(rt: HostRuntime) -> Result<(), Fail> {
-    let alloc = rt.alloc();
+fn laws_hold_where_everything_comes_again_backwards(rt: HostRuntime) -> Result<(), Fail> {
     for name in WALKED {
-        let scenario = scenario_of(&rt, alloc, named(&rt, name))?;
-        let mut cluster = new_cluster(&rt, alloc, scenario.members);
-        let mut seen = Vec::new(alloc);
-        see(&rt, alloc, name, &cluster, &mut seen)?;
-        for event in scenario.events {
-            if let Err(refusal) = cluster.step(event) {
-                assert!(rt; refusal != Refusal::NoMemory);
-            }
-            see(&rt, alloc, name, &cluster, &mut seen)?;
-        }
+        assert_lawful(&rt, rt.alloc(), name)?;
     }
     Ok(())
 }

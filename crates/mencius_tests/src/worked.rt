@@ -8,13 +8,7 @@ use std::test::Fail;
 fn each_schedule_prints_its_text(rt: HostRuntime) -> Result<(), Fail> {
     for schedule in SCHEDULES {
         let name = schedule.name;
-        let mut script = Script::new(rt.alloc(), schedule.servers)?;
-        for event in schedule.events.split(',') {
-            if !event.is_empty() {
-                script.add(event)?;
-            }
-        }
-        let scenario = script.finish()?;
+        let scenario = Script::of(rt.alloc(), schedule.servers, schedule.events)?;
         let mut written = Vec::new(rt.alloc());
         let answer = replayed(rt.alloc(), scenario.as_slice(), &mut written);
         assert_eq!(rt; answer, Ok(()), "in {name}");

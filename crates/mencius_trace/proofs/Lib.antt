@@ -5,3 +5,4 @@ pub mod GivenUp
 pub mod Messages
 pub mod Same
 pub mod Whole
+pub mod Settled

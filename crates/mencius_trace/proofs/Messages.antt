@@ -6,7 +6,7 @@ use Rattle.std.proofs.lemmas.Bool.{cases_lt}
 use Rattle.std.proofs.lemmas.Grind.{flat_map-append}
 use Rattle.mencius_base.specs.declared.message.Message.{Message}
 use Rattle.mencius_model.specs.Trace.{Trace, sent}
-use Rattle.mencius_trace.specs.After.{message_line, messages_from}
+use Rattle.mencius_trace.specs.After.{messages_from, of_message, of_messages}
 use Rattle.mencius_trace.specs.Facts.{sent_line}
 use Rattle.mencius_trace.proofs.Rounds.{range_last}
 
@@ -25,11 +25,11 @@ messages_start v first end before =
 
 -- one message more
 pub messages_further : (v : Trace) (first end n : ℕ) (before old new : List ℕ) → first ≤ n → n < end
-    → IsSentTo v first end n before old → new ≡ old ++ message_line v n (slice_get (sent v) n)
+    → IsSentTo v first end n before old → new ≡ old ++ of_message (sent_line v) n (slice_get (sent v) n)
     → IsSentTo v first end (n + 1) before new
 messages_further v first end n before old new low high had got =
     let on : n + 1 - first ≡ suc (n - first) = omega (arith, low) in
-    let line = λ (k : ℕ). message_line v k (slice_get (sent v) k) in
+    let line = λ (k : ℕ). of_message (sent_line v) k (slice_get (sent v) k) in
     let range = range_last first (n - first) n (omega (arith, low)) in
     record {
       still = λ h. omega (arith, h, low, high);
@@ -45,18 +45,18 @@ get_here : (xs ys : List Message) (x : Message) → slice_get (xs ++ x ∷ ys) (
 get_here [] ys x = refl
 get_here (y ∷ xs) ys x = get_here xs ys x
 
--- the messages after the first are those of the lines that were added
-pub messages_are : (v : Trace) (before ms : List Message) → sent v ≡ before ++ ms
-    → messages_from v (length before) (length ms) ≡ flat_map (sent_line v) (enumerate_from (length before) ms)
-messages_are v before [] e = refl
-messages_are v before (x ∷ ms) e =
-    let here : slice_get (sent v) (length before) ≡ Some x =
-    ap (λ xs. slice_get xs (length before)) e ∙ get_here before ms x in
+-- the messages from a place on are those that stand there
+pub of_messages_are : (f : ℕ × Message → List ℕ) (xs before ms : List Message) → xs ≡ before ++ ms
+    → of_messages f xs (length before) (length ms) ≡ flat_map f (enumerate_from (length before) ms)
+of_messages_are f xs before [] e = refl
+of_messages_are f xs before (x ∷ ms) e =
+    let here : slice_get xs (length before) ≡ Some x =
+    ap (λ ys. slice_get ys (length before)) e ∙ get_here before ms x in
     let next : length (before ++ x ∷ []) ≡ length before + 1 = length-append before (x ∷ []) in
-    let rest = messages_are v (before ++ x ∷ []) ms (e ∙ sym (append_assoc before (x ∷ []) ms)) in
-    ap (λ o. message_line v (length before) o ++ messages_from v (length before + 1) (length ms)) here
-    ∙ ap (λ t. sent_line v (length before, x) ++ t)
-    (subst (λ k. messages_from v k (length ms) ≡ flat_map (sent_line v) (enumerate_from k ms)) next rest)
+    let rest = of_messages_are f xs (before ++ x ∷ []) ms (e ∙ sym (append_assoc before (x ∷ []) ms)) in
+    ap (λ o. of_message f (length before) o ++ of_messages f xs (length before + 1) (length ms)) here
+    ∙ ap (λ t. f (length before, x) ++ t)
+    (subst (λ k. of_messages f xs k (length ms) ≡ flat_map f (enumerate_from k ms)) next rest)
 
 -- all messages
 pub messages_whole : (v : Trace) (first end n : ℕ) (before now : List ℕ) → first ≤ n

@@ -3,7 +3,7 @@ use Rattle.std.proofs.Common.{◌≡◌, ℕ, ◌-◌, ◌<◌, ◌≤◌, Bool,
 use Rattle.std.specs.Prelude.{IfSome, option_map, nat_lt, nat_le, slice_get}
 use Rattle.std.specs.List.{filter}
 use Rattle.std.proofs.lemmas.Bool.{leb-false, or_parts}
-use Rattle.mencius_base.specs.Limits.{instance_count}
+use Rattle.mencius_base.specs.Limits.{instance_count, most_servers}
 use Rattle.mencius_base.specs.Members.{Membership, first_item, instances}
 use Rattle.mencius_base.specs.declared.event.Event.{Event}
 use Rattle.mencius_base.specs.declared.event.Event.TheVariants.{Submit, Deliver, Lose, Suspect, Retry, Execute}
@@ -27,8 +27,8 @@ use Rattle.mencius_trace.specs.declared.hearing.Hearing.{Hearing}
 use Rattle.mencius_trace.specs.Told.{actor, execution, execution_of, hearing, is_silent, learned_in, learned_lines, notice, notice_of, notices, place_of, sent_lines}
 use Rattle.mencius_trace.specs.Before.{executing, given_up, heard_in, is_awaited}
 use Rattle.mencius_trace.specs.After.{execution_after, learned_after, learned_at, messages_from, notice_after, value_learned}
-use Rattle.mencius_trace.specs.Facts.{learned_line}
-use Rattle.mencius_trace.proofs.Messages.{messages_are}
+use Rattle.mencius_trace.specs.Facts.{learned_line, sent_line}
+use Rattle.mencius_trace.proofs.Messages.{of_messages_are}
 
 -- an accepted event happens at a member
 pub actor_member : (m : Membership) (w : Trace) (e : Event) → NoneHolds (causes m w e) → actor e < m.count
@@ -49,7 +49,7 @@ small_place m (Propose from inst ballot value) h = h.1
 small_place m (Learn from inst value) h = h.1
 
 -- a message that is delivered is about an instance that there is
-pub small_heard : (m : Membership) → m.count ≤ 7 → (w : Trace) → IsReached m w → (e : Event)
+pub small_heard : (m : Membership) → m.count ≤ most_servers → (w : Trace) → IsReached m w → (e : Event)
     → IfSome (heard_in w e) (λ x. place_of x < instance_count)
 small_heard m few w r (Deliver k p) = go (slice_get (sent w) k) refl
   where
@@ -187,7 +187,7 @@ sent_same m w e =
     let ms = messages_of (lines m w e) in
     let all = ap length (sent-event m w e) ∙ length-append (sent w) ms in
     let count : length (sent v) - length (sent w) ≡ length ms = omega (arith, all) in
-    ap (messages_from v (length (sent w))) count ∙ messages_are v (sent w) ms (sent-event m w e)
+    ap (messages_from v (length (sent w))) count ∙ of_messages_are (sent_line v) (sent v) (sent w) ms (sent-event m w e)
 
 pub execution_same : (w v : Trace) (e : Event)
     → execution_after v (actor e) (is_awaited w (executing w e)) (executing w e) ≡ execution w v e

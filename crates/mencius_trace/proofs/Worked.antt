@@ -1,14 +1,18 @@
 -- Schedules worked by hand, and the texts that the definitions make of them.
-use Rattle.std.proofs.Common.{◌≡◌, ℕ, List, [], ◌∷◌, ◌++◌, refl}
+use Rattle.std.proofs.Common.{◌≡◌, ℕ, List, [], ◌∷◌, ◌++◌, Some, None, refl, ap, ◌∙◌, nat_cmp}
 use Rattle.std.specs.Prelude.{codes}
+use Rattle.std.specs.Cmp.Lexicographic.{slice_cmp, nat_list_cmp_total}
+use Rattle.std.specs.FinMap as finite
+use Rattle.std.specs.FinMap.{get-empty, get-insert}
 use Rattle.std.specs.Fmt.{digits}
 use Rattle.std.specs.List.{flat_map}
 use Rattle.mencius_base.specs.declared.command.Command.{Command}
-use Rattle.mencius_base.specs.declared.command.Op.TheVariants.{Set}
+use Rattle.mencius_base.specs.declared.command.Op.TheVariants.{Set, Get}
 use Rattle.mencius_base.specs.declared.event.Event.{Event}
 use Rattle.mencius_base.specs.declared.event.Event.TheVariants.{Submit, Deliver, Lose, Suspect, Retry, Execute}
 use Rattle.mencius_base.specs.Members.{below, instances, most_messages, most_events, most_rounds}
-use Rattle.mencius_trace.specs.Words.{line_feed}
+use Rattle.mencius_model.specs.Store.{store_after}
+use Rattle.mencius_trace.specs.Words.{former_text, line_feed}
 use Rattle.mencius_trace.specs.Closing.{trace_text}
 
 -- lines, each with its end
@@ -19,13 +23,23 @@ text_of ls = flat_map (λ l. l ++ line_feed) ls
 abbrev set_a : Command
 set_a = record { id = record { client = 1; number = 0 }; op = Set (97 ∷ []) (120 ∷ []) }
 
--- a server that is wrongly suspected: the revoker hears of the command and has to propose it
+-- no map computes: the empty one holds nothing at the key `a`
+nothing : finite.get (store_after []) (97 ∷ []) ≡ None
+nothing = get-empty {X = List ℕ} (slice_cmp nat_cmp) (97 ∷ [])
+
+-- and after the first command it holds `x` there
+text_x : finite.get (store_after (set_a ∷ [])) (97 ∷ []) ≡ Some (120 ∷ [])
+text_x = get-insert nat_list_cmp_total (store_after []) (97 ∷ []) (120 ∷ []) (97 ∷ [])
+
+-- a server that is wrongly suspected: the revoker hears of the command and has to propose it, and its home gives the
+-- reply
 abbrev wrong_suspicion : List Event
 wrong_suspicion =
     Submit 0 set_a ∷ Deliver 0 2 ∷ Suspect 1 0 ∷ Deliver 2 1 ∷ Deliver 2 2 ∷ Deliver 3 1 ∷ Deliver 4 1 ∷ Deliver 5 1
-    ∷ Deliver 5 2 ∷ Deliver 6 1 ∷ Deliver 7 1 ∷ Execute 1 ∷ Deliver 8 0 ∷ Deliver 99 0 ∷ []
+    ∷ Deliver 5 2 ∷ Deliver 6 1 ∷ Deliver 7 1 ∷ Execute 1 ∷ Deliver 8 0 ∷ Execute 0 ∷ Deliver 99 0 ∷ []
 
-text-wrong_suspicion : trace_text 3 wrong_suspicion ≡ text_of
+abbrev text_wrong_suspicion : List ℕ → List ℕ
+text_wrong_suspicion reply = text_of
     (codes "servers 3"
     ∷ codes "event 0 submit 0 1.0 set a x"
     ∷ codes "sent 0 Suggest from 0 to all instance 0 ballot 0 value 1.0"
@@ -57,9 +71,12 @@ text-wrong_suspicion : trace_text 3 wrong_suspicion ≡ text_of
     ∷ codes "executed 1 instance 0 value 1.0"
     ∷ codes "event 12 deliver 8 0"
     ∷ codes "learned 0 instance 0 value 1.0"
-    ∷ codes "event 13 deliver 99 0"
+    ∷ codes "event 13 execute 0"
+    ∷ codes "executed 0 instance 0 value 1.0"
+    ∷ (codes "reply 1.0 " ++ reply)
+    ∷ codes "event 14 deliver 99 0"
     ∷ codes "refused NoMessage"
-    ∷ codes "server 0 front 3 executed 0 next 0 waiting -"
+    ∷ codes "server 0 front 3 executed 1 next 1 waiting -"
     ∷ codes "server 1 front 1 executed 1 next 1 waiting -"
     ∷ codes "server 2 front 2 executed 0 next 0 waiting -"
     ∷ codes "unheard 0 Suggest to 0"
@@ -70,8 +87,10 @@ text-wrong_suspicion : trace_text 3 wrong_suspicion ≡ text_of
     ∷ codes "unheard 8 Learn to 1"
     ∷ codes "unheard 8 Learn to 2"
     ∷ [])
+
+text-wrong_suspicion : trace_text 3 wrong_suspicion ≡ text_wrong_suspicion (codes "none")
 unfolding below digits instances most_messages most_events most_rounds
-text-wrong_suspicion = refl
+text-wrong_suspicion = ap (λ o. text_wrong_suspicion (former_text o)) nothing
 
 -- a suggestion comes where no-op is decided: nobody answers it, and its ticket waits
 abbrev late_suggestion : List Event
@@ -128,9 +147,11 @@ abbrev suggested_again : List Event
 suggested_again =
     Suspect 1 0 ∷ Deliver 0 1 ∷ Deliver 0 2 ∷ Deliver 1 1 ∷ Deliver 2 1 ∷ Deliver 3 1 ∷ Deliver 3 2 ∷ Deliver 4 1
     ∷ Deliver 5 1 ∷ Submit 0 set_a ∷ Deliver 7 1 ∷ Deliver 7 2 ∷ Deliver 6 0 ∷ Retry 0 ∷ Deliver 8 0 ∷ Deliver 8 1
-    ∷ Deliver 8 2 ∷ Deliver 10 0 ∷ Deliver 12 0 ∷ Deliver 9 0 ∷ Deliver 11 0 ∷ []
+    ∷ Deliver 8 2 ∷ Deliver 10 0 ∷ Deliver 12 0 ∷ Deliver 9 0 ∷ Deliver 11 0 ∷ Execute 0 ∷ Execute 0 ∷ Execute 0
+    ∷ Execute 0 ∷ []
 
-text-suggested_again : trace_text 3 suggested_again ≡ text_of
+abbrev text_suggested_again : List ℕ → List ℕ
+text_suggested_again reply = text_of
     (codes "servers 3"
     ∷ codes "event 0 suspect 1 0"
     ∷ codes "sent 0 Prepare from 1 to all instance 0 ballot 4"
@@ -185,7 +206,16 @@ text-suggested_again : trace_text 3 suggested_again ≡ text_of
     ∷ codes "acceptances 0 instance 3 ballot 0 count 2 of 2"
     ∷ codes "learned 0 instance 3 value 1.0"
     ∷ codes "sent 14 Learn from 0 to all instance 3 value 1.0"
-    ∷ codes "server 0 front 6 executed 0 next 0 waiting -"
+    ∷ codes "event 21 execute 0"
+    ∷ codes "executed 0 instance 0 value no-op"
+    ∷ codes "event 22 execute 0"
+    ∷ codes "executed 0 instance 1 value no-op"
+    ∷ codes "event 23 execute 0"
+    ∷ codes "executed 0 instance 2 value no-op"
+    ∷ codes "event 24 execute 0"
+    ∷ codes "executed 0 instance 3 value 1.0"
+    ∷ (codes "reply 1.0 " ++ reply)
+    ∷ codes "server 0 front 6 executed 4 next 4 waiting -"
     ∷ codes "server 1 front 4 executed 0 next 0 waiting -"
     ∷ codes "server 2 front 5 executed 0 next 0 waiting -"
     ∷ codes "unheard 0 Prepare to 0"
@@ -202,16 +232,19 @@ text-suggested_again : trace_text 3 suggested_again ≡ text_of
     ∷ codes "unheard 14 Learn to 1"
     ∷ codes "unheard 14 Learn to 2"
     ∷ [])
+
+text-suggested_again : trace_text 3 suggested_again ≡ text_suggested_again (codes "none")
 unfolding below digits instances most_messages most_events most_rounds
-text-suggested_again = refl
+text-suggested_again = ap (λ o. text_suggested_again (former_text o)) nothing
 
 -- two servers give up their instances before a suggestion, and one Skip comes twice
 abbrev skip_before_a_suggestion : List Event
 skip_before_a_suggestion =
     Submit 2 set_a ∷ Deliver 0 0 ∷ Deliver 0 1 ∷ Deliver 1 2 ∷ Deliver 3 2 ∷ Deliver 2 2 ∷ Deliver 4 2 ∷ Execute 2
-    ∷ Execute 2 ∷ Deliver 1 2 ∷ []
+    ∷ Execute 2 ∷ Execute 2 ∷ Deliver 1 2 ∷ []
 
-text-skip_before_a_suggestion : trace_text 3 skip_before_a_suggestion ≡ text_of
+abbrev text_skip_before_a_suggestion : List ℕ → List ℕ
+text_skip_before_a_suggestion reply = text_of
     (codes "servers 3"
     ∷ codes "event 0 submit 2 1.0 set a x"
     ∷ codes "sent 0 Suggest from 2 to all instance 2 ballot 0 value 1.0"
@@ -238,11 +271,14 @@ text-skip_before_a_suggestion : trace_text 3 skip_before_a_suggestion ≡ text_o
     ∷ codes "executed 2 instance 0 value no-op"
     ∷ codes "event 8 execute 2"
     ∷ codes "executed 2 instance 1 value no-op"
-    ∷ codes "event 9 deliver 1 2"
+    ∷ codes "event 9 execute 2"
+    ∷ codes "executed 2 instance 2 value 1.0"
+    ∷ (codes "reply 1.0 " ++ reply)
+    ∷ codes "event 10 deliver 1 2"
     ∷ codes "ignored learned no-op"
     ∷ codes "server 0 front 3 executed 0 next 0 waiting -"
     ∷ codes "server 1 front 4 executed 0 next 0 waiting -"
-    ∷ codes "server 2 front 5 executed 2 next 2 waiting -"
+    ∷ codes "server 2 front 5 executed 3 next 3 waiting -"
     ∷ codes "unheard 0 Suggest to 2"
     ∷ codes "unheard 1 Skip to 0"
     ∷ codes "unheard 1 Skip to 1"
@@ -252,8 +288,10 @@ text-skip_before_a_suggestion : trace_text 3 skip_before_a_suggestion ≡ text_o
     ∷ codes "unheard 5 Learn to 1"
     ∷ codes "unheard 5 Learn to 2"
     ∷ [])
+
+text-skip_before_a_suggestion : trace_text 3 skip_before_a_suggestion ≡ text_skip_before_a_suggestion (codes "none")
 unfolding below digits instances most_messages most_events most_rounds
-text-skip_before_a_suggestion = refl
+text-skip_before_a_suggestion = ap (λ o. text_skip_before_a_suggestion (former_text o)) nothing
 
 -- two servers revoke one instance at once: the greater ballot goes on
 abbrev duelling_revokers : List Event
@@ -361,3 +399,50 @@ text-other_reasons : trace_text 3 other_reasons ≡ text_of
     ∷ [])
 unfolding below digits instances most_messages most_events most_rounds
 text-other_reasons = refl
+
+-- the same client asks for what `a` is bound to
+abbrev get_a : Command
+get_a = record { id = record { client = 1; number = 1 }; op = Get (97 ∷ []) }
+
+-- one server, which replies with the text that it has
+abbrev told_back : List Event
+told_back =
+    Submit 0 set_a ∷ Deliver 0 0 ∷ Deliver 1 0 ∷ Execute 0 ∷ Submit 0 get_a ∷ Deliver 3 0 ∷ Deliver 4 0 ∷ Execute 0 ∷ []
+
+abbrev text_told_back : List ℕ → List ℕ → List ℕ
+text_told_back first second = text_of
+    (codes "servers 1"
+    ∷ codes "event 0 submit 0 1.0 set a x"
+    ∷ codes "sent 0 Suggest from 0 to all instance 0 ballot 0 value 1.0"
+    ∷ codes "front 0 1"
+    ∷ codes "event 1 deliver 0 0"
+    ∷ codes "sent 1 Accepted from 0 to 0 instance 0 ballot 0"
+    ∷ codes "event 2 deliver 1 0"
+    ∷ codes "acceptances 0 instance 0 ballot 0 count 1 of 1"
+    ∷ codes "learned 0 instance 0 value 1.0"
+    ∷ codes "sent 2 Learn from 0 to all instance 0 value 1.0"
+    ∷ codes "event 3 execute 0"
+    ∷ codes "executed 0 instance 0 value 1.0"
+    ∷ (codes "reply 1.0 " ++ first)
+    ∷ codes "event 4 submit 0 1.1 get a"
+    ∷ codes "sent 3 Suggest from 0 to all instance 1 ballot 0 value 1.1"
+    ∷ codes "front 0 2"
+    ∷ codes "event 5 deliver 3 0"
+    ∷ codes "sent 4 Accepted from 0 to 0 instance 1 ballot 0"
+    ∷ codes "event 6 deliver 4 0"
+    ∷ codes "acceptances 0 instance 1 ballot 0 count 1 of 1"
+    ∷ codes "learned 0 instance 1 value 1.1"
+    ∷ codes "sent 5 Learn from 0 to all instance 1 value 1.1"
+    ∷ codes "event 7 execute 0"
+    ∷ codes "executed 0 instance 1 value 1.1"
+    ∷ (codes "reply 1.1 " ++ second)
+    ∷ codes "server 0 front 2 executed 2 next 2 waiting -"
+    ∷ codes "unheard 2 Learn to 0"
+    ∷ codes "unheard 5 Learn to 0"
+    ∷ [])
+
+text-told_back : trace_text 1 told_back ≡ text_told_back (codes "none") (codes "=x")
+unfolding below digits instances most_messages most_events most_rounds
+text-told_back =
+    ap (λ o. text_told_back (former_text o) (former_text (finite.get (store_after (set_a ∷ [])) (97 ∷ [])))) nothing
+    ∙ ap (λ o. text_told_back (former_text None) (former_text o)) text_x

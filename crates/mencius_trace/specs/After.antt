@@ -35,13 +35,18 @@ abbrev pub learned_after : Trace → ServerId → List ℕ → ℕ → Option Me
 learned_after v p given_up count None = []
 learned_after v p given_up count (Some x) = learned_of v p given_up count x
 
-abbrev pub message_line : Trace → MessageNo → Option Message → List ℕ
-message_line v k None = []
-message_line v k (Some x) = sent_line v (k, x)
+-- what is told of a message, if there is one
+abbrev pub of_message : (MessageNo × Message → List ℕ) → MessageNo → Option Message → List ℕ
+of_message f k None = []
+of_message f k (Some x) = f (k, x)
+
+-- the same of so many messages, from a number on
+abbrev pub of_messages : (MessageNo × Message → List ℕ) → List Message → MessageNo → ℕ → List ℕ
+of_messages f xs first count = flat_map (λ k. of_message f k (slice_get xs k)) (range_with_len first count)
 
 -- so many messages, from a number on
 abbrev pub messages_from : Trace → MessageNo → ℕ → List ℕ
-messages_from v first count = flat_map (λ k. message_line v k (slice_get (sent v) k)) (range_with_len first count)
+messages_from v first count = of_messages (sent_line v) (sent v) first count
 
 abbrev pub execution_after : Trace → ServerId → Bool → Option (ℕ × Value) → List ℕ
 execution_after v p is_awaited None = []

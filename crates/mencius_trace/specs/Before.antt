@@ -1,6 +1,6 @@
 -- What is noted before an event, so that what came of it can be told after it.
 use Rattle.std.specs.Prelude.{◌≡◌, Ok, ◌≤◌, ℕ, ◌<◌, Bool, false, List, [], Option, Some, None, option_map, slice_get, string_bytes, IfSome}
-use Rattle.mencius_base.specs.Limits.{instance_count}
+use Rattle.mencius_base.specs.Limits.{instance_count, most_servers}
 use Rattle.mencius_base.specs.Members.{Membership}
 use Rattle.mencius_base.specs.Numbers.{ServerId}
 use Rattle.mencius_base.specs.declared.event.Event.{Event}
@@ -51,7 +51,7 @@ IsGivenUp m w p heard text =
 
 -- the notes are those of this event
 pub record IsBefore (c : ClusterState) (e : Event) (b : Before) : Type 0 where
-  pub few : c.members.count ≤ 7
+  pub few : c.members.count ≤ most_servers
   pub replays : replay c.members c.journal ≡ Ok (trace_of c)
   pub server : b.server ≡ actor e
   pub front : b.front ≡ if_member c.members (actor e) (front c.members (trace_of c) (actor e))

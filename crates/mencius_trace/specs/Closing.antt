@@ -64,12 +64,14 @@ unheard_line w k x p =
 abbrev pub unheard_lines : Membership → Trace → MessageNo × Message → List ℕ
 unheard_lines m w (k, x) = flat_map (unheard_line w k x) (below m.count)
 
+abbrev pub unheard_text : Membership → Trace → List ℕ
+unheard_text m w = flat_map (unheard_lines m w) (enumerate_from 0 (sent w))
+
 -- ---- the whole
 
 -- the servers, and then the messages
 abbrev pub closing : Membership → Trace → List ℕ
-closing m w =
-    server_lines m w m.count ++ flat_map (unheard_lines m w) (enumerate_from 0 (sent w))
+closing m w = server_lines m w m.count ++ unheard_text m w
 
 -- the events from a place on, and then what is told after the last
 abbrev pub told_from : Membership → Trace → ℕ → List Event → List ℕ

@@ -4,3 +4,4 @@ pub mod Told
 pub mod Before
 pub mod After
 pub mod Closing
+pub mod Settled

@@ -4,15 +4,28 @@ ghost use Rattle.std.specs.Prelude.{◌≡◌, ◌<◌, ◌++◌, IfOk, OnOk, is
 ghost use Rattle.mencius_base.specs.Limits.{instance_count};
 ghost use Rattle.mencius_cluster.specs.State.{trace_of};
 ghost use Rattle.mencius_model.specs.Server.{waiting, waiting_at};
-ghost use Rattle.mencius_trace.specs.Closing.{progress_text, server_line, server_lines, ticket_in, tickets_text};
+ghost use Rattle.mencius_trace.specs.Closing.{closing, progress_text, server_line, server_lines, ticket_in, tickets_text};
 
+use crate::unheard::push_unheard;
 use crate::words::push_ticket;
-use mencius_base::INSTANCES;
+use mencius_base::{INSTANCES, NoMemory};
 use mencius_cluster::Cluster;
-use std::alloc::AllocError;
+use std::alloc::{AllocError, Global};
 
-/// Adds a line for each server: its front, how far it is, and the tickets that wait at it.
-pub fn push_servers(text: &mut String, cluster: &Cluster) -> Result<(), AllocError>
+/// Adds what is told after the last event: a line for each server, and one for each message and
+/// each server that it goes to, where the server neither heard nor lost it.
+///
+/// The time that it takes, and the memory beside the text, grow with the length of the journal.
+pub fn push_closing(alloc: Global, text: &mut String, cluster: &Cluster) -> Result<(), NoMemory>
+    ensures { OnOk result (string_bytes text.new ≡ string_bytes text.old
+        ++ closing cluster.now.members (trace_of cluster.now)) }
+{
+    push_servers(text, cluster)?;
+    push_unheard(alloc, text, cluster)
+}
+
+// A line for each server: its front, how far it is, and the tickets that wait at it.
+fn push_servers(text: &mut String, cluster: &Cluster) -> Result<(), AllocError>
     ensures { OnOk result (string_bytes text.new ≡ string_bytes text.old
         ++ server_lines cluster.now.members (trace_of cluster.now) cluster.now.members.count) }
 {

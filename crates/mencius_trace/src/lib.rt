@@ -6,9 +6,10 @@ mod closing;
 mod facts;
 mod hearing;
 mod telling;
+mod unheard;
 mod words;
 
-pub use closing::push_servers;
+pub use closing::push_closing;
 pub use hearing::Hearing;
 pub use telling::tell;
 pub use words::{push_answer, push_command, push_event, push_id};

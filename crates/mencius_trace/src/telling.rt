@@ -10,9 +10,9 @@ ghost use Rattle.mencius_model.specs.Outcomes.{trace_after};
 ghost use Rattle.mencius_model.specs.Replying.{command_at};
 ghost use Rattle.mencius_model.specs.Server.{front};
 ghost use Rattle.mencius_model.specs.Trace.{sent};
-ghost use Rattle.mencius_trace.specs.After.{execution_after, learned_after, learned_at, learned_of, message_line, messages_from, notice_after};
+ghost use Rattle.mencius_trace.specs.After.{execution_after, learned_after, learned_at, learned_of, messages_from, notice_after, of_message};
 ghost use Rattle.mencius_trace.specs.Before.{IsBefore};
-ghost use Rattle.mencius_trace.specs.Facts.{refused_line};
+ghost use Rattle.mencius_trace.specs.Facts.{refused_line, sent_line};
 ghost use Rattle.mencius_trace.specs.Told.{awaited_lines, count_line, event_lines, front_lines, given_to, ignored_line, notice, place_of, reason_text, told};
 
 use crate::before::{Before, note, place_of};
@@ -301,7 +301,7 @@ fn push_sent_lines(text: &mut String, cluster: &Cluster, first: u32) -> Result<(
 
 fn push_message(text: &mut String, cluster: &Cluster, number: u32) -> Result<(), AllocError>
     ensures { OnOk result (string_bytes text.new ≡ string_bytes text.old
-        ++ message_line (trace_of cluster.now) number
+        ++ of_message (sent_line (trace_of cluster.now)) number
         (slice_get (sent (trace_of cluster.now)) number)) }
 {
     // The check of a value that holds a message looks for the types inside it among those named here.

@@ -35,7 +35,7 @@ fn event_text<R: Abort>(rt: &R, alloc: Global, event: &Event) -> String {
 }
 
 // Words, loss, whether a command is left, and what is picked after the schedule one_command.
-const PICKS: [([u32; 3], u8, bool, &str); 8] = [
+const PICKS: [([u32; 3], u8, bool, &'static str); 8] = [
     ([6, 0, 5], 0, true, "execute 2"),
     ([18, 0, 4], 0, true, "retry 1"),
     ([21, 4, 5], 0, true, "suspect 1 2"),
@@ -46,21 +46,40 @@ const PICKS: [([u32; 3], u8, bool, &str); 8] = [
     ([69, 0, 0], 0, false, "deliver 0 0"),
 ];
 
+fn assert_picks<R: Abort>(
+    rt: &R,
+    alloc: Global,
+    cluster: &Cluster,
+    row: ([u32; 3], u8, bool, &'static str),
+) {
+    let (words, loss, left, expected) = row;
+    let text = pick_text(rt, alloc, pick(words, loss, left, cluster));
+    assert_eq!(rt; text.as_str(), expected);
+}
+
+fn take<R: Abort>(rt: &R, cluster: &mut Cluster, event: Event) {
+    assert!(rt; cluster.step(event).is_ok());
+}
+
+// The schedule one_command, up to its first execution.
+fn take_one_command<R: Abort>(rt: &R, alloc: Global, cluster: &mut Cluster) {
+    let command = set_x(rt, alloc);
+    take(rt, cluster, Event::Submit { server: 0, command });
+    for (message, server) in [(0, 1), (0, 0), (1, 0), (2, 0)] {
+        take(rt, cluster, Event::Deliver { message, server });
+    }
+    take(rt, cluster, Event::Execute { server: 0 });
+}
+
 #[test]
 fn words_pick_by_the_table(rt: HostRuntime) -> Result<(), Fail> {
     let alloc = rt.alloc();
     let mut cluster = new_cluster(&rt, alloc, 3);
-    let on_new = pick([40, 1, 2], 0, true, &cluster);
-    assert_eq!(rt; pick_text(&rt, alloc, on_new).as_str(), "deliver 0 2");
-    let command = set_x(&rt, alloc);
-    assert!(rt; cluster.step(Event::Submit { server: 0, command }).is_ok());
-    for (message, server) in [(0, 1), (0, 0), (1, 0), (2, 0)] {
-        assert!(rt; cluster.step(Event::Deliver { message, server }).is_ok());
-    }
-    assert!(rt; cluster.step(Event::Execute { server: 0 }).is_ok());
-    for (words, loss, left, expected) in PICKS {
-        let picked = pick(words, loss, left, &cluster);
-        assert_eq!(rt; pick_text(&rt, alloc, picked).as_str(), expected);
+    let on_new = ([40, 1, 2], 0, true, "deliver 0 2");
+    assert_picks(&rt, alloc, &cluster, on_new);
+    take_one_command(&rt, alloc, &mut cluster);
+    for row in PICKS {
+        assert_picks(&rt, alloc, &cluster, row);
     }
     Ok(())
 }

@@ -33,6 +33,28 @@ fn is_text(found: &Option<String>, text: &str) -> bool {
     }
 }
 
+fn assert_finds_x<R: Abort>(rt: &R, alloc: Global, reader: &mut Reader) {
+    let found = reader.lookup(alloc, "a").expect(rt, "a lookup");
+    assert!(rt; is_text(&found, "x"));
+}
+
+fn assert_lacks<R: Abort>(rt: &R, alloc: Global, reader: &mut Reader, key: &str)
+    ensures { reader.new.book ≡ reader.old.book }
+{
+    let found = reader.lookup(alloc, key).expect(rt, "a lookup");
+    assert!(rt; found.is_none());
+}
+
+// A reader is told of the only command.
+fn assert_told<R: Abort>(rt: &R, alloc: Global, reader: &mut Reader, news: News)
+    requires { news.book ≡ reader.old.book }
+{
+    assert_eq!(rt; (news.count(), news.commands().len()), (1, 1));
+    let (before, found, after) = learn_and_look(alloc, reader, news).expect(rt, "a lookup");
+    assert_eq!(rt; (before, after), (0, 1));
+    assert!(rt; is_text(&found, "x"));
+}
+
 // After the events of the schedule one_server.
 fn told_and_untold<R: Wait + Abort>(
     rt: &R,
@@ -43,18 +65,15 @@ fn told_and_untold<R: Wait + Abort>(
     let mut untold = board.reader()?;
     assert!(rt; board.reader().is_err());
     decide(rt, board, set_x(rt, alloc));
-    assert!(rt; told.lookup(alloc, "a")?.is_none());
+    assert_lacks(rt, alloc, &mut told, "a");
     let news = board.show(rt, alloc)?;
-    assert_eq!(rt; (news.count(), news.commands().len()), (1, 1));
-    let (before, found, after) = learn_and_look(alloc, &mut told, news)?;
-    assert_eq!(rt; (before, after), (0, 1));
-    assert!(rt; is_text(&found, "x"));
-    assert!(rt; is_text(&untold.lookup(alloc, "a")?, "x"));
+    assert_told(rt, alloc, &mut told, news);
+    assert_finds_x(rt, alloc, &mut untold);
     assert_eq!(rt; untold.count(), 1);
-    assert!(rt; untold.lookup(alloc, "b")?.is_none());
+    assert_lacks(rt, alloc, &mut untold, "b");
     for _ in 0..3 {
-        assert!(rt; is_text(&told.lookup(alloc, "a")?, "x"));
-        assert!(rt; is_text(&untold.lookup(alloc, "a")?, "x"));
+        assert_finds_x(rt, alloc, &mut told);
+        assert_finds_x(rt, alloc, &mut untold);
     }
     Ok(())
 }

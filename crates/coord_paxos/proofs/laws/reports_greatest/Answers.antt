@@ -9,12 +9,12 @@ use Rattle.mencius_model.proofs.Reports.{Stands, Stands-heard, highest_vote-hear
 use Rattle.coord_paxos.proofs.laws.reports_greatest.Goals as goal
 
 -- the vote reported stands against each that was heard
-stands : (w : Trace) (p i b : ℕ) (v : Vote) → HearsReport w p i b v → Stands (reported w p i b) (Some v)
-stands w p i b v hears =
-    let reports : vote_reported i b (Promise hears.0 hears.1 i b (Some v)) ≡ Some v =
+stands : (w : Trace) (p i b : ℕ) (z : Vote) → HearsReport w p i b z → Stands (reported w p i b) (Some z)
+stands w p i b z hears =
+    let reports : vote_reported i b (Promise hears.0 hears.1 i b (Some z)) ≡ Some z =
     rw (eq-eqb i i refl, eq-eqb b b refl) in
     subst (λ (o : Option Vote). Stands (reported w p i b) o) reports
-    (Stands-heard (vote_reported i b) (heard w p) (Promise hears.0 hears.1 i b (Some v)) hears.2)
+    (Stands-heard (vote_reported i b) (heard w p) (Promise hears.0 hears.1 i b (Some z)) hears.2)
 
 pub returns-clause-heard : goal.returns-clause-heard
 returns-clause-heard c = λ w p i b v e. highest_vote-heard i b v (heard w p) e

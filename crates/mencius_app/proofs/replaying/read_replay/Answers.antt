@@ -12,7 +12,7 @@ returns-clause-text g c =
         whole = said.1;
         written = written_in c.in_ok-scenario.scenario;
         says = said.2;
-        replay = h.0;
+        is = h.0;
       },
       h.1,
     )) (both_of_ok c.replayed.result _ _ c.replayed.ensures.text c.replayed.ensures.judged)

@@ -15,20 +15,20 @@ returns g c =
     let turned = c.worker_turn-turned.result in
     let from : c.of-chooser.result ≡ first = c.of-chooser.ensures in
     let ended : EndsTurn first d x z turned =
-    subst (λ (b : ChooserState). EndsTurn b d x z turned) from c.worker_turn-turned.ensures.turn in
+    subst (λ (y : ChooserState). EndsTurn y d x z turned) from c.worker_turn-turned.ensures.turn in
     let plan : d.plan ≡ c.args.plan.now = turn_plan first d x z turned ended in
     let to : last ≡ d =
     ap (λ p. chooser_at p c.into_progress.result) (sym plan) ∙ c.into_progress.ensures in
     let turn : TakesTurn first last x c.show_after-answer.new.board c.args.shows c.show_after-answer.result = record {
       board = z;
       turned = turned;
-      turn = subst (λ (b : ChooserState). EndsTurn first b x z turned) (sym to) ended;
+      turn = subst (λ (y : ChooserState). EndsTurn first y x z turned) (sym to) ended;
       then_is = c.show_after-answer.ensures;
     } in
     record {
       turn = turn;
       drawn =
-          ap (λ (b : ChooserState). b.drawing) to
-          ∙ (c.worker_turn-turned.ensures.drawn ∙ ap (λ (b : ChooserState). drawn b.drawing) from);
+          ap (λ (y : ChooserState). y.drawing) to
+          ∙ (c.worker_turn-turned.ensures.drawn ∙ ap (λ (y : ChooserState). drawn y.drawing) from);
       fault = turn_fault first last x c.show_after-answer.new.board c.args.shows c.show_after-answer.result turn;
     }

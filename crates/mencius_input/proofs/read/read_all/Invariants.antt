@@ -3,8 +3,8 @@ use Rattle.std.specs.Io.KnownBytes.{Consumes}
 use Rattle.mencius_input.specs.Ends.{most_bytes, most_failures}
 use Rattle.mencius_input.proofs.read.read_all.Given as goal
 
-abbrev pub invariant-loop-buf : goal.invariant-loop-buf
-invariant-loop-buf g l = record {
+abbrev pub invariant-reads : goal.invariant-reads
+invariant-reads g l = record {
   within : vec_len l.bytes ≤ most_bytes + 1;
   retried : l.retries ≤ 1000;
   taken : Consumes (g.R.Source.remaining l.initial.source) (g.R.Source.remaining l.source) l.bytes.items;
@@ -13,5 +13,5 @@ invariant-loop-buf g l = record {
       ⊎ (g.R.Source.failed l.source ≡ most_failures);
 }
 
-abbrev pub decreases-loop-buf : goal.decreases-loop-buf
-decreases-loop-buf g l = (most_bytes + 1 - vec_len l.bytes) + (1000 - l.retries)
+abbrev pub decreases-reads : goal.decreases-reads
+decreases-reads g l = (most_bytes + 1 - vec_len l.bytes) + (1000 - l.retries)

@@ -11,11 +11,11 @@ use Rattle.mencius_server.proofs.Server.waiting_at.Goals as goal
 past : (s : ServerState) (i : ℕ) → length s.slots ≤ i → None ≡ waits_at s i
 past s i h =
     sym
-    (ap (λ (t : SlotState). waits_with s i (suggested_in s.members s.id i t))
+    (ap (λ (r : SlotState). waits_with s i (suggested_in s.members s.id i r))
     (get_or_past s.slots i (new_slot s.members) h)
     ∙ none (eqb (owner s.members i) s.id))
   where
-    none : (b : Bool) → waits_with s i (cond b None None) ≡ None
+    none : (a : Bool) → waits_with s i (cond a None None) ≡ None
     none true = refl
     none false = refl
 

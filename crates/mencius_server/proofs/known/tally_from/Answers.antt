@@ -44,7 +44,7 @@ loop-tally-preserved c = record {
       c.loop-tally.invariant.counted);
   within = omega (
     arith,
-    ap (λ (t : Tally). t.stop) c.plus-tally.ensures,
+    ap (λ (a : Tally). a.stop) c.plus-tally.ensures,
     c.tally_slots.ensures.stop,
     c.clear_to-end.ensures.within,
   );

@@ -18,7 +18,7 @@ loop-inst-preserved c = record {
       c.args.stop c.loop-inst.tally c.tally_slot-tally.result c.loop-inst.inst c.next_owned-inst.result
       c.loop-inst-test.true c.next_owned-inst.ensures.above c.next_owned-inst.ensures.owned
       c.next_owned-inst.ensures.least c.tally_slot-tally.ensures c.loop-inst.invariant.tallied;
-  stop = ap (λ (t : Tally). t.stop) c.tally_slot-tally.ensures ∙ c.loop-inst.invariant.stop;
+  stop = ap (λ (a : Tally). a.stop) c.tally_slot-tally.ensures ∙ c.loop-inst.invariant.stop;
 }
 
 pub tally_slot-tally-requires-clause-few : goal.tally_slot-tally-requires-clause-few

@@ -44,7 +44,7 @@ returns-then-is_none-clause-more c =
     omega (arith, c.requires.wide, c.args.places.now.ok.0) in
     let gone = none_read c.args.places.now.items c.args.slots.now.items c.args.inst c.index.result.now
     c.is_none.result c.requires.placed.few within c.index.ensures c.is_none.ensures c.if-is_none.true in
-    c.push_reserved.ensures.len ∙ ap (λ (b : Bool). vec_len c.args.slots.now + cond b 1 0) (sym (ap is_none gone))
+    c.push_reserved.ensures.len ∙ ap (λ (d : Bool). vec_len c.args.slots.now + cond d 1 0) (sym (ap is_none gone))
 
 -- a slot stands there
 found : (c : goal.Else-is_none)
@@ -61,4 +61,4 @@ returns-else-is_none-clause-stand c = λ j. made_no (eqb j c.args.inst) _ _ _ (f
 
 pub returns-else-is_none-clause-more : goal.returns-else-is_none-clause-more
 returns-else-is_none-clause-more c =
-    sym (ap (λ (b : Bool). vec_len c.args.slots.now + cond b 1 0) (found c) ∙ add-zero _)
+    sym (ap (λ (a : Bool). vec_len c.args.slots.now + cond a 1 0) (found c) ∙ add-zero _)

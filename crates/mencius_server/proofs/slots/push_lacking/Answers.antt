@@ -2,7 +2,7 @@ use Rattle.std.proofs.Common.{◌≡◌, ◌+◌, ◌∙◌, arith, false, sym}
 use Rattle.mencius_server.specs.Places.{standing}
 use Rattle.mencius_server.specs.Slots.{is_lacking}
 use Rattle.mencius_server.proofs.Places.{some_read}
-use Rattle.mencius_server.proofs.Walks.{filled_more, filled_room, filled_walked, lacking_covered, passed_room, passed_walked, stands_whole}
+use Rattle.mencius_server.proofs.Walks.{filled, filled_room, lacking_covered, passed, stands_whole}
 use Rattle.mencius_server.proofs.slots.push_lacking.Goals as goal
 use Rattle.mencius_server.proofs.slots.push_lacking.Goals.{then-is_none+then-not-covers, else-is_none, else-is_none-via-then-is_none+else-not-covers, else-is_none-via-else-is_none}
 
@@ -22,23 +22,18 @@ loop-inst-preserved c =
     elim c.if-is_none.branch [
       | then-is_none+then-not-covers w ↦
           let clear = sym w.covers.ensures ∙ w.if-not-covers.true in
+          let pushed = filled c.args.stretch c.args.skipped.now
+          (standing c.args.places.now.items c.args.slots.now.items)
+          (standing c.loop-inst.places.items c.loop-inst.slots.items) c.loop-inst.inst c.next_owned-inst.result
+          inv.own inv.low c.loop-inst-test.true ahead least inv.walked _ _ inv.room clear _
+          w.push_at.ensures.stand _ w.push_at.ensures.more in
           rw (w.places-is, w.slots-is) (record {
             own = c.next_owned-inst.ensures.owned ∙ inv.own;
             low = omega (arith, inv.low, ahead);
             wide = omega (arith, inv.wide, w.push_at.ensures.wide);
             placed = w.push_at.ensures.placed;
-            walked = filled_walked c.args.stretch c.args.skipped.now
-                (standing c.args.places.now.items c.args.slots.now.items)
-                (standing c.loop-inst.places.items c.loop-inst.slots.items) c.loop-inst.inst c.next_owned-inst.result
-                inv.own inv.low c.loop-inst-test.true ahead least inv.walked _ _ inv.room clear _
-                w.push_at.ensures.stand;
-            room = rw w.push_at.ensures.room
-                (filled_more c.args.stretch c.args.skipped.now
-                (standing c.args.places.now.items c.args.slots.now.items)
-                (standing c.loop-inst.places.items c.loop-inst.slots.items) c.loop-inst.inst
-                c.next_owned-inst.result
-                inv.own inv.low c.loop-inst-test.true ahead least inv.walked _ _ inv.room clear _
-                w.push_at.ensures.more);
+            walked = pushed.0;
+            room = rw w.push_at.ensures.room pushed.1;
           })
       | else-is_none w ↦
           let old = standing c.args.places.now.items c.args.slots.now.items in
@@ -56,15 +51,14 @@ loop-inst-preserved c =
                 (omega (arith, inv.wide, c.loop-inst-test.true, c.loop-inst.places.ok.0)) c.index.ensures
                 c.is_none.ensures v.if-is_none.false)
           ] in
+          let passing = passed c.args.stretch c.args.skipped.now old now c.loop-inst.inst c.next_owned-inst.result
+          inv.own inv.low c.loop-inst-test.true ahead least inv.walked _ _ inv.room whole in
           rw (w.places-is, w.slots-is) (record {
             own = c.next_owned-inst.ensures.owned ∙ inv.own;
             low = omega (arith, inv.low, ahead);
             wide = inv.wide;
             placed = inv.placed;
-            walked = passed_walked c.args.stretch c.args.skipped.now old now c.loop-inst.inst
-                c.next_owned-inst.result inv.own inv.low c.loop-inst-test.true ahead least inv.walked _ _ inv.room
-                whole;
-            room = passed_room c.args.stretch c.args.skipped.now old now c.loop-inst.inst c.next_owned-inst.result
-                inv.own inv.low c.loop-inst-test.true ahead least inv.walked _ _ inv.room whole;
+            walked = passing.0;
+            room = passing.1;
           })
     ]

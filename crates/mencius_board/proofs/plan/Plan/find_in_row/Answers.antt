@@ -15,5 +15,5 @@ loop-server-preserved c =
     let lists = c.self.inside.commands.items in
     let inside : s < length (map (λ l. l.items) lists) =
     omega (arith, length-map lists (λ l. l.items), c.loop-server-test.true, c.len-server-end.ensures) in
-    let there : s < length p.commands = subst (λ (q : PlanState). s < length q.commands) c.self.view_is inside in
+    let there : s < length p.commands = subst (λ (y : PlanState). s < length y.commands) c.self.view_is inside in
     c.loop-server.invariant ∙ row_from-skip p c.args.worker c.args.row s there absent

@@ -1,11 +1,13 @@
-use Rattle.std.proofs.Common.{◌≡◌, ℕ, ◌<◌, ◌≤◌, ◌||◌, [], ap, arith, cond, get_or, length, min, refl, set, subst, sym, ◌∙◌}
+use Rattle.std.proofs.Common.{◌≡◌, ℕ, ◌<◌, ◌≤◌, ◌||◌, List, Option, [], ap, arith, cond, get_or, length, min, refl, set, subst, sym, ◌∙◌}
 use Rattle.std.specs.List.{count_by}
 use Rattle.std.proofs.lemmas.Bool.{eq-eqb, ne_eqb}
 use Rattle.std.proofs.lemmas.List.{get_or_default}
 use Rattle.mencius_base.proofs.Owned.{first_owned_owner}
 use Rattle.mencius_base.specs.Members.{Membership, first_owned, instances, owner}
 use Rattle.mencius_server.specs.Ranges.{covers, is_within}
-use Rattle.mencius_server.specs.Known.{KnownState, is_given_in, known_at}
+use Rattle.mencius_server.specs.declared.ranges.Span.{Span}
+use Rattle.coord_paxos.specs.SlotState.{SlotState}
+use Rattle.mencius_server.specs.Known.{IsSorted, KnownState, is_given_in, known_at, known_of}
 use Rattle.mencius_server.specs.Slots.{given}
 use Rattle.mencius_server.specs.declared.stretch.Stretch.{Stretch}
 use Rattle.mencius_server.proofs.SkipKnown.{IsAligned, news_is, skip_again, skip_given, skip_is, skip_shows, skip_sorted, skip_sound, skip_theirs}
@@ -18,150 +20,131 @@ use Rattle.mencius_server.proofs.known.Known.skip.Goals as goal
 pub skip_stretch-requires-clause-low : goal.skip_stretch-requires-clause-low
 skip_stretch-requires-clause-low c =
     let member : c.args.from < c.self.inside.members.count =
-    omega (arith, c.requires.member, ap (λ (k : KnownState). k.members.count) c.self.view_is) in
+    omega (arith, c.requires.member, ap (λ (s : KnownState). s.members.count) c.self.view_is) in
     c.first_owned-stop.ensures.least (first_owned c.self.inside.members c.args.from instance_count)
     (omega (arith, c.min.ensures)) (first_owned_owner c.self.inside.members c.args.from instance_count member)
 
 -- the stretch that is skipped
 abbrev skipped : Membership → ℕ → ℕ → ℕ → Stretch
-skipped m q a b = record { members = m; server = q; first = a; stop = b }
+skipped m q x y = record { members = m; server = q; first = x; stop = y }
+
+-- the skipper has ranges
+has_ranges : (m : Membership) (slots : List (Option SlotState)) (rs : List (List Span)) (now : KnownState) (q : ℕ)
+    → known_of m slots rs ≡ now → IsSorted m rs → q < now.members.count → q < length rs
+has_ranges m slots rs now q shown sorted member =
+    omega (arith, member, ap (λ (s : KnownState). s.members.count) shown, sorted.count)
+
+-- its ranges have the stretch besides
+then_covered : (m : Membership) (q x y : ℕ) (old new : List Span) (rs : List (List Span)) → old ≡ get_or rs q []
+    → ((j : ℕ) → j < instance_count → owner m j ≡ q → covers new j ≡ (covers old j || is_within x y j))
+    → (j : ℕ) → j < instance_count → owner m j ≡ q → covers new j ≡ (covers (get_or rs q []) j || is_within x y j)
+then_covered m q x y old new rs same h j small own = h j small own ∙ ap (λ xs. covers xs j || is_within x y j) same
+
+-- the range begins and ends at the first instances of the skipper from its places on
+abbrev aligned : (m : Membership) (q first stop x y n : ℕ) → n ≡ min stop instance_count
+    → first ≤ x → ((i : ℕ) → first ≤ i → owner m i ≡ q → x ≤ i)
+    → n ≤ y → ((i : ℕ) → n ≤ i → owner m i ≡ q → y ≤ i) → IsAligned q first stop (skipped m q x y)
+aligned m q first stop x y n is above least above_stop least_stop = record {
+  server = refl;
+  above_first = above;
+  least_first = least;
+  above_stop = omega (arith, is, above_stop);
+  least_stop = λ i low own. least_stop i (omega (arith, is, low)) own;
+}
 
 pub invariant_of-self-2 : goal.invariant_of-self-2
 invariant_of-self-2 c =
     let m = c.self.inside.members in
     let rs = c.self.inside.skipped.items in
-    let member : c.args.from < length rs =
-    omega (
-      arith,
-      c.requires.member,
-      ap (λ (k : KnownState). k.members.count) c.self.view_is,
-      c.self.invariant.sound.sorted.count,
-    ) in
+    let member = has_ranges m c.self.inside.slots rs c.args.self.now c.args.from c.self.view_is
+    c.self.invariant.sound.sorted c.requires.member in
     let range : c.index_mut-ranges.result.now ≡ get_or rs c.args.from [] =
     c.index_mut-ranges.ensures.value ∙ get_or_default rs c.args.from _ [] member in
-    let covered =
-    λ (j : ℕ) (small : j < instance_count)
-    (own : owner m j ≡ c.args.from). c.in_ok-learned.ensures.covers j small own
-    ∙ ap (λ xs. covers xs j || is_within c.first_owned-first.result c.first_owned-stop.result j) range in
-    let t = skipped m c.args.from c.first_owned-first.result c.first_owned-stop.result in
+    let covered = then_covered m c.args.from _ _ _ _ rs range c.in_ok-learned.ensures.covers in
+    let stretch = skipped m c.args.from c.first_owned-first.result c.first_owned-stop.result in
     counts_put m c.self.inside.slots c.skip_stretch.new.slots rs (set rs c.args.from c.skip_stretch.new.ranges)
     c.self.inside.learned_below c.learned_from-self-inside.result c.self.inside.tallies c.put.new.self c.args.from
-    (skip_sound m t refl c.self.inside.slots c.skip_stretch.new.slots rs member c.skip_stretch.new.ranges covered
+    (skip_sound m stretch refl c.self.inside.slots c.skip_stretch.new.slots rs member c.skip_stretch.new.ranges covered
     c.in_ok-learned.ensures.slots
     c.self.inside.learned_below c.learned_from-self-inside.result
-    (skip_sorted m t refl c.self.inside.slots c.skip_stretch.new.slots rs member c.skip_stretch.new.ranges covered
+    (skip_sorted m stretch refl c.self.inside.slots c.skip_stretch.new.slots rs member c.skip_stretch.new.ranges covered
     c.in_ok-learned.ensures.slots
     c.skip_stretch.ensures.rising c.skip_stretch.ensures.owned c.self.invariant.sound.sorted)
     c.learned_from-self-inside.ensures.small c.learned_from-self-inside.ensures.known
     c.learned_from-self-inside.ensures.least c.self.invariant.sound)
-    (λ j small other. alike_same m _ _ (sym (skip_theirs m t refl c.self.inside.slots c.skip_stretch.new.slots rs member
-    c.skip_stretch.new.ranges covered c.in_ok-learned.ensures.slots j small other)))
+    (λ j small other. alike_same m _ _ (sym (skip_theirs m stretch refl c.self.inside.slots
+    c.skip_stretch.new.slots rs member c.skip_stretch.new.ranges covered c.in_ok-learned.ensures.slots j small other)))
     (subst (IsTally m (known_at m c.skip_stretch.new.slots (set rs c.args.from c.skip_stretch.new.ranges)) c.args.from)
     (sym (c.put.ensures c.args.from
     ∙ ap (λ b. cond b c.tally_given-tally.result (tally_of c.self.inside.tallies c.args.from))
     (eq-eqb c.args.from c.args.from refl)))
-    (tally_alike m (λ j. given t j (known_at m c.self.inside.slots rs j))
+    (tally_alike m (λ j. given stretch j (known_at m c.self.inside.slots rs j))
     (known_at m c.skip_stretch.new.slots (set rs c.args.from c.skip_stretch.new.ranges)) c.args.from
     c.tally_given-tally.result
-    (λ j small own. alike_same m _ _ (sym (skip_given m t refl c.self.inside.slots c.skip_stretch.new.slots rs member
-    c.skip_stretch.new.ranges covered c.in_ok-learned.ensures.slots j small)))
+    (λ j small own. alike_same m _ _ (sym (skip_given m stretch refl c.self.inside.slots c.skip_stretch.new.slots
+    rs member c.skip_stretch.new.ranges covered c.in_ok-learned.ensures.slots j small)))
     c.tally_given-tally.ensures))
     (λ q other. c.put.ensures q
     ∙ ap (λ b. cond b c.tally_given-tally.result (tally_of c.self.inside.tallies q)) (ne_eqb q c.args.from other))
     c.self.invariant
 
--- the range begins and ends at the first instances of the skipper from its places on
-abbrev aligned : (m : Membership) (q first stop a b : ℕ) → first ≤ a → ((i : ℕ) → first ≤ i → owner m i ≡ q → a ≤ i)
-    → min stop instance_count ≤ b → ((i : ℕ) → min stop instance_count ≤ i → owner m i ≡ q → b ≤ i)
-    → IsAligned q first stop (skipped m q a b)
-aligned m q first stop a b la ma lb mb =
-    record { server = refl; above_first = la; least_first = ma; above_stop = lb; least_stop = mb }
-
 pub returns-clause-after : goal.returns-clause-after
 returns-clause-after c =
     let m = c.self.inside.members in
     let rs = c.self.inside.skipped.items in
-    let member : c.args.from < length rs =
-    omega (
-      arith,
-      c.requires.member,
-      ap (λ (k : KnownState). k.members.count) c.self.view_is,
-      c.self.invariant.sound.sorted.count,
-    ) in
+    let member = has_ranges m c.self.inside.slots rs c.args.self.now c.args.from c.self.view_is
+    c.self.invariant.sound.sorted c.requires.member in
     let range : c.index_mut-ranges.result.now ≡ get_or rs c.args.from [] =
     c.index_mut-ranges.ensures.value ∙ get_or_default rs c.args.from _ [] member in
-    let covered =
-    λ (j : ℕ) (small : j < instance_count)
-    (own : owner m j ≡ c.args.from). c.in_ok-learned.ensures.covers j small own
-    ∙ ap (λ xs. covers xs j || is_within c.first_owned-first.result c.first_owned-stop.result j) range in
-    let t = skipped m c.args.from c.first_owned-first.result c.first_owned-stop.result in
-    skip_shows m t refl c.self.inside.slots c.skip_stretch.new.slots rs member c.skip_stretch.new.ranges covered
+    let covered = then_covered m c.args.from _ _ _ _ rs range c.in_ok-learned.ensures.covers in
+    let stretch = skipped m c.args.from c.first_owned-first.result c.first_owned-stop.result in
+    skip_shows m stretch refl c.self.inside.slots c.skip_stretch.new.slots rs member c.skip_stretch.new.ranges covered
     c.in_ok-learned.ensures.slots c.args.self.now c.self.view_is
-    ∙ skip_is c.args.from c.args.first c.args.stop t
-    (aligned m c.args.from c.args.first c.args.stop c.first_owned-first.result c.first_owned-stop.result
+    ∙ skip_is c.args.from c.args.first c.args.stop stretch
+    (aligned m c.args.from c.args.first c.args.stop _ _ c.min.result (omega (arith, c.min.ensures))
     c.first_owned-first.ensures.above c.first_owned-first.ensures.least
-    (omega (arith, c.min.ensures, c.first_owned-stop.ensures.above))
-    (λ i low own. c.first_owned-stop.ensures.least i (omega (arith, low, c.min.ensures)) own))
-    c.args.self.now (ap (λ (k : KnownState). k.members) c.self.view_is)
+    c.first_owned-stop.ensures.above c.first_owned-stop.ensures.least)
+    c.args.self.now (ap (λ (x : KnownState). x.members) c.self.view_is)
 
 pub returns-clause-learned : goal.returns-clause-learned
 returns-clause-learned c =
     let m = c.self.inside.members in
     let rs = c.self.inside.skipped.items in
-    let member : c.args.from < length rs =
-    omega (
-      arith,
-      c.requires.member,
-      ap (λ (k : KnownState). k.members.count) c.self.view_is,
-      c.self.invariant.sound.sorted.count,
-    ) in
+    let member = has_ranges m c.self.inside.slots rs c.args.self.now c.args.from c.self.view_is
+    c.self.invariant.sound.sorted c.requires.member in
     let range : c.index_mut-ranges.result.now ≡ get_or rs c.args.from [] =
     c.index_mut-ranges.ensures.value ∙ get_or_default rs c.args.from _ [] member in
-    let t = skipped m c.args.from c.first_owned-first.result c.first_owned-stop.result in
-    c.in_ok-learned.ensures.learned ∙ ap (λ r. count_by (is_given_in t r c.self.inside.slots) instances) range
-    ∙ news_is c.args.from c.args.first c.args.stop t
-    (aligned m c.args.from c.args.first c.args.stop c.first_owned-first.result c.first_owned-stop.result
+    let stretch = skipped m c.args.from c.first_owned-first.result c.first_owned-stop.result in
+    c.in_ok-learned.ensures.learned ∙ ap (λ r. count_by (is_given_in stretch r c.self.inside.slots) instances) range
+    ∙ news_is c.args.from c.args.first c.args.stop stretch
+    (aligned m c.args.from c.args.first c.args.stop _ _ c.min.result (omega (arith, c.min.ensures))
     c.first_owned-first.ensures.above c.first_owned-first.ensures.least
-    (omega (arith, c.min.ensures, c.first_owned-stop.ensures.above))
-    (λ i low own. c.first_owned-stop.ensures.least i (omega (arith, low, c.min.ensures)) own))
-    c.args.self.now (ap (λ (k : KnownState). k.members) c.self.view_is)
+    c.first_owned-stop.ensures.above c.first_owned-stop.ensures.least)
+    c.args.self.now (ap (λ (x : KnownState). x.members) c.self.view_is)
     m c.self.inside.slots rs c.self.inside.learned_below c.self.view_is c.self.invariant.sound
 
 pub skip_stretch-requires-clause-told : goal.skip_stretch-requires-clause-told
 skip_stretch-requires-clause-told c =
     let m = c.self.inside.members in
     let rs = c.self.inside.skipped.items in
-    let member : c.args.from < length rs =
-    omega (
-      arith,
-      c.requires.member,
-      ap (λ (k : KnownState). k.members.count) c.self.view_is,
-      c.self.invariant.sound.sorted.count,
-    ) in
+    let member = has_ranges m c.self.inside.slots rs c.args.self.now c.args.from c.self.view_is
+    c.self.invariant.sound.sorted c.requires.member in
     let range : c.index_mut-ranges.result.now ≡ get_or rs c.args.from [] =
     c.index_mut-ranges.ensures.value ∙ get_or_default rs c.args.from _ [] member in
     λ j u small own passed stands. c.self.invariant.sound.told j u small
-    (ap (λ k. covers (get_or rs k []) j) own ∙ ap (λ xs. covers xs j) (sym range) ∙ passed) stands
+    (ap (λ q. covers (get_or rs q []) j) own ∙ ap (λ xs. covers xs j) (sym range) ∙ passed) stands
 
 pub learned_from-self-inside-requires-clause-sorted : goal.learned_from-self-inside-requires-clause-sorted
 learned_from-self-inside-requires-clause-sorted c =
     let m = c.self.inside.members in
     let rs = c.self.inside.skipped.items in
-    let member : c.args.from < length rs =
-    omega (
-      arith,
-      c.requires.member,
-      ap (λ (k : KnownState). k.members.count) c.self.view_is,
-      c.self.invariant.sound.sorted.count,
-    ) in
+    let member = has_ranges m c.self.inside.slots rs c.args.self.now c.args.from c.self.view_is
+    c.self.invariant.sound.sorted c.requires.member in
     let range : c.index_mut-ranges.result.now ≡ get_or rs c.args.from [] =
     c.index_mut-ranges.ensures.value ∙ get_or_default rs c.args.from _ [] member in
-    let covered =
-    λ (j : ℕ) (small : j < instance_count)
-    (own : owner m j ≡ c.args.from). c.in_ok-learned.ensures.covers j small own
-    ∙ ap (λ xs. covers xs j || is_within c.first_owned-first.result c.first_owned-stop.result j) range in
-    let t = skipped m c.args.from c.first_owned-first.result c.first_owned-stop.result in
-    skip_sorted m t refl c.self.inside.slots c.skip_stretch.new.slots rs member c.skip_stretch.new.ranges covered
+    let covered = then_covered m c.args.from _ _ _ _ rs range c.in_ok-learned.ensures.covers in
+    let stretch = skipped m c.args.from c.first_owned-first.result c.first_owned-stop.result in
+    skip_sorted m stretch refl c.self.inside.slots c.skip_stretch.new.slots rs member c.skip_stretch.new.ranges covered
     c.in_ok-learned.ensures.slots c.skip_stretch.ensures.rising c.skip_stretch.ensures.owned
     c.self.invariant.sound.sorted
 
@@ -170,48 +153,36 @@ pub returns-then-past-stop-clause-after : goal.returns-then-past-stop-clause-aft
 returns-then-past-stop-clause-after c =
     let m = c.self.inside.members in
     let rs = c.self.inside.skipped.items in
-    let member : c.args.from < length rs =
-    omega (
-      arith,
-      c.requires.member,
-      ap (λ (k : KnownState). k.members.count) c.self.view_is,
-      c.self.invariant.sound.sorted.count,
-    ) in
+    let member = has_ranges m c.self.inside.slots rs c.args.self.now c.args.from c.self.view_is
+    c.self.invariant.sound.sorted c.requires.member in
     let range : c.index.result.now ≡ get_or rs c.args.from [] =
     c.index.ensures ∙ get_or_default rs c.args.from _ [] member in
-    let t = skipped m c.args.from c.first_owned-first.result c.first_owned-stop.result in
-    skip_again m t c.self.inside.slots rs c.args.self.now refl c.self.view_is
+    let stretch = skipped m c.args.from c.first_owned-first.result c.first_owned-stop.result in
+    skip_again m stretch c.self.inside.slots rs c.args.self.now refl c.self.view_is
     (sound_told m c.self.inside.slots rs c.self.inside.learned_below c.self.invariant.sound)
     (λ j low high. ap (λ xs. covers xs j) (sym range)
     ∙ c.past.ensures.covered j low (omega (arith, high, c.if-past-stop.true)))
-    ∙ skip_is c.args.from c.args.first c.args.stop t
-    (aligned m c.args.from c.args.first c.args.stop c.first_owned-first.result c.first_owned-stop.result
+    ∙ skip_is c.args.from c.args.first c.args.stop stretch
+    (aligned m c.args.from c.args.first c.args.stop _ _ c.min.result (omega (arith, c.min.ensures))
     c.first_owned-first.ensures.above c.first_owned-first.ensures.least
-    (omega (arith, c.min.ensures, c.first_owned-stop.ensures.above))
-    (λ i low own. c.first_owned-stop.ensures.least i (omega (arith, low, c.min.ensures)) own))
-    c.args.self.now (ap (λ (k : KnownState). k.members) c.self.view_is)
+    c.first_owned-stop.ensures.above c.first_owned-stop.ensures.least)
+    c.args.self.now (ap (λ (x : KnownState). x.members) c.self.view_is)
 
 pub returns-then-past-stop-clause-learned : goal.returns-then-past-stop-clause-learned
 returns-then-past-stop-clause-learned c =
     let m = c.self.inside.members in
     let rs = c.self.inside.skipped.items in
-    let member : c.args.from < length rs =
-    omega (
-      arith,
-      c.requires.member,
-      ap (λ (k : KnownState). k.members.count) c.self.view_is,
-      c.self.invariant.sound.sorted.count,
-    ) in
+    let member = has_ranges m c.self.inside.slots rs c.args.self.now c.args.from c.self.view_is
+    c.self.invariant.sound.sorted c.requires.member in
     let range : c.index.result.now ≡ get_or rs c.args.from [] =
     c.index.ensures ∙ get_or_default rs c.args.from _ [] member in
-    let t = skipped m c.args.from c.first_owned-first.result c.first_owned-stop.result in
-    old_news t c.index.result.now c.self.inside.slots
+    let stretch = skipped m c.args.from c.first_owned-first.result c.first_owned-stop.result in
+    old_news stretch c.index.result.now c.self.inside.slots
     (λ j low high. c.past.ensures.covered j low (omega (arith, high, c.if-past-stop.true)))
-    ∙ ap (λ r. count_by (is_given_in t r c.self.inside.slots) instances) range
-    ∙ news_is c.args.from c.args.first c.args.stop t
-    (aligned m c.args.from c.args.first c.args.stop c.first_owned-first.result c.first_owned-stop.result
+    ∙ ap (λ r. count_by (is_given_in stretch r c.self.inside.slots) instances) range
+    ∙ news_is c.args.from c.args.first c.args.stop stretch
+    (aligned m c.args.from c.args.first c.args.stop _ _ c.min.result (omega (arith, c.min.ensures))
     c.first_owned-first.ensures.above c.first_owned-first.ensures.least
-    (omega (arith, c.min.ensures, c.first_owned-stop.ensures.above))
-    (λ i low own. c.first_owned-stop.ensures.least i (omega (arith, low, c.min.ensures)) own))
-    c.args.self.now (ap (λ (k : KnownState). k.members) c.self.view_is)
+    c.first_owned-stop.ensures.above c.first_owned-stop.ensures.least)
+    c.args.self.now (ap (λ (x : KnownState). x.members) c.self.view_is)
     m c.self.inside.slots rs c.self.inside.learned_below c.self.view_is c.self.invariant.sound

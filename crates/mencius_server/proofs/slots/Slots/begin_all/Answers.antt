@@ -1,8 +1,9 @@
-use Rattle.std.proofs.Common.{◌≡◌, ◌+◌, ◌<◌, ◌≤◌, ℕ, Bool, cond, false, true, ◌∙◌, ⊎_elim, ap, arith, refl, sym}
+use Rattle.std.proofs.Common.{◌≡◌, ◌+◌, ◌<◌, ◌≤◌, ℕ, Bool, cond, false, true, ◌∙◌, ap, arith, refl, sym}
 use Rattle.std.specs.Option.{option_map}
-use Rattle.std.proofs.lemmas.Bool.{cases_eq, cases_lt}
+use Rattle.coord_paxos.specs.SlotState.{SlotState}
+use Rattle.mencius_server.specs.Tallies.{is_spent}
 use Rattle.mencius_server.specs.Slots.{begun, is_begun, is_in, is_unlearned, prepare_at, stand_at}
-use Rattle.mencius_server.proofs.Begins.{room_here, room_more, room_none, sent_more, sent_none}
+use Rattle.mencius_server.proofs.Begins.{begun_each, room_here, room_more, room_none, sent_more, sent_none}
 use Rattle.mencius_server.proofs.Gaps.{room_gap, sent_gap, sent_to}
 use Rattle.mencius_server.proofs.Walks.{begun_in, begun_out, in_here, out_before, out_between, out_past, prepare_here, unbegun_out, unlearned_in, walked_more, walked_start, written_here, written_off}
 use Rattle.mencius_server.proofs.slots.Slots.begin_all.Goals as goal
@@ -54,17 +55,17 @@ loop-inst-preserved c =
     let between : (j : ℕ) → c.loop-inst.inst + 1 ≤ j → j < c.next_owned-inst.result
     → is_begun c.args.stretch c.args.self.now j ≡ false =
     λ j low high. unbegun_out c.args.stretch c.args.self.now j (out j low high) in
+    let begin = option_map (begun c.args.stretch.members c.args.id) in
+    let off = written_off begin (stand_at c.loop-inst.self) (stand_at c.begin-is_last_here.new.self)
+    c.loop-inst.inst c.begin-is_last_here.ensures.slots in
     record {
       own = c.next_owned-inst.ensures.owned ∙ inv.own;
       low = omega (arith, inv.low, ahead);
       walked = walked_more _ _ (stand_at c.loop-inst.self) _ c.loop-inst.inst _ ahead
           (λ j low high. begun_out c.args.stretch c.args.id j _ (out j low high))
-          (written_here (option_map (begun c.args.stretch.members c.args.id)) (stand_at c.loop-inst.self)
-          (stand_at c.begin-is_last_here.new.self) c.loop-inst.inst c.begin-is_last_here.ensures.slots
-          ∙ sym (begun_in c.args.stretch c.args.id c.loop-inst.inst _ here))
-          (written_off (option_map (begun c.args.stretch.members c.args.id)) (stand_at c.loop-inst.self)
-          (stand_at c.begin-is_last_here.new.self) c.loop-inst.inst c.begin-is_last_here.ensures.slots)
-          inv.walked;
+          (written_here begin (stand_at c.loop-inst.self) (stand_at c.begin-is_last_here.new.self) c.loop-inst.inst
+          c.begin-is_last_here.ensures.slots ∙ sym (begun_in c.args.stretch c.args.id c.loop-inst.inst _ here))
+          off inv.walked;
       sent = sent_gap _ _ _ _ (c.loop-inst.inst + 1) _ ahead between
           (sent_more _ _ _ c.loop-inst.out.messages _ c.begin-is_last_here.new.out.messages c.loop-inst.inst
           (ap (prepare_at c.args.stretch.members c.args.id c.loop-inst.inst) start
@@ -72,26 +73,16 @@ loop-inst-preserved c =
           c.begin-is_last_here.ensures.sent inv.sent);
       room = room_gap _ _ _ (c.loop-inst.inst + 1) _ ahead between
           (room_more _ _ c.loop-inst.out.room c.begin-is_last_here.new.out.room c.loop-inst.inst
-          (ap (λ (b : Bool). c.begin-is_last_here.new.out.room + cond b 1 0) (begins ∙ ap is_unlearned (sym start))
+          (ap (λ (a : Bool). c.begin-is_last_here.new.out.room + cond a 1 0) (begins ∙ ap is_unlearned (sym start))
           ∙ c.begin-is_last_here.ensures.room) inv.room);
-      last = λ still j t less begun_j stands. elim c.if-is_last.branch [
+      last = λ still. elim c.if-is_last.branch [
         | then-is_last w ↦ let no : true ≡ false = sym w.if-is_last.true ∙ sym w.is_last-is ∙ still in absurd (cc)
-        | else-is_last w ↦ ⊎_elim
-            (λ (before : j < c.loop-inst.inst).
-            inv.last w.if-is_last.false j t before begun_j
-            (sym (written_off (option_map (begun c.args.stretch.members c.args.id)) (stand_at c.loop-inst.self)
-            (stand_at c.begin-is_last_here.new.self) c.loop-inst.inst c.begin-is_last_here.ensures.slots j
-            (λ e. absurd (omega arith))) ∙ stands))
-            (λ (from : c.loop-inst.inst ≤ j). ⊎_elim
-            (λ (at : j ≡ c.loop-inst.inst).
-            c.begin-is_last_here.ensures.last (sym w.is_last-is ∙ still) t
-            (ap is_unlearned start ∙ sym begins ∙ sym (ap (is_begun c.args.stretch c.args.self.now) at) ∙ begun_j)
-            (sym (ap (stand_at c.begin-is_last_here.new.self) at) ∙ stands))
-            (λ (off : j ≡ c.loop-inst.inst → ⊥).
-            let no = between j (omega arith) less in
-            let both : true ≡ false = sym begun_j ∙ no in absurd (cc))
-            (cases_eq j c.loop-inst.inst))
-            (cases_lt j c.loop-inst.inst)
+        | else-is_last w ↦
+            begun_each (is_begun c.args.stretch c.args.self.now) (stand_at c.loop-inst.self)
+            (stand_at c.begin-is_last_here.new.self) (λ (s : SlotState). is_spent c.args.stretch.members s ≡ false)
+            c.loop-inst.inst _ between off (inv.last w.if-is_last.false)
+            (λ s here_begun. c.begin-is_last_here.ensures.last (sym w.is_last-is ∙ still) s
+            (ap is_unlearned start ∙ sym begins ∙ here_begun))
       ];
       limit = c.begin-is_last_here.ensures.limit ∙ inv.limit;
     }

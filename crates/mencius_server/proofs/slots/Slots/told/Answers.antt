@@ -27,7 +27,7 @@ loop-inst-preserved c =
     let one : c.from-told.result ≡ cond c.is_told.result 1 0 = search rules in
     let here : c.from-told.result ≡ cond
     (is_told c.args.stretch c.args.skipped.now c.args.self.now c.loop-inst.inst) 1 0 =
-    one ∙ ap (λ (b : Bool). cond b 1 0)
+    one ∙ ap (λ (a : Bool). cond a 1 0)
     (c.is_told.ensures ∙ sym (told_in c.args.stretch c.args.skipped.now c.args.self.now c.loop-inst.inst
     (in_here c.args.stretch c.loop-inst.inst inv.own inv.low within))) in
     let few : c.from-told.result ≤ 1 = rw here (one_at_most _) in

@@ -1,0 +1,47 @@
+-- Why a task ended at a fault.
+use Rattle.std.proofs.Common.{◌≡◌, ℕ, Bool, false, List, Option, Some, IfSome, IfErr, OnOk, Result, Ok, Err, refl, sym, subst}
+use Rattle.mencius_input.specs.declared.fault.AppFault.{AppFault}
+use Rattle.mencius_app.specs.Calls.{IsCause}
+use Rattle.mencius_app.specs.Replay.{IsReplayOf, accepts_all}
+use Rattle.mencius_app.specs.Run.{IsRunOf}
+use Rattle.mencius_app.specs.Ending.{IsTextOf, ending_of, fault_in, tells_of_refusals}
+use Rattle.mencius_app.specs.declared.checking.Finding.{Finding}
+use Rattle.mencius_app.specs.declared.ending.Ending.{Ending}
+use Rattle.mencius_app.specs.declared.ending.Ending.TheVariants.{Done}
+use Rattle.mencius_input.specs.CommandLine.{asked_replay, asked_run}
+
+-- where its text is also one of another kind
+pub as_text : {F : AppFault → Type 0} {P Q : List ℕ → Type 0} {reads reads_now writes writes_now : ℕ}
+    {old new : Option (List ℕ)} {fault : AppFault} → ((text : List ℕ) → P text → Q text)
+    → IsCause F P reads reads_now writes writes_now old new fault
+    → IsCause F Q reads reads_now writes writes_now old new fault
+as_text also h = record {
+  bad_input = h.bad_input;
+  read_failed = h.read_failed;
+  write_failed = h.write_failed;
+  front = λ e. let was = h.front e in (was.0, also was.0 was.1, was.2);
+  nothing = h.nothing;
+}
+
+pub text_of_replay : (is_strict : Bool) (known : Option (List ℕ)) (text : List ℕ) → IsReplayOf known text
+    → IsTextOf (asked_replay is_strict) known text
+text_of_replay is_strict known text h =
+    let all = accepts_all h.written.servers h.written.events in
+    (tells_of_refusals is_strict all, (all, (h, refl), refl))
+
+pub text_of_run : (known : Option (List ℕ)) (with_journal : Bool) (key there : Option (List ℕ)) (text : List ℕ)
+    → key ≡ there → IsRunOf known with_journal key text → IsTextOf (asked_run with_journal there) known text
+text_of_run known with_journal key there text same is =
+    (false, (subst (λ k. IsRunOf known with_journal k text) same is, refl))
+
+-- what holds of the fault of a result holds of the fault of the ending that it makes
+pub of_result : {T : Type 0} (done : Result T AppFault) (ending : Ending) (P : AppFault → Type 0)
+    → ending ≡ ending_of done → IfErr done P → IfSome (fault_in ending) P
+of_result (Ok x) ending P e h = subst (λ d. IfSome (fault_in d) P) (sym e) tt
+of_result (Err fault) ending P e h = subst (λ d. IfSome (fault_in d) P) (sym e) h
+
+pub of_check : {T : Type 0} (done : Result T Finding) (ending : Ending) (P : AppFault → Type 0)
+    → OnOk done (ending ≡ Done) → IfErr done (λ found. fault_in ending ≡ Some found.fault)
+    → IfErr done (λ found. P found.fault) → IfSome (fault_in ending) P
+of_check (Ok x) ending P d e h = subst (λ d. IfSome (fault_in d) P) (sym d) tt
+of_check (Err found) ending P d e h = subst (λ o. IfSome o P) (sym e) h

@@ -1,0 +1,20 @@
+use Rattle.std.proofs.Common.{Err, false, refl}
+use Rattle.std.proofs.lemmas.Result.{IfErr-weaker}
+use Rattle.mencius_app.proofs.Causes.{as_text, of_check, of_result, text_of_replay, text_of_run}
+use Rattle.mencius_app.proofs.calling.perform_task.Goals as goal
+
+pub returns-in-Err-clause-fault : goal.returns-in-Err-clause-fault
+returns-in-Err-clause-fault g c =
+    rw c.in-Replay.is (of_result {T = Unit {0}} (Err c.in-Err.fault) _ _ c.ending_of.ensures
+    (as_text (text_of_replay c.in-Replay.is_strict _) c.in-Err.ensures.fault))
+
+pub returns-in-Check-clause-fault : goal.returns-in-Check-clause-fault
+returns-in-Check-clause-fault g c =
+    rw c.in-Check.is (of_check c.check.result _ _ c.ending_of_check.ensures.done c.ending_of_check.ensures.fault
+    (IfErr-weaker c.check.result _ _ (λ found h. as_text (λ text is. (false, (is, refl))) h) c.check.ensures.fault))
+
+pub returns-in-Run-clause-fault : goal.returns-in-Run-clause-fault
+returns-in-Run-clause-fault g c =
+    rw c.in-Run.is (of_result c.run.result _ _ c.ending_of-in-Run.ensures
+    (IfErr-weaker c.run.result _ _ (λ fault h. as_text (λ text is.
+    text_of_run _ _ _ _ text c.as_deref-key.ensures.value is) h) c.run.ensures.fault))

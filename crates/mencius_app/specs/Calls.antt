@@ -1,0 +1,24 @@
+-- What a task asks of its reader and its writer, and why it ends at a fault.
+use Rattle.std.specs.Prelude.{◌≡◌, ◌≢◌, ◌≤◌, ◌+◌, ℕ, List, Option}
+use Rattle.std.specs.Io.KnownBytes.{Keeps}
+use Rattle.mencius_input.specs.Ends.{HasFailed, TakesAtMost, WritesFront, most_bytes, most_failed_calls}
+use Rattle.mencius_input.specs.declared.fault.AppFault.{AppFault}
+use Rattle.mencius_input.specs.declared.fault.AppFault.TheVariants.{ReadFailed, WriteFailed}
+use Rattle.mencius_app.specs.Replay.{IsBadInput}
+
+-- how much is asked, whatever comes of it, of a reader that had so many bytes and has these left, and of whose calls so
+-- many had failed and now have; and of a writer, of whose calls so many had failed and now have
+pub record AsksLittle (had left : Option (List ℕ)) (reads reads_now writes writes_now : ℕ) : Type 0 where
+  pub taken : TakesAtMost (most_bytes + 1) had left
+  pub reads_tried : reads_now ≤ reads + most_failed_calls
+  pub writes_tried : writes_now ≤ writes + most_failed_calls
+
+-- why a task ended at a fault: its input has it, or more calls of the reader or of the writer failed. Where the writer
+-- failed a front of a text of the task was written, and else nothing
+pub record IsCause (IsInputFault : AppFault → Type 0) (IsText : List ℕ → Type 0) (reads reads_now writes writes_now : ℕ)
+    (old new : Option (List ℕ)) (fault : AppFault) : Type 0 where
+  pub bad_input : IsBadInput fault → IsInputFault fault
+  pub read_failed : fault ≡ ReadFailed → HasFailed reads reads_now
+  pub write_failed : fault ≡ WriteFailed → HasFailed writes writes_now
+  pub front : fault ≡ WriteFailed → (text : List ℕ) × IsText text × WritesFront old new text
+  pub nothing : fault ≢ WriteFailed → Keeps old new

@@ -1,0 +1,123 @@
+//! What a check of a scenario prints, and what it finds.
+
+ghost use Rattle.std.specs.Prelude.{ℕ, List, Ok, IfSome, IsErrOf, ◌≡◌, ◌≢◌, ◌≤◌, ◌+◌, string_bytes, IfErr, IfOk, OnOk};
+ghost use Rattle.std.specs.Io.KnownBytes.{Appends, IsAtEnd};
+ghost use Rattle.mencius_input.specs.Ends.{HasFailed, TakesAtMost, most_bytes, most_failed_calls};
+ghost use Rattle.mencius_input.specs.Scenario.{written_in};
+ghost use Rattle.mencius_app.specs.Calls.{AsksLittle, IsCause};
+ghost use Rattle.mencius_app.specs.Check.{IsCheckOf, ok_line};
+ghost use Rattle.mencius_app.specs.Replay.{IsBadInput, IsFaultOf, input_of};
+
+use mencius_base::Members;
+use mencius_input::{
+    AppFault, Events, Scenario, Sink, Source, explain, read_all, read_scenario, write_all,
+};
+use std::alloc::{AllocError, Global};
+
+/// What a check finds: a fault, and where the scenario has it.
+#[derive(Debug, Drop, PartialEq, Eq)]
+pub struct Finding {
+    /// The fault that a replay of the same input ends with.
+    pub fault: AppFault,
+    /// A line that says where the scenario is wrong, and how, with its line feed. There is none
+    /// where the text could not be written or memory ran out.
+    pub words: Option<String>,
+}
+
+impl From<AppFault> for Finding {
+    ghost use Rattle.std.specs.Prelude.{◌≡◌};
+
+    ghost from_gives = { λ fault found. found.fault ≡ fault };
+
+    fn from(fault: AppFault) -> Finding {
+        Finding { fault, words: None }
+    }
+}
+
+impl From<AllocError> for Finding {
+    ghost use Rattle.std.specs.Prelude.{◌≡◌};
+    ghost use Rattle.mencius_input.specs.declared.fault.AppFault.TheVariants as fault;
+
+    ghost from_gives = { λ _ found. found.fault ≡ fault.NoMemory };
+
+    fn from(_refused: AllocError) -> Finding {
+        Finding::from(AppFault::NoMemory)
+    }
+}
+
+/// Reads a scenario to its end, and writes how many servers and how many events it has. No event is
+/// stepped.
+///
+/// # Errors
+///
+/// The fault that a replay of the same input ends with, before its first event.
+pub fn check<R: Source, W: Sink>(alloc: Global, source: &mut R, sink: &mut W) -> Result<(), Finding>
+    // All bytes were read, they are a scenario, and its line was written.
+    ensures end { OnOk result (IsAtEnd (R.remaining source.new)) }
+    ensures done { OnOk result ((text : List ℕ) × IsCheckOf (R.remaining source.old) text
+        × Appends (W.contents sink.old) (W.contents sink.new) text) }
+
+    // Which fault, and when; and how much was asked of reader and writer, whatever the answer.
+    ensures fault { IfErr result (λ found. IsCause (IsFaultOf (R.remaining source.old))
+        (IsCheckOf (R.remaining source.old)) (R.failed source.old) (R.failed source.new)
+        (W.failed sink.old) (W.failed sink.new) (W.contents sink.old) (W.contents sink.new)
+        found.fault) }
+    ensures no_board { IfErr result (λ found. found.fault ≢ AppFault.BoardFailed) }
+    ensures asked { AsksLittle (R.remaining source.old) (R.remaining source.new)
+        (R.failed source.old) (R.failed source.new) (W.failed sink.old) (W.failed sink.new) }
+{
+    let scenario = read_input(alloc, source)?;
+    let line = ok_line(alloc, scenario.members, &scenario.events)?;
+    write_all(sink, line.as_bytes())?;
+    Ok(())
+}
+
+// The scenario that a reader has, or what is wrong with it.
+fn read_input<R: Source>(alloc: Global, source: &mut R) -> Result<Scenario, Finding>
+    ensures end { OnOk result (IsAtEnd (R.remaining source.new)) }
+    ensures said { IfOk result (λ s. (bytes : List ℕ)
+        × IfSome (R.remaining source.old) (λ all. all ≡ bytes)
+        × (input_of bytes ≡ Ok (written_in s))) }
+    ensures bad_input { IfErr result (λ found. IsBadInput found.fault
+        → IsFaultOf (R.remaining source.old) found.fault) }
+    ensures read_failed { IfErr result (λ found. found.fault ≡ AppFault.ReadFailed
+        → HasFailed (R.failed source.old) (R.failed source.new)) }
+    ensures others { IfErr result (λ found.
+        (found.fault ≢ AppFault.WriteFailed) × (found.fault ≢ AppFault.BoardFailed)) }
+    ensures taken { TakesAtMost (most_bytes + 1) (R.remaining source.old) (R.remaining source.new) }
+    ensures tried { R.failed source.new ≤ R.failed source.old + most_failed_calls }
+{
+    let bytes = match read_all(alloc, source) {
+        Ok(bytes) => bytes,
+        Err(fault) => return Err(found(alloc, b"", fault)),
+    };
+    match read_scenario(alloc, bytes.as_slice()) {
+        Ok(scenario) => Ok(scenario),
+        Err(fault) => Err(found(alloc, bytes.as_slice(), fault)),
+    }
+}
+
+// A fault that these bytes have, with words for it if there is memory.
+fn found(alloc: Global, bytes: &[u8], fault: AppFault) -> Finding
+    ensures { result.fault ≡ fault }
+{
+    let words = words_of(alloc, bytes, fault);
+    Finding { fault, words }
+}
+
+fn words_of(alloc: Global, bytes: &[u8], fault: AppFault) -> Option<String> {
+    let mut words = explain(alloc, bytes, fault).ok()?;
+    words.push('\n').ok()?;
+    Some(words)
+}
+
+// What is printed of a scenario that is one.
+fn ok_line(alloc: Global, members: Members, events: &Events) -> Result<String, AllocError>
+    ensures { IfOk result (λ s. string_bytes s ≡ ok_line members.count events.now) }
+{
+    let servers = members.count();
+    let count = events.len();
+    let mut line = String::new(alloc);
+    writeln!(line, "ok servers {servers} events {count}")?;
+    Ok(line)
+}

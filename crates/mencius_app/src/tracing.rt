@@ -1,0 +1,81 @@
+//! What a trace of a scenario prints.
+
+ghost use Rattle.std.specs.Prelude.{ℕ, List, ◌≡◌, ◌≢◌, ◌++◌, string_bytes, IfErr, IfOk, OnOk};
+ghost use Rattle.std.specs.Io.KnownBytes.{Appends, IsAtEnd};
+ghost use Rattle.mencius_app.specs.Calls.{AsksLittle, IsCause};
+ghost use Rattle.mencius_app.specs.Replay.{IsFaultOf};
+ghost use Rattle.mencius_app.specs.Trace.{IsTraceOf};
+ghost use Rattle.mencius_cluster.specs.State.{trace_of};
+ghost use Rattle.mencius_trace.specs.Closing.{told_from, trace_text};
+
+use crate::replaying::read_input;
+use mencius_base::{Members, NoMemory};
+use mencius_cluster::Cluster;
+use mencius_input::{AppFault, Events, Sink, Source, write_all};
+use mencius_trace::{push_closing, tell};
+use std::alloc::Global;
+
+/// Reads a scenario to its end, steps a new cluster through its events, and writes what each of them
+/// did, one fact a line, and then how far each server is and which messages were not heard. The
+/// whole text is made before any of it is written. An event that runs out of memory ends the trace
+/// with `NoMemory`.
+pub fn trace<R: Source, W: Sink>(
+    alloc: Global,
+    source: &mut R,
+    sink: &mut W,
+) -> Result<(), AppFault>
+    // All bytes were read, they are a scenario, and the text of its trace was written.
+    ensures end { OnOk result (IsAtEnd (R.remaining source.new)) }
+    ensures done { OnOk result ((text : List ℕ) × IsTraceOf (R.remaining source.old) text
+        × Appends (W.contents sink.old) (W.contents sink.new) text) }
+
+    // Which fault, and when; and how much was asked of reader and writer, whatever the answer.
+    ensures fault { IfErr result (IsCause (IsFaultOf (R.remaining source.old))
+        (IsTraceOf (R.remaining source.old)) (R.failed source.old) (R.failed source.new)
+        (W.failed sink.old) (W.failed sink.new) (W.contents sink.old) (W.contents sink.new)) }
+    ensures no_board { IfErr result (λ f. f ≢ AppFault.BoardFailed) }
+    ensures asked { AsksLittle (R.remaining source.old) (R.remaining source.new)
+        (R.failed source.old) (R.failed source.new) (W.failed sink.old) (W.failed sink.new) }
+{
+    let scenario = read_input(alloc, source)?;
+    let text = traced(alloc, scenario.members, scenario.events)?;
+    write_all(sink, text.as_bytes())
+}
+
+// The text of a trace.
+fn traced(alloc: Global, members: Members, events: Events) -> Result<String, AppFault>
+    ensures text { IfOk result (λ s. string_bytes s ≡ trace_text members.count events) }
+    ensures memory { IfErr result (λ f. f ≡ AppFault.NoMemory) }
+{
+    let Ok(mut cluster) = Cluster::new(alloc, members) else {
+        return Err(AppFault::NoMemory);
+    };
+    let servers = members.count();
+    let mut text = String::new(alloc);
+    writeln!(text, "servers {servers}")?;
+    match push_events(alloc, &mut text, &mut cluster, events) {
+        Ok(()) => Ok(text),
+        Err(_) => Err(AppFault::NoMemory),
+    }
+}
+
+// Steps a cluster through the events, and adds each with what came of it; and then what is told
+// after the last.
+fn push_events(
+    alloc: Global,
+    text: &mut String,
+    cluster: &mut Cluster,
+    events: Events,
+) -> Result<(), NoMemory>
+    ensures { OnOk result (string_bytes text.new ≡ string_bytes text.old
+        ++ told_from cluster.old.members (trace_of cluster.old) 0 events) }
+{
+    let count = events.len();
+    let mut place = 0usize;
+    for event in events {
+        prove!(place < count);
+        tell(alloc, text, cluster, place, event)?;
+        place += 1;
+    }
+    push_closing(alloc, text, cluster)
+}

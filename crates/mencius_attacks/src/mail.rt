@@ -1,0 +1,67 @@
+//! How far each server has heard what was sent.
+
+use crate::dice::Dice;
+use mencius_base::{Message, Vote};
+use mencius_cluster::Cluster;
+use std::alloc::{AllocError, Global};
+
+/// The messages as they come to servers in the order of sending, but that every second one of a slow sender comes to
+/// nobody else. So what one server decides stays unknown to others that suspect it meanwhile.
+#[derive(Drop)]
+pub struct Mail {
+    // By server the first message that did not come to it yet.
+    next: Vec<u32>,
+    slow: u8,
+}
+
+impl Mail {
+    /// Nothing has come yet.
+    pub fn new(alloc: Global, dice: &mut Dice, servers: u8) -> Result<Mail, AllocError> {
+        let mut next = Vec::new(alloc);
+        next.resize(usize::from(servers), 0)?;
+        let slow = (dice.below(u32::from(servers).max(1)) % 256) as u8;
+        Ok(Mail { next, slow })
+    }
+
+    /// The sender whose messages are slow.
+    pub fn slow(&self) -> u8 {
+        self.slow
+    }
+
+    /// The next message that comes to a server, if there is one.
+    pub fn next_for(&mut self, dice: &mut Dice, cluster: &Cluster, server: u8) -> Option<u32> {
+        let slow = self.slow;
+        let next = self.next.get_mut(usize::from(server))?;
+        for message in *next..cluster.messages() {
+            *next = message.saturating_add(1);
+            if comes(dice, cluster, message, slow, server) {
+                return Some(message);
+            }
+        }
+        None
+    }
+}
+
+fn comes(dice: &mut Dice, cluster: &Cluster, message: u32, slow: u8, server: u8) -> bool {
+    // The check of a value that holds a message looks for the types inside it among those named here.
+    let _inside: Option<Vote> = None;
+    match cluster.message(message) {
+        Some(sent) => {
+            let sender = sender_of(&sent);
+            sent.goes_to(server) && (sender != slow || sender == server || dice.below(2) == 0)
+        }
+        None => false,
+    }
+}
+
+fn sender_of(message: &Message) -> u8 {
+    match *message {
+        Message::Suggest { from, .. }
+        | Message::Skip { from, .. }
+        | Message::Accepted { from, .. }
+        | Message::Prepare { from, .. }
+        | Message::Promise { from, .. }
+        | Message::Propose { from, .. }
+        | Message::Learn { from, .. } => from,
+    }
+}

@@ -1,0 +1,181 @@
+//! Steps clusters through schedules that are drawn at random, and asks the laws of their answers after each event.
+//!
+//! Standard input has two numbers, a seed and a count. Of that many schedules each has a cluster of 1 to 7 servers and
+//! 60 to 360 events that are drawn by numbers of its own. Then, to half of the clusters, each message comes once more
+//! in order, so that what was begun is ended. At the end the journal makes a second cluster with the same answers and
+//! the same report.
+//!
+//! It ends with status 0, with 2 where standard input has anything else, with 6 where memory ran out, and with 9 where
+//! something is wrong, also where no schedule had a loss, a suspicion, a repeat or a retry, or none executed a command.
+//! Standard error then says what, and else what happened.
+#![tactic(auto)]
+
+mod dice;
+mod drawing;
+mod mail;
+mod tally;
+
+use crate::dice::Dice;
+use crate::drawing::{Mix, draw_event};
+use crate::mail::Mail;
+use crate::tally::Tally;
+use mencius_app::report;
+use mencius_base::{Event, Members};
+use mencius_cluster::Cluster;
+use mencius_input::{Std, read_all, write_all};
+use mencius_tests::again::again;
+use mencius_tests::same::first_difference;
+use mencius_tests::walk::{Stop, Walk};
+use std::alloc::{AllocError, Global};
+use std::process::ExitCode;
+
+// The seed and the count.
+fn read_numbers(bytes: &[u8]) -> Option<(u64, u32)> {
+    let text = str::from_utf8(bytes).ok()?;
+    let (seed, count) = text.trim().split_once(' ')?;
+    Some((seed.parse::<u64>().ok()?, count.parse::<u32>().ok()?))
+}
+
+// Takes so many events as they are drawn.
+fn wander(alloc: Global, dice: &mut Dice, walk: &mut Walk, count: u32) -> Result<(), Stop> {
+    let mix = Mix::draw(dice);
+    let mut mail = Mail::new(alloc, dice, walk.cluster().servers())?;
+    for _ in 0..count {
+        let event = draw_event(alloc, dice, mix, &mut mail, walk.cluster())?;
+        walk.take(event)?;
+    }
+    Ok(())
+}
+
+// Delivers each message from this one on, those too that are sent meanwhile, and answers how many there are then.
+fn deliver_from(walk: &mut Walk, first: u32) -> Result<u32, Stop> {
+    for message in first..MOST_DELIVERED {
+        if message >= walk.cluster().messages() {
+            return Ok(message);
+        }
+        walk.deliver_everywhere(message)?;
+    }
+    Ok(MOST_DELIVERED)
+}
+
+// Suggests again what waits.
+fn retry_all(walk: &mut Walk) -> Result<(), Stop> {
+    for server in 0..walk.cluster().servers() {
+        for _ in 0..MOST_WAITING {
+            if !walk.take(Event::Retry { server })? {
+                break;
+            }
+        }
+    }
+    Ok(())
+}
+
+const MOST_DELIVERED: u32 = 4096;
+
+const MOST_WAITING: u32 = 64;
+
+// Ends what was begun.
+fn settle(walk: &mut Walk) -> Result<(), Stop> {
+    let delivered = deliver_from(walk, 0)?;
+    retry_all(walk)?;
+    deliver_from(walk, delivered)?;
+    walk.execute_all()
+}
+
+// A cluster that was attacked by one schedule.
+fn attack(alloc: Global, dice: &mut Dice) -> Result<Walk, Stop> {
+    let count = dice.below(7) as u8 + 1;
+    let Some(members) = Members::new(count) else {
+        return Err(Stop::Broken("a bad number of servers is drawn"));
+    };
+    let mut walk = Walk::new(alloc, members)?;
+    let events = dice.below(301).saturating_add(60);
+    wander(alloc, dice, &mut walk, events)?;
+    if dice.below(2) == 0 {
+        settle(&mut walk)?;
+    }
+    Ok(walk)
+}
+
+fn report_of(alloc: Global, cluster: &Cluster) -> Result<Vec<u8>, Stop> {
+    let mut text = Vec::new(alloc);
+    let mut sink = Std::new(&mut text);
+    match report(alloc, cluster, &mut sink) {
+        Ok(()) => Ok(text),
+        Err(_) => Err(Stop::NoMemory),
+    }
+}
+
+// The journal makes a cluster with the same answers and the same report.
+fn judge_journal(alloc: Global, cluster: &Cluster) -> Result<(), Stop> {
+    let second = again(alloc, cluster)?;
+    if let Some(answer) = first_difference(alloc, cluster, &second)? {
+        return Err(Stop::Broken(answer));
+    }
+    let text = report_of(alloc, cluster)?;
+    let text_again = report_of(alloc, &second)?;
+    if text.as_slice() != text_again.as_slice() {
+        return Err(Stop::Broken("the journal makes another report"));
+    }
+    Ok(())
+}
+
+fn attack_one(alloc: Global, seed: u64, number: u32, tally: &mut Tally) -> Result<(), Stop> {
+    let walk = attack(alloc, &mut Dice::new(seed, number))?;
+    judge_journal(alloc, walk.cluster())?;
+    tally.add(alloc, walk.cluster(), walk.longest().len())?;
+    Ok(())
+}
+
+// All schedules, and the number of the one at which it ended early, with the cause.
+fn attack_all(alloc: Global, seed: u64, count: u32, tally: &mut Tally) -> Result<(), (u32, Stop)> {
+    for number in 0..count {
+        if let Err(stop) = attack_one(alloc, seed, number, tally) {
+            return Err((number, stop));
+        }
+    }
+    Ok(())
+}
+
+// The status at the end, and what is said of it.
+fn conclude(
+    alloc: Global,
+    ended: Result<(), (u32, Stop)>,
+    tally: &Tally,
+) -> Result<(u8, String), AllocError> {
+    match ended {
+        Ok(()) => match tally.missing() {
+            None => Ok((0, tally.text(alloc)?)),
+            Some(words) => Ok((9, String::from_str(alloc, words)?)),
+        },
+        Err((number, Stop::NoMemory)) => Ok((
+            6,
+            format!(in alloc; "schedule {number}: no memory")?,
+        )),
+        Err((number, Stop::Broken(words))) => {
+            Ok((9, format!(in alloc; "schedule {number}: {words}")?))
+        }
+    }
+}
+
+fn main(rt: HostRuntime) -> ExitCode {
+    let alloc = rt.alloc();
+    let mut source = Std::new(rt.stdin());
+    let mut errors = Std::new(rt.stderr());
+    let Ok(bytes) = read_all(alloc, &mut source) else {
+        return ExitCode::from(6);
+    };
+    let Some((seed, count)) = read_numbers(bytes.as_slice()) else {
+        return ExitCode::from(2);
+    };
+    let mut tally = Tally::new();
+    let ended = attack_all(alloc, seed, count, &mut tally);
+    let Ok((status, mut said)) = conclude(alloc, ended, &tally) else {
+        return ExitCode::from(6);
+    };
+    if said.push('\n').is_err() {
+        return ExitCode::from(6);
+    }
+    let _ = write_all(&mut errors, said.as_bytes());
+    ExitCode::from(status)
+}

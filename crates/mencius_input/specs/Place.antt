@@ -1,0 +1,94 @@
+-- Where the value of a scenario has a fault.
+use Rattle.std.specs.Prelude.{ℕ, ◌≡◌, ◌≢◌, ◌⊎◌, ◌==◌, ◌&&◌, ◌<◌, ◌++◌, List, ◌∷◌, codes, decimal, Option, Some, None, option_map, Result, Err, nat_le, string_bytes}
+use Rattle.serde_json.specs.Data.{Data, Items, Members}
+use Rattle.serde_json.specs.Find.{as_array, as_object, as_str, get, get_item}
+use Rattle.mencius_base.specs.Limits.{most_servers}
+use Rattle.mencius_base.specs.declared.event.Event.{Event as SpecEvent}
+use Rattle.mencius_input.specs.declared.fault.AppFault.{AppFault}
+use Rattle.mencius_input.specs.declared.fault.AppFault.TheVariants.{BadLimit, BadShape}
+use Rattle.mencius_input.specs.declared.places.Field.{Field}
+use Rattle.mencius_input.specs.declared.places.Field.TheVariants.{Version, Servers, Events}
+use Rattle.mencius_input.specs.declared.places.Place.{Place}
+use Rattle.mencius_input.specs.declared.places.Place.TheVariants.{Whole, Unknown, Missing, Value, Event}
+use Rattle.mencius_input.specs.declared.scenario.Name.TheVariants.{Other}
+use Rattle.mencius_input.specs.Fields.{named}
+use Rattle.mencius_input.specs.Grammar.{event_of, event_within}
+use Rattle.mencius_input.specs.Judged.{judged}
+use Rattle.mencius_input.specs.Next.{whole_in}
+use Rattle.mencius_input.specs.Scenario.{json_of, said_by}
+
+abbrev pub field_name : Field → List ℕ
+field_name Version = codes "version"
+field_name Servers = codes "servers"
+field_name Events = codes "events"
+
+-- what an item of the events says, or its fault
+abbrev pub item_said : Data → Result SpecEvent AppFault
+item_said d = judged event_within (said_by event_of d)
+
+-- no item before this index has the fault
+abbrev pub NoneBefore : AppFault → Items → ℕ → Type 0
+NoneBefore fault items index =
+    (k : ℕ) (earlier : Data) → k < index → get_item k items ≡ Some earlier → item_said earlier ≢ Err fault
+
+-- the item at the index is the first that has the fault, and this is its text
+pub record IsFirst (fault : AppFault) (items : Items) (index : ℕ) (text : Option (List ℕ)) : Type 0 where
+  pub event : Data
+  pub there : get_item index items ≡ Some event
+  pub fails : item_said event ≡ Err fault
+  pub first : NoneBefore fault items index
+  pub said : text ≡ as_str event
+
+-- the value of a field has the fault
+abbrev pub FieldFails : AppFault → Field → Data → Type 0
+FieldFails fault Version d = judged (λ v. v == 1) (whole_in d) ≡ Err fault
+FieldFails fault Servers d = judged (λ s. nat_le 1 s && nat_le s most_servers) (whole_in d) ≡ Err fault
+FieldFails fault Events d = (fault ≡ BadShape) × (as_array d ≡ None)
+
+-- the place has the fault
+abbrev pub IsAt : AppFault → Data → Place → Type 0
+IsAt fault d Whole = (fault ≡ BadShape) × (as_object d ≡ None)
+IsAt fault d (Unknown name) =
+    (fault ≡ BadShape) × (named (string_bytes name) ≡ Other) × (value : Data) × (get (string_bytes name) d ≡ Some value)
+IsAt fault d (Missing field) =
+    (fault ≡ BadShape) × (get (field_name field) d ≡ None) × (fields : Members) × (as_object d ≡ Some fields)
+IsAt fault d (Value field) =
+    (value : Data) × (get (field_name field) d ≡ Some value) × FieldFails fault field value
+IsAt fault d (Event index text) =
+    (value : Data) × (get (codes "events") d ≡ Some value) × (items : Items) × (as_array value ≡ Some items)
+    × IsFirst fault items index (option_map string_bytes text)
+
+-- ---- the words that tell a place
+
+-- what the value of a field is
+abbrev pub value_words : AppFault → Field → List ℕ
+value_words fault Events = codes "no list"
+value_words BadShape field = codes "no whole number"
+value_words fault Version = codes "not 1"
+value_words fault Servers = codes "not 1 to 7"
+
+abbrev pub field_words : Field → List ℕ → List ℕ
+field_words field said = codes "the field \"" ++ (field_name field ++ (codes "\" is " ++ said))
+
+abbrev pub IsToldBy : AppFault → Place → List ℕ → Type 0
+IsToldBy fault Whole words = words ≡ codes "the text is no JSON object"
+IsToldBy fault (Unknown name) words = Unit {0}
+IsToldBy fault (Missing field) words = words ≡ field_words field (codes "missing")
+IsToldBy fault (Value field) words = words ≡ field_words field (value_words fault field)
+IsToldBy fault (Event index text) words = (said : List ℕ) × (words ≡ codes "event " ++ decimal index ++ 32 ∷ said)
+
+-- words of a place in what the bytes say that has the fault
+abbrev pub Tells : AppFault → List ℕ → List ℕ → Type 0
+Tells fault bytes words =
+    (place : Place) × (d : Data) × (json_of bytes ≡ Some d) × IsAt fault d place × IsToldBy fault place words
+
+-- what is said where no place was found: of a passed limit, that it is the one on all bytes
+abbrev pub unplaced_words : AppFault → List ℕ
+unplaced_words BadLimit = codes "the scenario is longer than 16,777,216 bytes"
+unplaced_words fault = codes "the text is no scenario"
+
+-- what is said of a fault
+abbrev pub IsTold : AppFault → List ℕ → List ℕ → Type 0
+IsTold BadShape bytes words = Tells BadShape bytes words ⊎ (words ≡ unplaced_words BadShape)
+IsTold BadLimit bytes words = Tells BadLimit bytes words ⊎ (words ≡ unplaced_words BadLimit)
+IsTold fault bytes words = Unit {0}

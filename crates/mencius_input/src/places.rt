@@ -1,0 +1,287 @@
+//! Where a scenario has a fault.
+
+ghost use Rattle.std.specs.Prelude.{◌≡◌, ◌≢◌, Err, IfOk, IfSome, Some, option_map, string_bytes};
+ghost use Rattle.std.specs.Bool.{MatchBool};
+ghost use Rattle.std.specs.Result.{result_err};
+ghost use Rattle.serde_json.specs.Data.{Data};
+ghost use Rattle.serde_json.specs.Find.{as_str};
+ghost use Rattle.serde_json.specs.View.{items_view, view};
+ghost use Rattle.mencius_input.specs.declared.scenario.Name.TheVariants.{Other};
+ghost use Rattle.mencius_input.specs.Fields.{named};
+ghost use Rattle.mencius_input.specs.Place.{IsAt, IsFirst, field_name, item_said};
+ghost use Rattle.mencius_input.specs.Scenario.{json_of};
+
+use crate::event::parse_event;
+use crate::fault::AppFault;
+use crate::scenario::{Name, are_servers, is_version, named};
+use crate::value::{MOST_DEPTH, next_name, pass};
+use json::{Reader, Scratch};
+use mencius_base::NoMemory;
+use serde_json::Value;
+use std::alloc::Global;
+
+/// A field of a scenario of `replay`.
+#[derive(Clone, Copy, Debug, PartialEq, Eq)]
+pub enum Field {
+    Version,
+    Servers,
+    Events,
+}
+
+impl Field {
+    /// The name of the field.
+    pub fn name(self) -> &'static str
+        ensures { result.now ≡ field_name self }
+    {
+        match self {
+            Field::Version => "version",
+            Field::Servers => "servers",
+            Field::Events => "events",
+        }
+    }
+}
+
+/// A place where a scenario of `replay` has a fault.
+#[derive(Debug, Drop, PartialEq, Eq)]
+pub enum Place {
+    /// The whole value, which is no object.
+    Whole,
+    /// A field that no scenario has.
+    Unknown { name: String },
+    /// A field that is not there.
+    Missing { field: Field },
+    /// The value of a field: of the events, that it is no list.
+    Value { field: Field },
+    /// An event, by its index from 0, and its text, if it is one.
+    Event { index: usize, text: Option<String> },
+}
+
+// The fault of an item of the events.
+fn fault_of_item(alloc: Global, item: &Value) -> Result<Option<AppFault>, NoMemory>
+    ensures { IfOk result (λ o. o ≡ result_err (item_said (view item.now))) }
+{
+    let Some(text) = item.as_str() else {
+        return Ok(Some(AppFault::BadShape));
+    };
+    match parse_event(alloc, text) {
+        Ok(_) => Ok(None),
+        Err(AppFault::NoMemory) => Err(NoMemory),
+        Err(fault) => Ok(Some(fault)),
+    }
+}
+
+// Whether an item of the events has the fault.
+fn has_fault(alloc: Global, item: &Value, fault: AppFault) -> Result<bool, NoMemory>
+    ensures { IfOk result (λ b. MatchBool b (item_said (view item.now) ≡ Err fault)
+        (item_said (view item.now) ≢ Err fault)) }
+{
+    match fault_of_item(alloc, item)? {
+        Some(found) => {
+            if found == fault {
+                return Ok(true);
+            }
+            Ok(false)
+        }
+        None => Ok(false),
+    }
+}
+
+// The text that an item is, if it is one.
+fn text_of_item(alloc: Global, item: &Value) -> Result<Option<String>, NoMemory>
+    ensures { IfOk result (λ o. option_map string_bytes o ≡ as_str (view item.now)) }
+{
+    match item.as_str() {
+        Some(text) => Ok(Some(String::from_str(alloc, text)?)),
+        None => Ok(None),
+    }
+}
+
+// The first of the events that has the fault.
+fn first_event(
+    alloc: Global,
+    items: &[Value],
+    fault: AppFault,
+) -> Result<Option<(usize, Option<String>)>, NoMemory>
+    ensures { IfOk result (λ o. IfSome o (λ p.
+        IsFirst fault (items_view items.now) p.0 (option_map string_bytes p.1))) }
+{
+    for (index, item) in items.iter().enumerate() {
+        if has_fault(alloc, item, fault)? {
+            let text = text_of_item(alloc, item)?;
+            return Ok(Some((index, text)));
+        }
+    }
+    Ok(None)
+}
+
+// The value of a field, where the fault that it has is the one that is looked for.
+fn amiss(field: Field, found: AppFault, fault: AppFault) -> Option<Place>
+    ensures { IfSome result (λ p. (p ≡ Place.Value field) × (found ≡ fault)) }
+{
+    if found == fault {
+        Some(Place::Value { field })
+    } else {
+        None
+    }
+}
+
+// The place in the field of the events.
+fn place_in_events(
+    alloc: Global,
+    scenario: &Value,
+    fault: AppFault,
+) -> Result<Option<Place>, NoMemory>
+    ensures { IfOk result (λ o. IfSome o (λ p. IsAt fault (view scenario.now) p)) }
+{
+    let Some(events) = scenario.get("events") else {
+        return Ok(None);
+    };
+    let Some(items) = events.as_array() else {
+        return Ok(amiss(Field::Events, AppFault::BadShape, fault));
+    };
+    match first_event(alloc, items.as_slice(), fault)? {
+        Some((index, text)) => Ok(Some(Place::Event { index, text })),
+        None => Ok(None),
+    }
+}
+
+// The place in the field of the version.
+fn place_in_version(scenario: &Value, fault: AppFault) -> Option<Place>
+    ensures { IfSome result (λ p. IsAt fault (view scenario.now) p) }
+{
+    let value = scenario.get("version")?;
+    match value.as_u64() {
+        None => amiss(Field::Version, AppFault::BadShape, fault),
+        Some(version) => {
+            if is_version(version) {
+                return None;
+            }
+            amiss(Field::Version, AppFault::BadLimit, fault)
+        }
+    }
+}
+
+// The place in the field of the servers.
+fn place_in_servers(scenario: &Value, fault: AppFault) -> Option<Place>
+    ensures { IfSome result (λ p. IsAt fault (view scenario.now) p) }
+{
+    let value = scenario.get("servers")?;
+    match value.as_u64() {
+        None => amiss(Field::Servers, AppFault::BadShape, fault),
+        Some(servers) => {
+            if are_servers(servers) {
+                return None;
+            }
+            amiss(Field::Servers, AppFault::BadLimit, fault)
+        }
+    }
+}
+
+// The place of a field that no scenario has.
+fn place_of_unknown(
+    alloc: Global,
+    scenario: &Value,
+    name: &str,
+    fault: AppFault,
+) -> Result<Option<Place>, NoMemory>
+    requires { named name.now ≡ Other }
+    ensures { IfOk result (λ o. IfSome o (λ p. IsAt fault (view scenario.now) p)) }
+{
+    if fault != AppFault::BadShape {
+        return Ok(None);
+    }
+    match scenario.get(name) {
+        Some(_) => {
+            let name = String::from_str(alloc, name)?;
+            Ok(Some(Place::Unknown { name }))
+        }
+        None => Ok(None),
+    }
+}
+
+// The place in the fields, in the order in which they are written. The fields that a scenario has are
+// looked at once each, however often they are written.
+fn first_in_fields(
+    alloc: Global,
+    text: &str,
+    scenario: &Value,
+    fault: AppFault,
+) -> Result<Option<Place>, NoMemory>
+    ensures { IfOk result (λ o. IfSome o (λ p. IsAt fault (view scenario.now) p)) }
+{
+    let version = place_in_version(scenario, fault);
+    let servers = place_in_servers(scenario, fault);
+    let events = place_in_events(alloc, scenario, fault)?;
+    let mut scratch = Scratch::new(alloc);
+    let mut reader = Reader::new(text, &mut scratch)?;
+    let _brace = reader.next();
+    'fields: while let Ok(Some(name)) = next_name(&mut reader) {
+        match named(name) {
+            Name::Version if version.is_some() => return Ok(version),
+            Name::Servers if servers.is_some() => return Ok(servers),
+            Name::Events if events.is_some() => return Ok(events),
+            Name::Other if fault == AppFault::BadShape => {
+                return place_of_unknown(alloc, scenario, name, fault);
+            }
+            _ => {}
+        }
+        if pass(&mut reader, MOST_DEPTH).is_err() {
+            break;
+        }
+    }
+    Ok(None)
+}
+
+// What the value lacks as a whole: that it is an object, or the first field that is not there.
+fn first_lack(scenario: &Value, fault: AppFault) -> Option<Place>
+    ensures { IfSome result (λ p. IsAt fault (view scenario.now) p) }
+{
+    if fault != AppFault::BadShape {
+        return None;
+    }
+    if scenario.as_object().is_none() {
+        return Some(Place::Whole);
+    }
+    for field in [Field::Version, Field::Servers, Field::Events] {
+        if scenario.get(field.name()).is_none() {
+            return Some(Place::Missing { field });
+        }
+    }
+    None
+}
+
+// The first place of a value that has the fault.
+fn place_in(
+    alloc: Global,
+    text: &str,
+    scenario: Value,
+    fault: AppFault,
+) -> Result<Option<Place>, NoMemory>
+    ensures { IfOk result (λ o. IfSome o (λ p. IsAt fault (view scenario) p)) }
+{
+    match first_in_fields(alloc, text, &scenario, fault)? {
+        Some(place) => Ok(Some(place)),
+        None => Ok(first_lack(&scenario, fault)),
+    }
+}
+
+/// The first place in a text that has the fault `BadShape` or `BadLimit`, which
+/// [`read_scenario`](crate::read_scenario) answers for its bytes. A field that is not there comes
+/// last. There is none where the bytes have another fault, or are too many to be read.
+///
+/// # Errors
+///
+/// `NoMemory` where memory ran out.
+pub fn place_of(alloc: Global, bytes: &[u8], fault: AppFault) -> Result<Option<Place>, NoMemory>
+    ensures { IfOk result (λ o. IfSome o (λ p.
+        (d : Data) × (json_of bytes.now ≡ Some d) × IsAt fault d p)) }
+{
+    let Ok(text) = std::str::from_utf8(bytes) else {
+        return Ok(None);
+    };
+    match Value::from_str(alloc, text) {
+        Ok(scenario) => place_in(alloc, text, scenario, fault),
+        Err(e) if e.is_memory() => Err(NoMemory),
+        Err(_) => Ok(None),
+    }
+}

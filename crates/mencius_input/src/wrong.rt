@@ -1,0 +1,302 @@
+//! Which word of an event is wrong, in a person's words. Each word is judged by what reads it.
+
+use crate::event::parse_id;
+use crate::fault::AppFault;
+use crate::words::{cut, parse_u8, parse_u32};
+use mencius_base::{BadCommand, Command, CommandId, Key, NoMemory, Op, Text};
+use std::alloc::Global;
+
+// The longest text that is shown whole, in characters.
+const MOST_SHOWN: usize = 60;
+
+// A word behind the first one of an event, or behind the operation of a command.
+#[derive(Clone, Copy)]
+enum Part {
+    Server,
+    Suspected,
+    Message,
+    Id,
+    Key,
+    Text,
+}
+
+// What a word is called.
+fn name_of(part: Part) -> &'static str {
+    match part {
+        Part::Server => "the server",
+        Part::Suspected => "the suspected server",
+        Part::Message => "the message number",
+        Part::Id => "the command ID",
+        Part::Key => "the key",
+        Part::Text => "the text",
+    }
+}
+
+// What the words behind the first one are, up to the operation of a command.
+fn parts_behind(first: &str) -> Option<&'static [Part]> {
+    match first {
+        "deliver" | "lose" => Some(&[Part::Message, Part::Server]),
+        "suspect" => Some(&[Part::Server, Part::Suspected]),
+        "retry" | "execute" => Some(&[Part::Server]),
+        "submit" => Some(&[Part::Server, Part::Id]),
+        _ => None,
+    }
+}
+
+// What the words behind an operation are.
+fn operands_of(operation: &str) -> Option<&'static [Part]> {
+    match operation {
+        "set" => Some(&[Part::Key, Part::Text]),
+        "get" | "del" => Some(&[Part::Key]),
+        _ => None,
+    }
+}
+
+/// A text in quotes, with its control characters escaped. A long one is cut off and ends in two
+/// dots.
+pub(crate) fn shown(alloc: Global, text: &str) -> Result<String, NoMemory> {
+    let mut front = String::new(alloc);
+    let mut room = MOST_SHOWN;
+    for c in text.chars() {
+        if room == 0 {
+            front.push_str("..")?;
+            break;
+        }
+        front.push(c)?;
+        room -= 1;
+    }
+    Ok(format!(in alloc; "{front:?}")?)
+}
+
+// The next of the words that are left.
+fn next_word<'a>(left: &mut Option<&'a str>) -> Option<&'a str> {
+    let text = (*left)?;
+    match cut(text, b' ') {
+        Ok((word, behind)) => {
+            *left = Some(behind);
+            Some(word)
+        }
+        Err(_) => {
+            *left = None;
+            Some(text)
+        }
+    }
+}
+
+// Whether a word is digits of which the first is a 0 too many.
+fn has_leading_zero(word: &str) -> bool {
+    match word.as_bytes() {
+        [b'0', rest @ ..] => !rest.is_empty() && rest.iter().all(|b| b.is_ascii_digit()),
+        _ => false,
+    }
+}
+
+// What is wrong with a number, by the fault that was found in it.
+fn wrong_number(
+    alloc: Global,
+    name: &str,
+    word: &str,
+    found: AppFault,
+    greatest: u32,
+) -> Result<String, NoMemory> {
+    if found == AppFault::BadLimit {
+        return Ok(format!(in alloc; "{name} is greater than {greatest}")?);
+    }
+    if has_leading_zero(word) {
+        return Ok(format!(in alloc; "{name} has a leading zero")?);
+    }
+    let word = shown(alloc, word)?;
+    Ok(format!(in alloc; "{name} is no number: {word}")?)
+}
+
+fn wrong_u8(
+    alloc: Global,
+    name: &str,
+    word: &str,
+    fault: AppFault,
+) -> Result<Option<String>, NoMemory> {
+    match parse_u8(word) {
+        Err(found) if found == fault => {
+            Ok(Some(wrong_number(alloc, name, word, found, u32::from(u8::MAX))?))
+        }
+        _ => Ok(None),
+    }
+}
+
+fn wrong_u32(
+    alloc: Global,
+    name: &str,
+    word: &str,
+    fault: AppFault,
+) -> Result<Option<String>, NoMemory> {
+    match parse_u32(word) {
+        Err(found) if found == fault => {
+            Ok(Some(wrong_number(alloc, name, word, found, u32::MAX)?))
+        }
+        _ => Ok(None),
+    }
+}
+
+fn wrong_id(alloc: Global, word: &str, fault: AppFault) -> Result<Option<String>, NoMemory> {
+    if parse_id(word).err() != Some(fault) {
+        return Ok(None);
+    }
+    let Ok((client, number)) = cut(word, b'.') else {
+        let word = shown(alloc, word)?;
+        return Ok(Some(format!(in alloc; "the command ID is no CLIENT.NUMBER: {word}")?));
+    };
+    if let Some(words) = wrong_u32(alloc, "the client of the command ID", client, fault)? {
+        return Ok(Some(words));
+    }
+    wrong_u32(alloc, "the number of the command ID", number, fault)
+}
+
+// What is wrong with an operation of one key or text, which a command judges.
+fn wrong_op(alloc: Global, op: Op, fault: AppFault) -> Result<Option<String>, NoMemory> {
+    let Err(bad) = Command::new(
+        CommandId {
+            client: 0,
+            number: 0,
+        },
+        op,
+    ) else {
+        return Ok(None);
+    };
+    let found = match bad {
+        BadCommand::KeyByte | BadCommand::TextByte => AppFault::BadShape,
+        BadCommand::KeyLength | BadCommand::TextLength => AppFault::BadLimit,
+    };
+    if found != fault {
+        return Ok(None);
+    }
+    Ok(Some(format!(in alloc; "{bad}")?))
+}
+
+fn wrong_text(alloc: Global, word: &str, fault: AppFault) -> Result<Option<String>, NoMemory> {
+    let key = Key::new(String::from_str(alloc, "k")?);
+    let text = Text::new(String::from_str(alloc, word)?);
+    wrong_op(alloc, Op::Set { key, text }, fault)
+}
+
+fn wrong_key(alloc: Global, word: &str, fault: AppFault) -> Result<Option<String>, NoMemory> {
+    let key = Key::new(String::from_str(alloc, word)?);
+    wrong_op(alloc, Op::Get { key }, fault)
+}
+
+// What is wrong with a word that is there, where it has the fault.
+fn wrong_word(
+    alloc: Global,
+    part: Part,
+    word: &str,
+    fault: AppFault,
+) -> Result<Option<String>, NoMemory> {
+    match part {
+        Part::Server | Part::Suspected => wrong_u8(alloc, name_of(part), word, fault),
+        Part::Message => wrong_u32(alloc, name_of(part), word, fault),
+        Part::Id => wrong_id(alloc, word, fault),
+        Part::Key => wrong_key(alloc, word, fault),
+        Part::Text => wrong_text(alloc, word, fault),
+    }
+}
+
+// What is said of a number or an operation of no byte.
+fn empty(alloc: Global, name: &str, is_last: bool) -> Result<String, NoMemory> {
+    if is_last {
+        return Ok(format!(in alloc; "{name} is missing")?);
+    }
+    Ok(format!(in alloc; "there are two spaces before {name}")?)
+}
+
+// What is said of a word that is not there.
+fn missing(alloc: Global, part: Part) -> Result<String, NoMemory> {
+    let name = name_of(part);
+    if let Part::Text = part {
+        return Ok(format!(in alloc; "{name} is missing: an empty one has a space before it")?);
+    }
+    Ok(format!(in alloc; "{name} is missing")?)
+}
+
+// The first of these words that has the fault.
+fn wrong_words(
+    alloc: Global,
+    parts: &[Part],
+    left: &mut Option<&str>,
+    fault: AppFault,
+) -> Result<Option<String>, NoMemory> {
+    for part in parts {
+        let Some(word) = next_word(left) else {
+            return Ok(Some(missing(alloc, *part)?));
+        };
+        if let Some(words) = wrong_word(alloc, *part, word, fault)? {
+            if word.is_empty() && !matches!(part, Part::Key) {
+                return Ok(Some(empty(alloc, name_of(*part), left.is_none())?));
+            }
+            return Ok(Some(words));
+        }
+    }
+    Ok(None)
+}
+
+// The operation or the first of its words that has the fault.
+fn wrong_operation(
+    alloc: Global,
+    left: &mut Option<&str>,
+    fault: AppFault,
+) -> Result<Option<String>, NoMemory> {
+    let name = "the operation";
+    let Some(operation) = next_word(left) else {
+        return Ok(Some(format!(in alloc; "{name} is missing")?));
+    };
+    if operation.is_empty() {
+        return Ok(Some(empty(alloc, name, left.is_none())?));
+    }
+    let Some(operands) = operands_of(operation) else {
+        let word = shown(alloc, operation)?;
+        return Ok(Some(format!(in alloc; "{name} is none of set, get and del: {word}")?));
+    };
+    wrong_words(alloc, operands, left, fault)
+}
+
+// What is said of a text that begins as no event does.
+fn unknown(alloc: Global, first: &str, is_whole: bool) -> Result<String, NoMemory> {
+    if !first.is_empty() {
+        let word = shown(alloc, first)?;
+        return Ok(format!(in alloc; "no event begins with {word}")?);
+    }
+    let words = if is_whole {
+        "it is empty"
+    } else {
+        "it begins with a space"
+    };
+    Ok(String::from_str(alloc, words)?)
+}
+
+// What is said of words that are left behind the last one.
+fn left_over(alloc: Global, left: &mut Option<&str>) -> Result<String, NoMemory> {
+    match next_word(left) {
+        Some("") => Ok(String::from_str(alloc, "there is a space too many")?),
+        Some(word) => {
+            let word = shown(alloc, word)?;
+            Ok(format!(in alloc; "there is a word too many: {word}")?)
+        }
+        None => Ok(String::from_str(alloc, "it is no event")?),
+    }
+}
+
+/// What is wrong with the text of an event that has this fault: the first of its words that has it.
+pub(crate) fn wrong_event(alloc: Global, text: &str, fault: AppFault) -> Result<String, NoMemory> {
+    let mut left = Some(text);
+    let first = next_word(&mut left).unwrap_or("");
+    let Some(parts) = parts_behind(first) else {
+        return unknown(alloc, first, left.is_none());
+    };
+    if let Some(words) = wrong_words(alloc, parts, &mut left, fault)? {
+        return Ok(words);
+    }
+    if first == "submit" {
+        if let Some(words) = wrong_operation(alloc, &mut left, fault)? {
+            return Ok(words);
+        }
+    }
+    left_over(alloc, &mut left)
+}

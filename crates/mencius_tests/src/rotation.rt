@@ -1,0 +1,158 @@
+//! Workers that take turns on one board, and a reader that is told of it from time to time.
+
+ghost use Rattle.std.specs.Prelude.{◌≡◌};
+
+use crate::courses::new_cluster;
+use crate::runs::EIGHT_WORKERS;
+use mencius_app::read_plan;
+use mencius_base::{Command, Op};
+use mencius_board::{Board, BoardFault, Chooser, Plan, Reader, worker_turn};
+use mencius_cluster::Cluster;
+use std::alloc::{AllocError, Global};
+use std::marker::Model;
+use std::process::Abort;
+use std::sync::Wait;
+use std::test::Fail;
+
+// What a list of commands leaves at a key.
+fn left_at(alloc: Global, commands: &[Command], key: &str) -> Result<Option<String>, AllocError> {
+    let mut left = None;
+    for command in commands {
+        match command.op() {
+            Op::Set { key: name, text } => {
+                if name.as_str() == key {
+                    left = Some(String::from_str(alloc, text.as_str())?);
+                }
+            }
+            Op::Del { key: name } => {
+                if name.as_str() == key {
+                    left = None;
+                }
+            }
+            Op::Get { .. } => {}
+        }
+    }
+    Ok(left)
+}
+
+// A board and a reader of it.
+struct Told {
+    board: Board,
+    reader: Reader,
+}
+
+impl Model for Told {
+    ghost use Rattle.std.specs.Prelude.{◌≡◌};
+    ghost use Rattle.mencius_board.specs.Boards.{BoardState};
+
+    ghost Value = { BoardState };
+
+    ghost view = { λ t. t.board };
+
+    ghost invariant = { λ t. t.reader.book ≡ t.board.book };
+}
+
+impl Told {
+    fn new(mut board: Board) -> Result<Told, Board> {
+        match board.reader() {
+            Ok(reader) => Ok(Told { board, reader }),
+            Err(_) => Err(board),
+        }
+    }
+
+    // Whether the reader, once told, finds at `a` what the commands shown leave there.
+    fn finds<R: Wait>(&mut self, rt: &R, alloc: Global) -> Result<bool, BoardFault> {
+        let news = self.board.show(rt, alloc)?;
+        let Ok(left) = left_at(alloc, news.commands(), "a") else {
+            return Err(BoardFault::NoMemory);
+        };
+        self.reader.learn(news);
+        let found = self.reader.lookup(alloc, "a")?;
+        Ok(found.as_deref() == left.as_deref())
+    }
+
+    // Whether a worker's turn ends well.
+    fn turn(&mut self, chooser: &mut Chooser) -> bool {
+        worker_turn(&mut self.board, chooser).is_ok()
+    }
+
+    fn end<R: Wait>(self, rt: &R) -> Cluster {
+        let Told {
+            board,
+            reader: _reader,
+        } = self;
+        board.end(rt)
+    }
+}
+
+// Whether 64 turns end well, eight of each worker.
+fn turn_all(told: &mut Told, choosers: &mut [Chooser]) -> bool {
+    let mut are_well = true;
+    for _ in 0..8 {
+        for chooser in &mut *choosers {
+            are_well = told.turn(chooser) && are_well;
+        }
+    }
+    are_well
+}
+
+// Whether all turns of a plan's workers end well, and the reader finds what it is to find after each 64 of them.
+fn rotate<R: Wait>(rt: &R, alloc: Global, told: &mut Told, choosers: &mut [Chooser]) -> bool {
+    for _ in 0..250 {
+        let are_well = turn_all(told, choosers);
+        if !are_well || told.finds(rt, alloc) != Ok(true) {
+            return false;
+        }
+    }
+    true
+}
+
+fn choosers_of<'a>(alloc: Global, plan: &'a Plan) -> Result<Vec<Chooser<'a>>, AllocError> {
+    let mut choosers = Vec::new(alloc);
+    for worker in 0..plan.workers() {
+        choosers.push(Chooser::new(plan, worker))?;
+    }
+    Ok(choosers)
+}
+
+// Whether the reader always finds what it is to find, and the cluster after all turns.
+fn rotated<R: Wait>(
+    rt: &R,
+    alloc: Global,
+    plan: &Plan,
+    cluster: Cluster,
+) -> Result<(bool, Cluster), BoardFault> {
+    let Ok(mut choosers) = choosers_of(alloc, plan) else {
+        return Err(BoardFault::NoMemory);
+    };
+    let board = Board::new(rt, alloc, cluster, 1)?;
+    match Told::new(board) {
+        Ok(mut told) => {
+            let finds = rotate(rt, alloc, &mut told, choosers.as_mut_slice());
+            Ok((finds, told.end(rt)))
+        }
+        Err(board) => Ok((false, board.end(rt))),
+    }
+}
+
+// So many commands has the longest history after all turns.
+fn assert_finds<R: Abort + Wait>(rt: &R, alloc: Global, scenario: &str) -> Result<usize, Fail> {
+    let scenario = read_plan(alloc, scenario.as_bytes()).map_err(|_| "a plan")?;
+    let cluster = new_cluster(rt, alloc, scenario.members);
+    let (finds, cluster) = rotated(rt, alloc, &scenario.plan, cluster)?;
+    assert!(rt; finds);
+    let longest = cluster.history(cluster.longest()).ok_or("a history")?;
+    Ok(longest.len())
+}
+
+// Three servers and eight workers, and few choices lose a message.
+const FEW_LOSSES: &str = "{\"version\":1,\"servers\":3,\"workers\":8,\"seed\":7,\"turns\":2000,\
+    \"loss\":1,\"commands\":[[\"1.0 set a x\",\"1.1 get a\"],[\"2.0 set a y\"],[\"3.0 del a\"]]}";
+
+#[test]
+fn told_reader_beside_workers_in_rotation(rt: HostRuntime) -> Result<(), Fail> {
+    assert_finds(&rt, rt.alloc(), EIGHT_WORKERS)?;
+    let executed = assert_finds(&rt, rt.alloc(), FEW_LOSSES)?;
+    assert!(rt; 0 < executed);
+    Ok(())
+}

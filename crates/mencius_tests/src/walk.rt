@@ -1,0 +1,95 @@
+//! A cluster that is stepped, and whose answers are looked at after each event.
+
+use crate::observed::Observed;
+use mencius_base::{Event, INSTANCES, Members, Refusal, Vote};
+use mencius_cluster::Cluster;
+use std::alloc::{AllocError, Global};
+
+/// Why a walk ends early.
+#[derive(Clone, Copy, Debug, PartialEq, Eq)]
+pub enum Stop {
+    /// Memory ran out.
+    NoMemory,
+    /// This is wrong, in words.
+    Broken(&'static str),
+}
+
+impl From<AllocError> for Stop {
+    fn from(_refused: AllocError) -> Stop {
+        Stop::NoMemory
+    }
+}
+
+/// A cluster and what was seen of it so far.
+#[derive(Drop)]
+pub struct Walk {
+    cluster: Cluster,
+    seen: Observed,
+}
+
+impl Walk {
+    /// Over a new cluster of these members.
+    pub fn new(alloc: Global, members: Members) -> Result<Walk, Stop> {
+        match Cluster::new(alloc, members) {
+            Ok(cluster) => Ok(Walk {
+                cluster,
+                seen: Observed::new(alloc),
+            }),
+            Err(_) => Err(Stop::NoMemory),
+        }
+    }
+
+    /// The cluster.
+    pub fn cluster(&self) -> &Cluster {
+        &self.cluster
+    }
+
+    /// The tickets of the longest history so far, in order.
+    pub fn longest(&self) -> &[u32] {
+        self.seen.longest()
+    }
+
+    /// Takes an event, looks at all answers, and answers whether the event was accepted.
+    pub fn take(&mut self, event: Event) -> Result<bool, Stop> {
+        let answer = self.cluster.step(event);
+        if answer == Err(Refusal::NoMemory) {
+            return Err(Stop::NoMemory);
+        }
+        match self.seen.see(&self.cluster)? {
+            Some(law) => Err(Stop::Broken(law)),
+            None => Ok(answer.is_ok()),
+        }
+    }
+
+    /// Delivers a message to every server that it goes to.
+    pub fn deliver_everywhere(&mut self, message: u32) -> Result<(), Stop> {
+        // The check of a value that holds a message looks for the types inside it among those named here.
+        let _inside: Option<Vote> = None;
+        let Some(sent) = self.cluster.message(message) else {
+            return Ok(());
+        };
+        for server in 0..self.cluster.servers() {
+            if sent.goes_to(server) {
+                self.take(Event::Deliver { message, server })?;
+            }
+        }
+        Ok(())
+    }
+
+    /// Each server executes until it is refused.
+    pub fn execute_all(&mut self) -> Result<(), Stop> {
+        for server in 0..self.cluster.servers() {
+            self.execute(server)?;
+        }
+        Ok(())
+    }
+
+    fn execute(&mut self, server: u8) -> Result<(), Stop> {
+        for _ in 0..INSTANCES {
+            if !self.take(Event::Execute { server })? {
+                break;
+            }
+        }
+        Ok(())
+    }
+}

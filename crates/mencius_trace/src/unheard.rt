@@ -1,0 +1,129 @@
+//! The messages that may still be heard.
+
+ghost use Rattle.std.specs.Prelude.{◌≡◌, ◌<◌, ◌++◌, ◌||◌, ℕ, IfOk, OnOk, slice_get, string_bytes};
+ghost use Rattle.std.specs.List.{list_any};
+ghost use Rattle.mencius_base.specs.Limits.{most_servers};
+ghost use Rattle.mencius_cluster.specs.Marks.{mark_in};
+ghost use Rattle.mencius_cluster.specs.State.{trace_of};
+ghost use Rattle.mencius_model.specs.Trace.{Trace, sent};
+ghost use Rattle.mencius_trace.specs.After.{of_message};
+ghost use Rattle.mencius_trace.specs.Closing.{settles, unheard_line, unheard_lines, unheard_text};
+ghost use Rattle.mencius_trace.specs.Settled.{AreSettled, IsOfServer, entry_settles};
+
+use crate::facts::kind_of;
+use mencius_base::{Entry, Message, NoMemory, Vote};
+use mencius_cluster::{Cluster, Marks};
+use std::alloc::{AllocError, Global};
+
+/// Adds a line for each message and each server that it goes to, where the server neither heard nor
+/// lost it. The work grows with the messages and with the journal, each of which is read once.
+pub(crate) fn push_unheard(
+    alloc: Global,
+    text: &mut String,
+    cluster: &Cluster,
+) -> Result<(), NoMemory>
+    ensures { OnOk result (string_bytes text.new ≡ string_bytes text.old
+        ++ unheard_text cluster.now.members (trace_of cluster.now)) }
+{
+    let settled = settled(alloc, cluster)?;
+    push_all(text, cluster, &settled)?;
+    Ok(())
+}
+
+// A mark at each message and server where the server heard or lost the message.
+fn settled(alloc: Global, cluster: &Cluster) -> Result<Marks, NoMemory>
+    ensures { IfOk result (AreSettled (trace_of cluster.now)) }
+{
+    // Called for their promises alone: the journal replays, and there are few members.
+    cluster.replays();
+    let _few = cluster.servers();
+    let mut marks = Marks::new(alloc);
+    for entry in cluster.journal() {
+        settle(&mut marks, entry)?;
+    }
+    Ok(marks)
+}
+
+fn settle(marks: &mut Marks, entry: &Entry) -> Result<(), NoMemory>
+    requires { IsOfServer entry.now }
+    ensures { OnOk result ((k p : ℕ) → mark_in marks.new k p
+        ≡ (entry_settles k p entry.now || mark_in marks.old k p)) }
+{
+    match *entry {
+        Entry::Deliver { message, server } | Entry::Lose { message, server } => {
+            marks.reserve(message)?;
+            marks.mark(message, server);
+            Ok(())
+        }
+        Entry::Submit { .. }
+        | Entry::Suspect { .. }
+        | Entry::Retry { .. }
+        | Entry::Execute { .. } => Ok(()),
+    }
+}
+
+fn push_all(text: &mut String, cluster: &Cluster, settled: &Marks) -> Result<(), AllocError>
+    requires { AreSettled (trace_of cluster.now) settled.now }
+    ensures { OnOk result (string_bytes text.new ≡ string_bytes text.old
+        ++ unheard_text cluster.now.members (trace_of cluster.now)) }
+{
+    for number in 0..cluster.messages() {
+        push_message(text, cluster, settled, number)?;
+    }
+    Ok(())
+}
+
+fn push_message(
+    text: &mut String,
+    cluster: &Cluster,
+    settled: &Marks,
+    number: u32,
+) -> Result<(), AllocError>
+    requires { AreSettled (trace_of cluster.now) settled.now }
+    ensures { OnOk result (string_bytes text.new ≡ string_bytes text.old
+        ++ of_message (unheard_lines cluster.now.members (trace_of cluster.now)) number
+        (slice_get (sent (trace_of cluster.now)) number)) }
+{
+    // The check of a value that holds a message looks for the types inside it among those named here.
+    let _inside: Option<Vote> = None;
+    match cluster.message(number) {
+        Some(message) => push_for_each(text, cluster, settled, number, &message),
+        None => Ok(()),
+    }
+}
+
+fn push_for_each(
+    text: &mut String,
+    cluster: &Cluster,
+    settled: &Marks,
+    number: u32,
+    message: &Message,
+) -> Result<(), AllocError>
+    requires { AreSettled (trace_of cluster.now) settled.now }
+    ensures { OnOk result (string_bytes text.new ≡ string_bytes text.old
+        ++ unheard_lines cluster.now.members (trace_of cluster.now) (number, message.now)) }
+{
+    for server in 0..cluster.servers() {
+        push_for(text, settled, number, message, server)?;
+    }
+    Ok(())
+}
+
+fn push_for(
+    text: &mut String,
+    settled: &Marks,
+    number: u32,
+    message: &Message,
+    server: u8,
+) -> Result<(), AllocError>
+    requires { server < most_servers }
+    ensures { OnOk result ((w : Trace) → mark_in settled.now number server
+        ≡ list_any (settles number server) w → string_bytes text.new
+        ≡ string_bytes text.old ++ unheard_line w number message.now server) }
+{
+    if !message.goes_to(server) || settled.is_marked(number, server) {
+        return Ok(());
+    }
+    let kind = kind_of(message);
+    writeln!(text, "unheard {number} {kind} to {server}")
+}
