@@ -3,6 +3,7 @@ use Rattle.std.proofs.Common.{◌≡◌, ◌≢◌, ℕ, ◌<◌, ◌≤◌, Boo
 use Rattle.std.specs.Prelude.{Contains, is_none, slice_get}
 use Rattle.std.specs.List.{fold, list_any}
 use Rattle.std.proofs.lemmas.Bool.{cases_lt, eq-eqb, eqb-true, leb-true, lt-ltb, le-ltb, ltb-true, ne_eqb}
+use Rattle.mencius_base.specs.Numbers.{ServerId, Inst, BallotNo}
 use Rattle.mencius_base.specs.declared.message.Message.{Message}
 use Rattle.mencius_base.specs.declared.message.Message.TheVariants.{Suggest, Skip, Accepted, Prepare, Promise, Propose, Learn}
 use Rattle.mencius_base.specs.declared.message.Value.{Value}
@@ -77,7 +78,7 @@ module _ (m : Membership) (w : Trace) (p q i b : ℕ) (z : Value) (said : propos
 learning_once : (s : SlotState) (z : Value) (o : Option Value) → s.learned ≡ o
     → record s { learned = earlier o (Some z) } ≡ cond (is_none o) (record s { learned = Some z }) s
 learning_once s z None e = refl
-learning_once s z (Some u) e = ap (λ (o : Option Value). record s { learned = o }) (sym e)
+learning_once s z (Some v) e = ap (λ (o : Option Value). record s { learned = o }) (sym e)
 
 pub learns : (m : Membership) (w : Trace) (p i : ℕ) (z : Value)
     → slot_at m (Learned p i z ∷ w) p i ≡ after_learn (slot_at m w p i) z
@@ -86,7 +87,7 @@ learns m w p i z = slot_at-learning m w p i z ∙ learning_once (slot_at m w p i
 -- ---- begin
 
 -- p's slot for i, were b the ballot that it tries
-abbrev pub slot_trying : Membership → Trace → ℕ → ℕ → ℕ → SlotState
+abbrev pub slot_trying : Membership → Trace → ServerId → Inst → BallotNo → SlotState
 slot_trying m w p i b = record (slot_at m w p i) {
   trying = b;
   reported = reported w p i b;
@@ -203,13 +204,13 @@ uncounted_acceptance from to i b j c other = record { promise = λ q. refl; acce
 due_unsaid : (l o : Option Value) (a : Bool) (x z : Value)
     → cond ((is_none l && is_none o) && a) (Some x) None ≡ Some z → o ≡ None
 due_unsaid None None a x z e = refl
-due_unsaid None (Some u) a x z e = absurd (cc)
-due_unsaid (Some u) o a x z e = absurd (cc)
+due_unsaid None (Some v) a x z e = absurd (cc)
+due_unsaid (Some v) o a x z e = absurd (cc)
 
 decided_unlearned : (l : Option Value) (a : Bool) (o : Option Value) (z : Value)
     → cond (is_none l && a) o None ≡ Some z → l ≡ None
 decided_unlearned None a o z e = refl
-decided_unlearned (Some u) a o z e = absurd (cc)
+decided_unlearned (Some v) a o z e = absurd (cc)
 
 module _ (m : Membership) (w : Trace) (k p i from b : ℕ) (r : Option Vote)
     (e : slice_get (sent w) k ≡ Some (Promise from p i b r)) where
@@ -237,9 +238,9 @@ module _ (m : Membership) (w : Trace) (k p i from b : ℕ) (r : Option Vote)
   pub promise_answered : 0 < b → promise_answer (slot_at m w p i) from b r ≡ proposal_at m w (Heard k p ∷ w) p i b
   promise_answered tried = either (eqb b (trying w p i)) refl
     where
-      either : (c : Bool) → eqb b (trying w p i) ≡ c
-          → cond c (to_propose (with_promise (slot_at m w p i) from r)) None
-          ≡ cond c (proposal_due (learned w p i) (proposed w i b) (are_majority m (promisers (Heard k p ∷ w) p i b))
+      either : (a : Bool) → eqb b (trying w p i) ≡ a
+          → cond a (to_propose (with_promise (slot_at m w p i) from r)) None
+          ≡ cond a (proposal_due (learned w p i) (proposed w i b) (are_majority m (promisers (Heard k p ∷ w) p i b))
           (reported (Heard k p ∷ w) p i b)) None
       either true at = promise_due tried (eqb-true _ _ at)
       either false at = refl
@@ -265,16 +266,16 @@ module _ (m : Membership) (w : Trace) (k p i from b : ℕ) (r : Option Vote)
       ≡ after_promise (slot_at m w p i) from b r
   promise_counted tried voted = either (eqb b (trying w p i)) refl
     where
-      either : (c : Bool) → eqb b (trying w p i) ≡ c
+      either : (a : Bool) → eqb b (trying w p i) ≡ a
           → slot_at m (followed_by (Heard k p ∷ w)
-          (proposal_lines p i b (cond c (to_propose (with_promise (slot_at m w p i) from r)) None))) p i
-          ≡ cond c (proposing (with_promise (slot_at m w p i) from r)
+          (proposal_lines p i b (cond a (to_propose (with_promise (slot_at m w p i) from r)) None))) p i
+          ≡ cond a (proposing (with_promise (slot_at m w p i) from r)
           (to_propose (with_promise (slot_at m w p i) from r))) (slot_at m w p i)
       either true at =
           promise_proposed tried voted (eqb-true _ _ at) (to_propose (with_promise (slot_at m w p i) from r)) refl
       either false at =
           slot_at-heard m w k p i _ e
-          (uncounted_promise from p i b i (trying w p i) r (ap (λ (c : Bool). eqb i i && c) at ∙ rw (eq-eqb i i refl)))
+          (uncounted_promise from p i b i (trying w p i) r (ap (λ (a : Bool). eqb i i && a) at ∙ rw (eq-eqb i i refl)))
 
 -- ---- add_accept
 
@@ -298,9 +299,9 @@ module _ (m : Membership) (w : Trace) (k p i from b : ℕ) (e : slice_get (sent 
       → accept_answer (slot_at m w p i) from b ≡ decision_at m w (Heard k p ∷ w) p i b
   acceptance_answered mine = either (eqb b (trying w p i)) refl
     where
-      either : (c : Bool) → eqb b (trying w p i) ≡ c
-          → cond c (to_learn (with_accept (slot_at m w p i) from)) None
-          ≡ cond c
+      either : (a : Bool) → eqb b (trying w p i) ≡ a
+          → cond a (to_learn (with_accept (slot_at m w p i) from)) None
+          ≡ cond a
           (decision_due (learned w p i) (proposed w i b) (are_majority m (accepters (Heard k p ∷ w) p i b))) None
       either true at = acceptance_due mine (eqb-true _ _ at)
       either false at = refl
@@ -320,15 +321,15 @@ module _ (m : Membership) (w : Trace) (k p i from b : ℕ) (e : slice_get (sent 
       ≡ after_acceptance (slot_at m w p i) from b
   acceptance_counted = either (eqb b (trying w p i)) refl
     where
-      either : (c : Bool) → eqb b (trying w p i) ≡ c
+      either : (a : Bool) → eqb b (trying w p i) ≡ a
           → slot_at m (followed_by (Heard k p ∷ w)
-          (decision_lines p i (cond c (to_learn (with_accept (slot_at m w p i) from)) None))) p i
-          ≡ cond c (learning (with_accept (slot_at m w p i) from)
+          (decision_lines p i (cond a (to_learn (with_accept (slot_at m w p i) from)) None))) p i
+          ≡ cond a (learning (with_accept (slot_at m w p i) from)
           (to_learn (with_accept (slot_at m w p i) from))) (slot_at m w p i)
       either true at = acceptance_decided (eqb-true _ _ at) (to_learn (with_accept (slot_at m w p i) from)) refl
       either false at =
           slot_at-heard m w k p i _ e
-          (uncounted_acceptance from p i b i (trying w p i) (ap (λ (c : Bool). eqb i i && c) at ∙ rw (eq-eqb i i refl)))
+          (uncounted_acceptance from p i b i (trying w p i) (ap (λ (a : Bool). eqb i i && a) at ∙ rw (eq-eqb i i refl)))
 
 -- ---- every other line
 

@@ -1,6 +1,7 @@
 -- How each line of a trace changes a slot.
 use Rattle.std.proofs.Common.{◌≡◌, ℕ, ◌<◌, ◌≤◌, Bool, List, ◌∷◌, Option, Some, None, max, map, refl, sym, ◌∙◌, ap, arith, eqb}
 use Rattle.std.specs.List.{list_any}
+use Rattle.mencius_base.specs.Numbers.{ServerId, Inst}
 use Rattle.mencius_base.specs.declared.message.Message.{Message}
 use Rattle.mencius_base.specs.declared.message.Message.TheVariants.{Suggest, Accepted, Promise, Propose}
 use Rattle.mencius_base.specs.declared.message.Value.{Value}
@@ -54,7 +55,7 @@ pub same_slot : (s r : SlotState) → s.members ≡ r.members → s.promised ≡
 same_slot s r = same_parts _ _ _ _ _ _ _ _ _ _ _ _ _ _ _ _ _ _
 
 -- p's slot for i, with the tallies of other messages heard
-abbrev pub slot_hearing : Membership → Trace → ℕ → ℕ → List Message → SlotState
+abbrev pub slot_hearing : Membership → Trace → ServerId → Inst → List Message → SlotState
 slot_hearing m w p i hs = record (slot_at m w p i) {
   reported = highest_vote (map (vote_reported i (trying w p i)) hs);
   promisers = map (λ (q : ℕ). list_any (is_promise i (trying w p i) q) hs) (below m.count);

@@ -18,4 +18,4 @@ executor_code =
 
 -- the executor after one more command, with its ticket
 abbrev pub after_execution : ExecutorState → Command → TicketNo → ExecutorState
-after_execution x c t = record { store = apply x.store c.op; history = x.history ++ t ∷ [] }
+after_execution x command t = record { store = apply x.store command.op; history = x.history ++ t ∷ [] }

@@ -8,25 +8,27 @@ use Rattle.std.proofs.lemmas.List.{length-append}
 use Rattle.mencius_input.specs.Ends.{HasFailed, WritesFront, most_failures}
 
 -- a front of the second text, behind the first
-pub front_behind : (a b c : Option (List ℕ)) (xs ys : List ℕ) → Appends a b xs → WritesFront b c ys
-    → WritesFront a c (xs ++ ys)
-front_behind a b c xs ys p (n, few, q) = (
+pub front_behind : (old mid new : Option (List ℕ)) (xs ys : List ℕ) → Appends old mid xs → WritesFront mid new ys
+    → WritesFront old new (xs ++ ys)
+front_behind old mid new xs ys h (n, few, l) = (
   length xs + n,
   omega (arith, few, length-append xs ys),
-  subst (Appends a c) (sym (take-append-add xs ys n)) (Appends-trans a b c xs (take n ys) p q),
+  subst (Appends old new) (sym (take-append-add xs ys n)) (Appends-trans old mid new xs (take n ys) h l),
 )
 
 -- a failure after calls that left the count or raised it
-pub failed_behind : (a b c : ℕ) → (a ≤ b) ⊎ (b ≡ most_failures) → c < 2 ^ 64 → HasFailed b c → HasFailed a c
-failed_behind a b c (inl more) small (inl rose) = inl (omega arith)
-failed_behind a b c (inr most) small (inl rose) = absurd (omega (arith, most, small, rose))
-failed_behind a b c h small (inr most) = inr most
+pub failed_behind : (old mid new : ℕ) → (old ≤ mid) ⊎ (mid ≡ most_failures) → new < 2 ^ 64 → HasFailed mid new
+    → HasFailed old new
+failed_behind old mid new (inl more) small (inl rose) = inl (omega arith)
+failed_behind old mid new (inr most) small (inl rose) = absurd (omega (arith, most, small, rose))
+failed_behind old mid new h small (inr most) = inr most
 
 pub on_err_also : {T F : Type 0} (r : Result T F) (P Q : Type 0) → (P → Q) → OnErr r P → OnErr r Q
 on_err_also (Ok x) P Q also h = h
 on_err_also (Err e) P Q also h = also h
 
 -- the same lines, by another name
-pub same_lines : (a b : Option (List ℕ)) (c d : ℕ) (xs ys : List ℕ) → xs ≡ ys → Appends a b xs ⊎ HasFailed c d
-    → Appends a b ys ⊎ HasFailed c d
-same_lines a b c d xs ys e h = subst (λ t. Appends a b t ⊎ HasFailed c d) e h
+pub same_lines : (old new : Option (List ℕ)) (failed failed_now : ℕ) (xs ys : List ℕ) → xs ≡ ys
+    → Appends old new xs ⊎ HasFailed failed failed_now
+    → Appends old new ys ⊎ HasFailed failed failed_now
+same_lines old new failed failed_now xs ys e h = subst (λ text. Appends old new text ⊎ HasFailed failed failed_now) e h

@@ -32,7 +32,7 @@ text_of_replay is_strict known text h =
 pub text_of_run : (known : Option (List ℕ)) (with_journal : Bool) (key there : Option (List ℕ)) (text : List ℕ)
     → key ≡ there → IsRunOf known with_journal key text → IsTextOf (asked_run with_journal there) known text
 text_of_run known with_journal key there text same is =
-    (false, (subst (λ k. IsRunOf known with_journal k text) same is, refl))
+    (false, (subst (λ y. IsRunOf known with_journal y text) same is, refl))
 
 -- what holds of the fault of a result holds of the fault of the ending that it makes
 pub of_result : {T : Type 0} (done : Result T AppFault) (ending : Ending) (P : AppFault → Type 0)

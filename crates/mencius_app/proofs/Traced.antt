@@ -1,5 +1,5 @@
 -- A text to which the first of a list of events were told.
-use Rattle.std.proofs.Common.{◌≡◌, ℕ, ◌+◌, List, [], ◌∷◌, ◌++◌, append_assoc, length, refl, sym, ap, subst, ◌∙◌, arith}
+use Rattle.std.proofs.Common.{◌≡◌, ℕ, ◌+◌, List, [], ◌∷◌, ◌++◌, append_assoc, length, refl, sym, ap, ◌∙◌, arith}
 use Rattle.mencius_base.specs.declared.event.Event.{Event}
 use Rattle.mencius_model.specs.Outcomes.{trace_after}
 use Rattle.mencius_model.specs.Next.{next}
@@ -35,7 +35,7 @@ one_told old mid new before text more es left rest e place is next_is got trace 
     let w = trace_after (trace_of mid) (next m (trace_of mid) e) in
     record {
       members = members ∙ is.members;
-      text_is = ap (λ t. t ++ told_from new.members (trace_of new) (place + 1) rest) got
+      text_is = ap (λ xs. xs ++ told_from new.members (trace_of new) (place + 1) rest) got
           ∙ ap (λ n. (text ++ told) ++ told_from n (trace_of new) (place + 1) rest) members
           ∙ ap (λ v. (text ++ told) ++ told_from m v (place + 1) rest) trace
           ∙ append_assoc text told (told_from m w (place + 1) rest)

@@ -63,16 +63,16 @@ tells_of_refusals is_strict all_accepted = is_strict && not all_accepted
 
 -- an error of this kind is a text to show, and no mistake: help or the version
 abbrev pub IsToShow : ErrorKind → Type 0
-IsToShow k = (k ≡ kind.DisplayHelp) ⊎ (k ≡ kind.DisplayVersion)
+IsToShow error = (error ≡ kind.DisplayHelp) ⊎ (error ≡ kind.DisplayVersion)
 
 -- the arguments ask for a text to show
 abbrev pub AsksToShow : List Text → Type 0
-AsksToShow arguments = (k : ErrorKind) × IsAmong k (faults (line_of arguments)) × IsToShow k
+AsksToShow arguments = (error : ErrorKind) × IsAmong error (faults (line_of arguments)) × IsToShow error
 
 -- one of them is no text, or they make a mistake
 abbrev pub IsMistaken : List Text → Type 0
-IsMistaken arguments = (are_texts arguments ≡ false) ⊎ ((k : ErrorKind)
-    × IsAmong k (faults (line_of arguments)) × (k ≢ kind.DisplayHelp) × (k ≢ kind.DisplayVersion))
+IsMistaken arguments = (are_texts arguments ≡ false) ⊎ ((error : ErrorKind)
+    × IsAmong error (faults (line_of arguments)) × (error ≢ kind.DisplayHelp) × (error ≢ kind.DisplayVersion))
 
 -- the text of a task, of all that a reader has, and whether refused events are told of
 abbrev pub IsTaskOf : Asked → Option (List ℕ) → Bool → List ℕ → Type 0

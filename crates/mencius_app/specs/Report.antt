@@ -13,7 +13,7 @@ use Rattle.mencius_trace.specs.Words.{answer_text, id_text, line_feed}
 -- the identity of a ticket's command, after a space
 abbrev pub spaced_id : Option Command → List ℕ
 spaced_id None = []
-spaced_id (Some c) = 32 ∷ id_text c.id
+spaced_id (Some command) = 32 ∷ id_text command.id
 
 -- the identities of what was executed, or a dash
 abbrev pub history_text : Trace → List TicketNo → List ℕ
@@ -27,7 +27,8 @@ server_line m w p =
 
 abbrev pub reply_of_command : Trace → Option Command → List ℕ
 reply_of_command w None = []
-reply_of_command w (Some c) = codes "reply " ++ id_text c.id ++ 32 ∷ answer_text (reply_of w c.id) ++ line_feed
+reply_of_command w (Some command) =
+    codes "reply " ++ id_text command.id ++ 32 ∷ answer_text (reply_of w command.id) ++ line_feed
 
 -- what became of the command of a ticket
 abbrev pub reply_line : Trace → TicketNo → List ℕ

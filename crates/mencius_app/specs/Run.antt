@@ -16,11 +16,11 @@ use Rattle.mencius_trace.specs.Words.{former_text, line_feed}
 
 -- the journal, as one line, where it is asked for
 abbrev pub journal_line : Bool → ClusterState → List ℕ
-journal_line asked c = if asked then journal_text c.members.count c.journal ++ line_feed else []
+journal_line asked x = if asked then journal_text x.members.count x.journal ++ line_feed else []
 
 -- what the commands of the longest history leave at a key
 abbrev pub held_at : ClusterState → List ℕ → Option (List ℕ)
-held_at c key = value_at key (longest_commands c.members (trace_of c))
+held_at x key = value_at key (longest_commands x.members (trace_of x))
 
 abbrev pub held_line : List ℕ → Option (List ℕ) → List ℕ
 held_line key held = codes "lookup " ++ (key ++ 32 ∷ (former_text held ++ line_feed))
@@ -32,17 +32,17 @@ found_line (Some key) found = held_line key found
 
 -- what the map holds at the key, where one is looked up
 abbrev pub lookup_line : Option (List ℕ) → ClusterState → List ℕ
-lookup_line None c = []
-lookup_line (Some key) c = held_line key (held_at c key)
+lookup_line None x = []
+lookup_line (Some key) x = held_line key (held_at x key)
 
 -- the journal's line, the report, and the lookup
 abbrev pub run_text : Bool → Option (List ℕ) → ClusterState → List ℕ
-run_text with_journal key c = journal_line with_journal c ++ (report_text c.members (trace_of c) ++ lookup_line key c)
+run_text with_journal key x = journal_line with_journal x ++ (report_text x.members (trace_of x) ++ lookup_line key x)
 
 -- what was found at the key, where one is looked up
 abbrev pub IsFound : Option (List ℕ) → ClusterState → Option (List ℕ) → Type 0
-IsFound None c found = Unit {0}
-IsFound (Some key) c found = found ≡ held_at c key
+IsFound None x found = Unit {0}
+IsFound (Some key) x found = found ≡ held_at x key
 
 -- ---- the input
 

@@ -1,6 +1,6 @@
 //! What a check of a scenario prints, and what it finds.
 
-ghost use Rattle.std.specs.Prelude.{ℕ, List, Ok, IfSome, IsErrOf, ◌≡◌, ◌≢◌, ◌≤◌, ◌+◌, string_bytes, IfErr, IfOk, OnOk};
+ghost use Rattle.std.specs.Prelude.{ℕ, List, Ok, IfSome, ◌≡◌, ◌≢◌, ◌≤◌, ◌+◌, string_bytes, IfErr, IfOk, OnOk};
 ghost use Rattle.std.specs.Io.KnownBytes.{Appends, IsAtEnd};
 ghost use Rattle.mencius_input.specs.Ends.{HasFailed, TakesAtMost, most_bytes, most_failed_calls};
 ghost use Rattle.mencius_input.specs.Scenario.{written_in};

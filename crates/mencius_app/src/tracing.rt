@@ -1,6 +1,6 @@
 //! What a trace of a scenario prints.
 
-ghost use Rattle.std.specs.Prelude.{ℕ, List, ◌≡◌, ◌≢◌, ◌++◌, string_bytes, IfErr, IfOk, OnOk};
+ghost use Rattle.std.specs.Prelude.{ℕ, List, ◌≡◌, ◌≢◌, ◌++◌, [], string_bytes, IfErr, IfOk, OnOk};
 ghost use Rattle.std.specs.Io.KnownBytes.{Appends, IsAtEnd};
 ghost use Rattle.mencius_app.specs.Calls.{AsksLittle, IsCause};
 ghost use Rattle.mencius_app.specs.Replay.{IsFaultOf};
@@ -50,13 +50,27 @@ fn traced(alloc: Global, members: Members, events: Events) -> Result<String, App
     let Ok(mut cluster) = Cluster::new(alloc, members) else {
         return Err(AppFault::NoMemory);
     };
-    let servers = members.count();
     let mut text = String::new(alloc);
-    writeln!(text, "servers {servers}")?;
-    match push_events(alloc, &mut text, &mut cluster, events) {
+    match push_trace(alloc, &mut text, &mut cluster, events) {
         Ok(()) => Ok(text),
         Err(_) => Err(AppFault::NoMemory),
     }
+}
+
+// Adds the trace of a new cluster and these events.
+fn push_trace(
+    alloc: Global,
+    text: &mut String,
+    cluster: &mut Cluster,
+    events: Events,
+) -> Result<(), NoMemory>
+    requires { cluster.old.journal ≡ [] }
+    ensures { OnOk result (string_bytes text.new
+        ≡ string_bytes text.old ++ trace_text cluster.old.members.count events) }
+{
+    let servers = cluster.members().count();
+    writeln!(text, "servers {servers}")?;
+    push_events(alloc, text, cluster, events)
 }
 
 // Steps a cluster through the events, and adds each with what came of it; and then what is told

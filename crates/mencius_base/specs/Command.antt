@@ -38,4 +38,4 @@ bad_op (Get key) = bad_entry key []
 bad_op (Del key) = bad_entry key []
 
 abbrev pub is_same_id : CommandId → CommandId → Bool
-is_same_id a b = a.client == b.client && a.number == b.number
+is_same_id a x = a.client == x.client && a.number == x.number

@@ -23,11 +23,11 @@ pub record BoardState : Type 0 where
 
 -- a board on which nothing is shown yet
 abbrev pub new_board : Book → ClusterState → ℕ → BoardState
-new_board b c readers = record { book = b; cluster = c; shown = []; pending = []; places = readers }
+new_board book x readers = record { book = book; cluster = x; shown = []; pending = []; places = readers }
 
 -- the commands of the cluster's longest history, in order
 unfoldable pub longest : ClusterState → List Command
-longest c = longest_commands c.members (trace_of c)
+longest x = longest_commands x.members (trace_of x)
 
 -- what a board relies on of its cluster: there are servers, the journal replays, and the longest history only grows
 pub record IsSteady (x : ClusterState) : Type 0 where

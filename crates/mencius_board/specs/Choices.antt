@@ -101,7 +101,7 @@ pub record HasTurned (x : ChooserState) (own : PlanState) (worker turns : ℕ) :
 
 -- what the next words of a worker pick on this cluster
 abbrev pub picked : ChooserState → ClusterState → Pick
-picked c x = pick_of x c.plan.loss (is_any c.left) (words_of c.drawing.generator)
+picked chooser x = pick_of x chooser.plan.loss (is_any chooser.left) (words_of chooser.drawing.generator)
 
 -- the event that a pick is, and the commands that it leaves
 abbrev pub IsTaken : Pick → List (ServerId × Command) → Event → List (ServerId × Command) → Type 0

@@ -42,9 +42,9 @@ pick_by row loss left message server second third =
 
 -- what three words pick: the first says which row, the second which message, and the third which server
 abbrev pub pick_of : ClusterState → ℕ → Bool → List ℕ → Pick
-pick_of c loss left words =
-    let n = c.members.count in
-    let messages = sent (trace_of c) in
+pick_of x loss left words =
+    let n = x.members.count in
+    let messages = sent (trace_of x) in
     let message = message_named (slice_index words 1) (length messages) in
     let server = addressee_or (slice_get messages message) (slice_index words 2 % n) in
     pick_by (slice_index words 0 % 64) loss left message server (slice_index words 1 % n) (slice_index words 2 % n)

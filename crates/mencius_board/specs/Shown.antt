@@ -22,4 +22,4 @@ Keeps x views = (x.mark.log ≡ x.list)
 
 -- the value y was seen. What had been seen before is a prefix of its list
 abbrev pub Shows : Option MarkState → VersionState → VersionState → Option MarkState → Type 0
-Shows v x y w = (y.mark.log ≡ y.list) × (w ≡ Some y.mark) × Follows v y.mark
+Shows v x y written = (y.mark.log ≡ y.list) × (written ≡ Some y.mark) × Follows v y.mark

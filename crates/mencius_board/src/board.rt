@@ -11,9 +11,8 @@ use crate::longest::copy_longest;
 use crate::news::News;
 use crate::pending::{hand_over, record};
 use crate::reader::Reader;
-use crate::shown::{Notes, Showing, publish};
+use crate::shown::{Notes, Showing, open_writer, publish};
 use crate::shown_log::{Mark, ShownLog};
-use crate::version::Version;
 use core::mem::replace_with;
 use mencius_base::{Event, Refusal};
 use mencius_cluster::{Cluster, Effect, laws};
@@ -83,16 +82,7 @@ impl Board {
         cluster.replays();
         let log = ShownLog::new();
         let opening = log.mark();
-        let first = Version::new(alloc, log.mark());
-        let second = Version::new(alloc, log.mark());
-        let Ok(writer) = Showing::new(alloc, first, second, usize::from(readers)) else {
-            return Err(BoardFault::NoMemory);
-        };
-        let (writer, shown) = publish(rt, &opening, writer);
-        let Ok(()) = shown else {
-            drop(writer.take(rt));
-            return Err(BoardFault::NoMemory);
-        };
+        let writer = open_writer(rt, alloc, &opening, readers)?;
         Ok(Board {
             cluster,
             log,

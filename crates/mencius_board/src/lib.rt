@@ -23,8 +23,6 @@ mod reader;
 mod shown;
 mod shown_log;
 mod table;
-#[cfg(test)]
-mod tests;
 mod version;
 mod workers;
 

@@ -1,5 +1,5 @@
 //! The rule under which readers enter what the writer shows.
-ghost use Rattle.std.specs.Prelude.{◌≡◌, ◌≤◌, ◌++◌, Some, IfOk, IfErr, length, drop, MatchResult, [], option_copied, option_map};
+ghost use Rattle.std.specs.Prelude.{◌≡◌, ◌≤◌, ◌++◌, Some, IfOk, IfErr, length, ◌<◌, drop, MatchResult, [], option_copied, option_map};
 ghost use Rattle.std.specs.String.{string_bytes};
 ghost use Rattle.left_right.specs.Sides.{view};
 ghost use Rattle.logbook.specs.Pages.{Book};
@@ -15,7 +15,7 @@ use atomic_table::{Join, Split};
 use crossbeam_utils::rule::{Outcome, Protocol};
 use left_right::reader::Reader;
 use left_right::writer::Writer;
-use std::alloc::AllocError;
+use std::alloc::{AllocError, Global};
 use std::sync::Wait;
 
 /// The rule: what is shown belongs to one log, and only grows. Each knows what it has seen of it.
@@ -135,4 +135,32 @@ pub fn publish<R: Wait>(
         return (writer, Err(AllocError));
     };
     writer.publish_as::<Sees, R>(rt)
+}
+
+/// What shows the empty list of a new log, to as many readers.
+pub fn open_writer<R: Wait>(
+    rt: &R,
+    alloc: Global,
+    opening: &Mark,
+    readers: u8,
+) -> Result<Showing, BoardFault>
+    requires some { (0 < readers) × (readers ≤ 16) }
+    requires empty { opening.now.log ≡ [] }
+    ensures seen { IfOk result (λ w. book_of (view w.desk.place) ≡ Some opening.now.book) }
+    ensures shown { IfOk result
+        (λ w. w.desk.shown.value ≡ record { mark = opening.now; list = opening.now.log }) }
+    ensures pending { IfOk result (λ w. added (drop w.behind w.log.items) ≡ []) }
+    ensures err { IfErr result (λ f. f ≡ BoardFault.NoMemory) }
+{
+    let first = Version::new(alloc, opening.again());
+    let second = Version::new(alloc, opening.again());
+    let Ok(writer) = Showing::new(alloc, first, second, usize::from(readers)) else {
+        return Err(BoardFault::NoMemory);
+    };
+    let (writer, shown) = publish(rt, opening, writer);
+    let Ok(()) = shown else {
+        drop(writer.take(rt));
+        return Err(BoardFault::NoMemory);
+    };
+    Ok(writer)
 }

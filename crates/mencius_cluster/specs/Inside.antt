@@ -6,20 +6,20 @@ use Rattle.mencius_cluster.specs.Tables.{Tables, IsCluster, journal_of}
 
 -- the tables among the fields
 abbrev pub tables_in : Inside → Tables
-tables_in c = record {
-  servers = c.servers.items;
-  executors = c.executors.items;
-  done = c.done.items;
-  messages = c.messages;
-  rows = c.submissions.entries;
-  is_lost = mark_in c.lost;
-  entries = c.journal.items;
+tables_in x = record {
+  servers = x.servers.items;
+  executors = x.executors.items;
+  done = x.done.items;
+  messages = x.messages;
+  rows = x.submissions.entries;
+  is_lost = mark_in x.lost;
+  entries = x.journal.items;
 }
 
 -- the members and the journal among the fields
 abbrev pub state_in : Inside → ClusterState
-state_in c = record { members = c.members; journal = journal_of c.submissions.entries c.journal.items }
+state_in x = record { members = x.members; journal = journal_of x.submissions.entries x.journal.items }
 
 -- what every cluster keeps
 abbrev pub IsSound : Inside → Type 0
-IsSound c = IsCluster c.members (journal_of c.submissions.entries c.journal.items) (tables_in c)
+IsSound x = IsCluster x.members (journal_of x.submissions.entries x.journal.items) (tables_in x)

@@ -56,7 +56,7 @@ module _ (d : Data) (r : List Token) where
       let some : 0 < suc n = omega arith in
       made array (next_items (suc n - 1) ts) (sym (opened_array (suc n) ts some) ∙ e)
 
-  pub begins : (depth : ℕ) (t : Token) (ts : List Token) → next_value depth (t ∷ ts) ≡ Some (d, r) → Begins t d
+  pub begins : (depth : ℕ) (y : Token) (ts : List Token) → next_value depth (y ∷ ts) ≡ Some (d, r) → Begins y d
   begins depth Token.begin_object ts e = begins_object depth ts e
   begins depth Token.begin_array ts e = begins_array depth ts e
   begins depth (Token.string s) ts e =
@@ -66,104 +66,104 @@ module _ (d : Data) (r : List Token) where
       same (boolean b) ts _ e (ap (converted of_json) (value_is depth (Token.boolean b ∷ ts)))
   begins depth Token.null ts e =
       same null ts _ e (ap (converted of_json) (value_is depth (Token.null ∷ ts)))
-  begins depth t ts e = never _ e (ap (converted of_json) (value_is depth (t ∷ ts)))
+  begins depth y ts e = never _ e (ap (converted of_json) (value_is depth (y ∷ ts)))
 
-pub no_text : (d : Data) (t : Token) → Begins t d → text_of t ≡ None → as_str d ≡ None
+pub no_text : (d : Data) (x : Token) → Begins x d → text_of x ≡ None → as_str d ≡ None
 no_text d Token.begin_object h e = ap as_str h.1
 no_text d Token.begin_array h e = ap as_str h.1
 no_text d (Token.string s) h e = absurd (cc)
 no_text d (Token.number s) h e = ap as_str h.1
 no_text d (Token.boolean b) h e = ap as_str h
 no_text d Token.null h e = ap as_str h
-no_text d t h e = absurd h
+no_text d x h e = absurd h
 
-pub no_number : (d : Data) (t : Token) → Begins t d → number_text t ≡ None → as_number d ≡ None
+pub no_number : (d : Data) (x : Token) → Begins x d → number_text x ≡ None → as_number d ≡ None
 no_number d Token.begin_object h e = ap as_number h.1
 no_number d Token.begin_array h e = ap as_number h.1
 no_number d (Token.string s) h e = ap as_number h
 no_number d (Token.number s) h e = absurd (cc)
 no_number d (Token.boolean b) h e = ap as_number h
 no_number d Token.null h e = ap as_number h
-no_number d t h e = absurd h
+no_number d x h e = absurd h
 
-pub no_array : (d : Data) (t : Token) → Begins t d → opens_array t ≡ false → as_array d ≡ None
+pub no_array : (d : Data) (x : Token) → Begins x d → opens_array x ≡ false → as_array d ≡ None
 no_array d Token.begin_object h e = ap as_array h.1
 no_array d Token.begin_array h e = absurd (cc)
 no_array d (Token.string s) h e = ap as_array h
 no_array d (Token.number s) h e = ap as_array h.1
 no_array d (Token.boolean b) h e = ap as_array h
 no_array d Token.null h e = ap as_array h
-no_array d t h e = absurd h
+no_array d x h e = absurd h
 
-pub no_object : (d : Data) (t : Token) → Begins t d → opens_object t ≡ false → as_object d ≡ None
+pub no_object : (d : Data) (x : Token) → Begins x d → opens_object x ≡ false → as_object d ≡ None
 no_object d Token.begin_object h e = absurd (cc)
 no_object d Token.begin_array h e = ap as_object h.1
 no_object d (Token.string s) h e = ap as_object h
 no_object d (Token.number s) h e = ap as_object h.1
 no_object d (Token.boolean b) h e = ap as_object h
 no_object d Token.null h e = ap as_object h
-no_object d t h e = absurd h
+no_object d x h e = absurd h
 
 -- which token it was
-pub was_text : (t : Token) (s : List ℕ) → Some s ≡ text_of t → t ≡ Token.string s
+pub was_text : (x : Token) (s : List ℕ) → Some s ≡ text_of x → x ≡ Token.string s
 was_text (Token.string k) s e = ap (λ o. Token.string (unwrap_or o s)) (sym e)
-was_text t s e = absurd (cc)
+was_text x s e = absurd (cc)
 
-pub was_number : (t : Token) (s : List ℕ) → Some s ≡ number_text t → t ≡ Token.number s
+pub was_number : (x : Token) (s : List ℕ) → Some s ≡ number_text x → x ≡ Token.number s
 was_number (Token.number k) s e = ap (λ o. Token.number (unwrap_or o s)) (sym e)
-was_number t s e = absurd (cc)
+was_number x s e = absurd (cc)
 
-pub was_array : (t : Token) → opens_array t ≡ true → t ≡ Token.begin_array
+pub was_array : (x : Token) → opens_array x ≡ true → x ≡ Token.begin_array
 was_array Token.begin_array e = refl
-was_array t e = absurd (cc)
+was_array x e = absurd (cc)
 
-pub was_object : (t : Token) → opens_object t ≡ true → t ≡ Token.begin_object
+pub was_object : (x : Token) → opens_object x ≡ true → x ≡ Token.begin_object
 was_object Token.begin_object e = refl
-was_object t e = absurd (cc)
+was_object x e = absurd (cc)
 
 -- ---- a value is read by its first token
 
-module _ (depth : ℕ) (t : Token) (ts old : List Token) (is : old ≡ t ∷ ts) where
-  pub text_first : (s : List ℕ) → Some s ≡ text_of t → next_value depth old ≡ Some (string s, ts)
+module _ (depth : ℕ) (x : Token) (ts old : List Token) (is : old ≡ x ∷ ts) where
+  pub text_first : (s : List ℕ) → Some s ≡ text_of x → next_value depth old ≡ Some (string s, ts)
   text_first s e =
-      ap (next_value depth) (is ∙ ap (λ k. k ∷ ts) (was_text t s e)) ∙ next_string depth s ts
+      ap (next_value depth) (is ∙ ap (λ k. k ∷ ts) (was_text x s e)) ∙ next_string depth s ts
 
-  pub whole_first : (s : List ℕ) (whole : Option ℕ) → Some s ≡ number_text t
+  pub whole_first : (s : List ℕ) (whole : Option ℕ) → Some s ≡ number_text x
       → Some whole ≡ option_map as_u64 (number_of s)
       → (d : Data) × (next_value depth old ≡ Some (d, ts)) × (whole ≡ whole_in d)
   whole_first s whole e w =
       let n = next_counted depth s ts whole w in
-      (number n.0, ap (next_value depth) (is ∙ ap (λ k. k ∷ ts) (was_number t s e)) ∙ n.1, n.2)
+      (number n.0, ap (next_value depth) (is ∙ ap (λ k. k ∷ ts) (was_number x s e)) ∙ n.1, n.2)
 
-  pub no_whole_first : (s : List ℕ) → Some s ≡ number_text t → None ≡ option_map as_u64 (number_of s)
+  pub no_whole_first : (s : List ℕ) → Some s ≡ number_text x → None ≡ option_map as_u64 (number_of s)
       → next_value depth old ≡ None
   no_whole_first s e w =
-      ap (next_value depth) (is ∙ ap (λ k. k ∷ ts) (was_number t s e)) ∙ next_uncounted depth s ts w
+      ap (next_value depth) (is ∙ ap (λ k. k ∷ ts) (was_number x s e)) ∙ next_uncounted depth s ts w
 
   -- what was passed is no such value
-  module _ (d : Data) (r : List Token) (next : next_value depth (t ∷ ts) ≡ Some (d, r)) where
+  module _ (d : Data) (r : List Token) (next : next_value depth (x ∷ ts) ≡ Some (d, r)) where
     pub passed_first : next_value depth old ≡ Some (d, r)
     passed_first = ap (next_value depth) is ∙ next
 
-    pub passed_no_text : None ≡ text_of t → as_str d ≡ None
-    passed_no_text e = no_text d t (begins d r depth t ts next) (sym e)
+    pub passed_no_text : None ≡ text_of x → as_str d ≡ None
+    passed_no_text e = no_text d x (begins d r depth x ts next) (sym e)
 
-    pub passed_no_number : None ≡ number_text t → None ≡ whole_in d
-    passed_no_number e = sym (ap (option_and_then as_u64) (no_number d t (begins d r depth t ts next) (sym e)))
+    pub passed_no_number : None ≡ number_text x → None ≡ whole_in d
+    passed_no_number e = sym (ap (option_and_then as_u64) (no_number d x (begins d r depth x ts next) (sym e)))
 
-    pub passed_no_array : opens_array t ≡ false → as_array d ≡ None
-    passed_no_array e = no_array d t (begins d r depth t ts next) e
+    pub passed_no_array : opens_array x ≡ false → as_array d ≡ None
+    passed_no_array e = no_array d x (begins d r depth x ts next) e
 
-    pub passed_no_object : opens_object t ≡ false → as_object d ≡ None
-    passed_no_object e = no_object d t (begins d r depth t ts next) e
+    pub passed_no_object : opens_object x ≡ false → as_object d ≡ None
+    passed_no_object e = no_object d x (begins d r depth x ts next) e
 
-  pub array_first : 0 < depth → opens_array t ≡ true
+  pub array_first : 0 < depth → opens_array x ≡ true
       → next_value depth old ≡ parse_map array (next_items (depth - 1) ts)
-  array_first some e = ap (next_value depth) (is ∙ ap (λ k. k ∷ ts) (was_array t e)) ∙ opened_array depth ts some
+  array_first some e = ap (next_value depth) (is ∙ ap (λ k. k ∷ ts) (was_array x e)) ∙ opened_array depth ts some
 
-  pub object_first : 0 < depth → opens_object t ≡ true
+  pub object_first : 0 < depth → opens_object x ≡ true
       → next_value depth old ≡ parse_map object (next_members (depth - 1) ts)
-  object_first some e = ap (next_value depth) (is ∙ ap (λ k. k ∷ ts) (was_object t e)) ∙ opened_object depth ts some
+  object_first some e = ap (next_value depth) (is ∙ ap (λ k. k ∷ ts) (was_object x e)) ∙ opened_object depth ts some
 
 -- an object that was entered, or another value that was passed
 pub entered : (depth : ℕ) (old new : List Token) (is_object : Bool) → EntersObject depth old new is_object

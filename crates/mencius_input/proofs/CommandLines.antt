@@ -22,9 +22,9 @@ use Rattle.mencius_input.specs.CommandLine.{Asked, asked, asked_replay, asked_ru
 -- ---- what was found
 
 -- whether a text that was found is that of a flag
-pub flag_there : (f : Found) (id : Text) (s : Bor Text) (b : Bool) → Some s.now ≡ first_value f id
-    → b ≡ bytes_eq s.now (codes "true") → b ≡ has_flag id (rows_of f)
-flag_there f id s b e is = is ∙ ap (λ o. option_map_or (λ text. bytes_eq text (codes "true")) o false) (e
+pub flag_there : (f : Found) (id : Text) (s : Bor Text) (a : Bool) → Some s.now ≡ first_value f id
+    → a ≡ bytes_eq s.now (codes "true") → a ≡ has_flag id (rows_of f)
+flag_there f id s a e is = is ∙ ap (λ o. option_map_or (λ text. bytes_eq text (codes "true")) o false) (e
     ∙ first_value-rows f id)
 
 pub flag_missing : (f : Found) (id : Text) → None ≡ first_value f id → false ≡ has_flag id (rows_of f)

@@ -33,38 +33,38 @@ module _ {A B : Type 0} where
   same_conversion : (f g : A → Option B) → ((a : A) → f a ≡ g a) → (parsed : Option (A × List Token))
       → converted f parsed ≡ converted g parsed
   same_conversion f g same None = refl
-  same_conversion f g same (Some p) = ap (option_map (λ b. (b, p.1))) (same p.0)
+  same_conversion f g same (Some d) = ap (option_map (λ x. (x, d.1))) (same d.0)
 
   -- one that makes nothing
   no_conversion : (f : A → Option B) → ((a : A) → f a ≡ None) → (parsed : Option (A × List Token))
       → converted f parsed ≡ None
   no_conversion f none None = refl
-  no_conversion f none (Some p) = ap (option_map (λ b. (b, p.1))) (none p.0)
+  no_conversion f none (Some d) = ap (option_map (λ x. (x, d.1))) (none d.0)
 
   -- what was converted to a value: it was parsed, and this became of it
-  record IsMade (f : A → Option B) (parsed : Option (A × List Token)) (b : B) (rest : List Token) : Type 0 where
+  record IsMade (f : A → Option B) (parsed : Option (A × List Token)) (x : B) (rest : List Token) : Type 0 where
     from : A
     there : parsed ≡ Some (from, rest)
-    becomes : f from ≡ Some b
+    becomes : f from ≡ Some x
 
-  is_made : (f : A → Option B) (parsed : Option (A × List Token)) (b : B) (rest : List Token)
-      → converted f parsed ≡ Some (b, rest) → IsMade f parsed b rest
-  is_made f None b rest e = absurd (cc)
-  is_made f (Some p) b rest e =
-      let found = at p (f p.0) e in
-      record { from = p.0; there = found.1; becomes = found.0 }
+  is_made : (f : A → Option B) (parsed : Option (A × List Token)) (x : B) (rest : List Token)
+      → converted f parsed ≡ Some (x, rest) → IsMade f parsed x rest
+  is_made f None x rest e = absurd (cc)
+  is_made f (Some d) x rest e =
+      let found = at d (f d.0) e in
+      record { from = d.0; there = found.1; becomes = found.0 }
     where
-      at : (q : A × List Token) (made : Option B)
-          → option_map {U = B × List Token} (λ c. (c, q.1)) made ≡ Some (b, rest)
-          → (made ≡ Some b) × (Some q ≡ Some (q.0, rest))
-      at q None e = absurd (cc)
-      at q (Some c) e = (ap (option_map (λ y. y.0)) e, ap (option_map (λ y. (q.0, y.1))) e)
+      at : (z : A × List Token) (made : Option B)
+          → option_map {U = B × List Token} (λ c. (c, z.1)) made ≡ Some (x, rest)
+          → (made ≡ Some x) × (Some z ≡ Some (z.0, rest))
+      at z None e = absurd (cc)
+      at z (Some c) e = (ap (option_map (λ y. y.0)) e, ap (option_map (λ y. (z.0, y.1))) e)
 
   -- what was parsed and could not be converted
-  unmade : (f : A → Option B) (p : A × List Token) → converted f (Some p) ≡ None → f p.0 ≡ None
-  unmade f p e = bare (f p.0) e
+  unmade : (f : A → Option B) (d : A × List Token) → converted f (Some d) ≡ None → f d.0 ≡ None
+  unmade f d e = bare (f d.0) e
     where
-      bare : (made : Option B) → option_map {U = B × List Token} (λ c. (c, p.1)) made ≡ None → made ≡ None
+      bare : (made : Option B) → option_map {U = B × List Token} (λ c. (c, d.1)) made ≡ None → made ≡ None
       bare None e = refl
       bare (Some c) e = absurd (cc)
 
@@ -82,7 +82,7 @@ object_converted parsed =
 
 -- where a part can't be converted, nothing that it is put before can
 stopped : {X Y : Type 0} (put_before : json.Json → X → X) (f : X → Option Y)
-    → ((j : json.Json) → of_json j ≡ None → (x : X) → f (put_before j x) ≡ None)
+    → ((y : json.Json) → of_json y ≡ None → (x : X) → f (put_before y x) ≡ None)
     → (more : Parse X) (part : Option (json.Json × List Token)) → converted of_json part ≡ None
     → converted f (option_and_then (λ q. parse_map (put_before q.0) (more q.1)) part) ≡ None
 stopped put_before f none more None e = refl

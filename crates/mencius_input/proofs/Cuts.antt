@@ -18,13 +18,13 @@ use Rattle.mencius_input.proofs.Numbers.{number_digits}
 -- ---- a cut
 
 -- where a byte stands first, if anywhere
-at_place : (p : ℕ → Bool) (text : List ℕ) (i : ℕ) → position p text ≡ Some i
-    → (i ≡ position_or_len p text) × (position_or_len p text < length text)
-at_place p text i e = by_test (ltb (position_or_len p text) (length text)) refl e
+pub at_place : (test : ℕ → Bool) (text : List ℕ) (i : ℕ) → position test text ≡ Some i
+    → (i ≡ position_or_len test text) × (position_or_len test text < length text)
+at_place test text i e = by_test (ltb (position_or_len test text) (length text)) refl e
   where
-    by_test : (t : Bool) → ltb (position_or_len p text) (length text) ≡ t
-        → cond t (Some (position_or_len p text)) None ≡ Some i
-        → (i ≡ position_or_len p text) × (position_or_len p text < length text)
+    by_test : (a : Bool) → ltb (position_or_len test text) (length text) ≡ a
+        → cond a (Some (position_or_len test text)) None ≡ Some i
+        → (i ≡ position_or_len test text) × (position_or_len test text < length text)
     by_test true less is = (ap (λ (o : Option ℕ). unwrap_or o 0) (sym is), ltb-true _ _ less)
     by_test false less is = absurd (cc)
 
@@ -39,31 +39,35 @@ found_parts c text i e =
     let f = at_place (λ b. b == c) text i e in
     rw f.0 (slice_split_first (λ b. b == c) text 0 f.1)
 
-uncut : (p : ℕ → Bool) (text : List ℕ) → ((i : ℕ) → i < length text → p (get_or text i 0) ≡ false)
-    → slice_split p text ≡ text ∷ []
-uncut p [] h = refl
-uncut p (b ∷ bs) h = slice_split-cons_no p b bs (h 0 (omega arith))
-    ∙ ap (onto_first b) (uncut p bs (λ i l. h (suc i) (omega arith)))
+uncut : (test : ℕ → Bool) (text : List ℕ) → ((i : ℕ) → i < length text → test (get_or text i 0) ≡ false)
+    → slice_split test text ≡ text ∷ []
+uncut test [] h = refl
+uncut test (b ∷ bs) h = slice_split-cons_no test b bs (h 0 (omega arith))
+    ∙ ap (onto_first b) (uncut test bs (λ i l. h (suc i) (omega arith)))
+
+-- the byte stands nowhere
+pub no_place : (test : ℕ → Bool) (text : List ℕ) → position test text ≡ None → length text ≤ position_or_len test text
+no_place test text e = by_test (ltb (position_or_len test text) (length text)) refl e
+  where
+    by_test : (a : Bool) → ltb (position_or_len test text) (length text) ≡ a
+        → cond a (Some (position_or_len test text)) None ≡ None → length text ≤ position_or_len test text
+    by_test true less is = absurd (cc)
+    by_test false past is = ltb-false _ _ past
 
 -- the text is one part
 pub lacking_parts : (c : ℕ) (text : List ℕ) → position (λ b. b == c) text ≡ None → parts c text ≡ text ∷ []
-lacking_parts c text e = by_test (ltb (position_or_len (λ b. b == c) text) (length text)) refl e
-  where
-    by_test : (t : Bool) → ltb (position_or_len (λ b. b == c) text) (length text) ≡ t
-        → cond t (Some (position_or_len (λ b. b == c) text)) None ≡ None → parts c text ≡ text ∷ []
-    by_test true less is = absurd (cc)
-    by_test false past is =
-        let far : length text ≤ position_or_len (λ b. b == c) text = ltb-false _ _ past in
-        uncut (λ b. b == c) text (λ i l. fails_before_first (λ b. b == c) text i 0 (omega arith))
+lacking_parts c text e =
+    let far = no_place (λ b. b == c) text e in
+    uncut (λ b. b == c) text (λ i l. fails_before_first (λ b. b == c) text i 0 (omega arith))
 
 -- ---- a word that is all the rest
 
-first_part : (c : ℕ) (text : List ℕ) → (p : List ℕ) × (ps : List (List ℕ)) × (parts c text ≡ p ∷ ps)
+first_part : (c : ℕ) (text : List ℕ) → (xs : List ℕ) × (ps : List (List ℕ)) × (parts c text ≡ xs ∷ ps)
 first_part c [] = ([], [], refl)
 first_part c (b ∷ bs) = by_test (b == c) (first_part c bs)
   where
-    by_test : (t : Bool) → (p : List ℕ) × (ps : List (List ℕ)) × (parts c bs ≡ p ∷ ps)
-        → (p : List ℕ) × (ps : List (List ℕ)) × (cond t ([] ∷ parts c bs) (onto_first b (parts c bs)) ≡ p ∷ ps)
+    by_test : (a : Bool) → (xs : List ℕ) × (ps : List (List ℕ)) × (parts c bs ≡ xs ∷ ps)
+        → (xs : List ℕ) × (ps : List (List ℕ)) × (cond a ([] ∷ parts c bs) (onto_first b (parts c bs)) ≡ xs ∷ ps)
     by_test true f = ([], parts c bs, refl)
     by_test false f = (b ∷ f.0, f.1, ap (onto_first b) f.2)
 
@@ -77,10 +81,10 @@ one_or_more : (test : ℕ → Bool) (c : ℕ) → test c ≡ false → (text : L
 one_or_more test c lacks [] = inl refl
 one_or_more test c lacks (b ∷ bs) = by_test (b == c) refl (one_or_more test c lacks bs) (first_part c bs)
   where
-    by_test : (t : Bool) → (b == c) ≡ t → (parts c bs ≡ bs ∷ []) ⊎ HasMore test bs (parts c bs)
-        → (p : List ℕ) × (ps : List (List ℕ)) × (parts c bs ≡ p ∷ ps)
-        → (cond t ([] ∷ parts c bs) (onto_first b (parts c bs)) ≡ (b ∷ bs) ∷ [])
-        ⊎ HasMore test (b ∷ bs) (cond t ([] ∷ parts c bs) (onto_first b (parts c bs)))
+    by_test : (a : Bool) → (b == c) ≡ a → (parts c bs ≡ bs ∷ []) ⊎ HasMore test bs (parts c bs)
+        → (xs : List ℕ) × (ps : List (List ℕ)) × (parts c bs ≡ xs ∷ ps)
+        → (cond a ([] ∷ parts c bs) (onto_first b (parts c bs)) ≡ (b ∷ bs) ∷ [])
+        ⊎ HasMore test (b ∷ bs) (cond a ([] ∷ parts c bs) (onto_first b (parts c bs)))
     by_test true is rest f =
         inr (
           [],

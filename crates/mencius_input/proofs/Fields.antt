@@ -7,6 +7,7 @@ use Rattle.std.proofs.lemmas.Bool.{or_parts}
 use Rattle.serde_json.specs.Data.{Data, Items, Members, no_members, object, put}
 use Rattle.serde_json.specs.Events.{members_len}
 use Rattle.serde_json.specs.Find.{as_array, as_object, get_member}
+use Rattle.mencius_base.specs.Limits.{most_servers}
 use Rattle.mencius_base.specs.declared.event.Event.{Event}
 use Rattle.mencius_input.specs.declared.fault.AppFault.{AppFault}
 use Rattle.mencius_input.specs.declared.fault.AppFault.TheVariants.{BadLimit, BadShape}
@@ -53,21 +54,21 @@ abbrev events_judged : Data → Result (List Event) AppFault
 events_judged d = judged (list_all event_within) (list_in d)
 
 module _ (f : code.Fields) (ms : Members) (name : List ℕ) (d : Data) (h : AreFields f ms) where
-  pub version_set : (w : Option ℕ) → named name ≡ Version → w ≡ whole_in d
-      → AreFields (record f { version = Some w }) (put name d ms)
-  version_set w is e = rw (is_named name Version is) record {
+  pub version_set : (o : Option ℕ) → named name ≡ Version → o ≡ whole_in d
+      → AreFields (record f { version = Some o }) (put name d ms)
+  version_set o is e = rw (is_named name Version is) record {
     named = one_named three_names (codes "version") d ms ordered f.has_other h.named refl;
-    version = now_says whole_in (codes "version") d ms w e;
+    version = now_says whole_in (codes "version") d ms o e;
     servers = still_says whole_in (codes "version") d ms (codes "servers") f.servers refl h.servers;
     events = still_says events_judged (codes "version") d ms (codes "events") _ refl h.events;
   }
 
-  pub servers_set : (w : Option ℕ) → named name ≡ Servers → w ≡ whole_in d
-      → AreFields (record f { servers = Some w }) (put name d ms)
-  servers_set w is e = rw (is_named name Servers is) record {
+  pub servers_set : (o : Option ℕ) → named name ≡ Servers → o ≡ whole_in d
+      → AreFields (record f { servers = Some o }) (put name d ms)
+  servers_set o is e = rw (is_named name Servers is) record {
     named = one_named three_names (codes "servers") d ms ordered f.has_other h.named refl;
     version = still_says whole_in (codes "servers") d ms (codes "version") f.version refl h.version;
-    servers = now_says whole_in (codes "servers") d ms w e;
+    servers = now_says whole_in (codes "servers") d ms o e;
     events = still_says events_judged (codes "servers") d ms (codes "events") _ refl h.events;
   }
 
@@ -128,14 +129,14 @@ no_events None os = refl
 no_events (Some v) None = refl
 no_events (Some v) (Some s) = refl
 
-without_servers : (b : Bool) (ov : Option ℕ) (oi : Option Items) → bound b ov None oi ≡ None
-without_servers b None oi = refl
-without_servers b (Some v) oi = refl
+without_servers : (a : Bool) (ov : Option ℕ) (oi : Option Items) → bound a ov None oi ≡ None
+without_servers a None oi = refl
+without_servers a (Some v) oi = refl
 
-without_events : (b : Bool) (ov os : Option ℕ) → bound b ov os None ≡ None
-without_events b None os = refl
-without_events b (Some v) None = refl
-without_events b (Some v) (Some s) = refl
+without_events : (a : Bool) (ov os : Option ℕ) → bound a ov os None ≡ None
+without_events a None os = refl
+without_events a (Some v) None = refl
+without_events a (Some v) (Some s) = refl
 
 unsaid : (o : Option (List Event)) → option_and_then {U = Written} (λ es. None) o ≡ None
 unsaid None = refl
@@ -147,28 +148,29 @@ with_more (Some v) None oi = refl
 with_more (Some v) (Some s) None = refl
 with_more (Some v) (Some s) (Some ds) = unsaid (events_of ds)
 
-all_hold : {X : Type 0} (x y : X) (a b : Bool) → cond (a && b) x y ≡ cond (a && b && true) x y
+all_hold : {X : Type 0} (x y : X) (a d : Bool) → cond (a && d) x y ≡ cond (a && d && true) x y
 all_hold x y true true = refl
 all_hold x y true false = refl
-all_hold x y false b = refl
+all_hold x y false d = refl
 
-one_fails : {X : Type 0} (x y : X) (a b : Bool) → y ≡ cond (a && b && false) x y
+one_fails : {X : Type 0} (x y : X) (a d : Bool) → y ≡ cond (a && d && false) x y
 one_fails x y true true = refl
 one_fails x y true false = refl
-one_fails x y false b = refl
+one_fails x y false d = refl
 
-by_list : (v s : ℕ) (es : List Event) (a b : Bool) → a ≡ (v == 1) → b ≡ (nat_le 1 s && nat_le s 7) → (l : Bool)
+by_list : (v s : ℕ) (es : List Event) (a d : Bool) → a ≡ (v == 1) → d ≡ (nat_le 1 s && nat_le s most_servers)
+    → (l : Bool)
     → fitted_events v s (cond l (Ok es) (Err BadLimit))
-    ≡ cond (a && b && l) (Ok (record { version = v; servers = s; events = es })) (Err BadLimit)
-by_list v s es a b e f true = rw (← e, ← f) (all_hold _ _ a b)
-by_list v s es a b e f false = one_fails _ _ a b
+    ≡ cond (a && d && l) (Ok (record { version = v; servers = s; events = es })) (Err BadLimit)
+by_list v s es a d e f true = rw (← e, ← f) (all_hold _ _ a d)
+by_list v s es a d e f false = one_fails _ _ a d
 
 with_events : (v s : ℕ) (o : Option (List Event))
     → said (Some (Some v)) (Some (Some s)) (Some (judged (list_all event_within) o))
     ≡ judged within (option_and_then (λ es. Some (record { version = v; servers = s; events = es })) o)
 with_events v s None = refl
 with_events v s (Some es) =
-    by_list v s es (v == 1) (nat_le 1 s && nat_le s 7) refl refl (list_all event_within es)
+    by_list v s es (v == 1) (nat_le 1 s && nat_le s most_servers) refl refl (list_all event_within es)
 
 all_three : (ov os : Option ℕ) (oi : Option Items)
     → said (Some ov) (Some os) (Some (judged (list_all event_within) (option_and_then events_of oi)))

@@ -14,6 +14,6 @@ pub utf8_no : (bytes : List ℕ) → (IsUtf8 bytes → read bytes ≡ None) → 
 unfolding json_of
 utf8_no bytes h = by_test (is_utf8 bytes) refl
   where
-    by_test : (t : Bool) → is_utf8 bytes ≡ t → cond t (read bytes) None ≡ None
+    by_test : (a : Bool) → is_utf8 bytes ≡ a → cond a (read bytes) None ≡ None
     by_test true e = h (IsUtf8-from_is_utf8 bytes e)
     by_test false e = refl

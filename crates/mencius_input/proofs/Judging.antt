@@ -8,8 +8,8 @@ use Rattle.mencius_input.specs.declared.fault.AppFault.TheVariants.{NotJson, Bad
 use Rattle.mencius_input.specs.Judged.{judged, joined, seen, FailsBy, Gives}
 
 -- two things that were judged
-pub joined_judged : {X Y : Type 0} (f : X → Bool) (g : Y → Bool) (o : Option X) (p : Option Y)
-    → joined (judged f o) (judged g p) ≡ judged (λ z. f z.0 && g z.1) (option_zip o p)
+pub joined_judged : {X Y : Type 0} (f : X → Bool) (g : Y → Bool) (o : Option X) (s : Option Y)
+    → joined (judged f o) (judged g s) ≡ judged (λ z. f z.0 && g z.1) (option_zip o s)
 joined_judged f g None None = refl
 joined_judged f g None (Some y) = refl
 joined_judged {X} {Y} f g (Some x) None = by_test (f x)
@@ -20,9 +20,9 @@ joined_judged {X} {Y} f g (Some x) None = by_test (f x)
     by_test false = refl
 joined_judged {X} {Y} f g (Some x) (Some y) = by_tests (f x) (g y)
   where
-    by_tests : (a b : Bool)
-        → ◌≡◌ {A = Result (X × Y) AppFault} (joined (cond a (Ok x) (Err BadLimit)) (cond b (Ok y) (Err BadLimit)))
-        (cond (a && b) (Ok (x, y)) (Err BadLimit))
+    by_tests : (a d : Bool)
+        → ◌≡◌ {A = Result (X × Y) AppFault} (joined (cond a (Ok x) (Err BadLimit)) (cond d (Ok y) (Err BadLimit)))
+        (cond (a && d) (Ok (x, y)) (Err BadLimit))
     by_tests true true = refl
     by_tests true false = refl
     by_tests false true = refl
@@ -71,18 +71,18 @@ seen_given : {X Y : Type 0} (make : X → Y) (result answer : Result X AppFault)
 seen_given make (Ok x) answer h = ap (seen make) h
 seen_given make (Err fault) answer h = fails_on (seen make) fault answer refl h
 
-joined_given : {X Y : Type 0} (k a : Result X AppFault) (t b : Result Y AppFault) → Gives k a → Gives t b
-    → Gives (joined k t) (joined a b)
-joined_given (Ok x) a (Ok y) b h i = rw (h, i) refl
-joined_given (Ok x) a (Err fault) b h i = rw h (fails_on (joined (Ok x)) fault b refl i)
-joined_given (Err BadLimit) a (Ok y) b h i = rw (h, i) refl
-joined_given (Err BadLimit) a (Err fault) b h i = rw h (fails_on (joined (Err BadLimit)) fault b refl i)
-joined_given (Err NoMemory) a t b h i = tt
-joined_given (Err NotJson) a t b h i = rw h refl
-joined_given (Err BadShape) a t b h i = rw h refl
-joined_given (Err ReadFailed) a t b h i = rw h refl
-joined_given (Err WriteFailed) a t b h i = rw h refl
-joined_given (Err BoardFailed) a t b h i = rw h refl
+joined_given : {X Y : Type 0} (r a : Result X AppFault) (s answer : Result Y AppFault) → Gives r a → Gives s answer
+    → Gives (joined r s) (joined a answer)
+joined_given (Ok x) a (Ok y) answer h i = rw (h, i) refl
+joined_given (Ok x) a (Err fault) answer h i = rw h (fails_on (joined (Ok x)) fault answer refl i)
+joined_given (Err BadLimit) a (Ok y) answer h i = rw (h, i) refl
+joined_given (Err BadLimit) a (Err fault) answer h i = rw h (fails_on (joined (Err BadLimit)) fault answer refl i)
+joined_given (Err NoMemory) a s answer h i = tt
+joined_given (Err NotJson) a s answer h i = rw h refl
+joined_given (Err BadShape) a s answer h i = rw h refl
+joined_given (Err ReadFailed) a s answer h i = rw h refl
+joined_given (Err WriteFailed) a s answer h i = rw h refl
+joined_given (Err BoardFailed) a s answer h i = rw h refl
 
 -- what is made of one thing, and of two
 pub made_given : {X Y : Type 0} (make : X → Y) (f : X → Bool) (g : Y → Bool) → ((x : X) → g (make x) ≡ f x)
@@ -91,18 +91,19 @@ pub made_given : {X Y : Type 0} (make : X → Y) (f : X → Bool) (g : Y → Boo
 made_given make f g same o result h = rw (← seen_judged make f g same o) (seen_given make result (judged f o) h)
 
 pub pair_given : {X Y : Type 0} (f : X → Bool) (g : Y
-    → Bool) (o : Option X) (p : Option Y) (k : Result X AppFault) (t : Result Y AppFault)
-    (result : Result (X × Y) AppFault) → result ≡ joined k t → Gives k (judged f o) → Gives t (judged g p)
-    → Gives result (judged (λ z. f z.0 && g z.1) (option_zip o p))
-pair_given f g o p k t result is h i = rw (is, ← joined_judged f g o p) (joined_given k (judged f o) t (judged g p) h i)
+    → Bool) (o : Option X) (s : Option Y) (r : Result X AppFault) (answer : Result Y AppFault)
+    (result : Result (X × Y) AppFault) → result ≡ joined r answer → Gives r (judged f o) → Gives answer (judged g s)
+    → Gives result (judged (λ z. f z.0 && g z.1) (option_zip o s))
+pair_given f g o s r answer result is h i =
+    rw (is, ← joined_judged f g o s) (joined_given r (judged f o) answer (judged g s) h i)
 
 pub both_given : {X Y Z : Type 0} (make : X × Y → Z) (f : X → Bool) (g : Y → Bool) (ok : Z → Bool)
     → ((z : X × Y) → ok (make z) ≡ (f z.0 && g z.1))
-    → (o : Option X) (p : Option Y) (k : Result X AppFault) (t : Result Y AppFault)
-    (result : Result (X × Y) AppFault) → result ≡ joined k t → Gives k (judged f o) → Gives t (judged g p)
-    → Gives (seen make result) (judged ok (option_map make (option_zip o p)))
-both_given make f g ok same o p k t result is h i =
-    made_given make (λ z. f z.0 && g z.1) ok same (option_zip o p) result (pair_given f g o p k t result is h i)
+    → (o : Option X) (s : Option Y) (r : Result X AppFault) (answer : Result Y AppFault)
+    (result : Result (X × Y) AppFault) → result ≡ joined r answer → Gives r (judged f o) → Gives answer (judged g s)
+    → Gives (seen make result) (judged ok (option_map make (option_zip o s)))
+both_given make f g ok same o s r answer result is h i =
+    made_given make (λ z. f z.0 && g z.1) ok same (option_zip o s) result (pair_given f g o s r answer result is h i)
 
 -- ---- at the exit of a `?`
 

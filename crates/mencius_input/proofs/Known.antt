@@ -7,10 +7,10 @@ use Rattle.std.specs.Io.KnownBytes.{Appends}
 use Rattle.mencius_input.specs.Ends.{one_more}
 
 -- what was written grows by the next part of the text
-pub appends_further : (a b c : Option (List ℕ)) (m n : ℕ) (text : List ℕ) → Appends a b (take m text)
-    → Appends b c (take n (drop m text)) → Appends a c (take (m + n) text)
-appends_further a b c m n text p q =
-    rw (take-add m n text) (Appends-trans a b c (take m text) (take n (drop m text)) p q)
+pub appends_further : (old mid new : Option (List ℕ)) (m n : ℕ) (text : List ℕ) → Appends old mid (take m text)
+    → Appends mid new (take n (drop m text)) → Appends old new (take (m + n) text)
+appends_further old mid new m n text h l =
+    rw (take-add m n text) (Appends-trans old mid new (take m text) (take n (drop m text)) h l)
 
 -- a call that took a byte was no failure
 pub took_some : (room : Bool) (n old new : ℕ) → new ≡ cond (room && (n == 0)) (one_more old) old → (n ≡ 0 → ⊥)

@@ -4,6 +4,12 @@ pub mod Texts
 pub mod Numbers
 pub mod Judging
 pub mod Cuts
+pub mod Lexing
+pub mod Strings
+pub mod Punctuated
+pub mod Closings
+pub mod Spelled
+pub mod Wording
 pub mod Reading
 pub mod Json
 pub mod Conversions

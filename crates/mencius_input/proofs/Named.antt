@@ -18,11 +18,11 @@ use Rattle.mencius_input.specs.Scenario.{whole_of}
 
 -- ---- names
 
-pub same_name : (k l : List ℕ) → bytes_eq k l ≡ true → k ≡ l
-same_name k l e = let same = bytes_eq-Decides k l in same.0 e
+pub same_name : (key l : List ℕ) → bytes_eq key l ≡ true → key ≡ l
+same_name key l e = let same = bytes_eq-Decides key l in same.0 e
 
-other_name : (k l : List ℕ) → bytes_eq k l ≡ false → k ≡ l → ⊥
-other_name k l e same = let decided = bytes_eq-Decides k l in true≢false (sym (decided.1 same) ∙ e)
+other_name : (key l : List ℕ) → bytes_eq key l ≡ false → key ≡ l → ⊥
+other_name key l e same = let decided = bytes_eq-Decides key l in true≢false (sym (decided.1 same) ∙ e)
 
 abbrev is_less : Ordering → Bool
 is_less Less = true
@@ -43,47 +43,49 @@ abbrev pub are_ordered : List (List ℕ) → Bool
 are_ordered [] = true
 are_ordered (k ∷ ks) = list_all (is_before k) ks && are_ordered ks
 
-compared : (o p : Ordering) → (is_less o && is_greater p) ≡ true → (o ≡ Less) × (p ≡ Greater)
+compared : (o x : Ordering) → (is_less o && is_greater x) ≡ true → (o ≡ Less) × (x ≡ Greater)
 compared Less Less e = absurd (cc)
 compared Less Equal e = absurd (cc)
 compared Less Greater e = (refl, refl)
-compared Equal p e = absurd (cc)
-compared Greater p e = absurd (cc)
+compared Equal x e = absurd (cc)
+compared Greater x e = absurd (cc)
 
-before : (k l : List ℕ) → is_before k l ≡ true → (slice_cmp nat_cmp k l ≡ Less) × (slice_cmp nat_cmp l k ≡ Greater)
-before k l e = compared (slice_cmp nat_cmp k l) (slice_cmp nat_cmp l k) e
+before : (key l : List ℕ) → is_before key l ≡ true
+    → (slice_cmp nat_cmp key l ≡ Less) × (slice_cmp nat_cmp l key ≡ Greater)
+before key l e = compared (slice_cmp nat_cmp key l) (slice_cmp nat_cmp l key) e
 
-before_apart : (k l : List ℕ) → is_before k l ≡ true → bytes_eq k l ≡ false
-before_apart k l e = sym (is_eq-slice_cmp k l) ∙ ap is_eq (before k l e).0
+before_apart : (key l : List ℕ) → is_before key l ≡ true → bytes_eq key l ≡ false
+before_apart key l e = sym (is_eq-slice_cmp key l) ∙ ap is_eq (before key l e).0
 
 -- a name behind all that come first
-behind_first : (k name : List ℕ) (ks : List (List ℕ)) → list_all (is_before k) ks ≡ true → is_one_of name ks ≡ true
-    → slice_cmp nat_cmp name k ≡ Greater
-behind_first k name [] e one = absurd (true≢false (sym one))
-behind_first k name (l ∷ ls) e one =
-    let parts = and_parts (is_before k l) (list_all (is_before k) ls) e in
-    by_test parts.0 (behind_first k name ls parts.1) (bytes_eq name l) refl
+behind_first : (key name : List ℕ) (ks : List (List ℕ)) → list_all (is_before key) ks ≡ true → is_one_of name ks ≡ true
+    → slice_cmp nat_cmp name key ≡ Greater
+behind_first key name [] e one = absurd (true≢false (sym one))
+behind_first key name (l ∷ ls) e one =
+    let parts = and_parts (is_before key l) (list_all (is_before key) ls) e in
+    by_test parts.0 (behind_first key name ls parts.1) (bytes_eq name l) refl
   where
-    by_test : is_before k l ≡ true → (is_one_of name ls ≡ true → slice_cmp nat_cmp name k ≡ Greater)
-        → (b : Bool) → bytes_eq name l ≡ b → slice_cmp nat_cmp name k ≡ Greater
-    by_test first later true is = ap (λ n. slice_cmp nat_cmp n k) (same_name name l is) ∙ (before k l first).1
-    by_test first later false is = later (sym (ap (λ b. b || is_one_of name ls) is) ∙ one)
+    by_test : is_before key l ≡ true → (is_one_of name ls ≡ true → slice_cmp nat_cmp name key ≡ Greater)
+        → (a : Bool) → bytes_eq name l ≡ a → slice_cmp nat_cmp name key ≡ Greater
+    by_test first later true is = ap (λ n. slice_cmp nat_cmp n key) (same_name name l is) ∙ (before key l first).1
+    by_test first later false is = later (sym (ap (λ a. a || is_one_of name ls) is) ∙ one)
 
 -- ---- what a field more leaves
 
-put_before : (k : List ℕ) (d : Data) (ks : List (List ℕ)) (found : List ℕ → Option Data)
-    → list_all (is_before k) ks ≡ true → put k d (these ks found) ≡ member k d (these ks found)
-put_before k d [] found e = refl
-put_before k d (l ∷ ls) found e =
-    let parts = and_parts (is_before k l) (list_all (is_before k) ls) e in
-    by_value (before k l parts.0).0 (put_before k d ls found parts.1) (found l)
+put_before : (key : List ℕ) (d : Data) (ks : List (List ℕ)) (found : List ℕ → Option Data)
+    → list_all (is_before key) ks ≡ true → put key d (these ks found) ≡ member key d (these ks found)
+put_before key d [] found e = refl
+put_before key d (l ∷ ls) found e =
+    let parts = and_parts (is_before key l) (list_all (is_before key) ls) e in
+    by_value (before key l parts.0).0 (put_before key d ls found parts.1) (found l)
   where
-    by_value : slice_cmp nat_cmp k l ≡ Less → put k d (these ls found) ≡ member k d (these ls found) → (o : Option Data)
-        → put k d (field l o (these ls found)) ≡ member k d (field l o (these ls found))
+    by_value : slice_cmp nat_cmp key l ≡ Less → put key d (these ls found) ≡ member key d (these ls found)
+        → (o : Option Data)
+        → put key d (field l o (these ls found)) ≡ member key d (field l o (these ls found))
     by_value less later None = later
     by_value less later (Some v) =
         let rest = these ls found in
-        ap (λ o. match_ordering o (member k d (member l v rest)) (member l d rest) (member l v (put k d rest))) less
+        ap (λ o. match_ordering o (member key d (member l v rest)) (member l d rest) (member l v (put key d rest))) less
 
 -- what was found is the same but at one name
 abbrev SameBut : List ℕ → (List ℕ → Option Data) → (List ℕ → Option Data) → Type 0
@@ -104,10 +106,10 @@ put_here name d ks found next e is same =
     by_value (found name) ∙ ap (member name d) (these_behind name ks found next e same)
     ∙ ap (λ o. field name o (these ks next)) (sym is)
   where
-    by_order : (o : Ordering) (a b c : Members) → is_eq o ≡ true → match_ordering o a b c ≡ b
-    by_order Less a b c h = absurd (cc)
-    by_order Equal a b c h = refl
-    by_order Greater a b c h = absurd (cc)
+    by_order : (o : Ordering) (a ms ns : Members) → is_eq o ≡ true → match_ordering o a ms ns ≡ ms
+    by_order Less a ms ns h = absurd (cc)
+    by_order Equal a ms ns h = refl
+    by_order Greater a ms ns h = absurd (cc)
 
     itself : is_eq (slice_cmp nat_cmp name name) ≡ true
     itself = let same = bytes_eq-Decides name name in is_eq-slice_cmp name name ∙ same.1 refl
@@ -133,13 +135,13 @@ put_these name d (k ∷ ks) found next e one is same =
 
     by_test : list_all (is_before k) ks ≡ true
         → (is_one_of name ks ≡ true → put name d (these ks found) ≡ these ks next)
-        → (b : Bool) → bytes_eq name k ≡ b → put name d (these (k ∷ ks) found) ≡ these (k ∷ ks) next
+        → (a : Bool) → bytes_eq name k ≡ a → put name d (these (k ∷ ks) found) ≡ these (k ∷ ks) next
     by_test first behind true h =
         let n = same_name name k h in
         ap (λ x. put x d (these (k ∷ ks) found)) n
         ∙ put_here k d ks found next first (ap next (sym n) ∙ is) (λ l apart. same l (λ x. apart (x ∙ n)))
     by_test first behind false h =
-        let later = sym (ap (λ b. b || is_one_of name ks) h) ∙ one in
+        let later = sym (ap (λ a. a || is_one_of name ks) h) ∙ one in
         further (found k) (behind_first k name ks first later)
         ∙ ap₂ (field k) (sym (same k (λ x. other_name name k h (sym x)))) (behind later)
 
@@ -177,21 +179,21 @@ module _ (names : List (List ℕ)) (name : List ℕ) (d : Data) (ms : Members) w
 
 -- what is known of a field
 module _ {X : Type 0} (says : Data → X) (name : List ℕ) (d : Data) (ms : Members) where
-  pub still_says : (k : List ℕ) (known : Option X) → bytes_eq name k ≡ false → Says says k known ms
-      → Says says k known (put name d ms)
-  still_says k known e h =
-      h ∙ ap (option_map says) (sym (get_member-put_other k name d ms (λ same. other_name name k e (sym same))))
+  pub still_says : (key : List ℕ) (known : Option X) → bytes_eq name key ≡ false → Says says key known ms
+      → Says says key known (put name d ms)
+  still_says key known e h =
+      h ∙ ap (option_map says) (sym (get_member-put_other key name d ms (λ same. other_name name key e (sym same))))
 
   pub now_says : (new : X) → new ≡ says d → Says says name (Some new) (put name d ms)
   now_says new is = ap Some is ∙ ap (option_map says) (sym (get_member-put name d ms))
 
-pub newest_says : {X : Type 0} (says : Data → X) (name : List ℕ) (d : Data) (ms : Members) (k : List ℕ) (new : X)
-    (old : Option X) → new ≡ says d → Says says k old ms → Says says k (newest k name new old) (put name d ms)
-newest_says {X} says name d ms k new old is h = by_test (bytes_eq name k) refl
+pub newest_says : {X : Type 0} (says : Data → X) (name : List ℕ) (d : Data) (ms : Members) (key : List ℕ) (new : X)
+    (old : Option X) → new ≡ says d → Says says key old ms → Says says key (newest key name new old) (put name d ms)
+newest_says {X} says name d ms key new old is h = by_test (bytes_eq name key) refl
   where
-    by_test : (b : Bool) → bytes_eq name k ≡ b → Says says k (cond b (Some new) old) (put name d ms)
-    by_test true e = rw (same_name name k e) (now_says says k d ms new is)
-    by_test false e = still_says says name d ms k old e h
+    by_test : (a : Bool) → bytes_eq name key ≡ a → Says says key (cond a (Some new) old) (put name d ms)
+    by_test true e = rw (same_name name key e) (now_says says key d ms new is)
+    by_test false e = still_says says name d ms key old e h
 
 -- ---- how many fields there are
 
@@ -200,50 +202,51 @@ abbrev without : List ℕ → Members → Members
 without k no_members = no_members
 without k (member l e ms) = cond (bytes_eq k l) (without k ms) (member l e (without k ms))
 
-get_first : (k l : List ℕ) (e : Data) (ms : Members)
-    → get_member k (member l e ms) ≡ cond (bytes_eq k l) (Some e) (get_member k ms)
-get_first k l e ms =
-    by_order (slice_cmp nat_cmp k l) ∙ ap (λ b. cond b (Some e) (get_member k ms)) (is_eq-slice_cmp k l)
+get_first : (key l : List ℕ) (e : Data) (ms : Members)
+    → get_member key (member l e ms) ≡ cond (bytes_eq key l) (Some e) (get_member key ms)
+get_first key l e ms =
+    by_order (slice_cmp nat_cmp key l) ∙ ap (λ b. cond b (Some e) (get_member key ms)) (is_eq-slice_cmp key l)
   where
-    by_order : (o : Ordering) → match_ordering o (get_member k ms) (Some e) (get_member k ms)
-        ≡ cond (is_eq o) (Some e) (get_member k ms)
+    by_order : (o : Ordering) → match_ordering o (get_member key ms) (Some e) (get_member key ms)
+        ≡ cond (is_eq o) (Some e) (get_member key ms)
     by_order Less = refl
     by_order Equal = refl
     by_order Greater = refl
 
-get_without : (q k : List ℕ) (ms : Members) → bytes_eq q k ≡ false → get_member q (without k ms) ≡ get_member q ms
-get_without q k no_members apart = refl
-get_without q k (member l e ms) apart = by_test (get_without q k ms apart) (bytes_eq k l) refl
+get_without : (ys key : List ℕ) (ms : Members) → bytes_eq ys key ≡ false
+    → get_member ys (without key ms) ≡ get_member ys ms
+get_without ys key no_members apart = refl
+get_without ys key (member l e ms) apart = by_test (get_without ys key ms apart) (bytes_eq key l) refl
   where
-    by_test : get_member q (without k ms) ≡ get_member q ms → (b : Bool) → bytes_eq k l ≡ b
-        → get_member q (cond b (without k ms) (member l e (without k ms))) ≡ get_member q (member l e ms)
+    by_test : get_member ys (without key ms) ≡ get_member ys ms → (a : Bool) → bytes_eq key l ≡ a
+        → get_member ys (cond a (without key ms) (member l e (without key ms))) ≡ get_member ys (member l e ms)
     by_test later true is =
         later
-        ∙ sym (get_first q l e ms ∙ ap (λ b. cond b (Some e) (get_member q ms))
-        (ap (bytes_eq q) (sym (same_name k l is)) ∙ apart))
+        ∙ sym (get_first ys l e ms ∙ ap (λ a. cond a (Some e) (get_member ys ms))
+        (ap (bytes_eq ys) (sym (same_name key l is)) ∙ apart))
     by_test later false is =
-        get_first q l e (without k ms)
-        ∙ ap (cond (bytes_eq q l) (Some e)) later
-        ∙ sym (get_first q l e ms)
+        get_first ys l e (without key ms)
+        ∙ ap (cond (bytes_eq ys l) (Some e)) later
+        ∙ sym (get_first ys l e ms)
 
-no_longer : (k : List ℕ) (ms : Members) → members_len (without k ms) ≤ members_len ms
-no_longer k no_members = omega arith
-no_longer k (member l e ms) = by_test (no_longer k ms) (bytes_eq k l)
+no_longer : (key : List ℕ) (ms : Members) → members_len (without key ms) ≤ members_len ms
+no_longer key no_members = omega arith
+no_longer key (member l e ms) = by_test (no_longer key ms) (bytes_eq key l)
   where
-    by_test : members_len (without k ms) ≤ members_len ms → (b : Bool)
-        → members_len (cond b (without k ms) (member l e (without k ms))) ≤ members_len (member l e ms)
+    by_test : members_len (without key ms) ≤ members_len ms → (a : Bool)
+        → members_len (cond a (without key ms) (member l e (without key ms))) ≤ members_len (member l e ms)
     by_test later true = omega arith
     by_test later false = omega arith
 
-shorter : (k : List ℕ) (d : Data) (ms : Members) → get_member k ms ≡ Some d
-    → members_len (without k ms) + 1 ≤ members_len ms
-shorter k d no_members there = absurd (cc)
-shorter k d (member l e ms) there = by_test (shorter k d ms) (bytes_eq k l) (sym (get_first k l e ms) ∙ there)
+shorter : (key : List ℕ) (d : Data) (ms : Members) → get_member key ms ≡ Some d
+    → members_len (without key ms) + 1 ≤ members_len ms
+shorter key d no_members there = absurd (cc)
+shorter key d (member l e ms) there = by_test (shorter key d ms) (bytes_eq key l) (sym (get_first key l e ms) ∙ there)
   where
-    by_test : (get_member k ms ≡ Some d → members_len (without k ms) + 1 ≤ members_len ms) → (b : Bool)
-        → cond b (Some e) (get_member k ms) ≡ Some d
-        → members_len (cond b (without k ms) (member l e (without k ms))) + 1 ≤ members_len (member l e ms)
-    by_test later true h = omega (arith, no_longer k ms)
+    by_test : (get_member key ms ≡ Some d → members_len (without key ms) + 1 ≤ members_len ms) → (a : Bool)
+        → cond a (Some e) (get_member key ms) ≡ Some d
+        → members_len (cond a (without key ms) (member l e (without key ms))) + 1 ≤ members_len (member l e ms)
+    by_test later true h = omega (arith, no_longer key ms)
     by_test later false h = omega (arith, later h)
 
 -- each of these names is found
@@ -256,20 +259,20 @@ abbrev AreApart : List (List ℕ) → Type 0
 AreApart [] = Unit {0}
 AreApart (k ∷ ks) = (is_one_of k ks ≡ false) × AreApart ks
 
-flipped : (k q : List ℕ) → bytes_eq k q ≡ false → bytes_eq q k ≡ false
-flipped k q e = by_test (bytes_eq q k) refl
+flipped : (key ys : List ℕ) → bytes_eq key ys ≡ false → bytes_eq ys key ≡ false
+flipped key ys e = by_test (bytes_eq ys key) refl
   where
-    by_test : (b : Bool) → bytes_eq q k ≡ b → b ≡ false
-    by_test true is = absurd (other_name k q e (sym (same_name q k is)))
+    by_test : (a : Bool) → bytes_eq ys key ≡ a → a ≡ false
+    by_test true is = absurd (other_name key ys e (sym (same_name ys key is)))
     by_test false is = refl
 
-found_still : (k : List ℕ) (ks : List (List ℕ)) (ms : Members) → is_one_of k ks ≡ false
-    → AllFound ks (λ n. get_member n ms) → AllFound ks (λ n. get_member n (without k ms))
-found_still k [] ms apart there = tt
-found_still k (l ∷ ls) ms apart there =
-    let parts = or_parts (bytes_eq k l) (is_one_of k ls) apart in (
-      (there.0.0, get_without l k ms (flipped k l parts.0) ∙ there.0.1),
-      found_still k ls ms parts.1 there.1,
+found_still : (key : List ℕ) (ks : List (List ℕ)) (ms : Members) → is_one_of key ks ≡ false
+    → AllFound ks (λ n. get_member n ms) → AllFound ks (λ n. get_member n (without key ms))
+found_still key [] ms apart there = tt
+found_still key (l ∷ ls) ms apart there =
+    let parts = or_parts (bytes_eq key l) (is_one_of key ls) apart in (
+      (there.0.0, get_without l key ms (flipped key l parts.0) ∙ there.0.1),
+      found_still key ls ms parts.1 there.1,
     )
 
 -- there are at least as many fields as names that are found
@@ -281,11 +284,11 @@ room (k ∷ ks) ms apart there =
     let one = shorter k there.0.0 ms there.0.1 in
     omega (arith, others, one)
 
-none_first : (k : List ℕ) (ks : List (List ℕ)) → list_all (is_before k) ks ≡ true → is_one_of k ks ≡ false
-none_first k [] e = refl
-none_first k (l ∷ ls) e =
-    let parts = and_parts (is_before k l) (list_all (is_before k) ls) e in
-    ap (λ b. b || is_one_of k ls) (before_apart k l parts.0) ∙ none_first k ls parts.1
+none_first : (key : List ℕ) (ks : List (List ℕ)) → list_all (is_before key) ks ≡ true → is_one_of key ks ≡ false
+none_first key [] e = refl
+none_first key (l ∷ ls) e =
+    let parts = and_parts (is_before key l) (list_all (is_before key) ls) e in
+    ap (λ b. b || is_one_of key ls) (before_apart key l parts.0) ∙ none_first key ls parts.1
 
 ordered_apart : (ks : List (List ℕ)) → are_ordered ks ≡ true → AreApart ks
 ordered_apart [] e = tt

@@ -22,11 +22,11 @@ digits_from_first true b (x ∷ bs) z e = absurd (grind (arith, nat_tests))
 digits_from_first false b bs z e = e
 
 -- a number has digits only
-pub number_digits : (w : List ℕ) → is_number w ≡ true → list_all is_ascii_digit w ≡ true
+pub number_digits : (word : List ℕ) → is_number word ≡ true → list_all is_ascii_digit word ≡ true
 number_digits [] e = refl
 number_digits (b ∷ bs) e = digits_from_first (b == 48) b bs refl e
 
-number_length : (w : List ℕ) → is_number w ≡ true → 0 < length w
+number_length : (word : List ℕ) → is_number word ≡ true → 0 < length word
 number_length [] e = absurd (cc)
 number_length (b ∷ bs) e = omega arith
 
@@ -43,19 +43,22 @@ weaker (Ok x) P Q v h p = (h.0.1, h.1)
 weaker (Err x) P Q v h p = λ q. h (p, q)
 
 -- std's reader takes a number exactly when its type holds it
-pub parsed : {E : Type 0} (k : ℕ) (w : List ℕ) (r : Result ℕ E) → ParsesUnsigned k 10 w r → is_number w ≡ true
-    → OkIff r (digits_value 10 w < 2 ^ k) (digits_value 10 w)
-parsed k w r h e =
-    weaker r (0 < length w) (digits_value 10 w < 2 ^ k) (digits_value 10 w)
-    (parse_digits (numerals_by_value (AllDigits 10) tells_digits) k w r h
-    (all_digits w (number_digits w e))) (number_length w e)
+pub parsed : {E : Type 0} (k : ℕ) (word : List ℕ) (r : Result ℕ E) → ParsesUnsigned k 10 word r → is_number word ≡ true
+    → OkIff r (digits_value 10 word < 2 ^ k) (digits_value 10 word)
+parsed k word r h e =
+    weaker r (0 < length word) (digits_value 10 word < 2 ^ k) (digits_value 10 word)
+    (parse_digits (numerals_by_value (AllDigits 10) tells_digits) k word r h
+    (all_digits word (number_digits word e))) (number_length word e)
 
 -- and else the number is past the limit
-pub past_limit : {E : Type 0} (k : ℕ) (w : List ℕ) (e : E) → ParsesUnsigned k 10 w (Err e) → is_number w ≡ true
-    → judged (λ n. nat_lt n (2 ^ k)) (number_of w) ≡ Err BadLimit
+pub past_limit : {E : Type 0} (k : ℕ) (word : List ℕ) (e : E) → ParsesUnsigned k 10 word (Err e) → is_number word ≡ true
+    → judged (λ n. nat_lt n (2 ^ k)) (number_of word) ≡ Err BadLimit
 unfolding number_of
-past_limit k w e h n =
-    rw (n, le-ltb (digits_value 10 w) (2 ^ k) (not_less (digits_value 10 w) (2 ^ k) (parsed k w (Err e) h n))) refl
+past_limit k word e h n =
+    rw (
+      n,
+      le-ltb (digits_value 10 word) (2 ^ k) (not_less (digits_value 10 word) (2 ^ k) (parsed k word (Err e) h n)),
+    ) refl
   where
     not_less : (a b : ℕ) → (a < b → ⊥) → b ≤ a
     not_less a b h = grind arith

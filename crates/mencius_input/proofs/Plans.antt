@@ -9,6 +9,7 @@ use Rattle.std.proofs.lemmas.Bool.Decides.{nat_tests}
 use Rattle.serde_json.specs.Data.{Data, Items, Members, no_members, object, put}
 use Rattle.serde_json.specs.Events.{members_len}
 use Rattle.serde_json.specs.Find.{as_array, as_object, get_member}
+use Rattle.mencius_base.specs.Limits.{greatest_loss, most_servers, most_turns, most_workers}
 use Rattle.mencius_base.specs.declared.command.Command.{Command}
 use Rattle.mencius_base.specs.Request.{Request}
 use Rattle.mencius_input.specs.declared.fault.AppFault.{AppFault}
@@ -91,10 +92,10 @@ module _ (f : code.Fields) (ms : Members) (d : Data) (h : AreFields f ms) where
   }
     where
       known : is_one_of name plan_names ≡ is_one_of name whole_names
-      known = ap (λ b. b || is_one_of name whole_names) other
+      known = ap (λ a. a || is_one_of name whole_names) other
 
-      by_test : (b : Bool) → is_one_of name whole_names ≡ b
-          → AreNamed plan_names (f.wholes.has_other || not b) (put name d ms)
+      by_test : (a : Bool) → is_one_of name whole_names ≡ a
+          → AreNamed plan_names (f.wholes.has_other || not a) (put name d ms)
       by_test true e =
           rw (or-false f.wholes.has_other)
           (one_named plan_names name d ms ordered f.wholes.has_other h.named (known ∙ e))
@@ -106,16 +107,16 @@ there_of : (o : Option Data) → there (option_map whole_in o) ≡ option_and_th
 there_of None = refl
 there_of (Some d) = refl
 
-whole_there : (k : List ℕ) (known : Option (Option ℕ)) (ms : Members) → Says whole_in k known ms
-    → there known ≡ whole_of k (object ms)
-whole_there k known ms h = ap there h ∙ there_of (get_member k ms) ∙ sym (whole_field k ms)
+whole_there : (key : List ℕ) (known : Option (Option ℕ)) (ms : Members) → Says whole_in key known ms
+    → there known ≡ whole_of key (object ms)
+whole_there key known ms h = ap there h ∙ there_of (get_member key ms) ∙ sym (whole_field key ms)
 
-whole_found : (k : List ℕ) (ms : Members) (x : ℕ) → whole_of k (object ms) ≡ Some x
-    → (d : Data) × (get_member k ms ≡ Some d)
-whole_found k ms x e = by_value (get_member k ms) refl (sym (whole_field k ms) ∙ e)
+whole_found : (key : List ℕ) (ms : Members) (x : ℕ) → whole_of key (object ms) ≡ Some x
+    → (d : Data) × (get_member key ms ≡ Some d)
+whole_found key ms x e = by_value (get_member key ms) refl (sym (whole_field key ms) ∙ e)
   where
-    by_value : (o : Option Data) → get_member k ms ≡ o → option_and_then whole_in o ≡ Some x
-        → (d : Data) × (get_member k ms ≡ Some d)
+    by_value : (o : Option Data) → get_member key ms ≡ o → option_and_then whole_in o ≡ Some x
+        → (d : Data) × (get_member key ms ≡ Some d)
     by_value None is e = absurd (cc)
     by_value (Some d) is e = (d, is)
 
@@ -145,22 +146,22 @@ six version servers workers seed turns loss = do
   l ← loss
   Some (record { version = v; servers = s; workers = w; seed = g; turns = t; loss = l })
 
-all_there : (v s w g t l : Option ℕ) (n : Numbers) → six v s w g t l ≡ Some n
-    → IsThere v × IsThere s × IsThere w × IsThere g × IsThere t × IsThere l
-all_there None s w g t l n e = absurd (cc)
-all_there (Some v) None w g t l n e = absurd (cc)
-all_there (Some v) (Some s) None g t l n e = absurd (cc)
-all_there (Some v) (Some s) (Some w) None t l n e = absurd (cc)
-all_there (Some v) (Some s) (Some w) (Some g) None l n e = absurd (cc)
-all_there (Some v) (Some s) (Some w) (Some g) (Some t) None n e = absurd (cc)
-all_there (Some v) (Some s) (Some w) (Some g) (Some t) (Some l) n e =
-    ((v, refl), (s, refl), (w, refl), (g, refl), (t, refl), (l, refl))
+all_there : (v s o g r l : Option ℕ) (n : Numbers) → six v s o g r l ≡ Some n
+    → IsThere v × IsThere s × IsThere o × IsThere g × IsThere r × IsThere l
+all_there None s o g r l n e = absurd (cc)
+all_there (Some v) None o g r l n e = absurd (cc)
+all_there (Some v) (Some s) None g r l n e = absurd (cc)
+all_there (Some v) (Some s) (Some o) None r l n e = absurd (cc)
+all_there (Some v) (Some s) (Some o) (Some g) None l n e = absurd (cc)
+all_there (Some v) (Some s) (Some o) (Some g) (Some r) None n e = absurd (cc)
+all_there (Some v) (Some s) (Some o) (Some g) (Some r) (Some l) n e =
+    ((v, refl), (s, refl), (o, refl), (g, refl), (r, refl), (l, refl))
 
 all_found : (ms : Members) (n : Numbers) (d : Data) → numbers_of (object ms) ≡ Some n
-    → get_member (codes "commands") ms ≡ Some d → AllFound plan_names (λ k. get_member k ms)
+    → get_member (codes "commands") ms ≡ Some d → AllFound plan_names (λ key. get_member key ms)
 unfolding numbers_of
 all_found ms n d e c =
-    let whole = λ (k : List ℕ). whole_of k (object ms) in
+    let whole = λ (key : List ℕ). whole_of key (object ms) in
     let all = all_there (whole (codes "version")) (whole (codes "servers")) (whole (codes "workers"))
     (whole (codes "seed")) (whole (codes "turns")) (whole (codes "loss")) n e in (
       (d, c),
@@ -196,10 +197,11 @@ unfolding plan_of
 plan_bound ms = refl
 
 -- more lists than there may be servers are refused by the other limits too
-too_many : (n : Numbers) (many : ℕ) → nat_le many 7 ≡ false → (numbers_within n && (many == n.servers)) ≡ false
+too_many : (n : Numbers) (many : ℕ) → nat_le many most_servers ≡ false
+    → (numbers_within n && (many == n.servers)) ≡ false
 too_many n many e = grind (arith, nat_tests)
 
-by_list : (n : Numbers) (all : List (List Request)) (l few : Bool) → nat_le (length all) 7 ≡ few
+by_list : (n : Numbers) (all : List (List Request)) (l few : Bool) → nat_le (length all) most_servers ≡ few
     → plan_said (Some n) (Some (cond (l && few) (Ok all) (Err BadLimit)))
     ≡ cond ((numbers_within n && (length all == n.servers)) && l) (Ok (written n all)) (Err BadLimit)
 by_list n all true true e =
@@ -215,7 +217,7 @@ with_all : (n : Numbers) (o : Option (List (List Request)))
     → plan_said (Some n) (Some (judged lists_within o))
     ≡ judged plan_within (option_and_then (λ all. Some (written n all)) o)
 with_all n None = refl
-with_all n (Some all) = by_list n all (list_all (list_all command_within) all) (nat_le (length all) 7) refl
+with_all n (Some all) = by_list n all (list_all (list_all command_within) all) (nat_le (length all) most_servers) refl
 
 with_lists : (n : Numbers) (o : Option Items)
     → plan_said (Some n) (Some (judged lists_within (option_and_then (all_of commands_of) o)))
@@ -265,16 +267,17 @@ no_object_planned d e = rw e refl
 -- ---- what was judged well
 
 -- what is said by bytes that are judged well is within the limits
-plan_fits : (bytes : List ℕ) (w : WrittenPlan) → plan bytes ≡ Ok w → plan_within w ≡ true
-plan_fits bytes w e = by_value (json_of bytes) e
+plan_fits : (bytes : List ℕ) (x : WrittenPlan) → plan bytes ≡ Ok x → plan_within x ≡ true
+plan_fits bytes x e = by_value (json_of bytes) e
   where
-    by_value : (o : Option Data) → read_there (λ d. judged plan_within (plan_of d)) (or_not_json o) ≡ Ok w
-        → plan_within w ≡ true
+    by_value : (o : Option Data) → read_there (λ d. judged plan_within (plan_of d)) (or_not_json o) ≡ Ok x
+        → plan_within x ≡ true
     by_value None e = absurd (cc)
-    by_value (Some d) e = (judged_ok plan_within (plan_of d) w e).1
+    by_value (Some d) e = (judged_ok plan_within (plan_of d) x e).1
 
 in_range : (n : Numbers) (many : ℕ) → (numbers_within n && (many == n.servers)) ≡ true
-    → (1 ≤ n.workers) × (n.workers ≤ 8) × (n.turns ≤ 100000) × (n.loss ≤ 32) × (many ≤ 7)
+    → (1 ≤ n.workers) × (n.workers ≤ most_workers) × (n.turns ≤ most_turns) × (n.loss ≤ greatest_loss)
+    × (many ≤ most_servers)
 in_range n many e = (
   grind (arith, nat_tests),
   grind (arith, nat_tests),
@@ -287,10 +290,10 @@ in_range n many e = (
 )
 
 -- so its numbers are those of a plan
-pub plan_in_range : (bytes : List ℕ) (w : WrittenPlan) → plan bytes ≡ Ok w
-    → (1 ≤ w.numbers.workers) × (w.numbers.workers ≤ 8) × (w.numbers.turns ≤ 100000) × (w.numbers.loss ≤ 32)
-    × (length w.commands ≤ 7)
-plan_in_range bytes w e =
-    let fits = and_parts (numbers_within w.numbers && (length w.commands == w.numbers.servers))
-    (list_all (list_all command_within) w.commands) (plan_fits bytes w e) in
-    in_range w.numbers (length w.commands) fits.0
+pub plan_in_range : (bytes : List ℕ) (x : WrittenPlan) → plan bytes ≡ Ok x
+    → (1 ≤ x.numbers.workers) × (x.numbers.workers ≤ most_workers) × (x.numbers.turns ≤ most_turns)
+    × (x.numbers.loss ≤ greatest_loss) × (length x.commands ≤ most_servers)
+plan_in_range bytes x e =
+    let fits = and_parts (numbers_within x.numbers && (length x.commands == x.numbers.servers))
+    (list_all (list_all command_within) x.commands) (plan_fits bytes x e) in
+    in_range x.numbers (length x.commands) fits.0

@@ -4,6 +4,9 @@ pub mod Ends
 pub mod CommandLine
 pub mod Judged
 pub mod Words
+pub mod Tokens
+pub mod Steps
+pub mod Sources
 pub mod Grammar
 pub mod Scenario
 pub mod Plan

@@ -1,5 +1,5 @@
 -- Where the value of a scenario has a fault.
-use Rattle.std.specs.Prelude.{ℕ, ◌≡◌, ◌≢◌, ◌⊎◌, ◌==◌, ◌&&◌, ◌<◌, ◌++◌, List, ◌∷◌, codes, decimal, Option, Some, None, option_map, Result, Err, nat_le, string_bytes}
+use Rattle.std.specs.Prelude.{ℕ, ◌≡◌, ◌≢◌, ◌⊎◌, ◌==◌, ◌&&◌, ◌<◌, ◌++◌, List, ◌∷◌, codes, decimal, Option, Some, None, option_map, IfSome, Result, Err, nat_le, string_bytes}
 use Rattle.serde_json.specs.Data.{Data, Items, Members}
 use Rattle.serde_json.specs.Find.{as_array, as_object, as_str, get, get_item}
 use Rattle.mencius_base.specs.Limits.{most_servers}
@@ -10,6 +10,7 @@ use Rattle.mencius_input.specs.declared.places.Field.{Field}
 use Rattle.mencius_input.specs.declared.places.Field.TheVariants.{Version, Servers, Events}
 use Rattle.mencius_input.specs.declared.places.Place.{Place}
 use Rattle.mencius_input.specs.declared.places.Place.TheVariants.{Whole, Unknown, Missing, Value, Event}
+use Rattle.mencius_input.specs.declared.places.Places.{Places}
 use Rattle.mencius_input.specs.declared.scenario.Name.TheVariants.{Other}
 use Rattle.mencius_input.specs.Fields.{named}
 use Rattle.mencius_input.specs.Grammar.{event_of, event_within}
@@ -57,6 +58,12 @@ IsAt fault d (Value field) =
 IsAt fault d (Event index text) =
     (value : Data) × (get (codes "events") d ≡ Some value) × (items : Items) × (as_array value ≡ Some items)
     × IsFirst fault items index (option_map string_bytes text)
+
+-- those that there are have the fault
+abbrev pub ArePlaces : AppFault → Data → Places → Type 0
+ArePlaces fault d places =
+    IfSome places.version (λ p. IsAt fault d p) × IfSome places.servers (λ p. IsAt fault d p)
+    × IfSome places.events (λ p. IsAt fault d p)
 
 -- ---- the words that tell a place
 

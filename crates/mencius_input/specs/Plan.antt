@@ -52,9 +52,9 @@ numbers_within n =
 
 -- as many lists as there are servers
 abbrev pub plan_within : WrittenPlan → Bool
-plan_within p =
-    (numbers_within p.numbers && (length p.commands == p.numbers.servers))
-    && list_all (list_all command_within) p.commands
+plan_within x =
+    (numbers_within x.numbers && (length x.commands == x.numbers.servers))
+    && list_all (list_all command_within) x.commands
 
 -- ---- the bytes
 

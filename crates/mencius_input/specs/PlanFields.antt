@@ -35,14 +35,14 @@ plan_names = codes "commands" ∷ whole_names
 
 -- what was known, and then what the field of a name says
 abbrev pub noted : code_wholes.Wholes → List ℕ → Option ℕ → code_wholes.Wholes
-noted w name whole = record {
-  version = newest (codes "version") name whole w.version;
-  servers = newest (codes "servers") name whole w.servers;
-  workers = newest (codes "workers") name whole w.workers;
-  seed = newest (codes "seed") name whole w.seed;
-  turns = newest (codes "turns") name whole w.turns;
-  loss = newest (codes "loss") name whole w.loss;
-  has_other = w.has_other || not (is_one_of name whole_names);
+noted x name whole = record {
+  version = newest (codes "version") name whole x.version;
+  servers = newest (codes "servers") name whole x.servers;
+  workers = newest (codes "workers") name whole x.workers;
+  seed = newest (codes "seed") name whole x.seed;
+  turns = newest (codes "turns") name whole x.turns;
+  loss = newest (codes "loss") name whole x.loss;
+  has_other = x.has_other || not (is_one_of name whole_names);
 }
 
 -- what was read of the fields, each as it was written last
@@ -63,13 +63,13 @@ there known = option_and_then (λ whole. whole) known
 
 -- the numbers, where all of them are there
 abbrev pub numbers_in : code_wholes.Wholes → Option Numbers
-numbers_in w = do
-  version ← there w.version
-  servers ← there w.servers
-  workers ← there w.workers
-  seed ← there w.seed
-  turns ← there w.turns
-  loss ← there w.loss
+numbers_in x = do
+  version ← there x.version
+  servers ← there x.servers
+  workers ← there x.workers
+  seed ← there x.seed
+  turns ← there x.turns
+  loss ← there x.loss
   Some (record { version = version; servers = servers; workers = workers; seed = seed; turns = turns; loss = loss })
 
 -- what the seven fields say

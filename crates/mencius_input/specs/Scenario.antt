@@ -60,7 +60,7 @@ written_of d = do
 -- ---- the limits
 
 abbrev pub within : Written → Bool
-within w = (w.version == 1) && (nat_le 1 w.servers && nat_le w.servers most_servers) && list_all event_within w.events
+within x = (x.version == 1) && (nat_le 1 x.servers && nat_le x.servers most_servers) && list_all event_within x.events
 
 -- ---- the bytes
 

@@ -2,8 +2,8 @@
 
 ghost use Rattle.std.specs.Prelude.{◌≡◌, ◌≤◌, ◌∷◌, false, IfOk, Some, codes, length, map, option_copied, option_map, string_bytes};
 ghost use Rattle.clap.specs.declared.builder.command.Command.TheViews.{out-Command as fields_of};
-ghost use Rattle.clap.specs.Words.{FailsBy, app_of, first_of, found_of, kind_of, rows_of, subcommand_rows_of};
-ghost use Rattle.mencius_input.specs.CommandLine.{asked, asked_by, asked_in, bad_key_faults, faults, check_task, has_flag, is_key, key_faults, program, replay_task, run_task, trace_task, with_joined_key, with_replays, words_read};
+ghost use Rattle.clap.specs.Words.{FailsBy, app_of, first_of, found_of, kind_of, rows_of, rule_of, subcommand_rows_of};
+ghost use Rattle.mencius_input.specs.CommandLine.{asked, asked_by, asked_in, bad_key_faults, faults, check_task, has_flag, is_key, journal_option, key_faults, lookup_option, program, replay_task, run_task, strict_option, trace_task, with_joined_key, with_replays, without_tasks, words_read};
 ghost use Rattle.mencius_input.specs.Status.{status_of};
 
 use crate::fault::AppFault;
@@ -113,6 +113,13 @@ Example, at the top of the repository:
 `mencius trace` prints what each event did, and `mencius check` says where a bad scenario
 is wrong. docs/FORMATS.md describes the format in full, and examples/ has schedules to try.";
 
+const REPLAY_PAGE: Page = Page {
+    about: REPLAY_ABOUT,
+    long_about: REPLAY_LONG_ABOUT,
+    notes: REPLAY_NOTES,
+    usage: REPLAY_USAGE,
+};
+
 const TRACE_ABOUT: &str =
     "Steps a new cluster through the scenario on standard input and prints what each event did";
 
@@ -173,6 +180,13 @@ Examples, at the top of the repository:
 `mencius check` says where a bad scenario is wrong. docs/FORMATS.md describes the trace in
 full, and examples/ has schedules to try.";
 
+const TRACE_PAGE: Page = Page {
+    about: TRACE_ABOUT,
+    long_about: TRACE_LONG_ABOUT,
+    notes: TRACE_NOTES,
+    usage: TRACE_USAGE,
+};
+
 const CHECK_ABOUT: &str = "Says where the scenario on standard input is wrong";
 
 const CHECK_LONG_ABOUT: &str = "\
@@ -203,6 +217,13 @@ Examples, at the top of the repository; the second finds a zero too many:
   echo '{\"version\":1,\"servers\":3,\"events\":[\"deliver 00 0\"]}' | ./mencius check
 
 docs/FORMATS.md describes the format in full.";
+
+const CHECK_PAGE: Page = Page {
+    about: CHECK_ABOUT,
+    long_about: CHECK_LONG_ABOUT,
+    notes: CHECK_NOTES,
+    usage: CHECK_USAGE,
+};
 
 const RUN_ABOUT: &str = "Lets workers choose what happens to a new cluster and prints a report";
 
@@ -255,31 +276,80 @@ Examples, at the top of the repository; the second replays a run:
 
 docs/FORMATS.md describes the format in full, and examples/ has runs to try.";
 
+const RUN_PAGE: Page = Page {
+    about: RUN_ABOUT,
+    long_about: RUN_LONG_ABOUT,
+    notes: RUN_NOTES,
+    usage: RUN_USAGE,
+};
+
 const JOURNAL_HELP: &str = "First prints the accepted events, as a scenario of `replay`";
 
 const LOOKUP_HELP: &str = "Last prints what the longest history leaves at KEY";
+
+// What the help of a task says, and the usage that is shown.
+#[derive(Clone, Copy)]
+struct Page {
+    about: &'static str,
+    long_about: &'static str,
+    notes: &'static str,
+    usage: &'static str,
+}
+
+// The command with the texts of its help.
+fn with_page<'a>(command: Command<'a>, page: Page) -> Command<'a>
+    ensures shape { app_of result ≡ app_of command.entry }
+    ensures globals { (fields_of result).has_globals ≡ (fields_of command.entry).has_globals }
+{
+    command
+        .about(page.about)
+        .long_about(page.long_about)
+        .after_help(page.notes)
+        .override_usage(page.usage)
+}
+
+// The option `--journal`.
+fn journal_option<'a>(alloc: Global) -> Arg<'a>
+    ensures rule { rule_of result ≡ journal_option }
+    ensures local { result.global ≡ false }
+{
+    Arg::new(alloc, "journal")
+        .long("journal")
+        .action(ArgAction::SetTrue)
+        .help(JOURNAL_HELP)
+}
+
+// The option `--lookup KEY`.
+fn lookup_option<'a>(alloc: Global) -> Arg<'a>
+    ensures rule { rule_of result ≡ lookup_option }
+    ensures local { result.global ≡ false }
+{
+    Arg::new(alloc, "lookup")
+        .long("lookup")
+        .action(ArgAction::Set)
+        .value_name("KEY")
+        .help(LOOKUP_HELP)
+}
 
 // The task `run`, with its options.
 fn run_command<'a>(alloc: Global) -> Result<Command<'a>, AllocError>
     ensures run { IfOk result (λ command. app_of command ≡ run_task) }
     ensures local { IfOk result (λ command. (fields_of command).has_globals ≡ false) }
 {
-    let journal = Arg::new(alloc, "journal")
-        .long("journal")
+    with_page(Command::new(alloc, "run"), RUN_PAGE)
+        .arg(journal_option(alloc))?
+        .arg(lookup_option(alloc))
+}
+
+// The option `--strict`.
+fn strict_option<'a>(alloc: Global) -> Arg<'a>
+    ensures rule { rule_of result ≡ strict_option }
+    ensures local { result.global ≡ false }
+{
+    Arg::new(alloc, "strict")
+        .long("strict")
         .action(ArgAction::SetTrue)
-        .help(JOURNAL_HELP);
-    let lookup = Arg::new(alloc, "lookup")
-        .long("lookup")
-        .action(ArgAction::Set)
-        .value_name("KEY")
-        .help(LOOKUP_HELP);
-    Command::new(alloc, "run")
-        .about(RUN_ABOUT)
-        .long_about(RUN_LONG_ABOUT)
-        .after_help(RUN_NOTES)
-        .override_usage(RUN_USAGE)
-        .arg(journal)?
-        .arg(lookup)
+        .help(STRICT_HELP)
 }
 
 // The task `replay`, with its option.
@@ -287,16 +357,7 @@ fn replay_command<'a>(alloc: Global) -> Result<Command<'a>, AllocError>
     ensures replay { IfOk result (λ command. app_of command ≡ replay_task) }
     ensures local { IfOk result (λ command. (fields_of command).has_globals ≡ false) }
 {
-    let strict = Arg::new(alloc, "strict")
-        .long("strict")
-        .action(ArgAction::SetTrue)
-        .help(STRICT_HELP);
-    Command::new(alloc, "replay")
-        .about(REPLAY_ABOUT)
-        .long_about(REPLAY_LONG_ABOUT)
-        .after_help(REPLAY_NOTES)
-        .override_usage(REPLAY_USAGE)
-        .arg(strict)
+    with_page(Command::new(alloc, "replay"), REPLAY_PAGE).arg(strict_option(alloc))
 }
 
 // The task `trace`.
@@ -304,11 +365,7 @@ fn trace_command<'a>(alloc: Global) -> Command<'a>
     ensures trace { app_of result ≡ trace_task }
     ensures local { (fields_of result).has_globals ≡ false }
 {
-    Command::new(alloc, "trace")
-        .about(TRACE_ABOUT)
-        .long_about(TRACE_LONG_ABOUT)
-        .after_help(TRACE_NOTES)
-        .override_usage(TRACE_USAGE)
+    with_page(Command::new(alloc, "trace"), TRACE_PAGE)
 }
 
 // The task `check`.
@@ -316,16 +373,12 @@ fn check_command<'a>(alloc: Global) -> Command<'a>
     ensures check { app_of result ≡ check_task }
     ensures local { (fields_of result).has_globals ≡ false }
 {
-    Command::new(alloc, "check")
-        .about(CHECK_ABOUT)
-        .long_about(CHECK_LONG_ABOUT)
-        .after_help(CHECK_NOTES)
-        .override_usage(CHECK_USAGE)
+    with_page(Command::new(alloc, "check"), CHECK_PAGE)
 }
 
-// The program with the tasks that take events as they stand.
-fn with_replays<'a>(alloc: Global) -> Result<Command<'a>, AllocError>
-    ensures { IfOk result (λ command. app_of command ≡ with_replays) }
+// The program, with no task yet.
+fn without_tasks<'a>(alloc: Global) -> Command<'a>
+    ensures { app_of result ≡ without_tasks }
 {
     Command::new(alloc, "mencius")
         .version(VERSION)
@@ -333,6 +386,13 @@ fn with_replays<'a>(alloc: Global) -> Result<Command<'a>, AllocError>
         .long_about(LONG_ABOUT)
         .after_help(TOP_NOTES)
         .subcommand_required(true)
+}
+
+// The program with the tasks that take events as they stand.
+fn with_replays<'a>(alloc: Global) -> Result<Command<'a>, AllocError>
+    ensures { IfOk result (λ command. app_of command ≡ with_replays) }
+{
+    without_tasks(alloc)
         .subcommand(replay_command(alloc)?)?
         .subcommand(trace_command(alloc))?
         .subcommand(check_command(alloc))

@@ -23,9 +23,9 @@ fn wrong_value(field: Field, fault: AppFault) -> &'static str
 }
 
 // What is said of an event.
-fn of_event(alloc: Global, index: usize, said: String) -> Result<String, NoMemory>
+fn of_event(alloc: Global, index: usize, said: &str) -> Result<String, NoMemory>
     ensures { IfOk result (λ s. string_bytes s
-        ≡ codes "event " ++ decimal index ++ 32 ∷ string_bytes said) }
+        ≡ codes "event " ++ decimal index ++ 32 ∷ said.now) }
 {
     Ok(format!(in alloc; "event {index} {said}")?)
 }
@@ -48,21 +48,24 @@ fn wrong_item(alloc: Global, text: &Option<String>, fault: AppFault) -> Result<S
     Ok(format!(in alloc; "{text}: {words}")?)
 }
 
+// What is said of a field that no scenario has.
+fn of_unknown(alloc: Global, name: &str) -> Result<String, NoMemory> {
+    let name = shown(alloc, name)?;
+    Ok(format!(in alloc; "{name} is no field of a scenario")?)
+}
+
 // What is wrong at a place that has the fault.
-fn wrong_place(alloc: Global, place: Place, fault: AppFault) -> Result<String, NoMemory>
-    ensures { IfOk result (λ s. IsToldBy fault place (string_bytes s)) }
+fn wrong_place(alloc: Global, place: &Place, fault: AppFault) -> Result<String, NoMemory>
+    ensures { IfOk result (λ s. IsToldBy fault place.now (string_bytes s)) }
 {
     match place {
         Place::Whole => Ok(String::from_str(alloc, "the text is no JSON object")?),
-        Place::Unknown { name } => {
-            let name = shown(alloc, name.as_str())?;
-            Ok(format!(in alloc; "{name} is no field of a scenario")?)
-        }
-        Place::Missing { field } => of_field(alloc, field, "missing"),
-        Place::Value { field } => of_field(alloc, field, wrong_value(field, fault)),
+        Place::Unknown { name } => of_unknown(alloc, name.as_str()),
+        Place::Missing { field } => of_field(alloc, *field, "missing"),
+        Place::Value { field } => of_field(alloc, *field, wrong_value(*field, fault)),
         Place::Event { index, text } => {
-            let said = wrong_item(alloc, &text, fault)?;
-            of_event(alloc, index, said)
+            let said = wrong_item(alloc, text, fault)?;
+            of_event(alloc, *index, said.as_str())
         }
     }
 }
@@ -95,7 +98,7 @@ fn tell_place(alloc: Global, bytes: &[u8], fault: AppFault) -> Result<String, No
         return Ok(String::from_str(alloc, unplaced(fault))?);
     }
     match place_of(alloc, bytes, fault)? {
-        Some(place) => wrong_place(alloc, place, fault),
+        Some(place) => wrong_place(alloc, &place, fault),
         None => Ok(String::from_str(alloc, unplaced(fault))?),
     }
 }

@@ -8,14 +8,15 @@ ghost use Rattle.serde_json.specs.Find.{as_str};
 ghost use Rattle.serde_json.specs.View.{items_view, view};
 ghost use Rattle.mencius_input.specs.declared.scenario.Name.TheVariants.{Other};
 ghost use Rattle.mencius_input.specs.Fields.{named};
-ghost use Rattle.mencius_input.specs.Place.{IsAt, IsFirst, field_name, item_said};
+ghost use Rattle.mencius_input.specs.Place.{ArePlaces, IsAt, IsFirst, field_name, item_said};
 ghost use Rattle.mencius_input.specs.Scenario.{json_of};
 
 use crate::event::parse_event;
 use crate::fault::AppFault;
 use crate::scenario::{Name, are_servers, is_version, named};
+use crate::tokens::Tokens;
 use crate::value::{MOST_DEPTH, next_name, pass};
-use json::{Reader, Scratch};
+use json::Scratch;
 use mencius_base::NoMemory;
 use serde_json::Value;
 use std::alloc::Global;
@@ -199,8 +200,70 @@ fn place_of_unknown(
     }
 }
 
-// The place in the fields, in the order in which they are written. The fields that a scenario has are
-// looked at once each, however often they are written.
+// The places in the fields that a scenario has, until their names are found.
+#[derive(Drop)]
+struct Places {
+    version: Option<Place>,
+    servers: Option<Place>,
+    events: Option<Place>,
+}
+
+// The places in the fields that a scenario has.
+fn places_in(alloc: Global, scenario: &Value, fault: AppFault) -> Result<Places, NoMemory>
+    ensures { IfOk result (λ places. ArePlaces fault (view scenario.now) places) }
+{
+    Ok(Places {
+        version: place_in_version(scenario, fault),
+        servers: place_in_servers(scenario, fault),
+        events: place_in_events(alloc, scenario, fault)?,
+    })
+}
+
+// The place in the field of this name. The fields that a scenario has are looked at once each, however
+// often they are written.
+fn place_named(
+    alloc: Global,
+    places: &mut Places,
+    scenario: &Value,
+    name: &str,
+    fault: AppFault,
+) -> Result<Option<Place>, NoMemory>
+    requires { ArePlaces fault (view scenario.now) places.old }
+    ensures kept { ArePlaces fault (view scenario.now) places.new }
+    ensures found { IfOk result (λ o. IfSome o (λ p. IsAt fault (view scenario.now) p)) }
+{
+    match named(name) {
+        Name::Version => Ok(places.version.take()),
+        Name::Servers => Ok(places.servers.take()),
+        Name::Events => Ok(places.events.take()),
+        Name::Other => place_of_unknown(alloc, scenario, name, fault),
+    }
+}
+
+// The place in the first field that has one, of those that a reader comes to.
+fn first_named(
+    alloc: Global,
+    reader: &mut Tokens<'_>,
+    places: &mut Places,
+    scenario: &Value,
+    fault: AppFault,
+) -> Result<Option<Place>, NoMemory>
+    requires { ArePlaces fault (view scenario.now) places.old }
+    ensures { IfOk result (λ o. IfSome o (λ p. IsAt fault (view scenario.now) p)) }
+{
+    'fields: while let Ok(Some(name)) = next_name(reader) {
+        let place = place_named(alloc, places, scenario, name, fault)?;
+        if place.is_some() {
+            return Ok(place);
+        }
+        if pass(reader, MOST_DEPTH).is_err() {
+            break;
+        }
+    }
+    Ok(None)
+}
+
+// The place in the fields, in the order in which they are written.
 fn first_in_fields(
     alloc: Global,
     text: &str,
@@ -209,27 +272,11 @@ fn first_in_fields(
 ) -> Result<Option<Place>, NoMemory>
     ensures { IfOk result (λ o. IfSome o (λ p. IsAt fault (view scenario.now) p)) }
 {
-    let version = place_in_version(scenario, fault);
-    let servers = place_in_servers(scenario, fault);
-    let events = place_in_events(alloc, scenario, fault)?;
+    let mut places = places_in(alloc, scenario, fault)?;
     let mut scratch = Scratch::new(alloc);
-    let mut reader = Reader::new(text, &mut scratch)?;
+    let mut reader = Tokens::new(text, &mut scratch)?;
     let _brace = reader.next();
-    'fields: while let Ok(Some(name)) = next_name(&mut reader) {
-        match named(name) {
-            Name::Version if version.is_some() => return Ok(version),
-            Name::Servers if servers.is_some() => return Ok(servers),
-            Name::Events if events.is_some() => return Ok(events),
-            Name::Other if fault == AppFault::BadShape => {
-                return place_of_unknown(alloc, scenario, name, fault);
-            }
-            _ => {}
-        }
-        if pass(&mut reader, MOST_DEPTH).is_err() {
-            break;
-        }
-    }
-    Ok(None)
+    first_named(alloc, &mut reader, &mut places, scenario, fault)
 }
 
 // What the value lacks as a whole: that it is an object, or the first field that is not there.

@@ -1,5 +1,6 @@
 //! Where a text stops being JSON.
 
+use crate::tokens::Tokens;
 use crate::value::{MOST_DEPTH, pass, whole_number};
 use json::{Reader, Scratch, Token};
 use mencius_base::NoMemory;
@@ -26,9 +27,9 @@ fn line_and_column(bytes: &[u8], offset: usize) -> (usize, usize) {
 // How far the text was read when it turned out to be no JSON.
 fn read_to(alloc: Global, text: &str) -> Result<usize, NoMemory> {
     let mut scratch = Scratch::new(alloc);
-    let mut reader = Reader::new(text, &mut scratch)?;
-    let _ = pass(&mut reader, MOST_DEPTH);
-    Ok(reader.offset())
+    let mut tokens = Tokens::of(Reader::new(text, &mut scratch)?);
+    let _ = pass(&mut tokens, MOST_DEPTH);
+    Ok(tokens.offset().unwrap_or(0))
 }
 
 // Whether bytes are a value or the front of one.

@@ -10,8 +10,9 @@ ghost use Rattle.serde_json.specs.Read.{float_of, number_from, number_of};
 ghost use Rattle.mencius_input.specs.Next.{EntersArray, EntersObject, StopsBy, next_items, next_members, next_value, number_text, opens_array, opens_object, text_of, whole_in};
 
 use crate::fault::AppFault;
+use crate::tokens::Tokens;
 use fast_float::Numeral;
-use json::{Reader, Token};
+use json::Token;
 
 /// How deep lists and objects may nest in a JSON text.
 pub(crate) const MOST_DEPTH: usize = 127;
@@ -95,7 +96,7 @@ pub(crate) fn whole_number(text: &str) -> Option<Option<u64>>
 }
 
 /// The name of an object's next field, or None at its closing brace.
-pub(crate) fn next_name<'a>(reader: &mut Reader<'a>) -> Result<Option<&'a str>, AppFault>
+pub(crate) fn next_name<'a>(reader: &mut Tokens<'a>) -> Result<Option<&'a str>, AppFault>
     ensures { MatchResult result
         (λ k. read_key reader.old ≡ Some (option_map (λ s. s.now) k, reader.new))
         (λ f. (f ≡ AppFault.NotJson) × (read_key reader.old ≡ None)) }
@@ -110,7 +111,7 @@ pub(crate) fn next_name<'a>(reader: &mut Reader<'a>) -> Result<Option<&'a str>, 
 /// deep.
 #[cycle(pass)]
 pub(crate) fn pass_from(
-    reader: &mut Reader<'_>,
+    reader: &mut Tokens<'_>,
     token: Token<'_>,
     depth: usize,
 ) -> Result<(), AppFault>
@@ -144,7 +145,7 @@ pub(crate) fn pass_from(
 
 /// Passes the next value.
 #[cycle(pass)]
-pub(crate) fn pass(reader: &mut Reader<'_>, depth: usize) -> Result<(), AppFault>
+pub(crate) fn pass(reader: &mut Tokens<'_>, depth: usize) -> Result<(), AppFault>
     ensures ok { OnOk result ((d : Data) × (next_value depth reader.old ≡ Some (d, reader.new))) }
     ensures shorter { OnOk result (length reader.new < length reader.old) }
     ensures err { IfErr result (λ f. StopsBy (next_value depth reader.old) f) }
@@ -155,7 +156,7 @@ pub(crate) fn pass(reader: &mut Reader<'_>, depth: usize) -> Result<(), AppFault
 
 // Passes the items of a list and its closing bracket.
 #[cycle(pass)]
-fn pass_items(reader: &mut Reader<'_>, depth: usize) -> Result<(), AppFault>
+fn pass_items(reader: &mut Tokens<'_>, depth: usize) -> Result<(), AppFault>
     ensures ok { OnOk result
         ((ds : Items) × (next_items depth reader.old ≡ Some (ds, reader.new))) }
     ensures shorter { OnOk result (length reader.new < length reader.old) }
@@ -169,7 +170,7 @@ fn pass_items(reader: &mut Reader<'_>, depth: usize) -> Result<(), AppFault>
 
 // Passes the fields of an object and its closing brace.
 #[cycle(pass)]
-fn pass_members(reader: &mut Reader<'_>, depth: usize) -> Result<(), AppFault>
+fn pass_members(reader: &mut Tokens<'_>, depth: usize) -> Result<(), AppFault>
     ensures ok { OnOk result
         ((ms : Members) × (next_members depth reader.old ≡ Some (ms, reader.new))) }
     ensures shorter { OnOk result (length reader.new < length reader.old) }
@@ -182,7 +183,7 @@ fn pass_members(reader: &mut Reader<'_>, depth: usize) -> Result<(), AppFault>
 }
 
 /// The whole number that the next value is, where it is one.
-pub(crate) fn next_whole(reader: &mut Reader<'_>, depth: usize) -> Result<Option<u64>, AppFault>
+pub(crate) fn next_whole(reader: &mut Tokens<'_>, depth: usize) -> Result<Option<u64>, AppFault>
     ensures ok { IfOk result (λ w. (d : Data) × (next_value depth reader.old ≡ Some (d, reader.new))
         × (w ≡ whole_in d)) }
     ensures shorter { OnOk result (length reader.new < length reader.old) }
@@ -205,7 +206,7 @@ pub(crate) fn next_whole(reader: &mut Reader<'_>, depth: usize) -> Result<Option
 /// each event through memory.
 #[inline(always)]
 pub(crate) fn next_text<'a>(
-    reader: &mut Reader<'a>,
+    reader: &mut Tokens<'a>,
     depth: usize,
 ) -> Result<Option<&'a str>, AppFault>
     ensures ok { IfOk result (λ t. (d : Data) × (next_value depth reader.old ≡ Some (d, reader.new))
@@ -224,7 +225,7 @@ pub(crate) fn next_text<'a>(
 }
 
 /// Whether the next value is a list, whose bracket is then read. Any other value is passed.
-pub(crate) fn enter_array(reader: &mut Reader<'_>, depth: usize) -> Result<bool, AppFault>
+pub(crate) fn enter_array(reader: &mut Tokens<'_>, depth: usize) -> Result<bool, AppFault>
     requires { 0 < depth }
     ensures ok { IfOk result (EntersArray depth reader.old reader.new) }
     ensures shorter { OnOk result (length reader.new < length reader.old) }
@@ -239,7 +240,7 @@ pub(crate) fn enter_array(reader: &mut Reader<'_>, depth: usize) -> Result<bool,
 }
 
 /// Whether the next value is an object, whose brace is then read. Any other value is passed.
-pub(crate) fn enter_object(reader: &mut Reader<'_>, depth: usize) -> Result<bool, AppFault>
+pub(crate) fn enter_object(reader: &mut Tokens<'_>, depth: usize) -> Result<bool, AppFault>
     requires { 0 < depth }
     ensures ok { IfOk result (EntersObject depth reader.old reader.new) }
     ensures shorter { OnOk result (length reader.new < length reader.old) }

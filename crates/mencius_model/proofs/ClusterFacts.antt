@@ -23,5 +23,5 @@ told m w reached =
     let g = reached_grown m w reached in
     record {
       executed = executed_learned m w g;
-      ticketed = λ s i t h. decided_submitted m w g i t (learned_decided m w g s i (Ticket t) h);
+      ticketed = λ p i t h. decided_submitted m w g i t (learned_decided m w g p i (Ticket t) h);
     }

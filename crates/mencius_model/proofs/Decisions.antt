@@ -1,6 +1,7 @@
 -- Decisions last, what is learned is decided, and two decided values of one instance are equal.
 use Rattle.std.proofs.Common.{◌≡◌, ℕ, ◌<◌, ◌≤◌, true, ◌&&◌, List, [], ◌∷◌, ◌++◌, inl, inr, refl, sym, ◌∙◌, Some, eqb, leb, ltb, eqb-true, leb-true, ltb-true}
 use Rattle.std.proofs.lemmas.Bool.{cases_order, and_parts}
+use Rattle.mencius_base.specs.Numbers.{ServerId, Inst}
 use Rattle.mencius_base.specs.declared.message.Message.{Message}
 use Rattle.mencius_base.specs.declared.message.Message.TheVariants.{Skip, Learn}
 use Rattle.mencius_base.specs.declared.message.Value.{Value}
@@ -17,9 +18,9 @@ use Rattle.mencius_model.proofs.Paxos.{chosen_above, origin}
 use Rattle.mencius_model.proofs.Suggesters.{skip_free}
 
 -- a Skip of i's owner that covers i
-pub record SkipOf (m : Membership) (w : Trace) (i : ℕ) : Type 0 where
-  pub first : ℕ
-  pub stop : ℕ
+pub record SkipOf (m : Membership) (w : Trace) (i : Inst) : Type 0 where
+  pub first : Inst
+  pub stop : Inst
   pub skip : IsIn (Sent (Skip (owner m i) first stop)) w
   pub from : first ≤ i
   pub to : i < stop
@@ -80,7 +81,7 @@ pub agreement : (m : Membership) (w : Trace) → 1 ≤ m.count → IsGrown m w �
     → IsDecided m w i z → IsDecided m w i x → z ≡ x
 agreement m w few g i z x (inl c) (inl d) =
     elim (cases_order c.0 d.0) [
-      | inl e ↦ let s = c.1 in let t = rw (← e) at d.1 in cc
+      | inl e ↦ let one = c.1 in let other = rw (← e) at d.1 in cc
       | inr o ↦ elim o [
         | inl lt ↦ sym (chosen_above m w g i c.0 z c.1 c.2 d.0 x lt d.1)
         | inr gt ↦ chosen_above m w g i d.0 x d.1 d.2 c.0 z gt c.1
@@ -88,12 +89,12 @@ agreement m w few g i z x (inl c) (inl d) =
     ]
 agreement m w few g i z x (inl c) (inr s) = skipped_noop m w few g i c.0 z s.0 c.1 ∙ sym s.1
 agreement m w few g i z x (inr s) (inl c) = s.1 ∙ sym (skipped_noop m w few g i c.0 x s.0 c.1)
-agreement m w few g i z x (inr s) (inr t) = s.1 ∙ sym t.1
+agreement m w few g i z x (inr s) (inr r) = s.1 ∙ sym r.1
 
 -- what was learned, and what a Learn message tells, is decided
 pub record AreDecided (m : Membership) (w : Trace) : Type 0 where
-  pub lines : (p i : ℕ) (z : Value) → IsIn (Learned p i z) w → IsDecided m w i z
-  pub messages : (p i : ℕ) (z : Value) → IsIn (Sent (Learn p i z)) w → IsDecided m w i z
+  pub lines : (p : ServerId) (i : Inst) (z : Value) → IsIn (Learned p i z) w → IsDecided m w i z
+  pub messages : (p : ServerId) (i : Inst) (z : Value) → IsIn (Sent (Learn p i z)) w → IsDecided m w i z
 
 pub all_decided : (m : Membership) (w : Trace) → IsGrown m w → AreDecided m w
 all_decided m [] g = record { lines = λ p i v h. absurd h; messages = λ p i v h. absurd h }

@@ -3,6 +3,7 @@ use Rattle.std.proofs.Common.{◌≡◌, ◌==◌, if◌then◌else◌, ℕ, suc
 use Rattle.std.specs.List.{list_any, cons_option}
 use Rattle.std.proofs.lemmas.Bool.{and_parts, or_parts, cases_Bool, not-false}
 use Rattle.std.proofs.lemmas.Nat.{mod-mul-add}
+use Rattle.mencius_base.specs.Numbers.{ServerId, Inst}
 use Rattle.mencius_base.specs.declared.command.Command.{Command}
 use Rattle.mencius_base.specs.declared.event.Event.{Event}
 use Rattle.mencius_base.specs.declared.event.Event.TheVariants.{Submit, Deliver, Lose, Suspect, Retry, Execute}
@@ -39,10 +40,10 @@ grown_followed m w (l ∷ ls) g a = grown_followed m (l ∷ w) ls (g, a.0) a.1
 -- ---- Submit and Retry
 
 -- a free instance is an own one, from the front on
-pub record IsAhead (m : Membership) (w : Trace) (p k : ℕ) : Type 0 where
-  pub own : owner m k ≡ p
-  pub past : front m w p ≤ k
-  pub small : k < instance_count
+pub record IsAhead (m : Membership) (w : Trace) (p : ServerId) (i : Inst) : Type 0 where
+  pub own : owner m i ≡ p
+  pub past : front m w p ≤ i
+  pub small : i < instance_count
 
 free_ahead : (m : Membership) (w : Trace) (p i : ℕ) → free_instance m w p ≡ Some i → IsAhead m w p i
 free_ahead m w p i h =
@@ -53,15 +54,15 @@ free_ahead m w p i h =
     record { own = eqb-true (owner m i) p s.0; past = leb-true (front m w p) i s.1; small = place.small }
 
 suggestion_may : (m : Membership) (w : Trace) (p : ℕ) (o : Option ℕ) (t : ℕ)
-    → ((k : ℕ) → o ≡ Some k → MaySuggest m w p k t) → AllMay m w (suggestion p o t)
+    → ((i : ℕ) → o ≡ Some i → MaySuggest m w p i t) → AllMay m w (suggestion p o t)
 suggestion_may m w p None t f = tt
-suggestion_may m w p (Some k) t f = (f k refl, tt)
+suggestion_may m w p (Some i) t f = (f i refl, tt)
 
 submit_may : (m : Membership) (w : Trace) (p : ℕ) (command : Command)
     → AllMay m (Submitted command p ∷ w) (suggestion p (free_instance m w p) (length (submitted w)))
 submit_may m w p command =
     suggestion_may m (Submitted command p ∷ w) p (free_instance m w p) (length (submitted w))
-    (λ k e. let a = free_ahead m w p k e in
+    (λ i e. let a = free_ahead m w p i e in
     record { own = a.own; past = omega (arith, a.past); small = a.small; ticket = inl refl })
 
 noop_is : (o : Option Value) → is_noop o ≡ true → o ≡ Some Noop
@@ -84,14 +85,14 @@ waits_lost w p i (Some u) t e h =
       before = rw r.1 at (suggested_in w p i u e);
       lost = learned_in w p i Noop n;
       last =
-          λ k h. elim (cases_Bool (ltb i k)) [
+          λ j h. elim (cases_Bool (ltb i j)) [
             | inl lt ↦ absurd
-                (none_in (is_suggestion_past p u i) (Sent (Suggest p k t)) w s.1 h (rw (r.1, same p, same t) lt))
-            | inr ge ↦ omega (arith, ge_from i k ge)
+                (none_in (is_suggestion_past p u i) (Sent (Suggest p j t)) w s.1 h (rw (r.1, same p, same t) lt))
+            | inr ge ↦ omega (arith, ge_from i j ge)
           ];
     } where
-      ge_from : (a b : ℕ) → ltb a b ≡ false → b ≤ a
-      ge_from a b h = omega (arith, leb-false (suc a) b h)
+      ge_from : (i j : ℕ) → ltb i j ≡ false → j ≤ i
+      ge_from i j h = omega (arith, leb-false (suc i) j h)
 
 first_given_at : (f : ℕ → Option ℕ) (x : ℕ) (xs : List ℕ) (t : ℕ) (o : Option ℕ) → f x ≡ o
     → first_item (cons_option o (filter_map f xs)) ≡ Some t
@@ -115,8 +116,8 @@ retry_may m w p None f = tt
 retry_may m w p (Some t) f =
     let r = f t refl in
     suggestion_may m (Retried p ∷ w) p (free_instance m w p) t
-    (λ k e.
-    let a = free_ahead m w p k e in
+    (λ i e.
+    let a = free_ahead m w p i e in
     record {
       own = a.own;
       past = omega (arith, a.past);
@@ -209,9 +210,9 @@ pub propose_positive : (m : Membership) (w : Trace) → IsGrown m w → (p i b :
 propose_positive m [] g p i b z h = absurd h
 propose_positive m (l ∷ w) g p i b z (inl e) =
     let may : MayPropose m w p i b z = rw (← e) at g.1 in
-    let q = majorities_meet m may.among may.among may.majority may.majority in
-    let r = may.promised q.0 q.1 in
-    promise_positive m w g.0 q.0 r.to i b r.vote r.promise
+    let one = majorities_meet m may.among may.among may.majority may.majority in
+    let r = may.promised one.0 one.1 in
+    promise_positive m w g.0 one.0 r.to i b r.vote r.promise
 propose_positive m (l ∷ w) g p i b z (inr h) = propose_positive m w g.0 p i b z h
 
 vote_heard : (w : Trace) (k q p i : ℕ) → vote (Heard k q ∷ w) p i ≡ vote w p i

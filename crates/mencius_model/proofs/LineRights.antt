@@ -1,6 +1,7 @@
 -- What must hold for a line to come: a trace in which each line had that right.
 use Rattle.std.proofs.Common.{◌≡◌, ℕ, ◌<◌, ◌≤◌, Bool, true, false, List, [], ◌∷◌, ◌++◌, length, ◌⊎◌, inr, Option, Some, None}
 use Rattle.std.specs.List.{list_any}
+use Rattle.mencius_base.specs.Numbers.{ServerId, Inst, BallotNo, TicketNo}
 use Rattle.mencius_base.specs.declared.command.Command.{Command}
 use Rattle.mencius_base.specs.declared.message.Message.{Message}
 use Rattle.mencius_base.specs.declared.message.Message.TheVariants.{Suggest, Skip, Accepted, Prepare, Promise, Propose, Learn}
@@ -17,64 +18,65 @@ use Rattle.mencius_model.proofs.Lists.{IsIn}
 use Rattle.mencius_base.specs.Limits.{instance_count}
 
 -- the ticket of the command that was just submitted
-abbrev pub IsFresh : Trace → ℕ → Type 0
+abbrev pub IsFresh : Trace → TicketNo → Type 0
 IsFresh (Submitted command p ∷ w) t = t ≡ length (submitted w)
 IsFresh _ t = ⊥
 
 -- p suggested t, last at i, and learned no-op there
-pub record HasLost (w : Trace) (p t i : ℕ) : Type 0 where
+pub record HasLost (w : Trace) (p : ServerId) (t : TicketNo) (i : Inst) : Type 0 where
   pub before : IsIn (Sent (Suggest p i t)) w
   pub lost : IsIn (Learned p i Noop) w
-  pub last : (k : ℕ) → IsIn (Sent (Suggest p k t)) w → k ≤ i
+  pub last : (j : Inst) → IsIn (Sent (Suggest p j t)) w → j ≤ i
 
-pub record MaySuggest (m : Membership) (w : Trace) (p i t : ℕ) : Type 0 where
+pub record MaySuggest (m : Membership) (w : Trace) (p : ServerId) (i : Inst) (t : TicketNo) : Type 0 where
   pub own : owner m i ≡ p
   pub past : front m w p ≤ i
   pub small : i < instance_count
-  pub ticket : IsFresh w t ⊎ ((k : ℕ) × HasLost w p t k)
+  pub ticket : IsFresh w t ⊎ ((j : Inst) × HasLost w p t j)
 
 -- whom an acceptance at (i, b) answers: who suggested or proposed there
-abbrev pub IsAsked : Trace → ℕ → ℕ → ℕ → Type 0
+abbrev pub IsAsked : Trace → ServerId → Inst → BallotNo → Type 0
 IsAsked w to i b =
-    ((b ≡ 0) × ((t : ℕ) × IsIn (Sent (Suggest to i t)) w)) ⊎ ((z : Value) × IsIn (Sent (Propose to i b z)) w)
+    ((b ≡ 0) × ((t : TicketNo) × IsIn (Sent (Suggest to i t)) w)) ⊎ ((z : Value) × IsIn (Sent (Propose to i b z)) w)
 
-pub record MayAccept (w : Trace) (p to i b : ℕ) : Type 0 where
+pub record MayAccept (w : Trace) (p to : ServerId) (i : Inst) (b : BallotNo) : Type 0 where
   pub asked : IsAsked w to i b
   pub free : promised w p i ≤ b
   pub value : Value
   pub there : proposed w i b ≡ Some value
 
 -- p leads the ballot, and does not own the instance
-pub record MayPrepare (m : Membership) (p i b : ℕ) : Type 0 where
+pub record MayPrepare (m : Membership) (p : ServerId) (i : Inst) (b : BallotNo) : Type 0 where
   pub above : m.count ≤ b
   pub own : owner m b ≡ p
   pub other : owner m i ≡ p → ⊥
 
-pub record MayPromise (w : Trace) (p to i b : ℕ) (o : Option Vote) : Type 0 where
+pub record MayPromise (w : Trace) (p to : ServerId) (i : Inst) (b : BallotNo) (o : Option Vote) : Type 0 where
   pub asked : IsIn (Sent (Prepare to i b)) w
   pub above : promised w p i < b
   pub is : o ≡ vote w p i
 
 -- the ballot is in the vote's reach
-abbrev pub Reaches : Option Vote → ℕ → Type 0
+abbrev pub Reaches : Option Vote → BallotNo → Type 0
 Reaches None b = ⊥
 Reaches (Some u) b = b ≤ u.ballot
 
 -- one server's promise, and the highest vote covers its vote
-pub record HasPromised (w : Trace) (q i b : ℕ) (highest : Option Vote) : Type 0 where
-  pub to : ℕ
+pub record HasPromised (w : Trace) (q : ServerId) (i : Inst) (b : BallotNo) (highest : Option Vote) : Type 0 where
+  pub to : ServerId
   pub vote : Option Vote
   pub promise : IsIn (Sent (Promise q to i b vote)) w
   pub within : (z : Vote) → vote ≡ Some z → Reaches highest z.ballot
 
-pub record MayPropose (m : Membership) (w : Trace) (p i b : ℕ) (z : Value) : Type 0 where
+pub record MayPropose (m : Membership) (w : Trace) (p : ServerId) (i : Inst) (b : BallotNo) (z : Value) : Type 0 where
   pub tried : b ≡ trying w p i
   pub none : proposed w i b ≡ None
-  pub among : ℕ → Bool
+  pub among : ServerId → Bool
   pub majority : are_majority m among ≡ true
   pub highest : Option Vote
-  pub promised : (q : ℕ) → among q ≡ true → HasPromised w q i b highest
-  pub reported : (x : Vote) → highest ≡ Some x → (q : ℕ) × (to : ℕ) × IsIn (Sent (Promise q to i b (Some x))) w
+  pub promised : (q : ServerId) → among q ≡ true → HasPromised w q i b highest
+  pub reported : (x : Vote) → highest ≡ Some x
+      → (q : ServerId) × (to : ServerId) × IsIn (Sent (Promise q to i b (Some x))) w
   pub is : z ≡ value_or_noop highest
 
 abbrev pub MaySend : Membership → Trace → Message → Type 0
@@ -86,11 +88,12 @@ MaySend m w (Promise p to i b v) = MayPromise w p to i b v
 MaySend m w (Propose p i b v) = MayPropose m w p i b v
 MaySend m w (Learn p i v) = IsIn (Learned p i v) w
 
-abbrev pub MayLearn : Membership → Trace → ℕ → Value → Type 0
-MayLearn m w i v = IsDecided m w i v ⊎ ((p : ℕ) × IsIn (Sent (Learn p i v)) w)
+abbrev pub MayLearn : Membership → Trace → Inst → Value → Type 0
+MayLearn m w i v = IsDecided m w i v ⊎ ((p : ServerId) × IsIn (Sent (Learn p i v)) w)
 
 abbrev pub May : Membership → Trace → Line → Type 0
-May m w (Submitted command p) = list_any (λ (x : Command × ℕ). is_same_id x.0.id command.id) (submitted w) ≡ false
+May m w (Submitted command p) =
+    list_any (λ (x : Command × ServerId). is_same_id x.0.id command.id) (submitted w) ≡ false
 May m w (Heard k p) = Unit {0}
 May m w (Lost k p) = Unit {0}
 May m w (Suspected p q) = Unit {0}

@@ -1,6 +1,7 @@
 -- All lines of an event are its server's.
 use Rattle.std.proofs.Common.{◌≡◌, ℕ, ◌+◌, Bool, true, false, List, [], ◌∷◌, ◌++◌, Option, Some, None, cond, ltb, leb, map, filter, refl}
 use Rattle.std.specs.Prelude.{is_none, slice_get}
+use Rattle.mencius_base.specs.Numbers.{ServerId}
 use Rattle.mencius_base.specs.declared.event.Event.{Event}
 use Rattle.mencius_base.specs.declared.event.Event.TheVariants.{Submit, Deliver, Lose, Suspect, Retry, Execute}
 use Rattle.mencius_base.specs.declared.message.Answer.{Answer}
@@ -18,7 +19,7 @@ use Rattle.mencius_model.proofs.EachLine.{AreAll, one_if}
 use Rattle.mencius_model.specs.Next.{again, delivery, head, is_given_up, lines, on_message, preparation, decision_at, proposal_at}
 
 -- whose line it is
-abbrev pub IsBy : ℕ → Line → Type 0
+abbrev pub IsBy : ServerId → Line → Type 0
 IsBy p (Sent (Suggest from inst ticket)) = from ≡ p
 IsBy p (Sent (Skip from first stop)) = from ≡ p
 IsBy p (Sent (Accepted from to inst ballot)) = from ≡ p
@@ -30,10 +31,10 @@ IsBy p (Learned server inst value) = server ≡ p
 IsBy p (Heard message server) = server ≡ p
 IsBy p _ = Unit {0}
 
-abbrev pub AreBy : ℕ → List Line → Type 0
+abbrev pub AreBy : ServerId → List Line → Type 0
 AreBy p ls = AreAll (IsBy p) ls
 
-abbrev pub server_of : Event → ℕ
+abbrev pub server_of : Event → ServerId
 server_of (Submit p command) = p
 server_of (Deliver k p) = p
 server_of (Lose k p) = p

@@ -84,9 +84,9 @@ stop_small m p i member few small =
     omega arith
 
 module _ (m : Membership) (few : m.count ≤ most_servers) (w : Trace) (k p : ℕ) (member : p < m.count) where
-  small_suggest : (q i : ℕ) → i < instance_count → (a b : Bool) → ltb (front m w p) i ≡ a
+  small_suggest : (q i : ℕ) → i < instance_count → (a d : Bool) → ltb (front m w p) i ≡ a
       → AreSmall m (cond a (Sent (Skip p (front m w p) (first_owned m p (i + 1))) ∷ []) []
-      ++ cond b (Sent (Accepted p q i 0) ∷ []) [])
+      ++ cond d (Sent (Accepted p q i 0) ∷ []) [])
   small_suggest q i small true true e =
       let ahead = ltb-true (front m w p) i e in
       ((member, omega (arith, ahead), stop_small m p i member few small), ((member, small), tt))

@@ -2,6 +2,7 @@
 -- safe, and that a chosen value is proposed at every greater ballot.
 use Rattle.std.proofs.Common.{◌≡◌, ℕ, zero, suc, ◌<◌, ◌≤◌, Bool, true, [], ◌∷◌, ◌⊎◌, inl, inr, refl, ◌∙◌, arith, Option, Some, None}
 use Rattle.std.proofs.lemmas.Bool.{cases_lt}
+use Rattle.mencius_base.specs.Numbers.{ServerId, Inst, BallotNo}
 use Rattle.mencius_base.specs.declared.message.Message.TheVariants.{Accepted, Promise, Propose}
 use Rattle.mencius_base.specs.declared.message.Value.{Value}
 use Rattle.mencius_base.specs.declared.message.Value.TheVariants.{Noop}
@@ -14,23 +15,24 @@ use Rattle.mencius_model.proofs.LineRights.{May, IsGrown, MayAccept, MayPromise,
 use Rattle.mencius_model.proofs.AnswersLast.{promise_within, acceptance_within, promised_more, accepted_above, accepted_in, proposed_more, proposal_in, acceptance_in}
 
 -- the vote was proposed, below the ballot
-abbrev pub Backed : Trace → ℕ → ℕ → Option Vote → Type 0
+abbrev pub Backed : Trace → Inst → BallotNo → Option Vote → Type 0
 Backed w i b None = Unit {0}
 Backed w i b (Some u) = (u.ballot < b) × (proposed w i u.ballot ≡ Some u.value)
 
 -- a promise by q at (i, b) with this vote: whatever q accepted below b, the vote's ballot is none of the lesser
-pub record IsKept (w : Trace) (q i b : ℕ) (o : Option Vote) : Type 0 where
-  pub covers : (to c : ℕ) → IsIn (Sent (Accepted q to i c)) w → c < b → Reaches o c
+pub record IsKept (w : Trace) (q : ServerId) (i : Inst) (b : BallotNo) (o : Option Vote) : Type 0 where
+  pub covers : (to : ServerId) (c : BallotNo) → IsIn (Sent (Accepted q to i c)) w → c < b → Reaches o c
   pub backed : Backed w i b o
 
 -- a proposal of v at (i, b): a majority accepts nothing below b any more, and v is the value of the greatest
 -- vote of theirs, or no-op where they have none
-pub record IsSafe (m : Membership) (w : Trace) (i b : ℕ) (z : Value) : Type 0 where
-  pub among : ℕ → Bool
+pub record IsSafe (m : Membership) (w : Trace) (i : Inst) (b : BallotNo) (z : Value) : Type 0 where
+  pub among : ServerId → Bool
   pub majority : are_majority m among ≡ true
   pub highest : Option Vote
-  pub bound : (q : ℕ) → among q ≡ true → b ≤ promised w q i
-  pub covers : (q to c : ℕ) → among q ≡ true → IsIn (Sent (Accepted q to i c)) w → c < b → Reaches highest c
+  pub bound : (q : ServerId) → among q ≡ true → b ≤ promised w q i
+  pub covers : (q to : ServerId) (c : BallotNo) → among q ≡ true → IsIn (Sent (Accepted q to i c)) w → c < b
+      → Reaches highest c
   pub backed : Backed w i b highest
   pub is : z ≡ value_or_noop highest
 
@@ -69,17 +71,17 @@ vote_kept m w g q i b None e a =
       covers = λ to c h lt. let r = accepted_above w q to i c h in absurd (cc);
       backed = rw e tt;
     }
-vote_kept m w g q i b (Some x) e a =
-    let k = accepted_in w q i x e in
-    let p = accepted_proposed m w g q k.0 i x k.1 in
-    let s = acceptance_within w q k.0 i x k.1 in
+vote_kept m w g q i b (Some last) e a =
+    let there = accepted_in w q i last e in
+    let said = accepted_proposed m w g q there.0 i last there.1 in
+    let within = acceptance_within w q there.0 i last there.1 in
     record {
       covers =
           λ to c h lt.
           let r = accepted_above w q to i c h in
-          let same : r.0 ≡ x = cc in
-          rw (e, p.1) (omega (arith, r.2, same));
-      backed = rw (e, p.1) (omega (arith, s, a), p.1);
+          let same : r.0 ≡ last = cc in
+          rw (e, said.1) (omega (arith, r.2, same));
+      backed = rw (e, said.1) (omega (arith, within, a), said.1);
     }
 
 -- nothing is accepted below a promise, but what its vote covers
@@ -132,12 +134,12 @@ safe_at m w p i b z g may =
       among = may.among;
       majority = may.majority;
       highest = may.highest;
-      bound = λ q a. let p = may.promised q a in promise_within w q p.to i b p.vote p.promise;
+      bound = λ q a. let r = may.promised q a in promise_within w q r.to i b r.vote r.promise;
       covers =
           λ q to c a h lt.
-          let p = may.promised q a in
-          reaches_through p.vote may.highest c
-          ((promise_covers m w g q p.to i b p.vote p.promise).covers to c h lt) p.within;
+          let r = may.promised q a in
+          reaches_through r.vote may.highest c
+          ((promise_covers m w g q r.to i b r.vote r.promise).covers to c h lt) r.within;
       backed =
           backed_from w i b may.highest
           (λ u e. let r = may.reported u e in (promise_covers m w g r.0 r.1 i b (Some u) r.2).backed);
@@ -161,7 +163,7 @@ proposal_safe m w g i b z pos h = let r = proposal_in w i b z pos h in propose_s
 module _ (m : Membership) (w : Trace) (g : IsGrown m w) (i c : ℕ) (z : Value) (start : proposed w i c ≡ Some z)
     (chosen : are_majority m (has_accepted w i c) ≡ true) where
   above : (b : ℕ) (x : Value) (h : Option Vote) → Reaches h c → Backed w i b h → x ≡ value_or_noop h
-      → ((above : ℕ) (y : Value) → above < b → c < above → proposed w i above ≡ Some y → y ≡ z) → x ≡ z
+      → ((between : ℕ) (y : Value) → between < b → c < between → proposed w i between ≡ Some y → y ≡ z) → x ≡ z
   above b x None r k is rest = absurd r
   above b x (Some u) r k is rest =
       elim (cases_lt c u.ballot) [
@@ -173,10 +175,10 @@ module _ (m : Membership) (w : Trace) (g : IsGrown m w) (i c : ℕ) (z : Value) 
   chosen_above_to zero b x le lt h = absurd (omega arith)
   chosen_above_to (suc n) b x le lt h =
       let s = proposal_safe m w g i b x (omega arith) h in
-      let q = majorities_meet m s.among (has_accepted w i c) s.majority chosen in
-      let a = acceptance_in w i c q.0 q.2 in
-      above b x s.highest (s.covers q.0 a.0 c q.1 a.1 lt) s.backed s.is
-      (λ d y below past. chosen_above_to n d y (omega (arith, below, le)) past)
+      let one = majorities_meet m s.among (has_accepted w i c) s.majority chosen in
+      let a = acceptance_in w i c one.0 one.2 in
+      above b x s.highest (s.covers one.0 a.0 c one.1 a.1 lt) s.backed s.is
+      (λ between y below past. chosen_above_to n between y (omega (arith, below, le)) past)
 
   pub chosen_above : (b : ℕ) (x : Value) → c < b → proposed w i b ≡ Some x → x ≡ z
   chosen_above b x lt h = chosen_above_to b b x (omega arith) lt h

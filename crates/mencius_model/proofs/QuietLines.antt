@@ -1,5 +1,6 @@
 -- Lines that say nothing of what a server knows of an instance.
 use Rattle.std.proofs.Common.{◌≡◌, ℕ, Bool, true, false, Option, None, refl, sym, eqb, ◌&&◌}
+use Rattle.mencius_base.specs.Numbers.{ServerId, Inst, BallotNo}
 use Rattle.mencius_base.specs.declared.message.Message.{Message}
 use Rattle.mencius_base.specs.declared.message.Message.TheVariants.{Suggest, Skip, Accepted, Promise, Propose, Learn}
 use Rattle.mencius_base.specs.declared.message.Value.{Value}
@@ -9,9 +10,9 @@ use Rattle.mencius_model.specs.Instance.{promised_by, proposed_by, accepted_by, 
 use Rattle.std.proofs.lemmas.Bool.{ne_eqb}
 
 -- a line that says nothing of p's slot for i
-pub record IsQuiet (p i : ℕ) (l : Line) : Type 0 where
+pub record IsQuiet (p : ServerId) (i : Inst) (l : Line) : Type 0 where
   pub promised : promised_by p i l ≡ 0
-  pub proposed : (b : ℕ) → proposed_by i b l ≡ None
+  pub proposed : (b : BallotNo) → proposed_by i b l ≡ None
   pub accepted : accepted_by p i l ≡ None
   pub learned : learned_by p i l ≡ None
   pub tried : tried_by p i l ≡ 0
@@ -20,9 +21,9 @@ pub quiet_heard : (k p i : ℕ) → IsQuiet p i (Heard k p)
 quiet_heard k p i = record { promised = refl; proposed = λ b. refl; accepted = refl; learned = refl; tried = refl }
 
 -- a message that counts in no tally of the ballot that p tries at i
-pub record IsUncounted (i b : ℕ) (x : Message) : Type 0 where
-  pub promise : (q : ℕ) → is_promise i b q x ≡ false
-  pub acceptance : (q : ℕ) → is_acceptance i b q x ≡ false
+pub record IsUncounted (i : Inst) (b : BallotNo) (x : Message) : Type 0 where
+  pub promise : (q : ServerId) → is_promise i b q x ≡ false
+  pub acceptance : (q : ServerId) → is_acceptance i b q x ≡ false
   pub report : vote_reported i b x ≡ None
 
 -- what p says of one instance is quiet for another

@@ -5,6 +5,7 @@ use Rattle.std.specs.List.{fold, list_any}
 use Rattle.std.proofs.lemmas.List.Elements.{Contains-append_cases, Contains-append_left, Contains-append_right, Contains-push, Contains-push_cases}
 use Rattle.std.proofs.lemmas.List.Folds.{list_any_at}
 use Rattle.std.proofs.lemmas.Bool.{cases_Bool, cases_lt, eqb-true, le-ltb, lt-ltb}
+use Rattle.mencius_base.specs.Numbers.{ServerId, Inst, BallotNo}
 use Rattle.mencius_base.specs.declared.message.Message.{Message}
 use Rattle.mencius_base.specs.declared.message.Message.TheVariants.{Suggest, Skip, Accepted, Prepare, Promise, Propose, Learn}
 use Rattle.mencius_base.specs.declared.message.Vote.{Vote}
@@ -125,8 +126,8 @@ promise_reported i b (Prepare from inst ballot) z e = absurd (cc)
 promise_reported i b (Propose from inst ballot value) z e = absurd (cc)
 promise_reported i b (Learn from inst value) z e = absurd (cc)
 
-abbrev IsReported : List Message → ℕ → ℕ → Vote → Type 0
-IsReported hs i b v = (from : ℕ) × (to : ℕ) × Contains hs (Promise from to i b (Some v))
+abbrev IsReported : List Message → Inst → BallotNo → Vote → Type 0
+IsReported hs i b v = (from : ServerId) × (to : ServerId) × Contains hs (Promise from to i b (Some v))
 
 fold_heard : (i b : ℕ) (z : Vote) (hs : List Message) (o : Option Vote)
     → fold higher_vote o (map (vote_reported i b) hs) ≡ Some z

@@ -28,8 +28,8 @@ tried_line p i b (Sent (Prepare from inst ballot)) pos h =
       | inl e ↦
           let r = and_parts (eqb from p) (eqb inst i) e in
           let s = eqb-true from p r.0 in
-          let t = eqb-true inst i r.1 in
-          let u : ballot ≡ b = rw e at h in
+          let here = eqb-true inst i r.1 in
+          let same : ballot ≡ b = rw e at h in
           cc
       | inr e ↦ let z : 0 ≡ b = rw e at h in absurd (omega arith)
     ]

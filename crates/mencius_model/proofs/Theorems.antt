@@ -24,32 +24,32 @@ pub course_grown : (m : Membership) (journal : List Event) (end : Trace) → IsC
 course_grown m journal end c = grown_from m journal [] end tt c.replays
 
 pub agreement : DecidedValuesAgree
-agreement m journal end w u c a b =
-    histories.one_value m c.some_server end (course_grown m journal end c) w u
-    (moment_past m journal w end a c.replays) (moment_past m journal u end b c.replays)
+agreement m journal end w v c a d =
+    histories.one_value m c.some_server end (course_grown m journal end c) w v
+    (moment_past m journal w end a c.replays) (moment_past m journal v end d c.replays)
 
 pub learning : LearnedIsDecided
 learning m journal w c = learned_decided m w (course_grown m journal w c)
 
 pub comparing : HistoriesComparable
-comparing m journal end w u c a b =
-    histories.histories_comparable m c.some_server end (course_grown m journal end c) w u
-    (moment_past m journal w end a c.replays) (moment_past m journal u end b c.replays)
+comparing m journal end w v c a d =
+    histories.histories_comparable m c.some_server end (course_grown m journal end c) w v
+    (moment_past m journal w end a c.replays) (moment_past m journal v end d c.replays)
 
 pub submitting : ExecutedWasSubmitted
-submitting m journal w c p k t h =
-    histories.history_submitted m c.some_server w (course_grown m journal w c) p t (get_in (executed w p) k t h)
+submitting m journal w c p place t h =
+    histories.history_submitted m c.some_server w (course_grown m journal w c) p t (get_in (executed w p) place t h)
 
 pub once : ExecutedOnce
-once m journal w c s j k t r x y h i a b e =
+once m journal w c p place other t u x y h l a d e =
     let g = course_grown m journal w c in
-    let same = identity_once m w g t r x y a b e in
-    histories.history_once m c.some_server w g s j k t h (rw (← same) at i)
+    let same = identity_once m w g t u x y a d e in
+    histories.history_once m c.some_server w g p place other t h (rw (← same) at l)
 
 pub order : LaterCommandsStandBehind
-order m journal end w c a s r t front back late is =
+order m journal end w c a p q t front back late is =
     histories.order m c.some_server w end (moment_past m journal w end a c.replays)
-    (course_grown m journal end c) s r t front back late is
+    (course_grown m journal end c) p q t front back late is
 
 pub unknown : NoReplyWhereNotSubmitted
 unknown m journal w c id = replying.unknown m c.some_server w (course_grown m journal w c) id

@@ -28,9 +28,9 @@ key_of (Del key) = key
 abbrev pub store_after : List Command → Store
 store_after cs = fold (λ m c. apply m c.op) finite.empty cs
 
--- what that map holds at c's key: the answer of c after these commands
+-- what that map holds at a command's key: the answer of the command after these
 abbrev pub out : List Command → Command → Option (List ℕ)
-out cs c = finite.get (store_after cs) (key_of c.op)
+out cs command = finite.get (store_after cs) (key_of command.op)
 
 -- what the map of these commands holds at a key
 abbrev pub value_at : List ℕ → List Command → Option (List ℕ)

@@ -68,18 +68,18 @@ retry_addresses s member = again (first_waiting s) where
 next_above : (a n p : ℕ) → 0 < n → 0 < (a + 1) * n + p
 next_above a n p h = omega arith
 
-prepared_hearable : (s : ServerState) → s.id < s.members.count → (g : ℕ → Bool) (a n : ℕ) → a + n ≤ instance_count
-    → AreHearable s.members (map (prepare_for s) (filter g (range_with_len a n)))
-prepared_hearable s member g a zero h = nothing s.members
-prepared_hearable s member g a (suc n) h =
+prepared_hearable : (s : ServerState) → s.id < s.members.count → (g : ℕ → Bool) (i n : ℕ) → i + n ≤ instance_count
+    → AreHearable s.members (map (prepare_for s) (filter g (range_with_len i n)))
+prepared_hearable s member g i zero h = nothing s.members
+prepared_hearable s member g i (suc n) h =
     let m = s.members in
     let some : 0 < m.count = omega arith in
-    let high = next_above (max (round m (slot s a).trying) (round m (slot s a).promised)) m.count s.id some in
-    let rest = prepared_hearable s member g (a + 1) n (omega arith) in
-    let here : a < instance_count = omega arith in
-    elim (cases_Bool (g a)) [
-      | inl e ↦ rw e (one_more m (prepare_for s a) (map (prepare_for s) (filter g (range_with_len (a + 1) n)))
-          (and_from _ _ (named m s.id a member here) (lt-ltb _ _ high)) rest)
+    let high = next_above (max (round m (slot s i).trying) (round m (slot s i).promised)) m.count s.id some in
+    let rest = prepared_hearable s member g (i + 1) n (omega arith) in
+    let here : i < instance_count = omega arith in
+    elim (cases_Bool (g i)) [
+      | inl e ↦ rw e (one_more m (prepare_for s i) (map (prepare_for s) (filter g (range_with_len (i + 1) n)))
+          (and_from _ _ (named m s.id i member here) (lt-ltb _ _ high)) rest)
       | inr e ↦ rw e rest
     ]
 

@@ -115,6 +115,9 @@ first_owned_here m q j member own =
     let least = first_owned_least m q j j member (omega arith) own in
     omega (arith, least)
 
+one_round : (n x : ℕ) → n * (x + 1) ≡ n * x + n
+one_round n x = grind arith
+
 -- two instances of one server lie a whole round apart
 pub apart : (n q x j : ℕ) → x % n ≡ q → j % n ≡ q → j < x → j + n ≤ x
 apart n q x j here there less =
@@ -125,12 +128,46 @@ apart n q x j here there less =
     (arith, x_is, j_is, mul-le-mul_left n (let h : j / n + 1 ≤ x / n = omega arith in h), one_round n (j / n)))
     (λ (upper : x / n ≤ j / n). absurd (omega (arith, x_is, j_is, mul-le-mul_left n upper)))
     (cases_lt (j / n) (x / n))
-  where
-    one_round : (n x : ℕ) → n * (x + 1) ≡ n * x + n
-    one_round n x = grind arith
 
 mul-zero : (n : ℕ) → n * 0 ≡ 0
 mul-zero n = grind arith
+
+-- below the place behind an own instance there is one more
+past_own : (m : Membership) (q j : ℕ) → q < m.count → owner m j ≡ q
+    → m.count * owned_below m q j + q ≡ first_owned m q j
+    → m.count * owned_below m q (j + 1) + q ≡ first_owned m q (j + 1)
+past_own m q j member mine before =
+    let more = count_by-below_more (λ i. eqb (owner m i) q) j in
+    let own = first_owned_owner m q (j + 1) member in
+    let above : j + 1 ≤ first_owned m q (j + 1) = omega arith in
+    let one : bit (eqb (owner m j) q) ≡ 1 = ap bit (eq-eqb (owner m j) q mine) in
+    let here = first_owned_here m q j member mine in
+    let far = apart m.count q (first_owned m q (j + 1)) j own mine (omega (arith, above)) in
+    let least = first_owned_least m q (j + 1) (j + m.count) member (omega arith) (add-mod_right j m.count ∙ mine) in
+    let count : m.count * owned_below m q (j + 1) ≡ m.count * owned_below m q j + m.count =
+    ap (λ x. m.count * x) (more ∙ ap (λ x. owned_below m q j + x) one) ∙ one_round m.count (owned_below m q j) in
+    omega (arith, count, before, here, far, least)
+
+-- behind another's there are as many as before it
+past_other : (m : Membership) (q j : ℕ) → q < m.count → (owner m j ≡ q → ⊥)
+    → m.count * owned_below m q j + q ≡ first_owned m q j
+    → m.count * owned_below m q (j + 1) + q ≡ first_owned m q (j + 1)
+past_other m q j member other before =
+    let more = count_by-below_more (λ i. eqb (owner m i) q) j in
+    let own = first_owned_owner m q (j + 1) member in
+    let own_now = first_owned_owner m q j member in
+    let above : j + 1 ≤ first_owned m q (j + 1) = omega arith in
+    let above_now : j ≤ first_owned m q j = omega arith in
+    let none : bit (eqb (owner m j) q) ≡ 0 = ap bit (ne_eqb (owner m j) q other) in
+    let off : first_owned m q j ≡ j → ⊥ = λ e. other (ap (owner m) (sym e) ∙ own_now) in
+    let past : j + 1 ≤ first_owned m q j =
+    ⊎_elim (λ (e : first_owned m q j ≡ j). absurd (off e))
+    (λ (ne : first_owned m q j ≡ j → ⊥). omega (arith, above_now)) (cases_eq (first_owned m q j) j) in
+    let up = first_owned_least m q (j + 1) (first_owned m q j) member past own_now in
+    let down = first_owned_least m q j (first_owned m q (j + 1)) member (omega (arith, above)) own in
+    let count : m.count * owned_below m q (j + 1) ≡ m.count * owned_below m q j =
+    ap (λ x. m.count * x) (more ∙ ap (λ x. owned_below m q j + x) none ∙ add-zero (owned_below m q j)) in
+    omega (arith, count, before, up, down)
 
 -- how many instances of q there are below a place, by its first one from there on
 pub owned_place : (m : Membership) (q : ℕ) → q < m.count → (j : ℕ) → m.count * owned_below m q j + q ≡ first_owned m q j
@@ -145,35 +182,10 @@ owned_place m q member zero =
 owned_place m q member (suc j) =
     let next : suc j ≡ j + 1 = omega arith in
     let before = owned_place m q member j in
-    let more = count_by-below_more (λ i. eqb (owner m i) q) j in
-    let own = first_owned_owner m q (j + 1) member in
-    let own_now = first_owned_owner m q j member in
-    let above : j + 1 ≤ first_owned m q (j + 1) = omega arith in
-    let above_now : j ≤ first_owned m q j = omega arith in
     rw next (⊎_elim
-    (λ (mine : owner m j ≡ q).
-    let one : bit (eqb (owner m j) q) ≡ 1 = ap bit (eq-eqb (owner m j) q mine) in
-    let here = first_owned_here m q j member mine in
-    let far = apart m.count q (first_owned m q (j + 1)) j own mine (omega (arith, above)) in
-    let least = first_owned_least m q (j + 1) (j + m.count) member (omega arith) (add-mod_right j m.count ∙ mine) in
-    let count : m.count * owned_below m q (j + 1) ≡ m.count * owned_below m q j + m.count =
-    ap (λ x. m.count * x) (more ∙ ap (λ x. owned_below m q j + x) one) ∙ one_round m.count (owned_below m q j) in
-    omega (arith, count, before, here, far, least))
-    (λ (other : owner m j ≡ q → ⊥).
-    let none : bit (eqb (owner m j) q) ≡ 0 = ap bit (ne_eqb (owner m j) q other) in
-    let off : first_owned m q j ≡ j → ⊥ = λ e. other (ap (owner m) (sym e) ∙ own_now) in
-    let past : j + 1 ≤ first_owned m q j =
-    ⊎_elim (λ (e : first_owned m q j ≡ j). absurd (off e))
-    (λ (ne : first_owned m q j ≡ j → ⊥). omega (arith, above_now)) (cases_eq (first_owned m q j) j) in
-    let up = first_owned_least m q (j + 1) (first_owned m q j) member past own_now in
-    let down = first_owned_least m q j (first_owned m q (j + 1)) member (omega (arith, above)) own in
-    let count : m.count * owned_below m q (j + 1) ≡ m.count * owned_below m q j =
-    ap (λ x. m.count * x) (more ∙ ap (λ x. owned_below m q j + x) none ∙ add-zero (owned_below m q j)) in
-    omega (arith, count, before, up, down))
+    (λ (mine : owner m j ≡ q). past_own m q j member mine before)
+    (λ (other : owner m j ≡ q → ⊥). past_other m q j member other before)
     (cases_eq (owner m j) q))
-  where
-    one_round : (n x : ℕ) → n * (x + 1) ≡ n * x + n
-    one_round n x = grind arith
 
 -- ---- ranges
 

@@ -335,8 +335,8 @@ accepted_cases : (m : Membership) (w : Trace) (k p from i b : ℕ) → i < insta
 accepted_cases m w k p from i b small mine e true same =
     let tried : trying w p i ≡ b = sym (eqb-true b (trying w p i) same) in
     let P : ℕ → Type 0 =
-    λ a. (a ≡ 0 → owner m i ≡ p) → slice_get (sent w) k ≡ Some (Accepted from p i a)
-    → Meets m w k p (Accepted from p i a) (on_accepted m w (Heard k p ∷ w) p i a) in
+    λ c. (c ≡ 0 → owner m i ≡ p) → slice_get (sent w) k ≡ Some (Accepted from p i c)
+    → Meets m w k p (Accepted from p i c) (on_accepted m w (Heard k p ∷ w) p i c) in
     subst P tried
     (λ own said. subst (λ (ls : List Line). Meets m w k p (Accepted from p i (trying w p i)) ls)
     (accepted_lines m w k p from i own said) (accepted_tried m w k p from i small said))
@@ -464,8 +464,8 @@ promise_cases : (m : Membership) (w : Trace) (k p from i b : ℕ) (r : Option Vo
 promise_cases m w k p from i b r small high voted e true same =
     let tried : trying w p i ≡ b = sym (eqb-true b (trying w p i) same) in
     let P : ℕ → Type 0 =
-    λ a. 0 < a → slice_get (sent w) k ≡ Some (Promise from p i a r)
-    → Meets m w k p (Promise from p i a r) (on_promise m w (Heard k p ∷ w) p i a) in
+    λ c. 0 < c → slice_get (sent w) k ≡ Some (Promise from p i c r)
+    → Meets m w k p (Promise from p i c r) (on_promise m w (Heard k p ∷ w) p i c) in
     subst P tried
     (λ above said. subst (λ (ls : List Line). Meets m w k p (Promise from p i (trying w p i) r) ls)
     (promise_lines m w k p from i r above said) (promise_tried m w k p from i r small above voted said))

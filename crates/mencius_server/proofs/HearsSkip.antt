@@ -110,17 +110,17 @@ any-cond j i false ys = refl
 pub among : (test : ℕ → Bool) (xs : List ℕ) (j : ℕ)
     → list_any (λ (i : ℕ). eqb i j) (filter test xs) ≡ (test j && list_any (λ (i : ℕ). eqb i j) xs)
 among test [] j = sym (and-false (test j))
-among test (a ∷ xs) j =
-    any-cond j a (test a) (filter test xs) ∙ among_cases a j test (test a) (eqb a j) _ _ refl refl (among test xs j)
+among test (i ∷ xs) j =
+    any-cond j i (test i) (filter test xs) ∙ among_cases i j test (test i) (eqb i j) _ _ refl refl (among test xs j)
 
-in_range : (a n j : ℕ) → a ≤ j → j < a + n → list_any (λ (i : ℕ). eqb i j) (range_with_len a n) ≡ true
-in_range a zero j low high = absurd (omega arith)
-in_range a (suc n) j low high =
+in_range : (i n j : ℕ) → i ≤ j → j < i + n → list_any (λ (x : ℕ). eqb x j) (range_with_len i n) ≡ true
+in_range i zero j low high = absurd (omega arith)
+in_range i (suc n) j low high =
     ⊎_elim
-    (λ (e : a ≡ j). rw (eq-eqb a j e))
-    (λ (ne : a ≡ j → ⊥). let above : a + 1 ≤ j = omega arith in
-    rw (ne_eqb a j ne, in_range (a + 1) n j above (omega arith)))
-    (cases_eq a j)
+    (λ (e : i ≡ j). rw (eq-eqb i j e))
+    (λ (ne : i ≡ j → ⊥). let above : i + 1 ≤ j = omega arith in
+    rw (ne_eqb i j ne, in_range (i + 1) n j above (omega arith)))
+    (cases_eq i j)
 
 pub is_instance : (j : ℕ) → j < instance_count → list_any (λ (i : ℕ). eqb i j) instances ≡ true
 unfolding below instances

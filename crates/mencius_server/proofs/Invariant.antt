@@ -94,7 +94,7 @@ put_says s i f x fits = record { same = λ j small. go j (eqb (owner s.members j
       (set_keeps (λ (y : SlotState). ticket_of y.proposal
       ≡ ticket_of (slot s j).proposal) s.slots i j x (new_slot s.members)
       (λ at. ap ticket_of (fits.said (ap (owner s.members) (sym at) ∙ eqb-true _ _ mine))
-      ∙ ap (λ (n : ℕ). ticket_of (slot s n).proposal) (sym at)) refl)
+      ∙ ap (λ (j : ℕ). ticket_of (slot s j).proposal) (sym at)) refl)
 
 put_since : (s : ServerState) (i f l : ℕ) (x : SlotState)
     → (l ≤ i) ⊎ (owner s.members i ≡ s.id → is_noop x.learned ≡ false)
@@ -126,7 +126,7 @@ put_keeps now m i g s n l early lost fits ahead near kept =
     (λ j small. unfree_stays now g (set now.slots i s) j ahead
     (set_keeps (λ (y : SlotState). is_none (slot now j).learned ≡ false
     → is_none y.learned ≡ false) now.slots i j s (new_slot now.members)
-    (λ at known. fits.stays (ap (λ x. is_none (slot now x).learned) (sym at) ∙ known)) (λ known. known))) kept
+    (λ at known. fits.stays (ap (λ j. is_none (slot now j).learned) (sym at) ∙ known)) (λ known. known))) kept
 
 pub put_shows : (m : Membership) (p f g : ℕ) (old new : KnownState) (now : ServerState) (i : ℕ) (y : SlotState)
     → record { members = m; id = p; front = f; slots = old.slots } ≡ now → new ≡ with_known old i y
@@ -303,7 +303,7 @@ place_keeps s m i t n next marks some few free more above short marked kept =
           (set_keeps (λ (y : SlotState). is_none (slot s j).learned ≡ false
           → is_none y.learned ≡ false) s.slots i j (record (slot s i) { proposal = Some (Ticket t) })
           (new_slot s.members)
-          (λ at known. ap (λ x. is_none (slot s x).learned) (sym at) ∙ known) (λ known. known)) (kept.free j low);
+          (λ at known. ap (λ j. is_none (slot s j).learned) (sym at) ∙ known) (λ known. known)) (kept.free j low);
       tickets = tickets_later s i t kept.server free.own free.ahead inside free.small n.next_ticket next more above
           kept.tickets;
       short = omega (arith, free.ahead);
@@ -327,6 +327,32 @@ or-false : (a : Bool) → (a || false) ≡ a
 or-false true = refl
 or-false false = refl
 
+-- a write at another instance leaves a slot as it was
+slot_as : (m : Membership) (old new : KnownState) (i j : ℕ) (y : SlotState) → new ≡ with_known old i y
+    → old.members ≡ m → (j ≡ i → ⊥) → known_slot new j ≡ get_or old.slots j (new_slot m)
+slot_as m old new i j y written same off =
+    ap (λ (x : KnownState). known_slot x j) written
+    ∙ get_or-set_other old.slots i j y (new_slot old.members) off
+    ∙ ap (λ (n : Membership). get_or old.slots j (new_slot n)) same
+
+-- no ticket is told at or past the front
+untold_high : (m : Membership) (p f : ℕ) (slots : List SlotState) (t j : ℕ)
+    → IsServer (record { members = m; id = p; front = f; slots = slots }) → length slots ≡ instance_count
+    → min f instance_count ≤ j
+    → is_ticket t (suggested_in m p j (get_or slots j (new_slot m))) ≡ false
+untold_high m p f slots t j server full high = told (eqb (owner m j) p) refl
+  where
+    told : (a : Bool) → eqb (owner m j) p ≡ a
+        → is_ticket t (suggested_in m p j (get_or slots j (new_slot m))) ≡ false
+    told false other = rw other refl
+    told true mine =
+        rw mine
+        (⊎_elim
+        (λ (low : j < f). let past : length slots ≤ j = omega (arith, full) in
+        rw (get_or_past slots j (new_slot m) past) refl)
+        (λ (past : f ≤ j). rw (server.unsaid j (eqb-true _ _ mine) past) refl)
+        (cases_lt j f))
+
 -- the marks that a suggestion makes, as others see the server before it
 pub place_marks : (m : Membership) (p f : ℕ) (old new : KnownState) (now : ServerState) (i t : ℕ) (y : SlotState)
     (marked_before blank marks : List Bool)
@@ -347,26 +373,9 @@ place_marks m p f old new now i t y marked_before blank marks shown same written
     marked j (omega arith) (omega arith)
     ∙ ap (λ (a : Bool). a || is_ticket t (suggested_in m p j (known_slot new j))) (kept j)
     ∙ ap (λ (x : SlotState). get_or marked_before j false || is_ticket t (suggested_in m p j x))
-    (slot_is (λ at. absurd (omega arith))))
+    (slot_as m old new i j y written same (λ at. absurd (omega arith))))
     (λ (high : min f instance_count ≤ j).
     rest j high ∙ kept j
-    ∙ sym (ap (λ (a : Bool). get_or marked_before j false || a) (untold (eqb (owner m j) p) refl high)
+    ∙ sym (ap (λ (a : Bool). get_or marked_before j false || a) (untold_high m p f old.slots t j server full high)
     ∙ or-false (get_or marked_before j false)))
     (cases_lt j (min f instance_count)))
-  where
-    slot_is : (j ≡ i → ⊥) → known_slot new j ≡ get_or old.slots j (new_slot m)
-    slot_is off =
-        ap (λ (x : KnownState). known_slot x j) written
-        ∙ get_or-set_other old.slots i j y (new_slot old.members) off
-        ∙ ap (λ (n : Membership). get_or old.slots j (new_slot n)) same
-
-    untold : (a : Bool) → eqb (owner m j) p ≡ a → min f instance_count ≤ j
-        → is_ticket t (suggested_in m p j (get_or old.slots j (new_slot m))) ≡ false
-    untold false other high = rw other refl
-    untold true mine high =
-        rw mine
-        (⊎_elim
-        (λ (low : j < f). let past : length old.slots ≤ j = omega (arith, full) in
-        rw (get_or_past old.slots j (new_slot m) past) refl)
-        (λ (past : f ≤ j). rw (server.unsaid j (eqb-true _ _ mine) past) refl)
-        (cases_lt j f))

@@ -120,20 +120,21 @@ module _ (s : ServerState) (i t : ℕ) (kept : IsServer s) (mine : owner s.membe
       ≡ (list_any (is_suggested_past s u j) instances || (eqb t u && ltb j i))
   past_more u j = both_ways _ _ more fewer
     where
-      found : (x : ℕ) → (ltb j x && is_ticket u (suggested_at later x)) ≡ true → x < instance_count
+      found : (further : ℕ) → (ltb j further && is_ticket u (suggested_at later further)) ≡ true
+          → further < instance_count
           → (list_any (is_suggested_past s u j) instances || (eqb t u && ltb j i)) ≡ true
-      found x e small =
-          let parts = and_parts (ltb j x) (is_ticket u (suggested_at later x)) e in
+      found further e small =
+          let parts = and_parts (ltb j further) (is_ticket u (suggested_at later further)) e in
           ⊎_elim
-          (λ (at : x ≡ i).
+          (λ (at : further ≡ i).
           let ticket : Some t ≡ Some u = sym said_here ∙ ap (suggested_at later) (sym at) ∙ ticket_is u _ parts.1 in
           let same : t ≡ u = cc in
           or_right (list_any (is_suggested_past s u j) instances) _ (rw (eq-eqb t u same) (rw (← at) parts.0)))
-          (λ (off : x ≡ i → ⊥).
+          (λ (off : further ≡ i → ⊥).
           or_left _ (eqb t u && ltb j i)
-          (any-instances (is_suggested_past s u j) x small
-          (ap (λ (o : Option ℕ). ltb j x && is_ticket u o) (sym (said_there x off)) ∙ e)))
-          (cases_eq x i)
+          (any-instances (is_suggested_past s u j) further small
+          (ap (λ (o : Option ℕ). ltb j further && is_ticket u o) (sym (said_there further off)) ∙ e)))
+          (cases_eq further i)
 
       more : list_any (is_suggested_past later u j) instances ≡ true
           → (list_any (is_suggested_past s u j) instances || (eqb t u && ltb j i)) ≡ true
@@ -167,7 +168,7 @@ module _ (s : ServerState) (i t : ℕ) (kept : IsServer s) (mine : owner s.membe
       free : (o : Option Value) → (slot s i).learned ≡ o → waits_with later i (Some t) ≡ None
       free None e =
           let known : (slot later i).learned ≡ None = ap (λ (y : SlotState). y.learned) here ∙ e in rw known refl
-      free (Some v) e = let i = rw e at blank in absurd (cc)
+      free (Some v) e = let no = rw e at blank in absurd (cc)
 
       longer : (a d z : Bool) (u : ℕ) → (a || d) ≡ true → unless (a || (d || z)) (Some u) ≡ None
       longer true d z u h = refl
@@ -203,7 +204,7 @@ module _ (s : ServerState) (i t : ℕ) (kept : IsServer s) (mine : owner s.membe
           absurd (omega arith))
           (λ h. let high : j < i = ltb-true j i (and_parts (eqb t u) (ltb j i) h).1 in absurd (omega arith))
           ∙ sym (marked j
-          ∙ either_no _ _ (λ h. let p = get_or_past old j false none in
+          ∙ either_no _ _ (λ h. let past = get_or_past old j false none in
           absurd (cc)) (λ h. absurd (unsaid_here t (ap (suggested_at s) (sym at) ∙ ticket_is t _ h))))
 
       elsewhere : (j ≡ i → ⊥)

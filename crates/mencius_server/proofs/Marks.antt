@@ -76,10 +76,10 @@ marked_more m p t end i next slots old now new a inside within mine least ahead 
     at_place j at true e said =
         ap (λ (xs : List Bool). get_or xs j false) e ∙ get_or-set_at now i j true false at within
         ∙ sym (ap (λ (y : Bool). get_or old j false || y)
-        (ap (λ (x : ℕ). is_ticket t (suggested_in m p x (slots x))) at ∙ ticket_here ∙ said)
+        (ap (λ (i : ℕ). is_ticket t (suggested_in m p i (slots i))) at ∙ ticket_here ∙ said)
         ∙ or-true (get_or old j false))
     at_place j at false e said =
         ap (λ (xs : List Bool). get_or xs j false) e ∙ before.rest j (omega arith)
         ∙ sym (ap (λ (y : Bool). get_or old j false || y)
-        (ap (λ (x : ℕ). is_ticket t (suggested_in m p x (slots x))) at ∙ ticket_here ∙ said)
+        (ap (λ (i : ℕ). is_ticket t (suggested_in m p i (slots i))) at ∙ ticket_here ∙ said)
         ∙ or-false (get_or old j false))

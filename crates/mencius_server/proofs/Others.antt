@@ -58,15 +58,15 @@ module _ (p q : ℕ) (ne : p ≡ q → ⊥) where
     promise_quiet from to j b o e =
         record { promised = rw (not_q from e); proposed = λ c. refl; accepted = refl; learned = refl; tried = refl }
 
-    learned_quiet : (from j : ℕ) (o : Value) → from ≡ p → IsQuiet q i (Learned from j o)
-    learned_quiet from j o e =
+    learned_quiet : (from j : ℕ) (z : Value) → from ≡ p → IsQuiet q i (Learned from j z)
+    learned_quiet from j z e =
         record { promised = refl; proposed = λ c. refl; accepted = refl; learned = rw (not_q from e); tried = refl }
 
     voted : IsGrown m w → IsVoted w q i
     voted g = record { proposal = λ b e. let r = accepted_in w q i b e in accepted_proposed m w g q r.0 i b r.1 }
 
     -- a proposal of another is at no ballot that q tries
-    suggest_other : (from j t b : ℕ) → owner m j ≡ p → (c : Bool) → (eqb j i && eqb b 0) ≡ c
+    suggest_other : (from j t b : ℕ) → owner m j ≡ p → (a : Bool) → (eqb j i && eqb b 0) ≡ a
         → if_own m q i b (proposed (Sent (Suggest from j t) ∷ w) i b) ≡ if_own m q i b (proposed w i b)
     suggest_other from j t b own true e =
         let r = and_parts (eqb j i) (eqb b 0) e in
@@ -77,15 +77,15 @@ module _ (p q : ℕ) (ne : p ≡ q → ⊥) where
     suggest_other from j t b own false e =
         ap (if_own m q i b) (oldest_quiet (proposed_by i b) (Sent (Suggest from j t)) w (rw e))
 
-    propose_other : (from j b : ℕ) (o : Value) (c : ℕ) → owner m b ≡ p → (0 < c → owner m c ≡ q) → (d : Bool)
-        → ((eqb j i && eqb b c) && ltb 0 c) ≡ d
-        → if_own m q i c (proposed (Sent (Propose from j b o) ∷ w) i c) ≡ if_own m q i c (proposed w i c)
-    propose_other from j b o c own tried true e =
+    propose_other : (from j b : ℕ) (z : Value) (c : ℕ) → owner m b ≡ p → (0 < c → owner m c ≡ q) → (a : Bool)
+        → ((eqb j i && eqb b c) && ltb 0 c) ≡ a
+        → if_own m q i c (proposed (Sent (Propose from j b z) ∷ w) i c) ≡ if_own m q i c (proposed w i c)
+    propose_other from j b z c own tried true e =
         let r = and_parts (eqb j i && eqb b c) (ltb 0 c) e in
         let here = eqb-true b c (and_parts (eqb j i) (eqb b c) r.0).1 in
         absurd (ne (sym own ∙ ap (owner m) here ∙ tried (ltb-true 0 c r.1)))
-    propose_other from j b o c own tried false e =
-        ap (if_own m q i c) (oldest_quiet (proposed_by i c) (Sent (Propose from j b o)) w (rw e))
+    propose_other from j b z c own tried false e =
+        ap (if_own m q i c) (oldest_quiet (proposed_by i c) (Sent (Propose from j b z)) w (rw e))
 
     sent_other : (x : Message) → IsGrown m (Sent x ∷ w) → IsBy p (Sent x)
         → slot_at m (Sent x ∷ w) q i ≡ slot_at m w q i
@@ -94,67 +94,68 @@ module _ (p q : ℕ) (ne : p ≡ q → ⊥) where
         slot_at-proposing m w (Sent (Suggest from j t)) q i
         (if_own m q i (trying w q i) (proposed w i (trying w q i))) (voted g.0) refl refl refl refl refl
         (suggest_other from j t (trying w q i) (may.own ∙ by) (eqb j i && eqb (trying w q i) 0) refl)
-    sent_other (Skip from f s) g by = slot_at-quiet m w (Sent (Skip from f s)) q i (skip_quiet from f s) refl
+    sent_other (Skip from first stop) g by =
+        slot_at-quiet m w (Sent (Skip from first stop)) q i (skip_quiet from first stop) refl
     sent_other (Accepted from to j b) g by =
         slot_at-quiet m w (Sent (Accepted from to j b)) q i (accepted_quiet from to j b by) refl
     sent_other (Prepare from j b) g by =
         slot_at-quiet m w (Sent (Prepare from j b)) q i (prepare_quiet from j b by) refl
     sent_other (Promise from to j b o) g by =
         slot_at-quiet m w (Sent (Promise from to j b o)) q i (promise_quiet from to j b o by) refl
-    sent_other (Propose from j b o) g by =
-        slot_at-proposing m w (Sent (Propose from j b o)) q i
+    sent_other (Propose from j b z) g by =
+        slot_at-proposing m w (Sent (Propose from j b z)) q i
         (if_own m q i (trying w q i) (proposed w i (trying w q i))) (voted g.0) refl refl refl refl refl
-        (propose_other from j b o (trying w q i)
-        ((propose_ballot m (Sent (Propose from j b o) ∷ w) g from j b o (inl refl)).1
+        (propose_other from j b z (trying w q i)
+        ((propose_ballot m (Sent (Propose from j b z) ∷ w) g from j b z (inl refl)).1
         ∙ by) (tried_owner m w g.0 q i)
         ((eqb j i && eqb b (trying w q i)) && ltb 0 (trying w q i)) refl)
-    sent_other (Learn from j o) g by =
-        slot_at-quiet m w (Sent (Learn from j o)) q i
+    sent_other (Learn from j z) g by =
+        slot_at-quiet m w (Sent (Learn from j z)) q i
         (record { promised = refl; proposed = λ b. refl; accepted = refl; learned = refl; tried = refl }) refl
 
     slot_other : (l : Line) → IsGrown m (l ∷ w) → IsBy p l → slot_at m (l ∷ w) q i ≡ slot_at m w q i
     slot_other (Sent x) g by = sent_other x g by
-    slot_other (Learned s j o) g by = slot_at-quiet m w (Learned s j o) q i (learned_quiet s j o by) refl
-    slot_other (Heard k d) g by =
-        slot_at-quiet m w (Heard k d) q i
+    slot_other (Learned from j z) g by = slot_at-quiet m w (Learned from j z) q i (learned_quiet from j z by) refl
+    slot_other (Heard k to) g by =
+        slot_at-quiet m w (Heard k to) q i
         (record {
           promised = refl;
           proposed = λ b. refl;
           accepted = refl;
           learned = refl;
           tried = refl;
-        }) (rw (not_q d by))
-    slot_other (Submitted c s) g by =
-        slot_at-quiet m w (Submitted c s) q i
+        }) (rw (not_q to by))
+    slot_other (Submitted command from) g by =
+        slot_at-quiet m w (Submitted command from) q i
         (record { promised = refl; proposed = λ b. refl; accepted = refl; learned = refl; tried = refl }) refl
-    slot_other (Lost k d) g by =
-        slot_at-quiet m w (Lost k d) q i
+    slot_other (Lost k to) g by =
+        slot_at-quiet m w (Lost k to) q i
         (record { promised = refl; proposed = λ b. refl; accepted = refl; learned = refl; tried = refl }) refl
-    slot_other (Suspected a b) g by =
-        slot_at-quiet m w (Suspected a b) q i
+    slot_other (Suspected from to) g by =
+        slot_at-quiet m w (Suspected from to) q i
         (record { promised = refl; proposed = λ c. refl; accepted = refl; learned = refl; tried = refl }) refl
-    slot_other (Retried a) g by =
-        slot_at-quiet m w (Retried a) q i
+    slot_other (Retried from) g by =
+        slot_at-quiet m w (Retried from) q i
         (record { promised = refl; proposed = λ b. refl; accepted = refl; learned = refl; tried = refl }) refl
-    slot_other (Executed s) g by =
-        slot_at-quiet m w (Executed s) q i
+    slot_other (Executed from) g by =
+        slot_at-quiet m w (Executed from) q i
         (record { promised = refl; proposed = λ b. refl; accepted = refl; learned = refl; tried = refl }) refl
 
   front_other : (m : Membership) (l : Line) → IsBy p l → front_by m q l ≡ 0
   front_other m (Sent (Suggest from j t)) by = rw (not_q from by)
-  front_other m (Sent (Skip from f s)) by = rw (not_q from by)
+  front_other m (Sent (Skip from first stop)) by = rw (not_q from by)
   front_other m (Sent (Accepted from to j b)) by = refl
   front_other m (Sent (Prepare from j b)) by = refl
   front_other m (Sent (Promise from to j b o)) by = refl
-  front_other m (Sent (Propose from j b o)) by = refl
-  front_other m (Sent (Learn from j o)) by = refl
-  front_other m (Learned s j o) by = refl
-  front_other m (Heard k d) by = refl
-  front_other m (Submitted c s) by = refl
-  front_other m (Lost k d) by = refl
-  front_other m (Suspected a b) by = refl
-  front_other m (Retried a) by = refl
-  front_other m (Executed s) by = refl
+  front_other m (Sent (Propose from j b z)) by = refl
+  front_other m (Sent (Learn from j z)) by = refl
+  front_other m (Learned from j z) by = refl
+  front_other m (Heard k to) by = refl
+  front_other m (Submitted command from) by = refl
+  front_other m (Lost k to) by = refl
+  front_other m (Suspected from to) by = refl
+  front_other m (Retried from) by = refl
+  front_other m (Executed from) by = refl
 
   server_other : (m : Membership) (w : Trace) (l : Line) → IsGrown m (l ∷ w) → IsBy p l
       → server_at m w q ≡ server_at m (l ∷ w) q

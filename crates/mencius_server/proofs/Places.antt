@@ -142,12 +142,12 @@ lends_place places slots n e h i place at left =
         (let l = length-set slots place left in omega (arith, within, l))
         ∙ ap (λ x. Some x) (get_or-set_at slots place place left left refl within)
 
-    apart_get : {A : Type 0} (xs : List A) (a b : ℕ) (x : A) → (b ≡ a → ⊥) → slice_get xs b ≡ slice_get (set xs a x) b
-    apart_get [] a b x ne = refl
+    apart_get : {A : Type 0} (xs : List A) (n k : ℕ) (x : A) → (k ≡ n → ⊥) → slice_get xs k ≡ slice_get (set xs n x) k
+    apart_get [] n k x ne = refl
     apart_get (y ∷ ys) zero zero x ne = absurd (ne refl)
-    apart_get (y ∷ ys) zero (suc b) x ne = refl
-    apart_get (y ∷ ys) (suc a) zero x ne = refl
-    apart_get (y ∷ ys) (suc a) (suc b) x ne = apart_get ys a b x (λ same. ne (ap suc same))
+    apart_get (y ∷ ys) zero (suc k) x ne = refl
+    apart_get (y ∷ ys) (suc n) zero x ne = refl
+    apart_get (y ∷ ys) (suc n) (suc k) x ne = apart_get ys n k x (λ same. ne (ap suc same))
 
     others : (j : ℕ) → (j ≡ i → ⊥) → (o : Option ℕ) → get_or places j None ≡ o
         → standing_at places slots j ≡ standing_at places (slice_set slots place left) j
@@ -171,33 +171,33 @@ module _ (places : List (Option ℕ)) (slots : List SlotState) (n : ℕ) (e : n 
   pub placed_push : (more : ℕ) → more ≡ n + 1 → IsPlaced (set places i (Some n)) more
   placed_push more m_is = record {
     few = let l = length-set places i (Some n) in omega (arith, l, h.few);
-    within = λ j k is. ⊎_elim
-        (λ (at : j ≡ i). let same : Some n ≡ Some k = sym (here_now j at)
-        ∙ is in let is_n : n ≡ k = cc in omega (arith, is_n))
-        (λ (off : j ≡ i → ⊥). let l = h.within j k (sym (away j off) ∙ is) in omega (arith, l))
+    within = λ j place is. ⊎_elim
+        (λ (at : j ≡ i). let same : Some n ≡ Some place = sym (here_now j at)
+        ∙ is in let is_n : n ≡ place = cc in omega (arith, is_n))
+        (λ (off : j ≡ i → ⊥). let l = h.within j place (sym (away j off) ∙ is) in omega (arith, l))
         (cases_eq j i);
-    apart = λ a b k is_a is_b. ⊎_elim
-        (λ (at : a ≡ i). ⊎_elim
-        (λ (too : b ≡ i). at ∙ sym too)
-        (λ (off : b ≡ i → ⊥). absurd (fresh a b k at off is_a is_b))
-        (cases_eq b i))
-        (λ (off : a ≡ i → ⊥). ⊎_elim
-        (λ (at : b ≡ i). absurd (fresh b a k at off is_b is_a))
-        (λ (too : b ≡ i → ⊥). h.apart a b k (sym (away a off) ∙ is_a) (sym (away b too) ∙ is_b))
-        (cases_eq b i))
-        (cases_eq a i);
+    apart = λ j other place is is_other. ⊎_elim
+        (λ (at : j ≡ i). ⊎_elim
+        (λ (too : other ≡ i). at ∙ sym too)
+        (λ (off : other ≡ i → ⊥). absurd (fresh j other place at off is is_other))
+        (cases_eq other i))
+        (λ (off : j ≡ i → ⊥). ⊎_elim
+        (λ (at : other ≡ i). absurd (fresh other j place at off is_other is))
+        (λ (too : other ≡ i → ⊥). h.apart j other place (sym (away j off) ∙ is) (sym (away other too) ∙ is_other))
+        (cases_eq other i))
+        (cases_eq j i);
     count = let one = sum_by-set (λ (o : Option ℕ). cond (is_some o) 1 0) places i (Some n) None within in
         let was : cond (is_some (get_or places i None)) 1 0 ≤ 0 = rw none (omega arith) in
         omega (arith, one, was, h.count, m_is);
   }
     where
       -- the new place is no other instance's
-      fresh : (a b place : ℕ) → a ≡ i → (b ≡ i → ⊥) → get_or (set places i (Some n)) a None ≡ Some place
-          → get_or (set places i (Some n)) b None ≡ Some place → ⊥
-      fresh a b place at off is_a is_b =
-          let same : Some n ≡ Some place = sym (here_now a at) ∙ is_a in
+      fresh : (j other place : ℕ) → j ≡ i → (other ≡ i → ⊥) → get_or (set places i (Some n)) j None ≡ Some place
+          → get_or (set places i (Some n)) other None ≡ Some place → ⊥
+      fresh j other place at off is is_other =
+          let same : Some n ≡ Some place = sym (here_now j at) ∙ is in
           let is_n : n ≡ place = cc in
-          let l = h.within b place (sym (away b off) ∙ is_b) in
+          let l = h.within other place (sym (away other off) ∙ is_other) in
           absurd (omega (arith, l, is_n))
 
   pub stand_push : (x : SlotState) (j : ℕ)
@@ -209,10 +209,10 @@ module _ (places : List (Option ℕ)) (slots : List SlotState) (n : ℕ) (e : n 
       ∙ ⊎_elim
       (λ (at : j ≡ i).
       ap (slot_in (slots ++ x ∷ [])) (here_now j at) ∙ last slots n e
-      ∙ sym (ap (λ b. cond b (Some x) (stand_at (standing places slots) j)) (eq-eqb j i at)))
+      ∙ sym (ap (λ a. cond a (Some x) (stand_at (standing places slots) j)) (eq-eqb j i at)))
       (λ (off : j ≡ i → ⊥).
       ap (slot_in (slots ++ x ∷ [])) (away j off) ∙ kept j (get_or places j None) refl
-      ∙ sym (ap (λ b. cond b (Some x) (stand_at (standing places slots) j)) (ne_eqb j i off)
+      ∙ sym (ap (λ a. cond a (Some x) (stand_at (standing places slots) j)) (ne_eqb j i off)
       ∙ stand_is places slots h.few j))
       (cases_eq j i)
     where

@@ -144,7 +144,7 @@ module _ (m : Membership) (a : Stretch) (members : a.members ≡ m) (slots new :
     count = length-set rs a.server ys ∙ h.count;
     rising = λ p inside. at_place (λ p xs. IsRising 0 xs) p (λ e. rising) (h.rising p inside);
     owned = λ p inside. at_place (λ p xs. IsOwned m p (first_owned m p instance_count) xs) p
-        (λ e. subst (λ x. IsOwned m x (first_owned m x instance_count) ys) (sym e) owned) (h.owned p inside);
+        (λ e. subst (λ q. IsOwned m q (first_owned m q instance_count) ys) (sym e) owned) (h.owned p inside);
   }
     where
       at_place : (P : ℕ → List Span → Type 0) (p : ℕ) → (p ≡ a.server → P p ys) → P p (get_or rs p [])

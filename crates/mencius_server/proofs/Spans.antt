@@ -197,19 +197,19 @@ rising_joined low (r ∷ rs) f s l k h =
       ]
     ]
 
-owner_min : (m : Membership) (q a b : ℕ) → owner m a ≡ q → owner m b ≡ q → owner m (min a b) ≡ q
-owner_min m q a b h k =
+owner_min : (m : Membership) (q i j : ℕ) → owner m i ≡ q → owner m j ≡ q → owner m (min i j) ≡ q
+owner_min m q i j h k =
     ⊎_elim
-    (λ (l : a < b). let e : min a b ≡ a = omega arith in rw e h)
-    (λ (l : b ≤ a). let e : min a b ≡ b = omega arith in rw e k)
-    (cases_lt a b)
+    (λ (l : i < j). let e : min i j ≡ i = omega arith in rw e h)
+    (λ (l : j ≤ i). let e : min i j ≡ j = omega arith in rw e k)
+    (cases_lt i j)
 
-owner_max : (m : Membership) (q a b : ℕ) → owner m a ≡ q → owner m b ≡ q → owner m (max a b) ≡ q
-owner_max m q a b h k =
+owner_max : (m : Membership) (q i j : ℕ) → owner m i ≡ q → owner m j ≡ q → owner m (max i j) ≡ q
+owner_max m q i j h k =
     ⊎_elim
-    (λ (l : a < b). let e : max a b ≡ b = omega arith in rw e k)
-    (λ (l : b ≤ a). let e : max a b ≡ a = omega arith in rw e h)
-    (cases_lt a b)
+    (λ (l : i < j). let e : max i j ≡ j = omega arith in rw e k)
+    (λ (l : j ≤ i). let e : max i j ≡ i = omega arith in rw e h)
+    (cases_lt i j)
 
 pub owned_joined : (m : Membership) (q top : ℕ) (rs : List Span) (f s : ℕ) → owner m f ≡ q → owner m s ≡ q → s ≤ top
     → IsOwned m q top rs → IsOwned m q top (joined rs f s)

@@ -564,7 +564,7 @@ pub counts_put : (m : Membership) (slots new : List (Option SlotState)) (rs rang
 counts_put m slots new rs ranges low next tallies more p sound alike here rest h = record {
   sound = sound;
   counted = λ q. ⊎_elim
-      (λ (at : q ≡ p). subst (λ x. IsTally m (known_at m new ranges) x (tally_of more x)) (sym at) here)
+      (λ (at : q ≡ p). subst (λ q. IsTally m (known_at m new ranges) q (tally_of more q)) (sym at) here)
       (λ (off : q ≡ p → ⊥).
       subst (IsTally m (known_at m new ranges) q) (sym (rest q off))
       (tally_alike m (known_at m slots rs) (known_at m new ranges) q (tally_of tallies q)

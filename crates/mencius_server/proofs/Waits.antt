@@ -89,16 +89,17 @@ module _ (m : Membership) (w : Trace) (p : ℕ) (r : IsReached m w) where
       both_ways _ _
       (λ h.
       let a = any-instances_found (is_suggested_past (server_at m w p) t i) h in
-      let b = and_parts (ltb i a.0) (is_ticket t (suggested_at (server_at m w p) a.0)) a.2 in
-      let d = sym (suggested_same a.0 a.1) ∙ ticket_is t (suggested_at (server_at m w p) a.0) b.1 in
-      in_any (is_suggestion_past p t i) (Sent (Suggest p a.0 t)) w (suggested_in w p a.0 t d) (rw (same p, same t) b.0))
+      let parts = and_parts (ltb i a.0) (is_ticket t (suggested_at (server_at m w p) a.0)) a.2 in
+      let d = sym (suggested_same a.0 a.1) ∙ ticket_is t (suggested_at (server_at m w p) a.0) parts.1 in
+      in_any (is_suggestion_past p t i) (Sent (Suggest p a.0 t)) w (suggested_in w p a.0 t d)
+      (rw (same p, same t) parts.0))
       (λ h.
       let a = any_in (is_suggestion_past p t i) w h in
-      let b = past_line p t i a.0 a.2 in
-      let d : IsIn (Sent (Suggest p b.0 t)) w = rw b.2 at a.1 in
-      let small = suggest_small m w grown p b.0 t d in
-      any-instances (is_suggested_past (server_at m w p) t i) b.0 small
-      (rw (b.1, suggested_same b.0 small, suggested_is b.0 t d) (same t)))
+      let line = past_line p t i a.0 a.2 in
+      let d : IsIn (Sent (Suggest p line.0 t)) w = rw line.2 at a.1 in
+      let small = suggest_small m w grown p line.0 t d in
+      any-instances (is_suggested_past (server_at m w p) t i) line.0 small
+      (rw (line.1, suggested_same line.0 small, suggested_is line.0 t d) (same t)))
 
   waits_same : (i : ℕ) → i < instance_count → (o : Option ℕ) → waits_with (server_at m w p) i o ≡ waits w p i o
   waits_same i small None = refl

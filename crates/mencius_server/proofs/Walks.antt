@@ -140,6 +140,11 @@ begun_in a p j (Some s) e = rw e (go (is_none s.learned) refl)
 pub unbegun_out : (a : Stretch) (ss : List (Option SlotState)) (j : ℕ) → is_in a j ≡ false → is_begun a ss j ≡ false
 unbegun_out a ss j e = and_left _ _ e
 
+pub unbegun_between : (a : Stretch) (ss : List (Option SlotState)) (i next : ℕ) → owner a.members i ≡ a.server
+    → ((j : ℕ) → i + 1 ≤ j → owner a.members j ≡ owner a.members i → next ≤ j)
+    → (j : ℕ) → i + 1 ≤ j → j < next → is_begun a ss j ≡ false
+unbegun_between a ss i next own least j low high = unbegun_out a ss j (out_between a i next own least j low high)
+
 pub unlearned_in : (a : Stretch) (ss : List (Option SlotState)) (j : ℕ) → is_in a j ≡ true
     → is_begun a ss j ≡ is_unlearned (stand_at ss j)
 unlearned_in a ss j e = rw e refl

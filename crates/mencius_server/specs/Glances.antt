@@ -5,11 +5,11 @@ use Rattle.mencius_server.specs.declared.glance.Glance.{Glance}
 
 -- of the tallies their counts, and not the vote that was reported
 abbrev pub glance_of : SlotState → Glance
-glance_of t = record {
-  promised = t.promised;
-  learned = t.learned;
-  trying = t.trying;
-  proposal = t.proposal;
-  promises = count_by (λ b. b) t.promisers;
-  accepts = count_by (λ b. b) t.accepters;
+glance_of s = record {
+  promised = s.promised;
+  learned = s.learned;
+  trying = s.trying;
+  proposal = s.proposal;
+  promises = count_by (λ a. a) s.promisers;
+  accepts = count_by (λ a. a) s.accepters;
 }

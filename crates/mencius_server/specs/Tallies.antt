@@ -4,6 +4,7 @@ use Rattle.std.specs.List.{count_by, filter, list_any}
 use Rattle.mencius_base.specs.declared.refusal.Refusal.{Refusal}
 use Rattle.mencius_base.specs.declared.refusal.Refusal.TheVariants.{NothingToRevoke, RoundsFull}
 use Rattle.mencius_base.specs.Members.{Membership, below, instances, owner}
+use Rattle.mencius_base.specs.Numbers.{Inst, ServerId}
 use Rattle.mencius_base.specs.Outbox.{Outgoing, outbox_full}
 use Rattle.coord_paxos.specs.Fresh.{new_slot}
 use Rattle.coord_paxos.specs.SlotState.{SlotState}
@@ -20,7 +21,7 @@ abbrev pub no_tally : Tally
 no_tally = record { stop = 0; open_count = 0; full_count = 0 }
 
 -- the tally of a server
-abbrev pub tally_of : List Tally → ℕ → Tally
+abbrev pub tally_of : List Tally → ServerId → Tally
 tally_of ts q = slice_index_or ts q no_tally
 
 -- no further round is left at a slot
@@ -28,20 +29,20 @@ abbrev pub is_spent : Membership → SlotState → Bool
 is_spent m s = nat_lt greatest_round (round_after m s)
 
 -- an instance of q at which nothing was learned, and one that has no further round either
-abbrev pub is_open_of : Membership → (ℕ → SlotState) → ℕ → ℕ → Bool
+abbrev pub is_open_of : Membership → (Inst → SlotState) → ServerId → Inst → Bool
 is_open_of m f q j = owner m j == q && is_none (f j).learned
 
-abbrev pub is_full_of : Membership → (ℕ → SlotState) → ℕ → ℕ → Bool
+abbrev pub is_full_of : Membership → (Inst → SlotState) → ServerId → Inst → Bool
 is_full_of m f q j = is_open_of m f q j && is_spent m (f j)
 
 -- these are the numbers of q's instances below a place, where f is known of each instance
-pub record IsTally (m : Membership) (f : ℕ → SlotState) (q : ℕ) (a : Tally) : Type 0 where
+pub record IsTally (m : Membership) (f : Inst → SlotState) (q : ServerId) (a : Tally) : Type 0 where
   pub small : a.stop ≤ instance_count
   pub open_count : a.open_count ≡ count_by (is_open_of m f q) (below a.stop)
   pub full_count : a.full_count ≡ count_by (is_full_of m f q) (below a.stop)
 
 -- the same of its instances between two places
-pub record IsTallyFrom (m : Membership) (f : ℕ → SlotState) (q first : ℕ) (d : Tally) : Type 0 where
+pub record IsTallyFrom (m : Membership) (f : Inst → SlotState) (q : ServerId) (first : Inst) (d : Tally) : Type 0 where
   pub ahead : first ≤ d.stop
   pub small : d.stop ≤ instance_count
   pub open_count : d.open_count + count_by (is_open_of m f q) (below first)
@@ -50,21 +51,21 @@ pub record IsTallyFrom (m : Membership) (f : ℕ → SlotState) (q first : ℕ) 
       ≡ count_by (is_full_of m f q) (below d.stop)
 
 -- what is known of an instance by a slot alone
-abbrev pub known_by_slot : Membership → List (Option SlotState) → ℕ → SlotState
+abbrev pub known_by_slot : Membership → List (Option SlotState) → Inst → SlotState
 known_by_slot m slots j = unwrap_or (stand_at slots j) (new_slot m)
 
 -- nothing is open that was skipped
 abbrev pub IsTold : Membership → List (Option SlotState) → List (List Span) → Type 0
-IsTold m slots rs = (j : ℕ) → j < instance_count → is_passed m rs j ≡ true
+IsTold m slots rs = (j : Inst) → j < instance_count → is_passed m rs j ≡ true
     → is_none (known_at m slots rs j).learned ≡ false
 
 -- with what was counted further on, or without some
 abbrev pub summed : Tally → Tally → Tally
-summed t u =
-    record { stop = u.stop; open_count = t.open_count + u.open_count; full_count = t.full_count + u.full_count }
+summed x y =
+    record { stop = y.stop; open_count = x.open_count + y.open_count; full_count = x.full_count + y.full_count }
 
 abbrev pub lessened : Tally → Tally → Tally
-lessened t u = record t { open_count = t.open_count - u.open_count; full_count = t.full_count - u.full_count }
+lessened x y = record x { open_count = x.open_count - y.open_count; full_count = x.full_count - y.full_count }
 
 -- one instance more, or one less
 abbrev pub open_one : SlotState → ℕ
@@ -74,10 +75,10 @@ abbrev pub full_one : Membership → SlotState → ℕ
 full_one m s = if is_none s.learned && is_spent m s then 1 else 0
 
 abbrev pub tallied : Membership → Tally → SlotState → Tally
-tallied m t s = record t { open_count = t.open_count + open_one s; full_count = t.full_count + full_one m s }
+tallied m x s = record x { open_count = x.open_count + open_one s; full_count = x.full_count + full_one m s }
 
 abbrev pub untallied : Membership → Tally → SlotState → Tally
-untallied m t s = record t { open_count = t.open_count - open_one s; full_count = t.full_count - full_one m s }
+untallied m x s = record x { open_count = x.open_count - open_one s; full_count = x.full_count - full_one m s }
 
 -- the instance was counted
 pub record HasCounted (m : Membership) (d : Tally) (s : SlotState) : Type 0 where
@@ -87,30 +88,30 @@ pub record HasCounted (m : Membership) (d : Tally) (s : SlotState) : Type 0 wher
   pub fewer : d.full_count ≤ instance_count
 
 -- a slot is another one from now on
-abbrev pub moved : Membership → ℕ → Tally → SlotState → SlotState → Tally
-moved m i t s u = if nat_lt i t.stop then tallied m (untallied m t s) u else t
+abbrev pub moved : Membership → Inst → Tally → SlotState → SlotState → Tally
+moved m i x s new = if nat_lt i x.stop then tallied m (untallied m x s) new else x
 
 -- what a suspicion of q would revoke, up to a front
-pub record IsSurvey (s : KnownState) (q front : ℕ) (d : Tally) : Type 0 where
+pub record IsSurvey (s : KnownState) (q : ServerId) (front : Inst) (d : Tally) : Type 0 where
   pub open_count : d.open_count ≡ count_by (is_open s q front) instances
   pub full_count : nat_lt 0 d.full_count ≡ list_any (is_round_full_at s) (filter (is_open s q front) instances)
 
 -- why a suspicion of which this was counted is refused, running out of memory aside
 abbrev pub tally_cause : Tally → Outgoing → Option Refusal
-tally_cause t o = if t.open_count == 0
+tally_cause x o = if x.open_count == 0
     then Some NothingToRevoke
-    else if nat_lt 0 t.full_count then Some RoundsFull else outbox_full o t.open_count
+    else if nat_lt 0 x.full_count then Some RoundsFull else outbox_full o x.open_count
 
 -- the instances of q from one on before which none is open, up to a front
-pub record IsOpenStretch (s : KnownState) (q front : ℕ) (a : Stretch) : Type 0 where
+pub record IsOpenStretch (s : KnownState) (q : ServerId) (front : Inst) (a : Stretch) : Type 0 where
   pub stretch : IsStretch a
   pub members : a.members ≡ s.members
   pub server : a.server ≡ q
   pub stop : a.stop ≡ min (front + 1) instance_count
-  pub before : (j : ℕ) → j < a.first → is_open s q front j ≡ false
+  pub before : (j : Inst) → j < a.first → is_open s q front j ≡ false
 
 -- what is known, and what was counted of it
-pub record IsKnown (m : Membership) (slots : List (Option SlotState)) (rs : List (List Span)) (low : ℕ)
+pub record IsKnown (m : Membership) (slots : List (Option SlotState)) (rs : List (List Span)) (low : Inst)
     (tallies : List Tally) : Type 0 where
   pub sound : IsSound m slots rs low
-  pub counted : (q : ℕ) → IsTally m (known_at m slots rs) q (tally_of tallies q)
+  pub counted : (q : ServerId) → IsTally m (known_at m slots rs) q (tally_of tallies q)

@@ -42,8 +42,6 @@ mod slots;
 mod stretch;
 mod suggestion;
 mod tally;
-#[cfg(test)]
-mod tests;
 
 /// One server of a cluster: what it knows of each of the 4,096 instances, and its next own instance.
 ///

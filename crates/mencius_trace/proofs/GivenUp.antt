@@ -20,19 +20,19 @@ use Rattle.mencius_trace.specs.Told.{learned_in, learned_lines}
 abbrev pub given_below : (ℕ → Bool) → Trace → ℕ → ℕ → List ℕ
 given_below test w p n = learned_lines w (map (λ j. Learned p j Noop) (filter test (below n)))
 
-given-more : (test : ℕ → Bool) (w : Trace) (p n : ℕ) (b : Bool) → test n ≡ b
-    → given_below test w p (n + 1) ≡ given_below test w p n ++ cond b (learned_line w p n Noop) []
-given-more test w p n b e =
-    ap (λ js. learned_lines w (map (λ j. Learned p j Noop) js)) (filter-below_more test n)
-    ∙ ap (learned_lines w) (map-append (λ j. Learned p j Noop) (filter test (below n)) (cond (test n) (n ∷ []) []))
-    ∙ flat_map-append (learned_in w) (map (λ j. Learned p j Noop) (filter test (below n)))
-    (map (λ j. Learned p j Noop) (cond (test n) (n ∷ []) []))
-    ∙ ap (λ t. given_below test w p n ++ t)
-    (ap (λ c. learned_lines w (map (λ j. Learned p j Noop) (cond c (n ∷ []) []))) e ∙ last b)
+given-more : (test : ℕ → Bool) (w : Trace) (p i : ℕ) (a : Bool) → test i ≡ a
+    → given_below test w p (i + 1) ≡ given_below test w p i ++ cond a (learned_line w p i Noop) []
+given-more test w p i a e =
+    ap (λ js. learned_lines w (map (λ j. Learned p j Noop) js)) (filter-below_more test i)
+    ∙ ap (learned_lines w) (map-append (λ j. Learned p j Noop) (filter test (below i)) (cond (test i) (i ∷ []) []))
+    ∙ flat_map-append (learned_in w) (map (λ j. Learned p j Noop) (filter test (below i)))
+    (map (λ j. Learned p j Noop) (cond (test i) (i ∷ []) []))
+    ∙ ap (λ text. given_below test w p i ++ text)
+    (ap (λ a. learned_lines w (map (λ j. Learned p j Noop) (cond a (i ∷ []) []))) e ∙ last a)
   where
-    last : (c : Bool)
-        → learned_lines w (map (λ j. Learned p j Noop) (cond c (n ∷ []) [])) ≡ cond c (learned_line w p n Noop) []
-    last true = append-nil (learned_line w p n Noop)
+    last : (a : Bool)
+        → learned_lines w (map (λ j. Learned p j Noop) (cond a (i ∷ []) [])) ≡ cond a (learned_line w p i Noop) []
+    last true = append-nil (learned_line w p i Noop)
     last false = refl
 
 -- in the range the owner and what is learned decide
@@ -40,30 +40,30 @@ in_range : (m : Membership) (w : Trace) (p q first stop j : ℕ) → first ≤ j
     → is_given_up m w p q first stop j ≡ (eqb (owner m j) q && is_none (learned w p j))
 in_range m w p q first stop j low high =
     rw (le-leb first j low, lt-ltb j stop high)
-    (by (eqb q (owner m j)) ∙ ap (λ b. b && is_none (learned w p j)) (eqb_swap q (owner m j)))
+    (by (eqb q (owner m j)) ∙ ap (λ a. a && is_none (learned w p j)) (eqb_swap q (owner m j)))
   where
-    by : (b : Bool) → (((b && true) && true) && is_none (learned w p j)) ≡ (b && is_none (learned w p j))
+    by : (a : Bool) → (((a && true) && true) && is_none (learned w p j)) ≡ (a && is_none (learned w p j))
     by true = refl
     by false = refl
 
 early : (m : Membership) (w : Trace) (p q first stop j : ℕ) → j < first → is_given_up m w p q first stop j ≡ false
 early m w p q first stop j h = rw (lt-leb first j h) (by (eqb q (owner m j)))
   where
-    by : (b : Bool) → (((b && false) && nat_lt j stop) && is_none (learned w p j)) ≡ false
+    by : (a : Bool) → (((a && false) && nat_lt j stop) && is_none (learned w p j)) ≡ false
     by true = refl
     by false = refl
 
 late : (m : Membership) (w : Trace) (p q first stop j : ℕ) → stop ≤ j → is_given_up m w p q first stop j ≡ false
 late m w p q first stop j h = rw (le-ltb j stop h) (by (eqb q (owner m j) && nat_le first j))
   where
-    by : (b : Bool) → ((b && false) && is_none (learned w p j)) ≡ false
+    by : (a : Bool) → ((a && false) && is_none (learned w p j)) ≡ false
     by true = refl
     by false = refl
 
 -- a text has the lines of the instances from the first up to a place
-pub record IsGivenTo (m : Membership) (w : Trace) (p q first stop n : ℕ) (before now : List ℕ) : Type 0 where
+pub record IsGivenTo (m : Membership) (w : Trace) (p q first stop i : ℕ) (before now : List ℕ) : Type 0 where
   pub text : p < m.count → first < instance_count
-      → (n ≤ instance_count) × (now ≡ before ++ given_below (is_given_up m w p q first stop) w p n)
+      → (i ≤ instance_count) × (now ≡ before ++ given_below (is_given_up m w p q first stop) w p i)
 
 none_before : (m : Membership) (w : Trace) (p q first stop : ℕ)
     → given_below (is_given_up m w p q first stop) w p first ≡ []
@@ -81,35 +81,36 @@ given_start m w p q first stop before = record {
   text = λ member small. (
     omega (arith, small),
     sym
-        (ap (λ t. before ++ t) (none_before m w p q first stop) ∙ append-nil before),
+        (ap (λ text. before ++ text) (none_before m w p q first stop) ∙ append-nil before),
   );
 }
 
-pub given_next : (m : Membership) (w : Trace) (p q first stop n : ℕ) (before old new : List ℕ)
-    → first ≤ n → n < stop → n < instance_count → IsGivenTo m w p q first stop n before old
-    → (p < m.count → new ≡ old ++ cond (eqb (owner m n) q && is_none (learned w p n)) (learned_line w p n Noop) [])
-    → IsGivenTo m w p q first stop (n + 1) before new
-given_next m w p q first stop n before old new low high fits had got = record {
+pub given_next : (m : Membership) (w : Trace) (p q first stop i : ℕ) (before old new : List ℕ)
+    → first ≤ i → i < stop → i < instance_count → IsGivenTo m w p q first stop i before old
+    → (p < m.count → new ≡ old ++ cond (eqb (owner m i) q && is_none (learned w p i)) (learned_line w p i Noop) [])
+    → IsGivenTo m w p q first stop (i + 1) before new
+given_next m w p q first stop i before old new low high fits had got = record {
   text = λ member small.
       let was = had.text member small in (
         omega (arith, fits),
         got member
-            ∙ ap (λ t. t ++ cond (eqb (owner m n) q && is_none (learned w p n)) (learned_line w p n Noop) []) was.1
-            ∙ append_assoc before (given_below (is_given_up m w p q first stop) w p n) _
-            ∙ ap (λ t. before ++ t)
-            (sym (given-more (is_given_up m w p q first stop) w p n _ (in_range m w p q first stop n low high))),
+            ∙ ap
+            (λ text. text ++ cond (eqb (owner m i) q && is_none (learned w p i)) (learned_line w p i Noop) []) was.1
+            ∙ append_assoc before (given_below (is_given_up m w p q first stop) w p i) _
+            ∙ ap (λ text. before ++ text)
+            (sym (given-more (is_given_up m w p q first stop) w p i _ (in_range m w p q first stop i low high))),
       );
 }
 
-pub given_whole : (m : Membership) (w : Trace) (p q first stop n : ℕ) (before now : List ℕ)
-    → (n < instance_count → stop ≤ n) → IsGivenTo m w p q first stop n before now
+pub given_whole : (m : Membership) (w : Trace) (p q first stop i : ℕ) (before now : List ℕ)
+    → (i < instance_count → stop ≤ i) → IsGivenTo m w p q first stop i before now
     → p < m.count → first < instance_count → now ≡ before ++ learned_lines w (on_skip m w p q first stop)
-given_whole m w p q first stop n before now past had member small =
+given_whole m w p q first stop i before now past had member small =
     let was = had.text member small in
-    let rest : n + (instance_count - n) ≡ instance_count = omega (arith, was.0) in
+    let rest : i + (instance_count - i) ≡ instance_count = omega (arith, was.0) in
     was.1
     ∙ ap (λ js. before ++ learned_lines w (map (λ j. Learned p j Noop) js))
-    (sym (filter-below_none (is_given_up m w p q first stop) n (instance_count - n)
+    (sym (filter-below_none (is_given_up m w p q first stop) i (instance_count - i)
     (λ j low high. late m w p q first stop j (omega (arith, past (omega (arith, low, high, rest)), low))))
-    ∙ ap (λ k. filter (is_given_up m w p q first stop) (below k)) rest
+    ∙ ap (λ n. filter (is_given_up m w p q first stop) (below n)) rest
     ∙ ap (filter (is_given_up m w p q first stop)) (sym instances-below))

@@ -16,7 +16,7 @@ use Rattle.mencius_cluster.specs.Answers.{if_member, of_member}
 use Rattle.mencius_trace.specs.Before.{executing}
 
 pub of_member_is : {A : Type 0} (m : Membership) (p : ℕ) (o : Option A) → p < m.count → of_member m p o ≡ o
-of_member_is m p o h = ap (λ (b : Bool). cond b o None) (lt-ltb p m.count h)
+of_member_is m p o h = ap (λ (a : Bool). cond a o None) (lt-ltb p m.count h)
 
 pub if_member_is : {A : Type 0} (m : Membership) (p : ℕ) (x y : A) → p < m.count → Some y ≡ if_member m p x → y ≡ x
 if_member_is m p x y h e = let f = e ∙ of_member_is m p (Some x) h in cc
@@ -38,6 +38,6 @@ pub counted_by : (m n : Membership) (w : Trace) (p i j : ℕ) (x : Message) (g :
 counted_by m n w p i j x g (Ok u) old new at same known h = λ member small.
     let here : g ≡ glance m w p (place_of x) =
     if_member_is m p _ _ member
-    (subst (λ k. k < instance_count → Some g ≡ if_member m p (glance m w p k)) at known small) in
-    h ∙ ap (λ (k : Membership). old ++ count_line k p g x) same ∙ ap (λ k. old ++ count_line m p k x) here
+    (subst (λ i. i < instance_count → Some g ≡ if_member m p (glance m w p i)) at known small) in
+    h ∙ ap (λ (y : Membership). old ++ count_line y p g x) same ∙ ap (λ y. old ++ count_line m p y x) here
 counted_by m n w p i j x g (Err e) old new at same known h = tt

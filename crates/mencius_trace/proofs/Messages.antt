@@ -20,7 +20,7 @@ messages_start v first end before =
     let none : first - first ≡ 0 = omega arith in
     record {
       still = λ h. refl;
-      text = sym (ap (λ k. before ++ messages_from v first k) none ∙ append-nil before);
+      text = sym (ap (λ n. before ++ messages_from v first n) none ∙ append-nil before);
     }
 
 -- one message more
@@ -33,12 +33,12 @@ messages_further v first end n before old new low high had got =
     let range = range_last first (n - first) n (omega (arith, low)) in
     record {
       still = λ h. omega (arith, h, low, high);
-      text = got ∙ ap (λ t. t ++ line n) had.text
+      text = got ∙ ap (λ text. text ++ line n) had.text
           ∙ append_assoc before (messages_from v first (n - first)) (line n)
-          ∙ ap (λ t. before ++ t)
+          ∙ ap (λ text. before ++ text)
           (sym (ap (messages_from v first) on ∙ ap (flat_map line) range
           ∙ flat_map-append line (range_with_len first (n - first)) (n ∷ [])
-          ∙ ap (λ t. messages_from v first (n - first) ++ t) (append-nil (line n))));
+          ∙ ap (λ text. messages_from v first (n - first) ++ text) (append-nil (line n))));
     }
 
 get_here : (xs ys : List Message) (x : Message) → slice_get (xs ++ x ∷ ys) (length xs) ≡ Some x
@@ -55,7 +55,7 @@ of_messages_are f xs before (x ∷ ms) e =
     let next : length (before ++ x ∷ []) ≡ length before + 1 = length-append before (x ∷ []) in
     let rest = of_messages_are f xs (before ++ x ∷ []) ms (e ∙ sym (append_assoc before (x ∷ []) ms)) in
     ap (λ o. of_message f (length before) o ++ of_messages f xs (length before + 1) (length ms)) here
-    ∙ ap (λ t. f (length before, x) ++ t)
+    ∙ ap (λ text. f (length before, x) ++ text)
     (subst (λ k. of_messages f xs k (length ms) ≡ flat_map f (enumerate_from k ms)) next rest)
 
 -- all messages
@@ -63,7 +63,7 @@ pub messages_whole : (v : Trace) (first end n : ℕ) (before now : List ℕ) →
     → (first ≤ end → n ≤ end) → end ≤ n → end ≡ length (sent v) → IsSentTo v first end n before now
     → now ≡ before ++ messages_from v first (length (sent v) - first)
 messages_whole v first end n before now low high past is had =
-    had.text ∙ ap (λ k. before ++ messages_from v first k) (elim (cases_lt end first) [
+    had.text ∙ ap (λ count. before ++ messages_from v first count) (elim (cases_lt end first) [
       | inl none ↦ let at = had.still none in omega (arith, none, at, is)
       | inr some ↦ let at = high some in omega (arith, at, past, is)
     ])

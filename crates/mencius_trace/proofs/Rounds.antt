@@ -21,17 +21,17 @@ texts_more : (f : ℕ → List ℕ) (n : ℕ)
 texts_more f n =
     let on : n + 1 ≡ suc n = omega arith in
     let last : range_with_len 0 (suc n) ≡ range_with_len 0 n ++ n ∷ [] = range_last 0 n n (omega arith) in
-    ap (λ k. flat_map f (range_with_len 0 k)) on ∙ ap (flat_map f) last
+    ap (λ x. flat_map f (range_with_len 0 x)) on ∙ ap (flat_map f) last
     ∙ flat_map-append f (range_with_len 0 n) (n ∷ [])
-    ∙ ap (λ t. flat_map f (range_with_len 0 n) ++ t) (append-nil (f n))
+    ∙ ap (λ text. flat_map f (range_with_len 0 n) ++ text) (append-nil (f n))
 
 -- a text that had the first of these texts, and then got the next
 pub texts_further : (f : ℕ → List ℕ) (n : ℕ) (before old new : List ℕ)
     → old ≡ before ++ flat_map f (range_with_len 0 n) → new ≡ old ++ f n
     → new ≡ before ++ flat_map f (range_with_len 0 (n + 1))
 texts_further f n before old new had got =
-    got ∙ ap (λ t. t ++ f n) had ∙ append_assoc before (flat_map f (range_with_len 0 n)) (f n)
-    ∙ ap (λ t. before ++ t) (sym (texts_more f n))
+    got ∙ ap (λ text. text ++ f n) had ∙ append_assoc before (flat_map f (range_with_len 0 n)) (f n)
+    ∙ ap (λ text. before ++ text) (sym (texts_more f n))
 
 -- ---- tickets that wait
 
@@ -44,9 +44,9 @@ is_some_list [] = false
 is_some_list (t ∷ ts) = true
 
 -- a text has the tickets of the instances below a place, and it is known whether there are any
-pub record IsWaitingTo (w : Trace) (p n : ℕ) (some : Bool) (before now : List ℕ) : Type 0 where
-  pub text : now ≡ before ++ flat_map (waiting_ticket w) (waiting_below w p n)
-  pub some_is : some ≡ is_some_list (waiting_below w p n)
+pub record IsWaitingTo (w : Trace) (p i : ℕ) (some : Bool) (before now : List ℕ) : Type 0 where
+  pub text : now ≡ before ++ flat_map (waiting_ticket w) (waiting_below w p i)
+  pub some_is : some ≡ is_some_list (waiting_below w p i)
 
 below_none : (w : Trace) (p : ℕ) → waiting_below w p 0 ≡ []
 unfolding below
@@ -58,10 +58,10 @@ waiting_start w p before = record {
   some_is = sym (ap is_some_list (below_none w p));
 }
 
-waiting_more : (w : Trace) (p n : ℕ)
-    → waiting_below w p (n + 1) ≡ waiting_below w p n ++ cons_option (waiting_at w p n) []
-waiting_more w p n =
-    ap (filter_map (waiting_at w p)) (below-more n) ∙ filter_map-append (waiting_at w p) (below n) (n ∷ [])
+waiting_more : (w : Trace) (p i : ℕ)
+    → waiting_below w p (i + 1) ≡ waiting_below w p i ++ cons_option (waiting_at w p i) []
+waiting_more w p i =
+    ap (filter_map (waiting_at w p)) (below-more i) ∙ filter_map-append (waiting_at w p) (below i) (i ∷ [])
 
 some_more : (xs : List ℕ) (o : Option ℕ) → (is_some o || is_some_list xs) ≡ is_some_list (xs ++ cons_option o [])
 some_more xs None = ap is_some_list (sym (append-nil xs))
@@ -72,20 +72,20 @@ one_more : (w : Trace) (o : Option ℕ) → ticket_in w o ≡ flat_map (waiting_
 one_more w None = refl
 one_more w (Some t) = sym (append-nil (waiting_ticket w t))
 
-pub waiting_next : (w : Trace) (p n : ℕ) (some one : Bool) (before old new : List ℕ)
-    → IsWaitingTo w p n some before old → new ≡ old ++ ticket_in w (waiting_at w p n)
-    → one ≡ is_some (waiting_at w p n) → IsWaitingTo w p (n + 1) (one || some) before new
-waiting_next w p n some one before old new had got is =
-    let o = waiting_at w p n in
-    let xs = waiting_below w p n in
+pub waiting_next : (w : Trace) (p i : ℕ) (some one : Bool) (before old new : List ℕ)
+    → IsWaitingTo w p i some before old → new ≡ old ++ ticket_in w (waiting_at w p i)
+    → one ≡ is_some (waiting_at w p i) → IsWaitingTo w p (i + 1) (one || some) before new
+waiting_next w p i some one before old new had got is =
+    let o = waiting_at w p i in
+    let xs = waiting_below w p i in
     let f = waiting_ticket w in
     record {
-      text = got ∙ ap (λ t. t ++ ticket_in w o) had.text ∙ append_assoc before (flat_map f xs) (ticket_in w o)
-          ∙ ap (λ t. before ++ (flat_map f xs ++ t)) (one_more w o)
-          ∙ ap (λ t. before ++ t) (sym (ap (flat_map f) (waiting_more w p n)
+      text = got ∙ ap (λ text. text ++ ticket_in w o) had.text ∙ append_assoc before (flat_map f xs) (ticket_in w o)
+          ∙ ap (λ text. before ++ (flat_map f xs ++ text)) (one_more w o)
+          ∙ ap (λ text. before ++ text) (sym (ap (flat_map f) (waiting_more w p i)
           ∙ flat_map-append f xs (cons_option o [])));
-      some_is = ap (λ b. b || some) is ∙ ap (λ b. is_some o || b) had.some_is ∙ some_more xs o
-          ∙ ap is_some_list (sym (waiting_more w p n));
+      some_is = ap (λ a. a || some) is ∙ ap (λ a. is_some o || a) had.some_is ∙ some_more xs o
+          ∙ ap is_some_list (sym (waiting_more w p i));
     }
 
 all_below : (w : Trace) (p : ℕ) → waiting_below w p instance_count ≡ waiting w p
@@ -103,12 +103,12 @@ none_text w (x ∷ xs) h = absurd (cc)
 pub waiting_some : (w : Trace) (p : ℕ) (before now : List ℕ) → IsWaitingTo w p instance_count true before now
     → now ≡ before ++ tickets_text w (waiting w p)
 waiting_some w p before now had =
-    had.text ∙ ap (λ t. before ++ t) (some_text w (waiting_below w p instance_count) had.some_is)
+    had.text ∙ ap (λ text. before ++ text) (some_text w (waiting_below w p instance_count) had.some_is)
     ∙ ap (λ ts. before ++ tickets_text w ts) (all_below w p)
 
 pub waiting_none : (w : Trace) (p : ℕ) (before old new : List ℕ) → IsWaitingTo w p instance_count false before old
     → new ≡ old ++ codes " -" → new ≡ before ++ tickets_text w (waiting w p)
 waiting_none w p before old new had got =
     let xs = waiting_below w p instance_count in
-    got ∙ ap (λ t. t ++ codes " -") had.text ∙ append_assoc before (flat_map (waiting_ticket w) xs) (codes " -")
-    ∙ ap (λ t. before ++ t) (none_text w xs had.some_is) ∙ ap (λ ts. before ++ tickets_text w ts) (all_below w p)
+    got ∙ ap (λ text. text ++ codes " -") had.text ∙ append_assoc before (flat_map (waiting_ticket w) xs) (codes " -")
+    ∙ ap (λ text. before ++ text) (none_text w xs had.some_is) ∙ ap (λ ts. before ++ tickets_text w ts) (all_below w p)

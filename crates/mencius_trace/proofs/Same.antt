@@ -77,12 +77,12 @@ notice_same m w v _ h small taken = refl
 -- ---- what was learned
 
 -- nothing is told of what was sent
-one_if : (v : Trace) (c : Bool) (x : Message) → learned_lines v (cond c (Sent x ∷ []) []) ≡ []
+one_if : (v : Trace) (a : Bool) (x : Message) → learned_lines v (cond a (Sent x ∷ []) []) ≡ []
 one_if v true x = refl
 one_if v false x = refl
 
-two_if : (v : Trace) (c d : Bool) (x y : Message)
-    → learned_lines v (cond c (Sent x ∷ []) [] ++ cond d (Sent y ∷ []) []) ≡ []
+two_if : (v : Trace) (a d : Bool) (x y : Message)
+    → learned_lines v (cond a (Sent x ∷ []) [] ++ cond d (Sent y ∷ []) []) ≡ []
 two_if v true d x y = one_if v d y
 two_if v false d x y = one_if v d y
 
@@ -111,7 +111,7 @@ retried m w v p (Some t) = suggested v p t (free_instance m w p)
 noop_same : (w v : Trace) (p : ℕ) (js : List ℕ)
     → learned_lines w (map (λ (j : ℕ). Learned p j Noop) js) ≡ learned_lines v (map (λ (j : ℕ). Learned p j Noop) js)
 noop_same w v p [] = refl
-noop_same w v p (j ∷ js) = ap (λ t. learned_in v (Learned p j Noop) ++ t) (noop_same w v p js)
+noop_same w v p (j ∷ js) = ap (λ text. learned_in v (Learned p j Noop) ++ text) (noop_same w v p js)
 
 -- what was just learned is what the trace says
 module _ (w : Trace) (k p i : ℕ) (x : Value) (unlearned : learned w p i ≡ None) where
@@ -121,9 +121,9 @@ module _ (w : Trace) (k p i : ℕ) (x : Value) (unlearned : learned w p i ≡ No
   just_sent : (y : Message) → learned (Sent y ∷ Learned p i x ∷ Heard k p ∷ w) p i ≡ Some x
   just_sent y = rw (unlearned, same_two p i) refl
 
-undecided : (c majority : Bool) (l o : Option Value) (x : Value)
-    → cond c (decision_due l o majority) None ≡ Some x → l ≡ None
-undecided c majority None o x h = refl
+undecided : (a majority : Bool) (l o : Option Value) (x : Value)
+    → cond a (decision_due l o majority) None ≡ Some x → l ≡ None
+undecided a majority None o x h = refl
 undecided true majority (Some y) o x h = absurd (cc)
 undecided false majority (Some y) o x h = absurd (cc)
 
@@ -132,15 +132,15 @@ learned_accepted : (w : Trace) (k p i : ℕ) (o : Option Value) → ((x : Value)
     ≡ learned_lines (followed_by (Heard k p ∷ w) (decision_lines p i o)) (decision_lines p i o)
 learned_accepted w k p i None h = refl
 learned_accepted w k p i (Some x) h =
-    let u = Sent (Learn p i x) ∷ Learned p i x ∷ Heard k p ∷ w in
-    ap (value_learned u p i) (just_sent w k p i x (h x refl) (Learn p i x)) ∙ sym (append-nil (learned_line u p i x))
+    let v = Sent (Learn p i x) ∷ Learned p i x ∷ Heard k p ∷ w in
+    ap (value_learned v p i) (just_sent w k p i x (h x refl) (Learn p i x)) ∙ sym (append-nil (learned_line v p i x))
 
 learned_told : (w : Trace) (k p i : ℕ) (x : Value) (o : Option Value) → learned w p i ≡ o
     → learned_at (followed_by (Heard k p ∷ w) (learning_lines p i x o)) p i (learnings (learning_lines p i x o))
     ≡ learned_lines (followed_by (Heard k p ∷ w) (learning_lines p i x o)) (learning_lines p i x o)
 learned_told w k p i x None h =
-    let u = Learned p i x ∷ Heard k p ∷ w in
-    ap (value_learned u p i) (just w k p i x h) ∙ sym (append-nil (learned_line u p i x))
+    let v = Learned p i x ∷ Heard k p ∷ w in
+    ap (value_learned v p i) (just w k p i x h) ∙ sym (append-nil (learned_line v p i x))
 learned_told w k p i x (Some y) h = refl
 
 module _ (m : Membership) (w : Trace) (k p : ℕ) (g : List ℕ) where

@@ -48,6 +48,6 @@ of_messages f xs first count = flat_map (λ k. of_message f k (slice_get xs k)) 
 abbrev pub messages_from : Trace → MessageNo → ℕ → List ℕ
 messages_from v first count = of_messages (sent_line v) (sent v) first count
 
-abbrev pub execution_after : Trace → ServerId → Bool → Option (ℕ × Value) → List ℕ
+abbrev pub execution_after : Trace → ServerId → Bool → Option (Inst × Value) → List ℕ
 execution_after v p is_awaited None = []
 execution_after v p is_awaited (Some (i, value)) = executed_line v p i value ++ awaited_lines v is_awaited value

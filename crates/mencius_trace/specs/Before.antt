@@ -2,7 +2,7 @@
 use Rattle.std.specs.Prelude.{◌≡◌, Ok, ◌≤◌, ℕ, ◌<◌, Bool, false, List, [], Option, Some, None, option_map, slice_get, string_bytes, IfSome}
 use Rattle.mencius_base.specs.Limits.{instance_count, most_servers}
 use Rattle.mencius_base.specs.Members.{Membership}
-use Rattle.mencius_base.specs.Numbers.{ServerId}
+use Rattle.mencius_base.specs.Numbers.{ServerId, Inst}
 use Rattle.mencius_base.specs.declared.event.Event.{Event}
 use Rattle.mencius_base.specs.declared.event.Event.TheVariants.{Deliver, Execute}
 use Rattle.mencius_base.specs.declared.message.Message.{Message}
@@ -31,12 +31,12 @@ given_up m w p (Some (Skip from first stop)) = learned_lines w (on_skip m w p fr
 given_up m w p _ = []
 
 -- the instance that an event executes, with its value
-abbrev pub executing : Trace → Event → Option (ℕ × Value)
+abbrev pub executing : Trace → Event → Option (Inst × Value)
 executing w (Execute p) = option_map (λ x. (done w p, x)) (learned w p (done w p))
 executing w _ = None
 
 -- whether the command that an event executes has no reply yet
-abbrev pub is_awaited : Trace → Option (ℕ × Value) → Bool
+abbrev pub is_awaited : Trace → Option (Inst × Value) → Bool
 is_awaited w (Some (i, Ticket t)) = is_pending w (command_at w t)
 is_awaited w _ = false
 
@@ -50,13 +50,13 @@ IsGivenUp m w p heard text =
     p < m.count → IfSome heard (λ x. place_of x < instance_count) → text ≡ given_up m w p heard
 
 -- the notes are those of this event
-pub record IsBefore (c : ClusterState) (e : Event) (b : Before) : Type 0 where
-  pub few : c.members.count ≤ most_servers
-  pub replays : replay c.members c.journal ≡ Ok (trace_of c)
-  pub server : b.server ≡ actor e
-  pub front : b.front ≡ if_member c.members (actor e) (front c.members (trace_of c) (actor e))
-  pub heard : b.heard ≡ heard_in (trace_of c) e
-  pub hearing : IsTaken c.members (trace_of c) (actor e) (heard_in (trace_of c) e) b.hearing
-  pub given_up : IsGivenUp c.members (trace_of c) (actor e) (heard_in (trace_of c) e) (string_bytes b.given_up)
-  pub executing : actor e < c.members.count → b.executing ≡ executing (trace_of c) e
-  pub awaited : b.is_awaited ≡ is_awaited (trace_of c) b.executing
+pub record IsBefore (x : ClusterState) (e : Event) (notes : Before) : Type 0 where
+  pub few : x.members.count ≤ most_servers
+  pub replays : replay x.members x.journal ≡ Ok (trace_of x)
+  pub server : notes.server ≡ actor e
+  pub front : notes.front ≡ if_member x.members (actor e) (front x.members (trace_of x) (actor e))
+  pub heard : notes.heard ≡ heard_in (trace_of x) e
+  pub hearing : IsTaken x.members (trace_of x) (actor e) (heard_in (trace_of x) e) notes.hearing
+  pub given_up : IsGivenUp x.members (trace_of x) (actor e) (heard_in (trace_of x) e) (string_bytes notes.given_up)
+  pub executing : actor e < x.members.count → notes.executing ≡ executing (trace_of x) e
+  pub awaited : notes.is_awaited ≡ is_awaited (trace_of x) notes.executing

@@ -143,7 +143,7 @@ is_not_yet _ = false
 -- the command has no reply yet
 abbrev pub is_pending : Trace → Option Command → Bool
 is_pending w None = false
-is_pending w (Some c) = is_not_yet (reply_of w c.id)
+is_pending w (Some command) = is_not_yet (reply_of w command.id)
 
 abbrev pub given_line : CommandId → Option Reply → List ℕ
 given_line id (Some (Is former)) = codes "reply " ++ id_text id ++ 32 ∷ former_text former ++ line_feed
@@ -151,7 +151,7 @@ given_line id _ = []
 
 abbrev pub given_to : Trace → Option Command → List ℕ
 given_to v None = []
-given_to v (Some c) = given_line c.id (reply_of v c.id)
+given_to v (Some command) = given_line command.id (reply_of v command.id)
 
 -- a reply that was not given before
 abbrev pub reply_lines : Trace → Trace → Value → List ℕ

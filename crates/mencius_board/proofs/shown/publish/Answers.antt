@@ -10,7 +10,8 @@ publish_as-requires g c next is =
     let now : VersionState = c.args.writer.desk.shown.value in
     let h : MarkState = c.args.log.now in
     let old : List Operation = drop c.args.writer.behind c.args.writer.log.items in
-    stamped_turns _ _ c.append.new.self.desk.shown.value now next old _ h c.again.result
+    let all : List Operation = drop c.append.new.self.behind c.append.new.self.log.items in
+    stamped_turns _ _ c.append.new.self.desk.shown.value now next old all h c.again.result
     (ap (λ d. d.shown.value) c.append.ensures.desk) c.in-Ok.ensures.pending c.again.ensures
     c.requires.marked c.requires.whole is
 

@@ -1,6 +1,7 @@
 use Rattle.std.proofs.Common.{◌≡◌, None, Ok, length, map, nat_lt, refl, sym, ap, ◌∙◌, arith}
 use Rattle.std.specs.List.{list_all}
 use Rattle.json.specs.Json.{after_end_array}
+use Rattle.mencius_base.specs.Limits.{most_servers}
 use Rattle.mencius_input.specs.Grammar.{command_within}
 use Rattle.mencius_input.specs.Judged.{seen}
 use Rattle.mencius_input.specs.Plan.{commands_of}
@@ -27,11 +28,12 @@ items-preserved c =
     let going : (after_end_array l.reader ≡ None) × (c.take_end_array.new.self ≡ l.reader) = grind arith in
     let done = c.in_ok-commands.ensures in
     let many : c.len.result ≡ length l.lists.items = grind arith in
-    few_further (list_all command_within) 7 _ _ l.invariant going.0 _ done.ok.0 _ _ (rw (← going.1) done.shorter)
+    few_further (list_all command_within) most_servers _ _ l.invariant going.0 _ done.ok.0 _ _
+    (rw (← going.1) done.shorter)
     (rw (← going.1) done.ok.1)
     (sym done.ok.2)
-    (few_seen (λ v. v.items) 7 _ _ _ _ _ _ _ c.where_room-commands.ensures
-    (ap (λ n. nat_lt n 7) many) c.in_ok-note.ensures.noted)
+    (few_seen (λ v. v.items) most_servers _ _ _ _ _ _ _ c.where_room-commands.ensures
+    (ap (λ n. nat_lt n most_servers) many) c.in_ok-note.ensures.noted)
 
 pub returns-clause-ok : goal.returns-clause-ok
 returns-clause-ok c =

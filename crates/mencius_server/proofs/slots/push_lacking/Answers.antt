@@ -14,17 +14,31 @@ push_at-requires-clause-room c =
     inv.own inv.low c.loop-inst-test.true (omega arith) (λ j l mine. l) inv.walked _ _ inv.room
     (sym c.covers.ensures ∙ c.if-not-covers.true)
 
+-- an instance that has a slot lacks none
+whole : (c : goal.After-next_owned-inst) → c.is_none.result ≡ false
+    → is_lacking c.args.stretch c.args.skipped.now (standing c.args.places.now.items c.args.slots.now.items)
+    c.loop-inst.inst ≡ false
+whole c some =
+    let inv = c.loop-inst.invariant in
+    stands_whole c.args.stretch c.args.skipped.now (standing c.args.places.now.items c.args.slots.now.items)
+    (standing c.loop-inst.places.items c.loop-inst.slots.items) c.loop-inst.inst c.next_owned-inst.result
+    inv.own inv.low c.loop-inst-test.true c.next_owned-inst.ensures.above c.next_owned-inst.ensures.least inv.walked
+    _ _ inv.room
+    (some_read c.loop-inst.places.items c.loop-inst.slots.items _ c.loop-inst.inst c.index.result.now
+    c.is_none.result c.loop-inst.slots.ok.0 inv.placed
+    (omega (arith, inv.wide, c.loop-inst-test.true, c.loop-inst.places.ok.0)) c.index.ensures c.is_none.ensures some)
+
 pub loop-inst-preserved : goal.loop-inst-preserved
 loop-inst-preserved c =
     let inv = c.loop-inst.invariant in
+    let old = standing c.args.places.now.items c.args.slots.now.items in
+    let now = standing c.loop-inst.places.items c.loop-inst.slots.items in
     let ahead = c.next_owned-inst.ensures.above in
     let least = c.next_owned-inst.ensures.least in
     elim c.if-is_none.branch [
       | then-is_none+then-not-covers w ↦
           let clear = sym w.covers.ensures ∙ w.if-not-covers.true in
-          let pushed = filled c.args.stretch c.args.skipped.now
-          (standing c.args.places.now.items c.args.slots.now.items)
-          (standing c.loop-inst.places.items c.loop-inst.slots.items) c.loop-inst.inst c.next_owned-inst.result
+          let pushed = filled c.args.stretch c.args.skipped.now old now c.loop-inst.inst c.next_owned-inst.result
           inv.own inv.low c.loop-inst-test.true ahead least inv.walked _ _ inv.room clear _
           w.push_at.ensures.stand _ w.push_at.ensures.more in
           rw (w.places-is, w.slots-is) (record {
@@ -36,23 +50,15 @@ loop-inst-preserved c =
             room = rw w.push_at.ensures.room pushed.1;
           })
       | else-is_none w ↦
-          let old = standing c.args.places.now.items c.args.slots.now.items in
-          let now = standing c.loop-inst.places.items c.loop-inst.slots.items in
-          let whole : is_lacking c.args.stretch c.args.skipped.now old c.loop-inst.inst ≡ false =
+          let full : is_lacking c.args.stretch c.args.skipped.now old c.loop-inst.inst ≡ false =
           elim w.else-is_none.branch [
             | else-is_none-via-then-is_none+else-not-covers v ↦
                 lacking_covered c.args.stretch c.args.skipped.now old c.loop-inst.inst
                 (sym v.covers.ensures ∙ v.if-not-covers.false)
-            | else-is_none-via-else-is_none v ↦
-                stands_whole c.args.stretch c.args.skipped.now old now c.loop-inst.inst c.next_owned-inst.result
-                inv.own inv.low c.loop-inst-test.true ahead least inv.walked _ _ inv.room
-                (some_read c.loop-inst.places.items c.loop-inst.slots.items _ c.loop-inst.inst c.index.result.now
-                c.is_none.result c.loop-inst.slots.ok.0 inv.placed
-                (omega (arith, inv.wide, c.loop-inst-test.true, c.loop-inst.places.ok.0)) c.index.ensures
-                c.is_none.ensures v.if-is_none.false)
+            | else-is_none-via-else-is_none v ↦ whole c v.if-is_none.false
           ] in
           let passing = passed c.args.stretch c.args.skipped.now old now c.loop-inst.inst c.next_owned-inst.result
-          inv.own inv.low c.loop-inst-test.true ahead least inv.walked _ _ inv.room whole in
+          inv.own inv.low c.loop-inst-test.true ahead least inv.walked _ _ inv.room full in
           rw (w.places-is, w.slots-is) (record {
             own = c.next_owned-inst.ensures.owned ∙ inv.own;
             low = omega (arith, inv.low, ahead);

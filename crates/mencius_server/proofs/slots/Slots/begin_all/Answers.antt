@@ -5,7 +5,7 @@ use Rattle.mencius_server.specs.Tallies.{is_spent}
 use Rattle.mencius_server.specs.Slots.{begun, is_begun, is_in, is_unlearned, prepare_at, stand_at}
 use Rattle.mencius_server.proofs.Begins.{begun_each, room_here, room_more, room_none, sent_more, sent_none}
 use Rattle.mencius_server.proofs.Gaps.{room_gap, sent_gap, sent_to}
-use Rattle.mencius_server.proofs.Walks.{begun_in, begun_out, in_here, out_before, out_between, out_past, prepare_here, unbegun_out, unlearned_in, walked_more, walked_start, written_here, written_off}
+use Rattle.mencius_server.proofs.Walks.{begun_in, begun_out, in_here, out_before, out_between, out_past, prepare_here, unbegun_between, unbegun_out, unlearned_in, walked_more, walked_start, written_here, written_off}
 use Rattle.mencius_server.proofs.slots.Slots.begin_all.Goals as goal
 use Rattle.mencius_server.proofs.slots.Slots.begin_all.Goals.{then-is_last, else-is_last}
 
@@ -49,12 +49,11 @@ loop-inst-preserved c =
     in_here c.args.stretch c.loop-inst.inst inv.own inv.low c.loop-inst-test.true in
     let start = inv.walked.rest c.loop-inst.inst (omega arith) in
     let begins = unlearned_in c.args.stretch c.args.self.now c.loop-inst.inst here in
-    let ahead : c.loop-inst.inst + 1 ≤ c.next_owned-inst.result = c.next_owned-inst.ensures.above in
-    let out : (j : ℕ) → c.loop-inst.inst + 1 ≤ j → j < c.next_owned-inst.result → is_in c.args.stretch j ≡ false =
-    out_between c.args.stretch c.loop-inst.inst c.next_owned-inst.result inv.own c.next_owned-inst.ensures.least in
-    let between : (j : ℕ) → c.loop-inst.inst + 1 ≤ j → j < c.next_owned-inst.result
-    → is_begun c.args.stretch c.args.self.now j ≡ false =
-    λ j low high. unbegun_out c.args.stretch c.args.self.now j (out j low high) in
+    let ahead = c.next_owned-inst.ensures.above in
+    let out = out_between c.args.stretch c.loop-inst.inst c.next_owned-inst.result inv.own
+    c.next_owned-inst.ensures.least in
+    let between = unbegun_between c.args.stretch c.args.self.now c.loop-inst.inst c.next_owned-inst.result inv.own
+    c.next_owned-inst.ensures.least in
     let begin = option_map (begun c.args.stretch.members c.args.id) in
     let off = written_off begin (stand_at c.loop-inst.self) (stand_at c.begin-is_last_here.new.self)
     c.loop-inst.inst c.begin-is_last_here.ensures.slots in

@@ -2,7 +2,7 @@
 ghost use Rattle.std.specs.Prelude.{◌≡◌};
 
 use super::fixtures::{decide, new_cluster, set_number, set_x};
-use crate::{Board, BoardFault, News, Reader};
+use mencius_board::{Board, BoardFault, News, Reader};
 use std::alloc::Global;
 use std::panic::Expect;
 use std::process::Abort;

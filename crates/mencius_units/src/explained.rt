@@ -1,8 +1,6 @@
 //! The words that are said of each row of the fault tables.
 
-use crate::explaining::explain;
-use crate::fault::AppFault;
-use crate::scenario::read_scenario;
+use mencius_input::{AppFault, explain, read_scenario};
 use std::alloc::{AllocError, Global};
 use std::process::Abort;
 use std::test::Fail;

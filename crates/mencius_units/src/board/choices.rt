@@ -2,8 +2,8 @@
 ghost use Rattle.std.specs.Prelude.{◌≡◌, ◌<◌};
 
 use super::fixtures::{new_cluster, set_number, set_x};
-use crate::{Chooser, Pick, Plan, pick};
 use mencius_base::Event;
+use mencius_board::{Chooser, Pick, Plan, pick};
 use mencius_cluster::Cluster;
 use rand_core::utils::NextWord;
 use rand_pcg::Lcg64Xsh32;

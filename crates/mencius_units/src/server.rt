@@ -2,8 +2,8 @@
 
 ghost use Rattle.std.specs.Prelude.{◌<◌};
 
-use crate::Server;
 use mencius_base::{Ballot, Members, Message, Outbox, Refusal, Value, Vote};
+use mencius_server::Server;
 use std::alloc::Global;
 use std::process::Abort;
 use std::test::Fail;

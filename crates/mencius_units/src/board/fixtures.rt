@@ -1,8 +1,8 @@
 //! Commands, clusters and boards that the tests share.
 ghost use Rattle.std.specs.Prelude.{◌≡◌};
 
-use crate::Board;
 use mencius_base::{Command, CommandId, Event, Key, Members, Op, Text};
+use mencius_board::Board;
 use mencius_cluster::Cluster;
 use std::alloc::Global;
 use std::panic::Expect;

@@ -1,6 +1,6 @@
 //! Workers run side by side, each turn passes the gate and steps the board.
 use super::fixtures::{new_cluster, set_number};
-use crate::{Board, BoardFault, Chooser, Gate, Open, Plan, lend, run_workers, worker_turn};
+use mencius_board::{Board, BoardFault, Chooser, Gate, Open, Plan, lend, run_workers, worker_turn};
 use mencius_cluster::Cluster;
 use std::alloc::Global;
 use std::panic::Expect;

@@ -1,0 +1,134 @@
+-- How the first byte of a text without a backslash decides its tokens.
+use Rattle.std.proofs.Common.{◌≡◌, ◌≢◌, ℕ, ◌<◌, ◌==◌, List, [], ◌∷◌, length, drop, Bool, true, false, cond, not, ◌||◌, inl, inr, refl, ap, sym, subst, arith, zero, suc}
+use Rattle.std.proofs.lemmas.Bool.{and_parts, eqb-true, or_cases}
+use Rattle.json.specs.Token.{begin_array, begin_object, end_array, end_object}
+use Rattle.json.specs.Lex.{Class, Lexeme, Mode, between, class, colon, comma, lex, token, in_string, in_word, quote, backslash, operator, space, other, lex_byte}
+use Rattle.json.specs.Word.{is_operator, is_space}
+use Rattle.mencius_input.specs.Tokens.{first, is_delimiter, is_plain}
+
+-- ---- the first byte
+
+pub begins_by : (t : List ℕ) (c : ℕ) → first t ≡ c → 0 < c → t ≡ c ∷ drop 1 t
+begins_by [] c e h = absurd (omega arith)
+begins_by (x ∷ xs) c e h = ap (λ (b : ℕ). b ∷ xs) e
+
+pub some_first : (t : List ℕ) → 0 < length t → t ≡ first t ∷ drop 1 t
+some_first [] h = absurd (omega arith)
+some_first (x ∷ xs) h = refl
+
+pub length_first : (t : List ℕ) → 0 < first t → 0 < length t
+length_first [] h = absurd (omega arith)
+length_first (x ∷ xs) h = omega arith
+
+pub plain-drop : (t : List ℕ) (i : ℕ) → is_plain t ≡ true → is_plain (drop i t) ≡ true
+plain-drop t zero h = h
+plain-drop [] (suc i) h = refl
+plain-drop (x ∷ xs) (suc i) h = plain-drop xs i (and_parts _ _ h).1
+
+pub eqb_false : (x c : ℕ) → (x ≡ c → ⊥) → (x == c) ≡ false
+eqb_false x c none = by_test (x == c) refl
+  where
+    by_test : (t : Bool) → (x == c) ≡ t → (x == c) ≡ false
+    by_test true is = absurd (none (eqb-true x c is))
+    by_test false is = is
+
+pub not_true : (b : Bool) → not b ≡ true → b ≡ false
+not_true true h = absurd (cc)
+not_true false h = refl
+
+pub neither : (a b : Bool) → (a || b) ≡ false → (a ≡ false) × (b ≡ false)
+neither true b h = absurd (cc)
+neither false true h = absurd (cc)
+neither false false h = (refl, refl)
+
+-- ---- blanks
+
+pub is_one_blank : (P : ℕ → Type 0) → P 32 → P 9 → P 10 → P 13 → (c : ℕ) → is_space c ≡ true → P c
+is_one_blank P a b d e c h = elim (or_cases _ _ h) [
+  | inr last ↦ subst P (sym (eqb-true c 13 last)) e
+  | inl more ↦ elim (or_cases _ _ more) [
+    | inr last ↦ subst P (sym (eqb-true c 10 last)) d
+    | inl two ↦ elim (or_cases _ _ two) [
+      | inr last ↦ subst P (sym (eqb-true c 9 last)) b
+      | inl one ↦ subst P (sym (eqb-true c 32 one)) a
+    ]
+  ]
+]
+
+pub blank_bounds : (c : ℕ) → is_space c ≡ true → (0 < c) × (c < 128)
+blank_bounds =
+    is_one_blank (λ (c : ℕ). (0 < c) × (c < 128)) (omega arith, omega arith) (omega arith, omega arith)
+    (omega arith, omega arith) (omega arith, omega arith)
+
+pub blank_passed : (c : ℕ) (xs : List ℕ) → is_space c ≡ true → lex between (c ∷ xs) ≡ lex between xs
+unfolding lex
+blank_passed c xs = is_one_blank (λ b. lex between (b ∷ xs) ≡ lex between xs) refl refl refl refl c
+
+-- ---- the class of a byte, by the four tests that decide it
+
+abbrev pub class_by : Bool → Bool → Bool → Bool → Class
+class_by q b o s = cond q quote (cond b backslash (cond o operator (cond s space other)))
+
+-- an operator's lexeme, by the tests that tell the six apart
+abbrev pub operator_by : Bool → Bool → Bool → Bool → Bool → Lexeme
+operator_by a b c d f =
+    cond a (token begin_object)
+    (cond b (token end_object) (cond c (token begin_array) (cond d (token end_array) (cond f comma colon))))
+
+string_byte : (q b o s : Bool) (x : ℕ) (xs : List ℕ) (k : Mode → List Lexeme) → q ≡ false → b ≡ false
+    → lex_byte in_string (class_by q b o s) x xs k ≡ k in_string
+string_byte true b o s x xs k e f = absurd (cc)
+string_byte false true o s x xs k e f = absurd (cc)
+string_byte false false true s x xs k e f = refl
+string_byte false false false true x xs k e f = refl
+string_byte false false false false x xs k e f = refl
+
+-- within a string
+pub string_passes : (x : ℕ) (xs : List ℕ) → (x == 34) ≡ false → (x == 92) ≡ false
+    → lex in_string (x ∷ xs) ≡ lex in_string xs
+unfolding lex
+string_passes x xs e f = string_byte (x == 34) (x == 92) (is_operator x) (is_space x) x xs (λ n. lex n xs) e f
+
+word_byte : (q b o s : Bool) (x : ℕ) (xs : List ℕ) (k : Mode → List Lexeme) → o ≡ false → s ≡ false
+    → lex_byte in_word (class_by q b o s) x xs k ≡ k in_word
+word_byte true b o s x xs k e f = refl
+word_byte false true o s x xs k e f = refl
+word_byte false false true s x xs k e f = absurd (cc)
+word_byte false false false true x xs k e f = absurd (cc)
+word_byte false false false false x xs k e f = refl
+
+-- within a word
+pub word_passes : (x : ℕ) (xs : List ℕ) → is_delimiter x ≡ false → lex in_word (x ∷ xs) ≡ lex in_word xs
+unfolding lex
+word_passes x xs e =
+    let n = neither (is_operator x) (is_space x) e in
+    word_byte (x == 34) (x == 92) (is_operator x) (is_space x) x xs (λ n. lex n xs) n.0 n.1
+
+ending_byte : (q b o s : Bool) (x : ℕ) (xs : List ℕ) (k : Mode → List Lexeme) → (o || s) ≡ true → q ≡ false → b ≡ false
+    → lex_byte in_word (class_by q b o s) x xs k ≡ lex_byte between (class_by q b o s) x xs k
+ending_byte true b o s x xs k e f g = absurd (cc)
+ending_byte false true o s x xs k e f g = absurd (cc)
+ending_byte false false true s x xs k e f g = refl
+ending_byte false false false true x xs k e f g = refl
+ending_byte false false false false x xs k e f g = absurd (cc)
+
+-- where a word ends, what follows is read as if none had been there
+pub word_ends : (x : ℕ) (xs : List ℕ) → is_delimiter x ≡ true → x ≢ 34 → x ≢ 92
+    → lex in_word (x ∷ xs) ≡ lex between (x ∷ xs)
+unfolding lex
+word_ends x xs e f g =
+    ending_byte (x == 34) (x == 92) (is_operator x) (is_space x) x xs (λ n. lex n xs) e (eqb_false x 34 f)
+    (eqb_false x 92 g)
+
+-- a byte of no other class
+pub other_class : (x : ℕ) → x ≢ 34 → (x == 92) ≡ false → x ≢ 123 → x ≢ 125 → x ≢ 91 → x ≢ 93 → x ≢ 58 → x ≢ 44
+    → is_space x ≡ false → class x ≡ other
+other_class x a b c d e f g h s =
+    let q = eqb_false x 34 a in
+    let c1 = eqb_false x 123 c in
+    let c2 = eqb_false x 125 d in
+    let c3 = eqb_false x 91 e in
+    let c4 = eqb_false x 93 f in
+    let c5 = eqb_false x 58 g in
+    let c6 = eqb_false x 44 h in
+    rw (q, b, c1, c2, c3, c4, c5, c6, s) refl

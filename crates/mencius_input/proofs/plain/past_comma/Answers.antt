@@ -1,0 +1,16 @@
+use Rattle.std.proofs.Common.{◌≡◌, ◌∷◌, ℕ, List, ap, sym, ◌∙◌}
+use Rattle.json.specs.Lex.{after_comma, after_value, between, lex, punctuate}
+use Rattle.mencius_input.specs.Tokens.{first, tokens_at}
+use Rattle.mencius_input.proofs.Punctuated.{comma_passed}
+use Rattle.mencius_input.proofs.plain.past_comma.Goals as goal
+
+pub returns-then-first-eq44-clause-same : goal.returns-then-first-eq44-clause-same
+returns-then-first-eq44-clause-same c =
+    let behind : List ℕ = c.behind_first.result.now in
+    let comma : first c.past_blanks-rest.result.now ≡ 44 = sym c.first.ensures ∙ c.if-first-eq44.true in
+    ap (punctuate after_comma) c.past_blanks.ensures.same
+    ∙ sym (comma_passed behind)
+    ∙ ap (λ (b : ℕ). punctuate after_value (lex between (b ∷ behind))) (sym comma)
+    ∙ ap (λ (t : List ℕ). punctuate after_value (lex between t)) (sym c.behind_first.ensures.value)
+    ∙ ap (punctuate after_value) c.past_blanks-rest.ensures.same
+    ∙ ap (λ p. tokens_at p c.args.text.now) (sym c.in-AfterValue.is)

@@ -1,0 +1,15 @@
+-- What one step of a reader gives.
+use Rattle.std.specs.Prelude.{◌≡◌, ℕ, List, true}
+use Rattle.json.specs.Token.{Token}
+use Rattle.json.specs.Lex.{Place, between, lex, may_begin, punctuate}
+use Rattle.json.specs.Reads.{Yields}
+use Rattle.mencius_input.specs.declared.plain.Step.{Step}
+use Rattle.mencius_input.specs.Tokens.{tokens_at}
+
+-- a step gives the first of these tokens, if any, and goes on at the others
+abbrev pub Takes : List Token → Step → Type 0
+Takes ts step = Yields ts step.token (tokens_at step.place step.rest.now)
+
+-- the same wherever a value may begin
+abbrev pub Begins : List ℕ → Step → Type 0
+Begins text step = (p : Place) → may_begin p ≡ true → Takes (punctuate p (lex between text)) step
