@@ -89,12 +89,18 @@ fn attack(alloc: Global, dice: &mut Dice) -> Result<Walk, Stop> {
         return Err(Stop::Broken("a bad number of servers is drawn"));
     };
     let mut walk = Walk::new(alloc, members)?;
-    let events = dice.below(301).saturating_add(60);
-    wander(alloc, dice, &mut walk, events)?;
-    if dice.below(2) == 0 {
-        settle(&mut walk)?;
-    }
+    attack_with(alloc, dice, &mut walk)?;
     Ok(walk)
+}
+
+// One schedule for a new cluster.
+fn attack_with(alloc: Global, dice: &mut Dice, walk: &mut Walk) -> Result<(), Stop> {
+    let events = dice.below(301).saturating_add(60);
+    wander(alloc, dice, walk, events)?;
+    if dice.below(2) == 0 {
+        settle(walk)?;
+    }
+    Ok(())
 }
 
 fn report_of(alloc: Global, cluster: &Cluster) -> Result<Vec<u8>, Stop> {
@@ -122,6 +128,10 @@ fn judge_journal(alloc: Global, cluster: &Cluster) -> Result<(), Stop> {
 
 fn attack_one(alloc: Global, seed: u64, number: u32, tally: &mut Tally) -> Result<(), Stop> {
     let walk = attack(alloc, &mut Dice::new(seed, number))?;
+    judge_walk(alloc, &walk, tally)
+}
+
+fn judge_walk(alloc: Global, walk: &Walk, tally: &mut Tally) -> Result<(), Stop> {
     judge_journal(alloc, walk.cluster())?;
     tally.add(alloc, walk.cluster(), walk.longest().len())?;
     Ok(())

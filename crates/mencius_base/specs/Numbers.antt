@@ -1,7 +1,8 @@
 -- What the numbers of the definitions count, and the letters that stand for them in definitions and lemmas:
 -- p, q for servers, i, j for instances, b, c for ballots, t, u for tickets, and k for the number of a message.
 -- A list of lines is w, and another one beside it v. Where there is no other, v is a value or a vote, and x and y are
--- further ones. The servers of a cluster are m, an event is e, a line is l, and what one server knows is s.
+-- further ones. The servers of a cluster are m, an event is e, a line is l, and what one server knows is s. Its
+-- front is f, and another one g.
 use Rattle.std.specs.Prelude.{ℕ}
 
 -- a server's place among the members, from 0

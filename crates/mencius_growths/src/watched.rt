@@ -93,12 +93,27 @@ impl Watched {
         if self.board.step(event) != Err(Refusal::NoMemory) {
             return Ok(());
         }
-        let (before, again) = retraced(alloc, bytes, place)?;
-        compare(alloc, &before, self.board.cluster(), "step")?;
-        let Some(again) = again else {
-            return Err(Stop::Elsewhere);
-        };
-        match self.board.step(again) {
+        match self.judge_cluster(alloc, bytes, place, "step")? {
+            Some(again) => self.step_once(again),
+            None => Err(Stop::Elsewhere),
+        }
+    }
+
+    // The event that comes after so many of the scenario, where a refused call left the cluster as these make it.
+    fn judge_cluster(
+        &self,
+        alloc: Global,
+        bytes: &[u8],
+        taken: usize,
+        call: &'static str,
+    ) -> Result<Option<Event>, Stop> {
+        let (before, next) = retraced(alloc, bytes, taken)?;
+        compare(alloc, &before, self.board.cluster(), call)?;
+        Ok(next)
+    }
+
+    fn step_once(&mut self, event: Event) -> Result<(), Stop> {
+        match self.board.step(event) {
             Err(Refusal::NoMemory) => Err(Stop::Changed("step again")),
             _ => Ok(()),
         }
@@ -128,8 +143,7 @@ impl Watched {
     fn judge_show(&mut self, alloc: Global, bytes: &[u8], taken: usize) -> Result<(), Stop>
         ensures { self.new ≡ self.old }
     {
-        let (before, _) = retraced(alloc, bytes, taken)?;
-        compare(alloc, &before, self.board.cluster(), "show")?;
+        let _next = self.judge_cluster(alloc, bytes, taken, "show")?;
         self.judge_shown(alloc)
     }
 

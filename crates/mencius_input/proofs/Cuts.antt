@@ -4,12 +4,12 @@ use Rattle.std.specs.Option.{unwrap_or}
 use Rattle.std.specs.List.{slice_split, onto_first, list_all, position, position_or_len}
 use Rattle.std.specs.Str.{bytes_eq}
 use Rattle.std.specs.Char.{is_ascii_digit}
-use Rattle.std.proofs.lemmas.Bool.{eqb-true, and_left, and_right, cases_Bool, both_ways, ltb-true, ltb-false}
+use Rattle.std.proofs.lemmas.Bool.{eqb-true, and_left, and_right, cases_Bool, both_ways, le-ltb, lt-ltb, ltb-true, ltb-false}
 use Rattle.std.proofs.Math.Seq.{get_or-append_seam, take-append_seam}
 use Rattle.std.proofs.lemmas.List.{drop_more, length-append, take-append-drop}
 use Rattle.std.proofs.lemmas.Slice.Eq.{bytes_eq-Decides}
 use Rattle.std.proofs.lemmas.List.Quantifiers.{position-Some}
-use Rattle.std.proofs.lemmas.List.Sums.{fails_before_first}
+use Rattle.std.proofs.lemmas.List.Sums.{fails_before_first, position_or_len_is}
 use Rattle.std.proofs.lemmas.List.Splits.{slice_split_first, slice_split-cons_no}
 use Rattle.mencius_base.specs.Command.{is_name, is_name_byte}
 use Rattle.mencius_input.specs.Words.{parts, is_number, number_of, name_of, only}
@@ -53,6 +53,22 @@ no_place test text e = by_test (ltb (position_or_len test text) (length text)) r
         → cond a (Some (position_or_len test text)) None ≡ None → length text ≤ position_or_len test text
     by_test true less is = absurd (cc)
     by_test false past is = ltb-false _ _ past
+
+-- the first byte that passes stands here, since none before it does
+pub first_place : (test : ℕ → Bool) (text : List ℕ) (i : ℕ) → i < length text
+    → ((k : ℕ) → k < i → test (get_or text k 0) ≡ false) → test (get_or text i 0) ≡ true
+    → Some i ≡ position test text
+first_place test text i less before here =
+    let at : position_or_len test text ≡ i = position_or_len_is test text i 0 (omega arith) before (λ _. here) in
+    rw (at, lt-ltb i (length text) less) refl
+
+-- no byte passes
+pub nowhere : (test : ℕ → Bool) (text : List ℕ) (i : ℕ) → i ≤ length text → length text ≤ i
+    → ((k : ℕ) → k < i → test (get_or text k 0) ≡ false) → None ≡ position test text
+nowhere test text i within past before =
+    let at : position_or_len test text ≡ length text =
+    position_or_len_is test text i 0 within before (λ less. absurd (omega arith)) ∙ omega arith in
+    rw (at, le-ltb (length text) (length text) (omega arith)) refl
 
 -- the text is one part
 pub lacking_parts : (c : ℕ) (text : List ℕ) → position (λ b. b == c) text ≡ None → parts c text ≡ text ∷ []

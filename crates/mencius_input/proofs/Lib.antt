@@ -5,6 +5,7 @@ pub mod Numbers
 pub mod Judging
 pub mod Cuts
 pub mod Lexing
+pub mod Stopping
 pub mod Strings
 pub mod Punctuated
 pub mod Closings

@@ -1,8 +1,9 @@
 //! The tokens of a JSON text without a backslash, found in one walk over its bytes.
 
-ghost use Rattle.std.specs.Prelude.{List, ℕ, ◌++◌, length, ◌≡◌, ◌≢◌, ◌⊎◌, ◌<◌, ◌∷◌, [], true, false, not, Some, None, drop, IfSome, MatchOption};
+ghost use Rattle.std.specs.Prelude.{List, ℕ, ◌++◌, length, ◌≡◌, ◌≢◌, ◌⊎◌, ◌<◌, ◌≤◌, get_or, map, ◌∷◌, [], true, false, not, Some, None, drop, IfSome, MatchOption};
 ghost use Rattle.std.specs.Bool.{MatchBool};
 ghost use Rattle.std.specs.List.{list_all, position, position_or_len};
+ghost use Rattle.std.specs.Simd.Lanes.{mask_l};
 ghost use Rattle.json.specs.Json.{after_end_array};
 ghost use Rattle.json.specs.Lex.{between, class, in_string, lex, other, tokens};
 ghost use Rattle.json.specs.Reads.{Yields, token_of};
@@ -15,6 +16,7 @@ ghost use Rattle.mencius_input.specs.Tokens.{first, is_delimiter, is_plain, is_s
 
 use json::{Token, is_number};
 use std::marker::Model;
+use std::simd::prelude::*;
 
 /// Where a reader of a text stands.
 #[derive(Clone, Copy, Drop)]
@@ -84,24 +86,55 @@ fn past_blanks(text: &str) -> &str
     rest
 }
 
-// Whether the text of a string ends at a byte. Most bytes of a text are above the quote, and one
-// comparison passes these.
-#[inline(always)]
+// Whether the text of a string ends at a byte.
 fn is_stop(byte: u8) -> bool
     ensures { result ≡ is_stop byte }
 {
-    if byte > b'"' {
-        return false;
-    }
     byte == b'"' || byte < b' '
 }
 
-// Where the text of a string ends.
+// The bytes at which the text of a string ends, as bits. Of the bytes from the blank on, a changed
+// second bit brings the quote alone below 33, so that one comparison is enough.
+#[inline(always)]
+fn stops_among(bytes: u8x16) -> u64
+    ensures { result ≡ mask_l (map is_stop bytes) }
+{
+    (bytes ^ u8x16::splat(2))
+        .simd_lt(u8x16::splat(33))
+        .to_bitmask()
+}
+
+// Where the text of a string ends, which it does not before a place.
+fn stop_from(bytes: &[u8], place: usize) -> Option<usize>
+    requires within { place ≤ length bytes.now }
+    requires before { (k : ℕ) → k < place → is_stop (get_or bytes.now k 0) ≡ false }
+    ensures { result ≡ position is_stop bytes.now }
+{
+    let mut place = place;
+    'bytes: while place < bytes.len() {
+        if is_stop(bytes[place]) {
+            return Some(place);
+        }
+        place += 1;
+    }
+    None
+}
+
+// Where the text of a string ends. Sixteen bytes are looked at together, and the last few one by one.
 #[inline(always)]
 fn stop_in(inside: &str) -> Option<usize>
     ensures { result ≡ position is_stop inside.now }
 {
-    inside.as_bytes().iter().position(|b| is_stop(*b))
+    let bytes = inside.as_bytes();
+    let mut place = 0;
+    'chunks: while bytes.len() - place >= 16 {
+        let stops = stops_among(u8x16::from_slice(&bytes[place..]));
+        if stops != 0 {
+            return Some(place + stops.trailing_zeros() as usize);
+        }
+        place += 16;
+    }
+    stop_from(bytes, place)
 }
 
 // The text of the string whose opening quote was read, and what follows its other quote. None where

@@ -2,6 +2,7 @@
 
 use mencius_cluster::Cluster;
 use std::alloc::{AllocError, Global};
+use std::fmt::Debug;
 
 // The first of a server's answers that differ.
 fn of_server(first: &Cluster, second: &Cluster, server: u8) -> Option<&'static str> {
@@ -38,6 +39,40 @@ fn of_servers(first: &Cluster, second: &Cluster) -> Option<&'static str> {
     None
 }
 
+// Whether two answers are printed differently.
+fn differ<T: Debug>(alloc: Global, first: &T, second: &T) -> Result<bool, AllocError> {
+    let text = format!(in alloc; "{first:?}")?;
+    let text_again = format!(in alloc; "{second:?}")?;
+    Ok(text.as_str() != text_again.as_str())
+}
+
+// The first difference between the answers about a command.
+fn of_command(
+    alloc: Global,
+    first: &Cluster,
+    second: &Cluster,
+    ticket: u32,
+) -> Result<Option<&'static str>, AllocError> {
+    let command = first.command(ticket);
+    if differ(alloc, &command, &second.command(ticket))? {
+        return Ok(Some("command"));
+    }
+    if differ(alloc, &first.submission(ticket), &second.submission(ticket))? {
+        return Ok(Some("submission"));
+    }
+    let Some(command) = command else {
+        return Ok(None);
+    };
+    if differ(
+        alloc,
+        &first.reply(command.id()),
+        &second.reply(command.id()),
+    )? {
+        return Ok(Some("reply"));
+    }
+    Ok(None)
+}
+
 // The first difference between the commands and their replies.
 fn of_commands(
     alloc: Global,
@@ -48,22 +83,9 @@ fn of_commands(
         return Ok(Some("commands"));
     }
     for ticket in 0..first.commands() {
-        let command = format!(in alloc; "{:?}", first.command(ticket))?;
-        let command_again = format!(in alloc; "{:?}", second.command(ticket))?;
-        if command.as_str() != command_again.as_str() {
-            return Ok(Some("command"));
-        }
-        let submission = format!(in alloc; "{:?}", first.submission(ticket))?;
-        let submission_again = format!(in alloc; "{:?}", second.submission(ticket))?;
-        if submission.as_str() != submission_again.as_str() {
-            return Ok(Some("submission"));
-        }
-        if let Some(command) = first.command(ticket) {
-            let reply = format!(in alloc; "{:?}", first.reply(command.id()))?;
-            let reply_again = format!(in alloc; "{:?}", second.reply(command.id()))?;
-            if reply.as_str() != reply_again.as_str() {
-                return Ok(Some("reply"));
-            }
+        let found = of_command(alloc, first, second, ticket)?;
+        if found.is_some() {
+            return Ok(found);
         }
     }
     Ok(None)

@@ -1,0 +1,12 @@
+use Rattle.std.proofs.Common.{◌≡◌, ◌≤◌, ◌<◌, ◌-◌, ℕ, length, get_or, false}
+use Rattle.mencius_input.specs.Tokens.{is_stop}
+use Rattle.mencius_input.proofs.plain.stop_from.Given as goal
+
+abbrev pub invariant-bytes : goal.invariant-bytes
+invariant-bytes l = record {
+  within : l.place ≤ length l.bytes;
+  before : (k : ℕ) → k < l.place → is_stop (get_or l.bytes k 0) ≡ false;
+}
+
+abbrev pub decreases-bytes : goal.decreases-bytes
+decreases-bytes l = length l.bytes - l.place

@@ -1,0 +1,12 @@
+use Rattle.std.proofs.Common.{◌≡◌, ◌≤◌, ◌<◌, ◌-◌, ℕ, length, get_or, false}
+use Rattle.mencius_input.specs.Tokens.{is_stop}
+use Rattle.mencius_input.proofs.plain.stop_in.Given as goal
+
+abbrev pub invariant-chunks : goal.invariant-chunks
+invariant-chunks l = record {
+  within : l.place ≤ length l.inside;
+  before : (k : ℕ) → k < l.place → is_stop (get_or l.inside k 0) ≡ false;
+}
+
+abbrev pub decreases-chunks : goal.decreases-chunks
+decreases-chunks l = length l.inside - l.place
