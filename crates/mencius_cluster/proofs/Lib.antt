@@ -18,3 +18,4 @@ pub mod Performs
 pub mod Executors
 pub mod Learned
 pub mod Masks
+pub mod Indexed

@@ -1,5 +1,6 @@
 pub mod Answers
 pub mod State
+pub mod Submissions
 pub mod Tables
 pub mod Marks
 pub mod Inside

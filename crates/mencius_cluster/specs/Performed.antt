@@ -1,7 +1,6 @@
 -- What an execution does to a server's executor and to the stored commands.
 use Rattle.std.specs.Prelude.{◌≡◌, ℕ, List, Some, slice_get, ◌==◌, ◌<◌}
 use Rattle.std.specs.FinMap as finite
-use Rattle.indexmap.specs.IndexMap.{set_value_at}
 use Rattle.mencius_base.specs.Numbers.{ServerId, TicketNo}
 use Rattle.mencius_base.specs.declared.message.Value.{Value}
 use Rattle.mencius_base.specs.declared.message.Value.TheVariants.{Noop, Ticket}
@@ -9,7 +8,7 @@ use Rattle.map_exec.specs.State.{ExecutorState, after_execution}
 use Rattle.mencius_model.specs.Store.{key_of}
 use Rattle.mencius_cluster.specs.declared.submission.Submission.{Submission}
 use Rattle.mencius_cluster.specs.Answers.{bytes_in}
-use Rattle.mencius_cluster.specs.Tables.{Row}
+use Rattle.mencius_cluster.specs.Submissions.{Row, set_value_at}
 use Rattle.mencius_model.specs.Replying.{first_reply}
 
 -- server p executed the command of ticket t: x became y, and the command's row has the reply if p is its home

@@ -3,7 +3,6 @@ use Rattle.std.specs.Prelude.{◌≡◌, ℕ, ◌≤◌, Bool, List, Option, Som
 use Rattle.std.specs.List.{filter_map, list_any}
 use Rattle.std.specs.Option.{option_map}
 use Rattle.mencius_base.specs.declared.command.Command.{Command}
-use Rattle.mencius_base.specs.declared.command.CommandId.{CommandId}
 use Rattle.mencius_base.specs.declared.event.Entry.{Entry}
 use Rattle.mencius_base.specs.declared.event.Entry.TheVariants.{Submit as Submit_entry, Deliver as Deliver_entry, Lose as Lose_entry, Suspect as Suspect_entry, Retry as Retry_entry, Execute as Execute_entry}
 use Rattle.mencius_base.specs.declared.event.Event.{Event}
@@ -18,14 +17,10 @@ use Rattle.mencius_model.specs.Next.{is_loss, replay, trace_or_none}
 use Rattle.mencius_server.specs.State.{ServerState}
 use Rattle.mencius_server.specs.Reached.{server_at}
 use Rattle.map_exec.specs.State.{ExecutorState}
-use Rattle.mencius_cluster.specs.declared.submission.Submission.{Submission}
 use Rattle.mencius_cluster.specs.State.{entries_of}
+use Rattle.mencius_cluster.specs.Submissions.{Row}
 use Rattle.mencius_cluster.specs.Answers.{executor_at, bytes_in, submitted_in}
 use Rattle.mencius_model.specs.Replying.{reply_at}
-
--- an identity, with what is stored of its command
-abbrev pub Row : Type 0
-Row = CommandId × Submission
 
 -- the command of a row
 abbrev pub command_of : Row → Command

@@ -7,6 +7,7 @@
 mod cluster;
 mod marks;
 mod submission;
+mod submissions;
 
 pub use cluster::{Cluster, Effect};
 pub use marks::Marks;
