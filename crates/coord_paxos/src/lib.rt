@@ -18,8 +18,6 @@ use mencius_base::{Ballot, MOST_SERVERS, Members, Value, Vote};
 use std::marker::Model;
 
 pub mod laws;
-#[cfg(test)]
-mod tests;
 
 // One truth value for each of the at most seven servers; places past the last server stay false.
 type Tally = [bool; MOST_SERVERS as usize];

@@ -8,7 +8,7 @@ use Rattle.mencius_app.specs.Ending.{IsTextOf, ending_of, fault_in, tells_of_ref
 use Rattle.mencius_app.specs.declared.checking.Finding.{Finding}
 use Rattle.mencius_app.specs.declared.ending.Ending.{Ending}
 use Rattle.mencius_app.specs.declared.ending.Ending.TheVariants.{Done}
-use Rattle.mencius_input.specs.CommandLine.{asked_replay, asked_run}
+use Rattle.mencius_command_line.specs.CommandLine.{asked_replay, asked_run}
 
 -- where its text is also one of another kind
 pub as_text : {F : AppFault → Type 0} {P Q : List ℕ → Type 0} {reads reads_now writes writes_now : ℕ}

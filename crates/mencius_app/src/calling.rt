@@ -3,7 +3,7 @@
 ghost use Rattle.std.specs.Prelude.{◌≡◌, ◌≢◌, ◌⊎◌, ◌≤◌, ◌+◌, ℕ, List, false, true, IfErr, IfSome, OnOk, Some};
 ghost use Rattle.std.specs.Io.KnownBytes.{Appends};
 ghost use Rattle.clap.specs.Words.{kind_of};
-ghost use Rattle.mencius_input.specs.CommandLine.{are_texts, asked, asked_check, asked_in, bytes_of, faults, line_of};
+ghost use Rattle.mencius_command_line.specs.CommandLine.{are_texts, asked, asked_check, asked_in, bytes_of, faults, line_of};
 ghost use Rattle.mencius_input.specs.Ends.{HasFailed, WritesFront, most_failed_calls};
 ghost use Rattle.mencius_app.specs.Calls.{AsksLittle, IsCause};
 ghost use Rattle.mencius_app.specs.Ending.{Did, DidTask, IsAskedFor, IsFaultFor, IsInputFaultOf, IsMistaken, IsTextOf, IsToShow, ending_of, fault_in, is_explained};
@@ -16,7 +16,8 @@ use crate::tracing::trace;
 use clap::Error;
 use clap::error::ErrorKind;
 use mencius_board::Open;
-use mencius_input::{AppFault, Sink, Source, Task, are_texts, read_arguments, write_all};
+use mencius_command_line::{Task, are_texts, read_arguments};
+use mencius_input::{AppFault, Sink, Source, write_all};
 use std::alloc::Global;
 use std::sync::Wait;
 use std::thread::Threads;

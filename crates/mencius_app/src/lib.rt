@@ -19,9 +19,8 @@ pub use calling::perform;
 pub use checking::{Finding, check};
 pub use ending::{Ending, end};
 pub use mencius_board::{Gate, Open};
-pub use mencius_input::{
-    AppFault, Scenario, Sink, Source, Std, Task, exit_status, read_command_line, read_scenario,
-};
+pub use mencius_command_line::{Task, read_command_line};
+pub use mencius_input::{AppFault, Scenario, Sink, Source, Std, exit_status, read_scenario};
 pub use plan::{RunScenario, read_plan};
 pub use printed::report;
 pub use replaying::{replay, replay_judged};

@@ -4,7 +4,7 @@ use crate::dice::Dice;
 use crate::mail::Mail;
 use mencius_base::{Command, CommandId, Event, Key, Message, Op, Text, Vote};
 use mencius_cluster::Cluster;
-use mencius_tests::walk::Stop;
+use mencius_watch::walk::Stop;
 use std::alloc::{AllocError, Global};
 
 /// How often three kinds of events come: so many of 64 are submissions, are suspicions, and lose a message.

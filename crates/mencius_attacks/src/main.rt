@@ -23,9 +23,9 @@ use mencius_app::report;
 use mencius_base::{Event, Members};
 use mencius_cluster::Cluster;
 use mencius_input::{Std, read_all, write_all};
-use mencius_tests::again::again;
-use mencius_tests::same::first_difference;
-use mencius_tests::walk::{Stop, Walk};
+use mencius_watch::again::again;
+use mencius_watch::same::first_difference;
+use mencius_watch::walk::{Stop, Walk};
 use std::alloc::{AllocError, Global};
 use std::process::ExitCode;
 

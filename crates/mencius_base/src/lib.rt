@@ -13,8 +13,6 @@ mod members;
 mod message;
 mod outbox;
 mod refusal;
-#[cfg(test)]
-mod tests;
 
 pub use ballot::Ballot;
 pub use command::{BadCommand, Command, CommandId, Key, Op, Text, is_name};

@@ -19,3 +19,4 @@ pub mod Executors
 pub mod Learned
 pub mod Masks
 pub mod Indexed
+pub mod Stepped

@@ -1,6 +1,4 @@
 pub mod Known
-pub mod CommandLines
-pub mod Texts
 pub mod Numbers
 pub mod Judging
 pub mod Cuts

@@ -1,7 +1,6 @@
 pub mod Fault
 pub mod Status
 pub mod Ends
-pub mod CommandLine
 pub mod Judged
 pub mod Words
 pub mod Tokens

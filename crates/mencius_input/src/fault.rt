@@ -1,5 +1,6 @@
 ghost use Rattle.std.specs.Prelude.{◌≡◌};
 ghost use Rattle.mencius_input.specs.Fault.{fault_name, fault_number};
+ghost use Rattle.mencius_input.specs.Status.{status_of};
 
 use std::alloc::{AllocError, AllocFailed};
 use thiserror::Error;
@@ -72,5 +73,17 @@ impl<T: Drop> From<AllocFailed<T>> for AppFault {
 
     fn from(_refused: AllocFailed<T>) -> AppFault {
         AppFault::NoMemory
+    }
+}
+
+/// The exit status of a run that ended with a fault: 3 for a bad scenario, 4 where reading or
+/// writing failed, and 5 where memory ran out or the board failed.
+pub fn exit_status(fault: AppFault) -> u8
+    ensures { result ≡ status_of fault }
+{
+    match fault {
+        AppFault::NotJson | AppFault::BadShape | AppFault::BadLimit => 3,
+        AppFault::ReadFailed | AppFault::WriteFailed => 4,
+        AppFault::NoMemory | AppFault::BoardFailed => 5,
     }
 }

@@ -1,9 +1,7 @@
-//! What the input of the program says, read exactly: its command line, and the bytes of a scenario,
-//! over readers and writers that count their failures; and the faults that end a run.
+//! What the input of the program says, read exactly: the bytes of a scenario, over readers and
+//! writers that count their failures; and the faults that end a run.
 #![tactic(auto)]
 
-mod arguments;
-mod command_line;
 mod commands;
 mod event;
 mod events;
@@ -25,11 +23,9 @@ mod words;
 mod write;
 mod wrong;
 
-pub use arguments::{are_texts, read_arguments};
-pub use command_line::{Task, exit_status, read_command_line};
 pub use events::{Events, EventsLeft};
 pub use explaining::explain;
-pub use fault::AppFault;
+pub use fault::{AppFault, exit_status};
 pub use places::{Field, Place, place_of};
 pub use plan::{RunInput, read_run_input};
 pub use read::read_all;

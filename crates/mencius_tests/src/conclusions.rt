@@ -1,170 +1,111 @@
-//! What a caller can conclude from the public clauses of a cluster and its laws alone.
-//!
-//! Nothing here sees inside a cluster. The proofs rest on what the calls promise: that a cluster's
-//! journal replays, that a step puts its event at the journal's end, and what the laws say of each
-//! journal that replays.
+//! What a caller concludes of a cluster, of servers stepped by hand, and of a board's readers, worked once.
 
-ghost use Rattle.std.specs.Prelude.{List, ◌≡◌, ◌≤◌, ◌<◌, ◌⊎◌, ◌++◌, ◌↔◌, OnOk, OnErr, IfOk, IfErr, IfSome, IsErrOf, IsSome};
-ghost use Rattle.mencius_base.specs.declared.event.Event.{Event};
-ghost use Rattle.mencius_model.specs.Executed.{IsComparable, IsPrefix, executed};
-ghost use Rattle.mencius_cluster.specs.State.{trace_of};
-ghost use Rattle.mencius_model.specs.Outcomes.{accepted_from};
-
-use mencius_base::{Event, NoMemory, Refusal};
-use mencius_cluster::{Cluster, laws};
+use crate::courses::{named, new_cluster, scenario_of, stepped};
+use mencius_base::{Ballot, Event, Members, Message, Outbox, Refusal};
+use mencius_board::{Board, BoardFault};
+use mencius_conclusions::conclusions::{histories, note_across};
+use mencius_conclusions::hands::deliver;
+use mencius_conclusions::readings::{Reading, look_up_shown};
+use mencius_server::Server;
 use std::alloc::Global;
+use std::panic::Expect;
+use std::sync::Wait;
+use std::test::Fail;
 
-/// The history of a server, and the history of the same or another server after some more events.
-#[derive(Debug, Drop)]
-pub struct Noted {
-    /// The tickets that the first server had executed before the events, in order.
-    pub earlier: Vec<u32>,
-    /// The tickets that the second server had executed after them, in order.
-    pub later: Vec<u32>,
-}
+// How many events come first, two servers, the first one's history then, and the second one's
+// history after all events. Server 0 executes ticket 0, and later server 1 both tickets.
+const ROWS: [(usize, u8, u8, &[u32], &[u32]); 5] = [
+    (0, 1, 1, &[], &[0, 1]),
+    (6, 0, 1, &[0], &[0, 1]),
+    (6, 0, 2, &[0], &[]),
+    (13, 1, 1, &[0], &[0, 1]),
+    (14, 1, 0, &[0, 1], &[0]),
+];
 
-/// Notes the history of a server, steps the cluster through the events, passing over those that it
-/// refuses, and then notes the history of the same or another server. Of the two histories one
-/// is a prefix of the other, and where both are one server's the earlier is one of the later.
-///
-/// `BadServer` comes where one of the servers is no member, and then nothing has changed. After
-/// `NoMemory` the cluster may have taken some of the events.
-pub fn note_across(
-    alloc: Global,
-    cluster: &mut Cluster,
-    server: u8,
-    events: Vec<Event>,
-    other: u8,
-) -> Result<Noted, Refusal>
-    // Which histories were noted, and what became of the cluster.
-    ensures inside { OnOk result ((server < cluster.old.members.count)
-        × (other < cluster.old.members.count)) }
-    ensures earlier { IfOk result (λ n. n.earlier.items ≡ executed (trace_of cluster.old) server) }
-    ensures later { IfOk result (λ n. n.later.items ≡ executed (trace_of cluster.new) other) }
-    ensures journal { OnOk result (cluster.new.journal ≡ cluster.old.journal
-        ++ accepted_from cluster.old.members (trace_of cluster.old) events.items) }
-    ensures members { cluster.new.members ≡ cluster.old.members }
-
-    // What a caller concludes.
-    ensures comparable { IfOk result (λ n. IsComparable n.earlier.items n.later.items) }
-    ensures grows { IfOk result (λ n. server ≡ other → IsPrefix n.earlier.items n.later.items) }
-
-    // The errors.
-    ensures refusal { IfErr result (λ r. (r ≡ Refusal.BadServer) ⊎ (r ≡ Refusal.NoMemory)) }
-    ensures outside { IsErrOf result Refusal.BadServer
-        → (cluster.old.members.count ≤ server) ⊎ (cluster.old.members.count ≤ other) }
-    ensures nothing { IsErrOf result Refusal.BadServer → cluster.new ≡ cluster.old }
-    ensures taken { OnErr result ((taken : List Event)
-        × (cluster.new.journal ≡ cluster.old.journal ++ taken)) }
-{
-    // The laws, and `replays` below, are called for their promises alone.
-    laws::agreement();
-    laws::growth();
-    let servers = cluster.servers();
-    if server >= servers || other >= servers {
-        return Err(Refusal::BadServer);
-    }
-    cluster.replays();
-    let earlier = cluster.history(server).unwrap().to_vec(alloc)?;
-    step_all(cluster, events)?;
-    cluster.replays();
-    let later = cluster.history(other).unwrap().to_vec(alloc)?;
-    Ok(Noted { earlier, later })
-}
-
-/// The histories of two servers at one moment, of which one is a prefix of the other, or `None` where
-/// one of them is no member.
-pub fn histories(cluster: &Cluster, first: u8, second: u8) -> Option<(&[u32], &[u32])>
-    ensures some { IsSome result
-        ↔ ((first < cluster.now.members.count) × (second < cluster.now.members.count)) }
-    ensures first { IfSome result (λ h. h.0.now ≡ executed (trace_of cluster.now) first) }
-    ensures second { IfSome result (λ h. h.1.now ≡ executed (trace_of cluster.now) second) }
-    ensures comparable { IfSome result (λ h. IsComparable h.0.now h.1.now) }
-{
-    // Called for their promises alone.
-    laws::agreement();
-    cluster.replays();
-    Some((cluster.history(first)?, cluster.history(second)?))
-}
-
-// Steps a cluster through the events, passing over those that it refuses.
-fn step_all(cluster: &mut Cluster, events: Vec<Event>) -> Result<(), NoMemory>
-    ensures journal { OnOk result (cluster.new.journal ≡ cluster.old.journal
-        ++ accepted_from cluster.old.members (trace_of cluster.old) events.items) }
-    ensures members { cluster.new.members ≡ cluster.old.members }
-    ensures taken { OnErr result ((taken : List Event)
-        × (cluster.new.journal ≡ cluster.old.journal ++ taken)) }
-{
-    for event in events {
-        match cluster.step(event) {
-            Ok(_) => {}
-            Err(refusal) => {
-                if refusal == Refusal::NoMemory {
-                    return Err(NoMemory);
-                }
+#[test]
+fn noted_histories(rt: HostRuntime) -> Result<(), Fail> {
+    let alloc = rt.alloc();
+    for (first, server, other, earlier, later) in ROWS {
+        let scenario = scenario_of(&rt, alloc, named(&rt, "get_at_another_server"))?;
+        let mut cluster = new_cluster(&rt, alloc, scenario.members);
+        let mut rest = Vec::new(alloc);
+        let events: Vec<Event> = scenario.events.into_iter().collect(alloc)?;
+        for (place, event) in events.into_iter().enumerate() {
+            if place < first {
+                assert!(rt; cluster.step(event).is_ok());
+            } else {
+                rest.push(event)?;
             }
         }
+        let noted = note_across(alloc, &mut cluster, server, rest, other).expect(&rt, "memory");
+        assert!(rt; noted.earlier.as_slice() == earlier, "after {first}");
+        assert!(rt; noted.later.as_slice() == later, "after {first}");
+        assert_eq!(rt; cluster.events(), 14);
+        let (longer, shorter) = histories(&cluster, 1, 0).expect(&rt, "members");
+        assert!(rt; longer == [0, 1].as_slice());
+        assert!(rt; shorter == [0].as_slice());
+        assert!(rt; histories(&cluster, 1, 3).is_none());
     }
     Ok(())
 }
 
-#[cfg(test)]
-mod tests {
-    use super::{histories, note_across};
-    use crate::courses::{named, new_cluster, scenario_of};
-    use mencius_base::{Event, Refusal};
-    use std::panic::Expect;
-    use std::test::Fail;
-
-    // How many events come first, two servers, the first one's history then, and the second one's
-    // history after all events. Server 0 executes ticket 0, and later server 1 both tickets.
-    const ROWS: [(usize, u8, u8, &[u32], &[u32]); 5] = [
-        (0, 1, 1, &[], &[0, 1]),
-        (6, 0, 1, &[0], &[0, 1]),
-        (6, 0, 2, &[0], &[]),
-        (13, 1, 1, &[0], &[0, 1]),
-        (14, 1, 0, &[0, 1], &[0]),
-    ];
-
-    #[test]
-    fn noted_histories(rt: HostRuntime) -> Result<(), Fail> {
-        let alloc = rt.alloc();
-        for (first, server, other, earlier, later) in ROWS {
-            let scenario = scenario_of(&rt, alloc, named(&rt, "get_at_another_server"))?;
-            let mut cluster = new_cluster(&rt, alloc, scenario.members);
-            let mut rest = Vec::new(alloc);
-            let events: Vec<Event> = scenario.events.into_iter().collect(alloc)?;
-            for (place, event) in events.into_iter().enumerate() {
-                if place < first {
-                    assert!(rt; cluster.step(event).is_ok());
-                } else {
-                    rest.push(event)?;
-                }
-            }
-            let noted = note_across(alloc, &mut cluster, server, rest, other).expect(&rt, "memory");
-            assert!(rt; noted.earlier.as_slice() == earlier, "after {first}");
-            assert!(rt; noted.later.as_slice() == later, "after {first}");
-            assert_eq!(rt; cluster.events(), 14);
-            let (longer, shorter) = histories(&cluster, 1, 0).expect(&rt, "members");
-            assert!(rt; longer == [0, 1].as_slice());
-            assert!(rt; shorter == [0].as_slice());
-            assert!(rt; histories(&cluster, 1, 3).is_none());
-        }
-        Ok(())
+#[test]
+fn no_such_server(rt: HostRuntime) -> Result<(), Fail> {
+    let alloc = rt.alloc();
+    for (server, other) in [(3, 0), (0, 3), (3, 3)] {
+        let scenario = scenario_of(&rt, alloc, named(&rt, "get_at_another_server"))?;
+        let mut cluster = new_cluster(&rt, alloc, scenario.members);
+        let events = scenario.events.into_iter().collect(alloc)?;
+        let answer = note_across(alloc, &mut cluster, server, events, other);
+        let refusal = answer.expect_err(&rt, "no such server");
+        assert_eq!(rt; refusal, Refusal::BadServer);
+        assert_eq!(rt; cluster.events(), 0);
     }
+    Ok(())
+}
 
-    #[test]
-    fn no_such_server(rt: HostRuntime) -> Result<(), Fail> {
-        let alloc = rt.alloc();
-        for (server, other) in [(3, 0), (0, 3), (3, 3)] {
-            let scenario = scenario_of(&rt, alloc, named(&rt, "get_at_another_server"))?;
-            let mut cluster = new_cluster(&rt, alloc, scenario.members);
-            let events = scenario.events.into_iter().collect(alloc)?;
-            let answer = note_across(alloc, &mut cluster, server, events, other);
-            let refusal = answer.expect_err(&rt, "no such server");
-            assert_eq!(rt; refusal, Refusal::BadServer);
-            assert_eq!(rt; cluster.events(), 0);
-        }
-        Ok(())
+// Server 1 hears the first suggestion of server 0, and accepts it.
+#[test]
+fn first_delivery(rt: HostRuntime) -> Result<(), Fail> {
+    let alloc = rt.alloc();
+    let members = Members::new(3).expect(&rt, "three servers");
+    let mut zero = Server::new(alloc, members, 0).expect(&rt, "memory");
+    let mut one = Server::new(alloc, members, 1).expect(&rt, "memory");
+    let two = Server::new(alloc, members, 2).expect(&rt, "memory");
+    let mut out = Outbox::new(alloc, 8);
+    assert_eq!(rt; zero.submit(0, &mut out), Ok(()));
+    let message = *out.messages().first().expect(&rt, "a suggestion");
+    if !message.is_for(members, 1) {
+        assert!(rt; false, "it is for server 1");
+        return Ok(());
     }
+    assert_eq!(rt; deliver(&mut one, &zero, &two, &mut out, &message), Ok(0));
+    let answer = Message::Accepted {
+        from: 1,
+        to: 0,
+        inst: 0,
+        ballot: Ballot::OWNER,
+    };
+    assert_eq!(rt; out.messages().last(), Some(&answer));
+    Ok(())
+}
+
+fn look_up<R: Wait>(rt: &R, alloc: Global, board: &mut Board) -> Result<Reading, BoardFault> {
+    let mut reader = board.reader()?;
+    look_up_shown(rt, alloc, board, &mut reader, "a")
+}
+
+#[test]
+fn a_told_reader_finds_what_was_executed(rt: HostRuntime) -> Result<(), Fail> {
+    let alloc = rt.alloc();
+    let scenario = scenario_of(&rt, alloc, named(&rt, "one_command"))?;
+    let cluster = stepped(&rt, alloc, scenario);
+    let mut board = Board::new(&rt, alloc, cluster, 1).expect(&rt, "memory");
+    let answer = look_up(&rt, alloc, &mut board);
+    let cluster = board.end(&rt);
+    let found = answer.expect(&rt, "a reading");
+    assert_eq!(rt; found.count, 1);
+    assert!(rt; found.text.expect(&rt, "a text").as_str() == "x");
+    assert_eq!(rt; cluster.events(), 6);
+    Ok(())
 }

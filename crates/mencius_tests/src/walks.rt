@@ -1,8 +1,8 @@
 //! The laws, asked after each event of worked schedules, and of what hostile networks make of them.
 
 use crate::courses::{named, scenario_of};
-use crate::walk::{Stop, Walk};
 use mencius_base::Event;
+use mencius_watch::walk::{Stop, Walk};
 use std::alloc::Global;
 use std::process::Abort;
 use std::test::Fail;

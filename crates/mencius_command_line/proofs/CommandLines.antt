@@ -1,0 +1,176 @@
+-- Command lines: what `clap` finds is what is asked for, and which kinds of error there are at some.
+use Rattle.std.specs.Prelude.{◌≡◌, Bool, true, false, List, [], ◌∷◌, Option, Some, None, Result, codes, option_map, Box}
+use Rattle.std.specs.Option.{option_map_or}
+use Rattle.std.specs.Box.{box_value}
+use Rattle.std.specs.Borrow.{Bor}
+use Rattle.std.specs.Str.{bytes_eq}
+use Rattle.std.proofs.Common.{refl, ap, ◌∙◌, inl, inr}
+use Rattle.std.specs.Result.{IsErrAnd}
+use Rattle.std.proofs.lemmas.Result.{err_from_is_err_and}
+use Rattle.clap.specs.Kinds.{FailsBy, HasKind, or_else}
+use Rattle.clap.specs.Words.{Kinds, Row, Text, first_value, found_of, is_simple_and_free, rows_of, subcommand_rows}
+use Rattle.clap.specs.declared.error.Error.{Error}
+use Rattle.clap.specs.declared.error.kind.ErrorKind.TheVariants as kind
+use Rattle.clap.specs.declared.parser.matches.ArgMatches.TheViews.{out-SubCommand}
+use Rattle.clap.specs.declared.parser.matches.Found.{Found}
+use Rattle.clap.specs.declared.parser.matches.SubCommand.{SubCommand}
+use Rattle.clap.proofs.OnLiterals.{clap_on_literals}
+use Rattle.clap.proofs.WalkLemmas.{first_value-rows}
+use Rattle.mencius_base.specs.Command.{is_name}
+use Rattle.mencius_command_line.specs.CommandLine.{Asked, asked, asked_replay, asked_run, faults, has_flag, program}
+
+-- ---- what was found
+
+-- whether a text that was found is that of a flag
+pub flag_there : (f : Found) (id : Text) (s : Bor Text) (a : Bool) → Some s.now ≡ first_value f id
+    → a ≡ bytes_eq s.now (codes "true") → a ≡ has_flag id (rows_of f)
+flag_there f id s a e is = is ∙ ap (λ o. option_map_or (λ text. bytes_eq text (codes "true")) o false) (e
+    ∙ first_value-rows f id)
+
+pub flag_missing : (f : Found) (id : Text) → None ≡ first_value f id → false ≡ has_flag id (rows_of f)
+flag_missing f id e = ap (λ o. option_map_or (λ text. bytes_eq text (codes "true")) o false) (e ∙ first_value-rows f id)
+
+-- the name and the rows of a task that was found
+pub task_found : {Z : Type 0} (s : Option (Box SubCommand Z)) (name : Text) (rows : List Row)
+    → Some name ≡ option_map (λ b. (out-SubCommand (box_value b)).name.now) s
+    → Some rows ≡ option_map (λ p. p.1) (subcommand_rows s) → subcommand_rows s ≡ Some (name, rows)
+task_found None name rows n r = absurd (cc)
+task_found (Some b) name rows n r =
+    let same : name ≡ (out-SubCommand (box_value b)).name.now = cc in
+    let found : rows ≡ rows_of (found_of (out-SubCommand (box_value b)).matches) = cc in
+    rw (same, found) refl
+
+-- ---- what is wrong
+
+pub program_simple : is_simple_and_free program ≡ true
+unfolding clap_on_literals
+program_simple = refl
+
+-- what `clap` has against the words comes first
+kinds_first : (kinds next : Kinds) (e : Error) → HasKind kinds e → HasKind (or_else kinds next) e
+kinds_first [] next e (inl memory) = inl memory
+kinds_first [] next e (inr none) = absurd none
+kinds_first (k ∷ ks) next e h = h
+
+pub err_first : {T : Type 0} (kinds next : Kinds) (r : Result T Error) (e : Error) → IsErrAnd r (λ x. x ≡ e)
+    → HasKind kinds e → FailsBy (or_else kinds next) r
+err_first kinds next r e is h = let p = err_from_is_err_and r is in rw (p.1, p.2) (kinds_first kinds next e h)
+
+pub kinds_next : (kinds next : Kinds) → kinds ≡ [] → or_else kinds next ≡ next
+kinds_next kinds next h = ap (λ ks. or_else ks next) h
+
+-- ---- command lines, and the kinds of error that the program has at each: none at those that it takes
+
+abbrev fault_at : List Text → Kinds
+fault_at words = faults (codes "mencius" ∷ words)
+
+abbrev asked_at : List Text → Asked
+asked_at words = asked (codes "mencius" ∷ words)
+
+replay-taken : fault_at (codes "replay" ∷ []) ≡ []
+unfolding clap_on_literals
+replay-taken = refl
+
+replay-asked : asked_at (codes "replay" ∷ []) ≡ asked_replay false
+unfolding clap_on_literals
+replay-asked = refl
+
+strict-asked : asked_at (codes "replay" ∷ codes "--strict" ∷ []) ≡ asked_replay true
+unfolding clap_on_literals
+strict-asked = refl
+
+strict-taken : fault_at (codes "replay" ∷ codes "--strict" ∷ []) ≡ []
+unfolding clap_on_literals
+strict-taken = refl
+
+task-missing : fault_at [] ≡ kind.MissingSubcommand ∷ []
+unfolding clap_on_literals
+task-missing = refl
+
+task-unknown : fault_at (codes "walk" ∷ []) ≡ kind.UnknownArgument ∷ kind.InvalidSubcommand ∷ []
+unfolding clap_on_literals
+task-unknown = refl
+
+word-after-replay : fault_at (codes "replay" ∷ codes "now" ∷ []) ≡ kind.UnknownArgument ∷ []
+unfolding clap_on_literals
+word-after-replay = refl
+
+option-unknown : fault_at (codes "--loud" ∷ codes "replay" ∷ []) ≡ kind.UnknownArgument ∷ []
+unfolding clap_on_literals
+option-unknown = refl
+
+help-asked : fault_at (codes "--help" ∷ []) ≡ kind.DisplayHelp ∷ []
+unfolding clap_on_literals
+help-asked = refl
+
+help-of-replay-asked : fault_at (codes "replay" ∷ codes "-h" ∷ []) ≡ kind.DisplayHelp ∷ []
+unfolding clap_on_literals
+help-of-replay-asked = refl
+
+version-asked : fault_at (codes "--version" ∷ []) ≡ kind.DisplayVersion ∷ []
+unfolding clap_on_literals
+version-asked = refl
+
+-- a name that looks like an option is no word
+name-left-out : faults (codes "--lookup" ∷ codes "replay" ∷ []) ≡ []
+unfolding clap_on_literals
+name-left-out = refl
+
+run-taken : fault_at (codes "run" ∷ []) ≡ []
+unfolding clap_on_literals
+run-taken = refl
+
+run-asked : asked_at (codes "run" ∷ []) ≡ asked_run false None
+unfolding clap_on_literals
+run-asked = refl
+
+run-with-both : asked_at (codes "run" ∷ codes "--journal" ∷ codes "--lookup" ∷ codes "a" ∷ []) ≡ asked_run true (Some
+    (codes "a"))
+unfolding clap_on_literals
+run-with-both = refl
+
+run-with-both-taken : fault_at (codes "run" ∷ codes "--lookup=a" ∷ codes "--journal" ∷ []) ≡ []
+unfolding clap_on_literals is_name
+run-with-both-taken = refl
+
+journal-twice : fault_at (codes "run" ∷ codes "--journal" ∷ codes "--journal" ∷ []) ≡ kind.ArgumentConflict ∷ []
+unfolding clap_on_literals
+journal-twice = refl
+
+key-missing : fault_at (codes "run" ∷ codes "--lookup" ∷ []) ≡ kind.InvalidValue ∷ []
+unfolding clap_on_literals
+key-missing = refl
+
+-- a key may begin with a hyphen, behind `=` and apart, and is then no option
+hyphen-key : asked_at (codes "run" ∷ codes "--lookup=-a" ∷ []) ≡ asked_run false (Some (codes "-a"))
+unfolding clap_on_literals
+hyphen-key = refl
+
+hyphen-key-taken : fault_at (codes "run" ∷ codes "--lookup=-a" ∷ []) ≡ []
+unfolding clap_on_literals is_name
+hyphen-key-taken = refl
+
+hyphen-key-apart : asked_at (codes "run" ∷ codes "--lookup" ∷ codes "-a" ∷ []) ≡ asked_run false (Some (codes "-a"))
+unfolding clap_on_literals
+hyphen-key-apart = refl
+
+hyphen-key-apart-taken : fault_at (codes "run" ∷ codes "--lookup" ∷ codes "-a" ∷ []) ≡ []
+unfolding clap_on_literals is_name
+hyphen-key-apart-taken = refl
+
+option-as-a-key : asked_at (codes "run" ∷ codes "--lookup" ∷ codes "--journal" ∷ []) ≡ asked_run false (Some
+    (codes "--journal"))
+unfolding clap_on_literals
+option-as-a-key = refl
+
+hyphen-key-with-a-bad-byte : fault_at (codes "run" ∷ codes "--lookup" ∷ codes "-!" ∷ []) ≡ kind.ValueValidation ∷ []
+unfolding clap_on_literals is_name
+hyphen-key-with-a-bad-byte = refl
+
+key-with-a-bad-byte : fault_at (codes "run" ∷ codes "--lookup" ∷ codes "a!" ∷ []) ≡ kind.ValueValidation ∷ []
+unfolding clap_on_literals is_name
+key-with-a-bad-byte = refl
+
+empty-key : fault_at (codes "run" ∷ codes "--lookup=" ∷ []) ≡ kind.ValueValidation ∷ []
+unfolding clap_on_literals is_name
+empty-key = refl

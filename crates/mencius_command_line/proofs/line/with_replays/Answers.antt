@@ -1,0 +1,18 @@
+use Rattle.std.proofs.Common.{◌≡◌, ◌∙◌, ap₂}
+use Rattle.std.proofs.lemmas.Result.{IfOk-weaker}
+use Rattle.clap.specs.Words.{App, app_of, with_subcommand}
+use Rattle.mencius_command_line.specs.CommandLine.{replay_task, trace_task, without_tasks}
+use Rattle.mencius_command_line.proofs.line.with_replays.Goals as goal
+
+abbrev top_of : App → App → App
+top_of a b = with_subcommand a b.top
+
+pub returns : goal.returns
+returns c =
+    let first : app_of c.in_ok-subcommand.field-0 ≡ top_of without_tasks replay_task =
+    c.in_ok-subcommand.ensures.shape c.in_ok-replay_command.ensures.local
+    ∙ ap₂ top_of c.without_tasks.ensures c.in_ok-replay_command.ensures.replay in
+    let second : app_of c.in_ok-subcommand-2.field-0 ≡ top_of (top_of without_tasks replay_task) trace_task =
+    c.in_ok-subcommand-2.ensures.shape c.trace_command.ensures.local ∙ ap₂ top_of first c.trace_command.ensures.trace in
+    IfOk-weaker c.subcommand-3.result _ _ (λ r h. h.shape c.check_command.ensures.local
+    ∙ ap₂ top_of second c.check_command.ensures.check) c.subcommand-3.ensures

@@ -1,0 +1,138 @@
+-- The command line: the program, its tasks and their options, in the terms of `clap`.
+use Rattle.std.specs.Prelude.{◌&&◌, ℕ, Bool, true, false, List, [], ◌∷◌, ◌++◌, Option, Some, None, Vec, codes, map, option_map, string_bytes, if◌then◌else◌}
+use Rattle.std.specs.List.{list_all}
+use Rattle.std.specs.Option.{option_map_or}
+use Rattle.std.specs.Str.{bytes_eq, is_utf8}
+use Rattle.std.specs.Str.Lossy.{utf8_lossy}
+use Rattle.clap.specs.Kinds.{or_else}
+use Rattle.clap.specs.Words.{App, Kinds, Row, Rule, Text, fault_of, first_of, new_app, new_rule, subcommand_of, with_rule, with_subcommand}
+use Rattle.clap.specs.declared.builder.action.ArgAction.TheVariants.{Set, SetTrue}
+use Rattle.clap.specs.declared.error.kind.ErrorKind.TheVariants as kind
+use Rattle.mencius_base.specs.Command.{is_key_length, is_name}
+use Rattle.mencius_command_line.specs.declared.line.Task.{Task}
+use Rattle.mencius_command_line.specs.declared.line.Task.TheVariants as task
+
+-- ---- the program
+
+-- the program's name and settings: it has a version, and without a task it is refused
+abbrev pub without_tasks : App
+without_tasks =
+    let named = new_app (codes "mencius") in
+    record named { top = record named.top { subcommand_required = true; has_version = true } }
+
+-- `--strict`
+abbrev pub strict_option : Rule
+strict_option = record (new_rule (codes "strict")) { long = Some (codes "strict"); action = Some SetTrue }
+
+-- `--journal`
+abbrev pub journal_option : Rule
+journal_option = record (new_rule (codes "journal")) { long = Some (codes "journal"); action = Some SetTrue }
+
+-- `--lookup KEY`
+abbrev pub lookup_option : Rule
+lookup_option = record (new_rule (codes "lookup")) { long = Some (codes "lookup"); action = Some Set; value_names = 1 }
+
+abbrev pub replay_task : App
+replay_task = with_rule (new_app (codes "replay")) strict_option
+
+abbrev pub trace_task : App
+trace_task = new_app (codes "trace")
+
+abbrev pub check_task : App
+check_task = new_app (codes "check")
+
+abbrev pub run_task : App
+run_task = with_rule (with_rule (new_app (codes "run")) journal_option) lookup_option
+
+-- with the tasks that take events as they stand
+abbrev pub with_replays : App
+with_replays =
+    with_subcommand (with_subcommand (with_subcommand without_tasks replay_task.top) trace_task.top) check_task.top
+
+abbrev pub program : App
+program = with_subcommand with_replays run_task.top
+
+-- ---- what is asked for
+
+-- a replay, strict or not; a trace; a check; or a run, with its journal or not, and with a key to look up or none
+pub data Asked : Type 0 where
+  asked_replay : (is_strict : Bool) → Asked
+  asked_trace : Asked
+  asked_check : Asked
+  asked_run : (with_journal : Bool) (key : Option Text) → Asked
+
+-- whether a flag was given: its text is then "true"
+abbrev pub has_flag : Text → List Row → Bool
+has_flag id rows = option_map_or (λ text. bytes_eq text (codes "true")) (first_of id rows) false
+
+-- the task of this name, with what was found of its options
+abbrev pub asked_by : Option (Text × List Row) → Asked
+asked_by None = asked_replay false
+asked_by (Some (name, rows)) =
+    if bytes_eq name (codes "run") then asked_run (has_flag (codes "journal") rows) (first_of (codes "lookup") rows)
+    else if bytes_eq name (codes "trace") then asked_trace
+    else if bytes_eq name (codes "check") then asked_check
+    else asked_replay (has_flag (codes "strict") rows)
+
+-- `--lookup` and its KEY make one word, `--lookup=KEY`, since a KEY may begin with a hyphen
+abbrev pub with_joined_key : List Text → List Text
+with_joined_key (word ∷ key ∷ words) =
+    if bytes_eq word (codes "--lookup") then (word ++ 61 ∷ key) ∷ with_joined_key words
+    else word ∷ with_joined_key (key ∷ words)
+with_joined_key words = words
+
+-- the words as they are read: the first, the program's name, is none of them, whatever it is
+abbrev pub words_read : List Text → List Text
+words_read [] = []
+words_read (name ∷ words) = name ∷ with_joined_key words
+
+abbrev pub asked : List Text → Asked
+asked words = asked_by (subcommand_of program (words_read words))
+
+-- the same, of a task
+abbrev pub asked_in : Task → Asked
+asked_in (task.Replay is_strict) = asked_replay is_strict
+asked_in task.Trace = asked_trace
+asked_in task.Check = asked_check
+asked_in (task.Run with_journal key) = asked_run with_journal (option_map string_bytes key)
+
+-- ---- what is wrong with it
+
+-- 1 to 64 bytes that a key may have
+abbrev pub is_key : Text → Bool
+is_key word = is_name word && is_key_length word
+
+-- the kind of a key that is none, where there is one
+abbrev pub bad_key_faults : Option Text → Kinds
+bad_key_faults None = []
+bad_key_faults (Some key) = kind.ValueValidation ∷ []
+
+-- what is wrong with the key
+abbrev pub key_faults : Asked → Kinds
+key_faults (asked_replay is_strict) = []
+key_faults asked_trace = []
+key_faults asked_check = []
+key_faults (asked_run with_journal None) = []
+key_faults (asked_run with_journal (Some key)) = bad_key_faults (if is_key key then None else Some key)
+
+-- what `clap` has against the words, and else what is wrong with the key
+abbrev pub faults : List Text → Kinds
+faults words = or_else (fault_of program (words_read words)) (key_faults (asked words))
+
+-- ---- arguments, which are bytes
+
+-- the bytes of each
+abbrev pub bytes_of : {Z : Type 0} → List (Vec ℕ Z) → List Text
+bytes_of arguments = map (λ a. a.items) arguments
+
+-- the text of each, which is its bytes where these are a text
+abbrev pub lossy_of : {Z : Type 0} → List (Vec ℕ Z) → List Text
+lossy_of arguments = map (λ a. utf8_lossy a.items) arguments
+
+-- whether all are texts
+abbrev pub are_texts : List Text → Bool
+are_texts arguments = list_all is_utf8 arguments
+
+-- the command line that they make, under the name that usage shows
+abbrev pub line_of : List Text → List Text
+line_of arguments = codes "mencius" ∷ arguments

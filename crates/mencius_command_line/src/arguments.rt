@@ -1,0 +1,65 @@
+//! The arguments that the program is called with, which are bytes.
+
+ghost use Rattle.std.specs.Prelude.{◌≡◌, IfOk, map, string_bytes, true};
+ghost use Rattle.std.specs.Str.{is_utf8};
+ghost use Rattle.clap.specs.Words.{FailsBy};
+ghost use Rattle.mencius_command_line.specs.CommandLine.{are_texts, asked, asked_in, bytes_of, faults, line_of, lossy_of};
+
+use crate::line::{Task, read_command_line};
+use clap::Error;
+use std::alloc::{AllocError, Global};
+
+// The name that usage shows, whatever name the program was started by.
+const NAME: &str = "mencius";
+
+/// Whether all arguments are texts, that is, UTF-8.
+pub fn are_texts(arguments: &[Vec<u8>]) -> bool
+    ensures { result ≡ are_texts (bytes_of arguments.now) }
+{
+    let mut rest = arguments;
+    while let Some((argument, after)) = rest.split_first() {
+        if !is_text(argument.as_slice()) {
+            return false;
+        }
+        rest = after;
+    }
+    true
+}
+
+fn is_text(bytes: &[u8]) -> bool
+    ensures { result ≡ is_utf8 bytes.now }
+{
+    match str::from_utf8(bytes) {
+        Ok(_) => true,
+        Err(_) => false,
+    }
+}
+
+/// What arguments ask for that are texts, as [`read_command_line`] says of the words. The program's
+/// own name is none of them.
+///
+/// # Errors
+///
+/// Those of [`read_command_line`].
+pub fn read_arguments(alloc: Global, arguments: &[Vec<u8>]) -> Result<Task, Error>
+    requires { are_texts (bytes_of arguments.now) ≡ true }
+    ensures task { IfOk result (λ task. asked_in task ≡ asked (line_of (bytes_of arguments.now))) }
+    ensures faults { FailsBy (faults (line_of (bytes_of arguments.now))) result }
+{
+    let words = words_in(alloc, arguments)?;
+    read_command_line(alloc, words.as_slice())
+}
+
+// The program's name, and then the arguments.
+fn words_in(alloc: Global, arguments: &[Vec<u8>]) -> Result<Vec<String>, AllocError>
+    ensures { IfOk result (λ v. map string_bytes v.items ≡ line_of (lossy_of arguments.now)) }
+{
+    let mut words = Vec::new(alloc);
+    words.push(String::from_str(alloc, NAME)?)?;
+    let mut rest = arguments;
+    while let Some((argument, after)) = rest.split_first() {
+        words.push(String::from_utf8_lossy(alloc, argument.as_slice())?)?;
+        rest = after;
+    }
+    Ok(words)
+}

@@ -1,0 +1,105 @@
+-- One delivery among servers that are stepped by hand, from the laws of a server alone.
+use Rattle.std.proofs.Common.{◌≡◌, ℕ, Bool, true, false, cond, List, [], ◌∷◌, ◌++◌, length, Option, None, Some, leb, Result, Ok, Err, OnOk, refl, sym, ap, ◌∙◌, subst}
+use Rattle.std.specs.Prelude.{IsTrue, slice_get}
+use Rattle.mencius_base.specs.declared.event.Event.TheVariants.{Deliver}
+use Rattle.mencius_base.specs.declared.message.Message.{Message}
+use Rattle.mencius_base.specs.declared.refusal.Refusal.{Refusal}
+use Rattle.mencius_base.specs.declared.refusal.Refusal.TheVariants.{EventsFull}
+use Rattle.mencius_base.specs.Refusal.{IsRefusedFor}
+use Rattle.mencius_base.specs.Members.{Membership, most_events, most_messages}
+use Rattle.mencius_base.specs.Message.{is_addressed}
+use Rattle.mencius_base.specs.Outbox.{Outgoing, outbox_full}
+use Rattle.mencius_model.specs.Trace.{Trace, events, messages_of, sent}
+use Rattle.mencius_model.specs.Next.{IsReached, early_cause, first_cause, found_by_cluster, found_by_server, lines, refused, with_event}
+use Rattle.mencius_model.proofs.EventLines.{sent-event}
+use Rattle.mencius_model.proofs.Journals.{next-accepted, reached_next}
+use Rattle.mencius_server.specs.Laws.{HearIsEvent, LeavesOthers}
+use Rattle.mencius_server.specs.Machine.{after_hearing, sent_on}
+use Rattle.mencius_server.specs.Reached.{IsAt, server_at}
+use Rattle.mencius_server.specs.State.{ServerState}
+use Rattle.mencius_conclusions.specs.Hands.{AreAt}
+
+on_first : (a : Bool) (r : Refusal) (o x : Option Refusal) → cond a (Some r) o ≡ None → (o ≡ None → x ≡ None)
+    → cond a (Some r) x ≡ None
+on_first true r o x h g = absurd (cc)
+on_first false r o x h g = g h
+
+both_none : (cs ds : List (Bool × Refusal)) → first_cause cs ≡ None → first_cause ds ≡ None
+    → first_cause (cs ++ ds) ≡ None
+both_none [] ds h g = g
+both_none (c ∷ cs) ds h g =
+    on_first c.0 c.1 (first_cause cs) (first_cause (cs ++ ds)) h (λ n. both_none cs ds n g)
+
+-- a server that heard nothing is at the longer trace too
+stays : LeavesOthers → (m : Membership) (w : Trace) (k p : ℕ) (s : ServerState) → IsAt w s → s.members ≡ m
+    → refused m w (Deliver k p) ≡ None → (p ≡ s.id → ⊥) → IsAt (with_event m w (Deliver k p)) s
+stays law m w k p s at same fine ne =
+    let e = Deliver k p in
+    let r = subst (λ (x : Membership). IsReached x w) same at.reached in
+    let h = next-accepted m w e fine in
+    let is : s ≡ server_at m w s.id = subst (λ (x : Membership). s ≡ server_at x w s.id) same at.state in
+    let after = is ∙ sym (law m w (with_event m w e) e r h s.id ne) in
+    record {
+      reached = subst (λ (x : Membership). IsReached x (with_event m w e)) (sym same)
+          (reached_next m w (with_event m w e) e r h);
+      state = subst (λ (x : Membership). s ≡ server_at x (with_event m w e) s.id) (sym same) after;
+    }
+
+-- the message is what the receiver heard, and this is what the call left
+pub record IsHeard (k : ℕ) (x : Message) (w : Trace) (r after : ServerState) (o sends : Outgoing) : Type 0 where
+  pub addressed : IsTrue (is_addressed r.members r.id x)
+  pub number : slice_get (sent w) k ≡ Some x
+  pub early : early_cause r.members w (Deliver k r.id) ≡ None
+  pub state : after ≡ after_hearing r x
+  pub messages : sends.messages ≡ o.messages ++ sent_on r x
+  pub limit : sends.limit ≡ o.limit
+  pub room : outbox_full o (length (sent_on r x)) ≡ None
+
+pub delivered : HearIsEvent → LeavesOthers → (w : Trace) (k : ℕ) (x : Message) (r after s z : ServerState)
+    (o sends : Outgoing) → AreAt w r s z o → IsHeard k x w r after o sends → s.members ≡ r.members
+    → z.members ≡ r.members
+    → (r.id ≡ s.id → ⊥) → (r.id ≡ z.id → ⊥) → AreAt (with_event r.members w (Deliver k r.id)) after s z sends
+delivered hear law w k x r after s z o sends at h ms mt ns nt =
+    let m = r.members in
+    let e = Deliver k r.id in
+    let part = hear w r k x at.first h.addressed h.number in
+    let late : first_cause (found_by_server m w e (length (sent w)) most_messages) ≡ None =
+    ap (λ (xs : List Message). first_cause (found_by_server m w e (length xs) most_messages)) (sym at.messages)
+    ∙ ap (λ (n : ℕ). first_cause (found_by_server m w e (length o.messages) n)) (sym at.limit)
+    ∙ sym (part.refusal o) ∙ h.room in
+    let fine : refused m w e ≡ None =
+    both_none ((leb most_events (events w), EventsFull) ∷ found_by_cluster m w e)
+    (found_by_server m w e (length (sent w)) most_messages) h.early late in
+    let longer = reached_next m w (with_event m w e) e at.first.reached (next-accepted m w e fine) in
+    let is : after ≡ server_at m (with_event m w e) r.id = h.state ∙ part.state in
+    record {
+      first = subst (λ (y : ServerState). IsAt (with_event m w e) y) (sym is)
+          (record { reached = longer; state = refl });
+      second = stays law m w k r.id s at.second ms fine ns;
+      third = stays law m w k r.id z at.third mt fine nt;
+      messages = h.messages ∙ ap (λ xs. xs ++ sent_on r x) at.messages ∙ ap (λ ys. sent w ++ ys) part.sent
+          ∙ sym (sent-event m w e);
+      limit = h.limit ∙ at.limit;
+    }
+
+-- so it is after a call that was not refused
+pub delivered_then : HearIsEvent → LeavesOthers → (result : Result ℕ Refusal) (x : Message)
+    (r after s y : ServerState) (o z : Outgoing) → IsTrue (is_addressed r.members r.id x)
+    → OnOk result (z.messages ≡ o.messages ++ sent_on r x) → OnOk result (after ≡ after_hearing r x)
+    → IsRefusedFor (outbox_full o (length (sent_on r x))) result → z.limit ≡ o.limit
+    → s.members ≡ r.members → y.members ≡ r.members → (r.id ≡ s.id → ⊥) × (r.id ≡ y.id → ⊥)
+    → OnOk result ((w : Trace) (k : ℕ) → AreAt w r s y o → slice_get (sent w) k ≡ Some x
+    → early_cause r.members w (Deliver k r.id) ≡ None
+    → AreAt (with_event r.members w (Deliver k r.id)) after s y z)
+delivered_then hear law (Err f) x r after s y o z addressed sends becomes room limit ms mt apart = tt
+delivered_then hear law (Ok n) x r after s y o z addressed sends becomes room limit ms mt apart = λ w k at number early.
+    delivered hear law w k x r after s y o z at
+    (record {
+      addressed = addressed;
+      number = number;
+      early = early;
+      state = becomes;
+      messages = sends;
+      limit = limit;
+      room = room;
+    }) ms mt apart.0 apart.1

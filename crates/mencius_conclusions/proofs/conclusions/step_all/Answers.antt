@@ -1,0 +1,15 @@
+use denote.Enum.Bare.{same_false}
+use Rattle.std.proofs.Common.{sym}
+use Rattle.mencius_base.specs.contracts.refusal.Refusal.{the_type}
+use Rattle.mencius_cluster.proofs.Stepped.{accepted_further, refused_further}
+use Rattle.mencius_conclusions.proofs.conclusions.step_all.Goals as goal
+
+pub loop-event-preserved-in-Ok : goal.loop-event-preserved-in-Ok
+loop-event-preserved-in-Ok c = (_, accepted_further _ _ _ _ _ _ _ c.loop-event.invariant.1 c.in-Ok.ensures.effect)
+
+pub loop-event-preserved : goal.loop-event-preserved
+loop-event-preserved c = (
+  _,
+  refused_further _ _ _ _ _ _ _ c.loop-event.invariant.1 c.in-Err.ensures.refusal
+      (same_false the_type _ _ (sym c.if-eq.ensures)) c.in-Err.ensures.err,
+)

@@ -1,0 +1,54 @@
+//! What a simulator with a network of its own can conclude of the servers that it steps.
+//!
+//! Nothing here sees inside a server, and no cluster stands behind it. The proof rests on what the
+//! call promises, and on the laws.
+
+ghost use Rattle.mencius_base.specs.Message.{is_addressed};
+ghost use Rattle.mencius_base.specs.Outbox.{outbox_full};
+ghost use Rattle.mencius_base.specs.declared.event.Event.TheVariants.{Deliver};
+ghost use Rattle.mencius_model.specs.Next.{early_cause, with_event};
+ghost use Rattle.mencius_model.specs.Trace.{Trace, sent};
+ghost use Rattle.mencius_server.specs.Machine.{IsUndone};
+ghost use Rattle.mencius_conclusions.specs.Hands.{AreAt};
+ghost use Rattle.std.specs.Prelude.{IsTrue, None, OnErr, OnOk, Some, slice_get, ◌≡◌, ◌≢◌, ℕ};
+
+use mencius_base::{Message, Outbox, Refusal};
+use mencius_server::{Server, laws};
+
+/// Delivers a message to one of three servers of a cluster, and answers how many instances it
+/// learned. The two others stand here for the contract alone.
+///
+/// Where all three are at a trace, the outbox has its messages, and the network has no cause to
+/// refuse the delivery, all three are at the longer trace afterwards, and the outbox has its
+/// messages. What the network may refuse it for is a server that is none, a number that no message
+/// has, a message that is not for the server, or one that was lost on the way.
+///
+/// # Errors
+///
+/// Those of [`Server::hear`]. Server and messages are then as before.
+pub fn deliver(
+    receiver: &mut Server,
+    second: &Server,
+    third: &Server,
+    out: &mut Outbox,
+    message: &Message,
+) -> Result<u32, Refusal>
+    requires addressed { IsTrue (is_addressed receiver.old.members receiver.old.id message.now) }
+    requires second { second.now.members ≡ receiver.old.members }
+    requires third { third.now.members ≡ receiver.old.members }
+    requires others { (receiver.old.id ≢ second.now.id) × (receiver.old.id ≢ third.now.id) }
+    ensures delivery { OnOk result ((w : Trace) (k : ℕ)
+        → AreAt w receiver.old second.now third.now out.old
+        → slice_get (sent w) k ≡ Some message.now
+        → early_cause receiver.old.members w (Deliver k receiver.old.id) ≡ None
+        → AreAt (with_event receiver.old.members w (Deliver k receiver.old.id))
+        receiver.new second.now third.now out.new) }
+    ensures err { OnErr result (IsUndone receiver.old receiver.new out.old out.new) }
+{
+    // The two others are asked for nothing but their numbers.
+    let _others = (second.id(), third.id());
+    // The laws are called for their promises alone.
+    laws::events();
+    laws::isolation();
+    receiver.hear(message, out)
+}

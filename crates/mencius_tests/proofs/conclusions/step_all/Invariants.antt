@@ -1,8 +1,0 @@
-use Rattle.std.proofs.Common.{List}
-use Rattle.mencius_model.specs.Outcomes.{Outcome}
-use Rattle.mencius_app.proofs.Stepped.{IsReplayed}
-use Rattle.mencius_tests.proofs.conclusions.step_all.Given as goal
-
--- the cluster took the events so far, with some outcome each
-abbrev pub invariant-loop-event : goal.invariant-loop-event
-invariant-loop-event l = (outcomes : List Outcome) × IsReplayed l.initial.cluster l.yielded l.cluster outcomes
