@@ -5,7 +5,7 @@ use Rattle.std.specs.Io.KnownBytes.{Appends}
 use Rattle.std.proofs.KnownBytes.{Appends-trans}
 use Rattle.std.proofs.Math.Seq.{take-append-add}
 use Rattle.std.proofs.lemmas.List.{length-append}
-use Rattle.mencius_input.specs.Ends.{HasFailed, WritesFront, most_failures}
+use Rattle.mencius_ends.specs.Ends.{HasFailed, WritesFront, most_failures}
 
 -- a front of the second text, behind the first
 pub front_behind : (old mid new : Option (List ℕ)) (xs ys : List ℕ) → Appends old mid xs → WritesFront mid new ys

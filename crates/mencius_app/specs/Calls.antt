@@ -1,9 +1,9 @@
 -- What a task asks of its reader and its writer, and why it ends at a fault.
 use Rattle.std.specs.Prelude.{◌≡◌, ◌≢◌, ◌≤◌, ◌+◌, ℕ, List, Option}
 use Rattle.std.specs.Io.KnownBytes.{Keeps}
-use Rattle.mencius_input.specs.Ends.{HasFailed, TakesAtMost, WritesFront, most_bytes, most_failed_calls}
-use Rattle.mencius_input.specs.declared.fault.AppFault.{AppFault}
-use Rattle.mencius_input.specs.declared.fault.AppFault.TheVariants.{ReadFailed, WriteFailed}
+use Rattle.mencius_ends.specs.Ends.{HasFailed, TakesAtMost, WritesFront, most_bytes, most_failed_calls}
+use Rattle.mencius_ends.specs.declared.fault.AppFault.{AppFault}
+use Rattle.mencius_ends.specs.declared.fault.AppFault.TheVariants.{ReadFailed, WriteFailed}
 use Rattle.mencius_app.specs.Replay.{IsBadInput}
 
 -- how much is asked, whatever comes of it, of a reader that had so many bytes and has these left, and of whose calls so

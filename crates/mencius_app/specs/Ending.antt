@@ -4,10 +4,10 @@ use Rattle.std.specs.Io.KnownBytes.{Appends}
 use Rattle.clap.specs.Words.{IsAmong, Text}
 use Rattle.clap.specs.declared.error.kind.ErrorKind.{ErrorKind}
 use Rattle.clap.specs.declared.error.kind.ErrorKind.TheVariants as kind
-use Rattle.mencius_input.specs.declared.fault.AppFault.{AppFault}
+use Rattle.mencius_ends.specs.declared.fault.AppFault.{AppFault}
 use Rattle.mencius_command_line.specs.CommandLine.{Asked, are_texts, asked, asked_check, asked_replay, asked_run, asked_trace, faults, line_of}
-use Rattle.mencius_input.specs.Fault.{fault_name, fault_number}
-use Rattle.mencius_input.specs.Status.{status_of}
+use Rattle.mencius_ends.specs.Fault.{fault_name, fault_number}
+use Rattle.mencius_ends.specs.Status.{status_of}
 use Rattle.mencius_app.specs.Replay.{IsFaultOf, IsJudgedReplayOf}
 use Rattle.mencius_trace.specs.Words.{line_feed}
 use Rattle.mencius_app.specs.Check.{IsCheckOf}

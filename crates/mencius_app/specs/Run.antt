@@ -4,9 +4,9 @@ use Rattle.mencius_model.specs.Store.{value_at}
 use Rattle.mencius_model.specs.Next.{replay}
 use Rattle.mencius_model.specs.Replying.{longest_commands}
 use Rattle.mencius_cluster.specs.State.{ClusterState, trace_of}
-use Rattle.mencius_input.specs.declared.fault.AppFault.{AppFault}
-use Rattle.mencius_input.specs.declared.fault.AppFault.TheVariants.{BadLimit, BoardFailed, NoMemory}
-use Rattle.mencius_input.specs.Ends.{most_bytes}
+use Rattle.mencius_ends.specs.declared.fault.AppFault.{AppFault}
+use Rattle.mencius_ends.specs.declared.fault.AppFault.TheVariants.{BadLimit, BoardFailed, NoMemory}
+use Rattle.mencius_ends.specs.Ends.{most_bytes}
 use Rattle.mencius_app.specs.Journal.{ReadsBack, journal_text}
 use Rattle.mencius_input.specs.Plan.{WrittenPlan, plan}
 use Rattle.mencius_app.specs.Report.{report_text}

@@ -4,7 +4,7 @@ ghost use Rattle.std.specs.Prelude.{◌≡◌, ◌≢◌, ◌⊎◌, ◌≤◌, 
 ghost use Rattle.std.specs.Io.KnownBytes.{Appends};
 ghost use Rattle.clap.specs.Words.{kind_of};
 ghost use Rattle.mencius_command_line.specs.CommandLine.{are_texts, asked, asked_check, asked_in, bytes_of, faults, line_of};
-ghost use Rattle.mencius_input.specs.Ends.{HasFailed, WritesFront, most_failed_calls};
+ghost use Rattle.mencius_ends.specs.Ends.{HasFailed, WritesFront, most_failed_calls};
 ghost use Rattle.mencius_app.specs.Calls.{AsksLittle, IsCause};
 ghost use Rattle.mencius_app.specs.Ending.{Did, DidTask, IsAskedFor, IsFaultFor, IsInputFaultOf, IsMistaken, IsTextOf, IsToShow, ending_of, fault_in, is_explained};
 

@@ -2,7 +2,7 @@
 
 ghost use Rattle.std.specs.Prelude.{ℕ, List, Ok, IfSome, ◌≡◌, ◌≢◌, ◌≤◌, ◌+◌, string_bytes, IfErr, IfOk, OnOk};
 ghost use Rattle.std.specs.Io.KnownBytes.{Appends, IsAtEnd};
-ghost use Rattle.mencius_input.specs.Ends.{HasFailed, TakesAtMost, most_bytes, most_failed_calls};
+ghost use Rattle.mencius_ends.specs.Ends.{HasFailed, TakesAtMost, most_bytes, most_failed_calls};
 ghost use Rattle.mencius_input.specs.Scenario.{written_in};
 ghost use Rattle.mencius_app.specs.Calls.{AsksLittle, IsCause};
 ghost use Rattle.mencius_app.specs.Check.{IsCheckOf, ok_line};
@@ -36,7 +36,7 @@ impl From<AppFault> for Finding {
 
 impl From<AllocError> for Finding {
     ghost use Rattle.std.specs.Prelude.{◌≡◌};
-    ghost use Rattle.mencius_input.specs.declared.fault.AppFault.TheVariants as fault;
+    ghost use Rattle.mencius_ends.specs.declared.fault.AppFault.TheVariants as fault;
 
     ghost from_gives = { λ _ found. found.fault ≡ fault.NoMemory };
 

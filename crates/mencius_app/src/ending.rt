@@ -2,8 +2,8 @@
 
 ghost use Rattle.std.specs.Prelude.{◌≡◌, ◌⊎◌, ◌++◌, OnOk, OnErr};
 ghost use Rattle.std.specs.Io.KnownBytes.{Appends};
-ghost use Rattle.mencius_input.specs.Ends.{HasFailed, WritesFront};
-ghost use Rattle.mencius_input.specs.Status.{status_of};
+ghost use Rattle.mencius_ends.specs.Ends.{HasFailed, WritesFront};
+ghost use Rattle.mencius_ends.specs.Status.{status_of};
 ghost use Rattle.mencius_app.specs.Ending.{fault_line, lines_of_ending, status_of_ending};
 
 use mencius_input::{AppFault, Sink, exit_status, write_all};

@@ -2,7 +2,7 @@
 
 ghost use Rattle.std.specs.Prelude.{ℕ, ◌≡◌, ◌<◌, ◌≤◌, ◌+◌, ◌⊎◌, ◌++◌, length, string_bytes, Some, IfErr, IsErrOf, OnOk, slice_get};
 ghost use Rattle.std.specs.Io.KnownBytes.{Appends};
-ghost use Rattle.mencius_input.specs.Ends.{HasFailed, WritesFront, most_failed_calls};
+ghost use Rattle.mencius_ends.specs.Ends.{HasFailed, WritesFront, most_failed_calls};
 ghost use Rattle.mencius_app.specs.Report.{counts_line, history_text, reply_line, reply_lines, reply_of_command, report_text, server_line, server_lines, spaced_id};
 ghost use Rattle.mencius_model.specs.Trace.{submitted};
 ghost use Rattle.mencius_cluster.specs.State.{trace_of};

@@ -1,4 +1,3 @@
-pub mod Known
 pub mod Numbers
 pub mod Judging
 pub mod Cuts

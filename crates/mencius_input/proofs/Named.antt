@@ -11,7 +11,7 @@ use Rattle.serde_json.specs.Data.{Data, Members, member, no_members, object, put
 use Rattle.serde_json.specs.Events.{members_len}
 use Rattle.serde_json.specs.Find.{as_number, as_u64, get_member}
 use Rattle.serde_json.proofs.Views.{get_member-put, get_member-put_other}
-use Rattle.mencius_input.specs.declared.fault.AppFault.TheVariants.{BadShape}
+use Rattle.mencius_ends.specs.declared.fault.AppFault.TheVariants.{BadShape}
 use Rattle.mencius_input.specs.Named.{all_said, AreNamed, Says, field, is_one_of, newest, these}
 use Rattle.mencius_input.specs.Next.{whole_in}
 use Rattle.mencius_input.specs.Scenario.{whole_of}

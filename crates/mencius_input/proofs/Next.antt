@@ -14,7 +14,7 @@ use Rattle.serde_json.specs.Data.{Data, Num, Items, no_items, item, Members, no_
 use Rattle.serde_json.specs.Find.{as_u64}
 use Rattle.serde_json.specs.Read.{converted, number_of, of_items, of_json, of_members}
 use Rattle.mencius_input.proofs.Conversions.{array_converted, bad_item, bad_member, next_item, next_member, no_item, no_member, no_name, object_converted}
-use Rattle.mencius_input.specs.declared.fault.AppFault.{AppFault}
+use Rattle.mencius_ends.specs.declared.fault.AppFault.{AppFault}
 use Rattle.mencius_input.specs.Next.{StopsBy, next_items, next_members, next_value}
 
 -- ---- where reading stops

@@ -7,7 +7,7 @@ use Rattle.std.specs.Str.Parse.{AllDigits, digits_value, ParsesUnsigned}
 use Rattle.std.proofs.lemmas.Str.Parse.{numerals_by_value, tells_digits, parse_digits}
 use Rattle.std.proofs.lemmas.Bool.{and_from, and_parts, le-ltb}
 use Rattle.std.proofs.lemmas.Bool.Decides.{nat_tests}
-use Rattle.mencius_input.specs.declared.fault.AppFault.TheVariants.{BadLimit}
+use Rattle.mencius_ends.specs.declared.fault.AppFault.TheVariants.{BadLimit}
 use Rattle.mencius_input.specs.Judged.{judged}
 use Rattle.mencius_input.specs.Words.{is_number, number_of}
 

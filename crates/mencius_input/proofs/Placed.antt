@@ -9,7 +9,7 @@ use Rattle.serde_json.specs.Find.{get_item}
 use Rattle.serde_json.specs.View.{items_view, view}
 use Rattle.serde_json.specs.declared.value.Value.{Value}
 use Rattle.serde_json.proofs.Views.{get_item_within}
-use Rattle.mencius_input.specs.declared.fault.AppFault.{AppFault}
+use Rattle.mencius_ends.specs.declared.fault.AppFault.{AppFault}
 use Rattle.mencius_base.specs.declared.refusal.NoMemory.{NoMemory}
 use Rattle.mencius_input.specs.declared.places.Place.{Place}
 use Rattle.mencius_input.specs.Place.{IsAt, NoneBefore, item_said}

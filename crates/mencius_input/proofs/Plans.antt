@@ -12,8 +12,8 @@ use Rattle.serde_json.specs.Find.{as_array, as_object, get_member}
 use Rattle.mencius_base.specs.Limits.{greatest_loss, most_servers, most_turns, most_workers}
 use Rattle.mencius_base.specs.declared.command.Command.{Command}
 use Rattle.mencius_base.specs.Request.{Request}
-use Rattle.mencius_input.specs.declared.fault.AppFault.{AppFault}
-use Rattle.mencius_input.specs.declared.fault.AppFault.TheVariants.{BadLimit}
+use Rattle.mencius_ends.specs.declared.fault.AppFault.{AppFault}
+use Rattle.mencius_ends.specs.declared.fault.AppFault.TheVariants.{BadLimit}
 use Rattle.mencius_input.specs.declared.plan.Fields as code
 use Rattle.mencius_input.specs.declared.plan.Numbers.{Numbers}
 use Rattle.mencius_input.specs.Grammar.{command_within}

@@ -5,8 +5,8 @@ use Rattle.std.specs.Str.{bytes_eq}
 use Rattle.serde_json.specs.Data.{Members}
 use Rattle.mencius_base.specs.Limits.{most_servers}
 use Rattle.mencius_base.specs.declared.event.Event.{Event}
-use Rattle.mencius_input.specs.declared.fault.AppFault.{AppFault}
-use Rattle.mencius_input.specs.declared.fault.AppFault.TheVariants.{BadLimit, BadShape}
+use Rattle.mencius_ends.specs.declared.fault.AppFault.{AppFault}
+use Rattle.mencius_ends.specs.declared.fault.AppFault.TheVariants.{BadLimit, BadShape}
 use Rattle.mencius_input.specs.declared.scenario.Fields as code
 use Rattle.mencius_input.specs.declared.scenario.Name.{Name}
 use Rattle.mencius_input.specs.declared.scenario.Name.TheVariants.{Version, Servers, Events, Other}

@@ -1,6 +1,3 @@
-pub mod Fault
-pub mod Status
-pub mod Ends
 pub mod Judged
 pub mod Words
 pub mod Tokens

@@ -4,8 +4,8 @@ use Rattle.std.specs.List.{list_any}
 use Rattle.std.specs.Str.{bytes_eq}
 use Rattle.serde_json.specs.Data.{Data, Members, member, no_members}
 use Rattle.serde_json.specs.Find.{get_member}
-use Rattle.mencius_input.specs.declared.fault.AppFault.{AppFault}
-use Rattle.mencius_input.specs.declared.fault.AppFault.TheVariants.{BadShape}
+use Rattle.mencius_ends.specs.declared.fault.AppFault.{AppFault}
+use Rattle.mencius_ends.specs.declared.fault.AppFault.TheVariants.{BadShape}
 
 -- what is known of a field once the field of a name was read
 abbrev pub newest : {X : Type 0} → List ℕ → List ℕ → X → Option X → Option X

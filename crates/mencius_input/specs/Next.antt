@@ -6,8 +6,8 @@ use Rattle.json.specs.Json.{items, members, parse_map, value}
 use Rattle.serde_json.specs.Data.{Data, Items, Members, array, no_members, object}
 use Rattle.serde_json.specs.Find.{as_array, as_number, as_object, as_u64}
 use Rattle.serde_json.specs.Read.{converted, of_items, of_json, of_members}
-use Rattle.mencius_input.specs.declared.fault.AppFault.{AppFault}
-use Rattle.mencius_input.specs.declared.fault.AppFault.TheVariants.{NoMemory, NotJson}
+use Rattle.mencius_ends.specs.declared.fault.AppFault.{AppFault}
+use Rattle.mencius_ends.specs.declared.fault.AppFault.TheVariants.{NoMemory, NotJson}
 
 -- the value that tokens begin with, and the tokens behind it
 abbrev pub next_value : ℕ → List Token → Option (Data × List Token)

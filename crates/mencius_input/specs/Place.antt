@@ -4,8 +4,8 @@ use Rattle.serde_json.specs.Data.{Data, Items, Members}
 use Rattle.serde_json.specs.Find.{as_array, as_object, as_str, get, get_item}
 use Rattle.mencius_base.specs.Limits.{most_servers}
 use Rattle.mencius_base.specs.declared.event.Event.{Event as SpecEvent}
-use Rattle.mencius_input.specs.declared.fault.AppFault.{AppFault}
-use Rattle.mencius_input.specs.declared.fault.AppFault.TheVariants.{BadLimit, BadShape}
+use Rattle.mencius_ends.specs.declared.fault.AppFault.{AppFault}
+use Rattle.mencius_ends.specs.declared.fault.AppFault.TheVariants.{BadLimit, BadShape}
 use Rattle.mencius_input.specs.declared.places.Field.{Field}
 use Rattle.mencius_input.specs.declared.places.Field.TheVariants.{Version, Servers, Events}
 use Rattle.mencius_input.specs.declared.places.Place.{Place}

@@ -6,7 +6,7 @@ use Rattle.serde_json.specs.Find.{as_object, as_array, get}
 use Rattle.serde_json.specs.Events.{members_len}
 use Rattle.mencius_base.specs.Limits.{greatest_loss, most_servers, most_turns, most_workers}
 use Rattle.mencius_base.specs.Request.{Request}
-use Rattle.mencius_input.specs.declared.fault.AppFault.{AppFault}
+use Rattle.mencius_ends.specs.declared.fault.AppFault.{AppFault}
 use Rattle.mencius_input.specs.declared.plan.Numbers.{Numbers}
 use Rattle.mencius_input.specs.declared.plan.RunInput as code
 use Rattle.mencius_input.specs.Judged.{judged}

@@ -3,11 +3,11 @@
 ghost use Rattle.std.specs.Prelude.{◌≡◌, ◌⊎◌, ◌∷◌, ◌++◌, IfOk, codes, decimal, string_bytes};
 ghost use Rattle.mencius_input.specs.Place.{IsTold, IsToldBy, Tells, field_words, unplaced_words, value_words};
 
-use crate::fault::AppFault;
 use crate::places::{Field, Place, place_of};
 use crate::stops::stop_in;
 use crate::wrong::{shown, wrong_event};
 use mencius_base::NoMemory;
+use mencius_ends::AppFault;
 use std::alloc::Global;
 
 // What is wrong with the value of a field.

@@ -12,12 +12,12 @@ ghost use Rattle.mencius_input.specs.Place.{ArePlaces, IsAt, IsFirst, field_name
 ghost use Rattle.mencius_input.specs.Scenario.{json_of};
 
 use crate::event::parse_event;
-use crate::fault::AppFault;
 use crate::scenario::{Name, are_servers, is_version, named};
 use crate::tokens::Tokens;
 use crate::value::{MOST_DEPTH, next_name, pass};
 use json::Scratch;
 use mencius_base::NoMemory;
+use mencius_ends::AppFault;
 use serde_json::Value;
 use std::alloc::Global;
 

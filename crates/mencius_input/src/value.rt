@@ -9,10 +9,10 @@ ghost use Rattle.serde_json.specs.Find.{as_str, as_u64};
 ghost use Rattle.serde_json.specs.Read.{float_of, number_from, number_of};
 ghost use Rattle.mencius_input.specs.Next.{EntersArray, EntersObject, StopsBy, next_items, next_members, next_value, number_text, opens_array, opens_object, text_of, whole_in};
 
-use crate::fault::AppFault;
 use crate::tokens::Tokens;
 use fast_float::Numeral;
 use json::Token;
+use mencius_ends::AppFault;
 
 /// How deep lists and objects may nest in a JSON text.
 pub(crate) const MOST_DEPTH: usize = 127;

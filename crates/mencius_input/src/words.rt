@@ -4,7 +4,7 @@ ghost use Rattle.std.specs.Char.{is_ascii_digit};
 ghost use Rattle.mencius_input.specs.Judged.{judged};
 ghost use Rattle.mencius_input.specs.Words.{is_number, is_u8, is_u32, number_of, parts};
 
-use crate::fault::AppFault;
+use mencius_ends::AppFault;
 
 /// The text before the first byte `at` and the text behind it. A text that has none is a bad shape.
 pub(crate) fn cut(text: &str, at: u8) -> Result<(&str, &str), AppFault>

@@ -1,9 +1,9 @@
 //! Which word of an event is wrong, in a person's words. Each word is judged by what reads it.
 
 use crate::event::parse_id;
-use crate::fault::AppFault;
 use crate::words::{cut, parse_u8, parse_u32};
 use mencius_base::{BadCommand, Command, CommandId, Key, NoMemory, Op, Text};
+use mencius_ends::AppFault;
 use std::alloc::Global;
 
 // The longest text that is shown whole, in characters.

@@ -1,6 +1,6 @@
 use Rattle.std.proofs.Common.{◌≡◌, rules, sym}
 use Rattle.serde_json.specs.View.{view}
-use Rattle.mencius_input.specs.declared.fault.AppFault.TheVariants.{BadShape}
+use Rattle.mencius_ends.specs.declared.fault.AppFault.TheVariants.{BadShape}
 use Rattle.mencius_input.proofs.places.place_of_unknown.Goals as goal
 
 pub returns-in_ok-name-in-Some : goal.returns-in_ok-name-in-Some

@@ -1,7 +1,7 @@
 use Rattle.std.proofs.Common.{◌≡◌, ◌∷◌, [], inr, refl, sym, ap, ◌∙◌, arith}
 use Rattle.json.specs.Reads.{token_of}
 use Rattle.serde_json.specs.Data.{string}
-use Rattle.mencius_input.specs.declared.fault.AppFault.TheVariants.{NotJson}
+use Rattle.mencius_ends.specs.declared.fault.AppFault.TheVariants.{NotJson}
 use Rattle.mencius_input.specs.Next.{next_value}
 use Rattle.mencius_input.proofs.Begins.{passed_first, passed_no_text, text_first}
 use Rattle.mencius_input.proofs.Next.{next_none, stops_at}

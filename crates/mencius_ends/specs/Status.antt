@@ -1,7 +1,7 @@
 -- The exit status of a run that ended with a fault.
 use Rattle.std.specs.Prelude.{ℕ}
-use Rattle.mencius_input.specs.declared.fault.AppFault.{AppFault}
-use Rattle.mencius_input.specs.declared.fault.AppFault.TheVariants.{NotJson, BadShape, BadLimit, ReadFailed, WriteFailed, NoMemory, BoardFailed}
+use Rattle.mencius_ends.specs.declared.fault.AppFault.{AppFault}
+use Rattle.mencius_ends.specs.declared.fault.AppFault.TheVariants.{NotJson, BadShape, BadLimit, ReadFailed, WriteFailed, NoMemory, BoardFailed}
 
 -- a bad scenario, a reader or writer that failed, and what lay in the program itself
 abbrev pub status_of : AppFault → ℕ

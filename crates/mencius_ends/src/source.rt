@@ -1,7 +1,7 @@
 ghost use Rattle.std.specs.Prelude.{◌≡◌, ℕ, List, Option};
 ghost use Rattle.std.specs.Io.{ReadsAtMost};
 ghost use Rattle.std.specs.Io.KnownBytes.{ReadConsumes};
-ghost use Rattle.mencius_input.specs.Ends.{CountsRead};
+ghost use Rattle.mencius_ends.specs.Ends.{CountsRead};
 
 use std::io;
 use std::io::Read;
@@ -36,7 +36,7 @@ pub struct Std<T> {
 }
 
 impl<T> Model for Std<T> {
-    ghost use Rattle.mencius_input.specs.Ends.{Counted};
+    ghost use Rattle.mencius_ends.specs.Ends.{Counted};
 
     ghost Value = { Counted T };
 

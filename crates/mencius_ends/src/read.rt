@@ -1,6 +1,6 @@
 ghost use Rattle.std.specs.Prelude.{◌≡◌, ◌⊎◌, ◌+◌, ◌<◌, ◌≤◌, length, vec_len, IfOk, IfErr, OnOk, IfSome, IsErrOf};
 ghost use Rattle.std.specs.Io.KnownBytes.{IsAtEnd};
-ghost use Rattle.mencius_input.specs.Ends.{HasFailed, TakesAtMost, most_bytes, most_failed_calls};
+ghost use Rattle.mencius_ends.specs.Ends.{HasFailed, TakesAtMost, most_bytes, most_failed_calls};
 
 use crate::fault::AppFault;
 use crate::source::Source;

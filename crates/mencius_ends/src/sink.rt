@@ -1,7 +1,7 @@
 ghost use Rattle.std.specs.Prelude.{◌≡◌, ℕ, List, Option};
 ghost use Rattle.std.specs.Io.{WritesAtMost};
 ghost use Rattle.std.specs.Io.KnownBytes.{WriteAppends};
-ghost use Rattle.mencius_input.specs.Ends.{CountsWrite};
+ghost use Rattle.mencius_ends.specs.Ends.{CountsWrite};
 
 use crate::source::Std;
 use std::io;

@@ -1,7 +1,7 @@
 use Rattle.std.proofs.Common.{◌++◌, ◌≤◌, arith, take, length, length-append, rules}
 use Rattle.std.proofs.lemmas.List.{length-take, length-take-le}
 use Rattle.std.proofs.KnownBytes.{Consumes-kept, Consumes-trans}
-use Rattle.mencius_input.proofs.read.read_all.Goals as goal
+use Rattle.mencius_ends.proofs.read.read_all.Goals as goal
 
 -- the growth that failed came after the read that found the bytes
 pub returns-in_err-extend_from_slice-in-Ok-clause-taken : goal.returns-in_err-extend_from_slice-in-Ok-clause-taken

@@ -1,6 +1,6 @@
 ghost use Rattle.std.specs.Prelude.{◌≡◌, ◌⊎◌, ◌+◌, ◌≤◌, IfErr, OnOk, OnErr};
 ghost use Rattle.std.specs.Io.KnownBytes.{Appends};
-ghost use Rattle.mencius_input.specs.Ends.{HasFailed, WritesFront, most_failed_calls, most_failures};
+ghost use Rattle.mencius_ends.specs.Ends.{HasFailed, WritesFront, most_failed_calls, most_failures};
 
 use crate::fault::AppFault;
 use crate::read::MOST_RETRIES;

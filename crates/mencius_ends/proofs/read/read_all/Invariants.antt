@@ -1,7 +1,7 @@
 use Rattle.std.proofs.Common.{◌≡◌, ◌⊎◌, ◌≤◌, ◌+◌, ◌-◌, vec_len}
 use Rattle.std.specs.Io.KnownBytes.{Consumes}
-use Rattle.mencius_input.specs.Ends.{most_bytes, most_failures}
-use Rattle.mencius_input.proofs.read.read_all.Given as goal
+use Rattle.mencius_ends.specs.Ends.{most_bytes, most_failures}
+use Rattle.mencius_ends.proofs.read.read_all.Given as goal
 
 abbrev pub invariant-reads : goal.invariant-reads
 invariant-reads g l = record {

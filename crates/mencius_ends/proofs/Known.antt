@@ -4,7 +4,7 @@ use Rattle.std.proofs.lemmas.Bool.Decides.{nat_tests}
 use Rattle.std.proofs.Math.Seq.{take-add}
 use Rattle.std.proofs.KnownBytes.{Appends-trans}
 use Rattle.std.specs.Io.KnownBytes.{Appends}
-use Rattle.mencius_input.specs.Ends.{one_more}
+use Rattle.mencius_ends.specs.Ends.{one_more}
 
 -- what was written grows by the next part of the text
 pub appends_further : (old mid new : Option (List ℕ)) (m n : ℕ) (text : List ℕ) → Appends old mid (take m text)

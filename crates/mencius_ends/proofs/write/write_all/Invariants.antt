@@ -1,7 +1,7 @@
 use Rattle.std.proofs.Common.{◌≡◌, ◌⊎◌, ◌≤◌, ◌+◌, ◌-◌, length, take}
 use Rattle.std.specs.Io.KnownBytes.{Appends}
-use Rattle.mencius_input.specs.Ends.{most_failures}
-use Rattle.mencius_input.proofs.write.write_all.Given as goal
+use Rattle.mencius_ends.specs.Ends.{most_failures}
+use Rattle.mencius_ends.proofs.write.write_all.Given as goal
 
 abbrev pub invariant-loop-written : goal.invariant-loop-written
 invariant-loop-written g l = record {

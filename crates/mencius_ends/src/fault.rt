@@ -1,6 +1,6 @@
 ghost use Rattle.std.specs.Prelude.{◌≡◌};
-ghost use Rattle.mencius_input.specs.Fault.{fault_name, fault_number};
-ghost use Rattle.mencius_input.specs.Status.{status_of};
+ghost use Rattle.mencius_ends.specs.Fault.{fault_name, fault_number};
+ghost use Rattle.mencius_ends.specs.Status.{status_of};
 
 use std::alloc::{AllocError, AllocFailed};
 use thiserror::Error;
@@ -57,7 +57,7 @@ impl AppFault {
 }
 
 impl From<AllocError> for AppFault {
-    ghost use Rattle.mencius_input.specs.declared.fault.AppFault.TheVariants as fault;
+    ghost use Rattle.mencius_ends.specs.declared.fault.AppFault.TheVariants as fault;
 
     ghost from_gives = { λ _ f. f ≡ fault.NoMemory };
 
@@ -67,7 +67,7 @@ impl From<AllocError> for AppFault {
 }
 
 impl<T: Drop> From<AllocFailed<T>> for AppFault {
-    ghost use Rattle.mencius_input.specs.declared.fault.AppFault.TheVariants as fault;
+    ghost use Rattle.mencius_ends.specs.declared.fault.AppFault.TheVariants as fault;
 
     ghost from_gives = { λ _ f. f ≡ fault.NoMemory };
 

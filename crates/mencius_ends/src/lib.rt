@@ -1,0 +1,15 @@
+//! The two ends of a run: the faults that end it and its exit statuses, readers and writers that
+//! count their failures, and reading all and writing all.
+#![tactic(auto)]
+
+mod fault;
+mod read;
+mod sink;
+mod source;
+mod write;
+
+pub use fault::{AppFault, exit_status};
+pub use read::read_all;
+pub use sink::Sink;
+pub use source::{Source, Std};
+pub use write::write_all;
