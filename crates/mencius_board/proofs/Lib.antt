@@ -4,11 +4,7 @@ pub mod Entries
 pub mod Copying
 pub mod Growing
 pub mod Sound
-pub mod Drawn
 pub mod Turned
 pub mod Ended
 pub mod Settled
 pub mod Walked
-pub mod Queue
-pub mod Taken
-pub mod Worked

@@ -3,9 +3,9 @@ use Rattle.std.specs.Prelude.{MatchResult, IfOk, IfErr}
 use Rattle.std.proofs.Common.{◌≡◌, ℕ, suc, ◌+◌, ◌<◌, List, [], ◌∷◌, ◌++◌, Result, Ok, Err, length, get_or}
 use Rattle.std.proofs.Common.{length-append, refl, sym, ◌∙◌, subst, inl, inr, arith, add-zero, zero-add}
 use Rattle.mencius_board.specs.declared.fault.BoardFault.{BoardFault}
-use Rattle.mencius_board.specs.Choices.{ChooserState, HasTurned, ProgressState, chooser_at, drawing_after}
+use Rattle.mencius_choices.specs.Choices.{ChooserState, HasTurned, ProgressState, chooser_at, drawing_after}
 use Rattle.mencius_board.specs.Faults.{IsRunFault}
-use Rattle.mencius_board.specs.Plans.{PlanState}
+use Rattle.mencius_choices.specs.Plans.{PlanState}
 use Rattle.mencius_board.specs.Running.{EndState, HaveEnded, HaveTurned, IsEndOf, settled, settled_behind}
 use Rattle.mencius_board.proofs.Walked.{more_of}
 

@@ -3,7 +3,7 @@ use Rattle.std.specs.Prelude.{IfErr}
 use Rattle.std.proofs.Common.{◌≡◌, Bool, true, false, Result, Ok, Err, refl, ap, subst, inl, inr}
 use Rattle.mencius_board.specs.declared.fault.BoardFault.{BoardFault}
 use Rattle.mencius_board.specs.Boards.{BoardState}
-use Rattle.mencius_board.specs.Choices.{ChooserState}
+use Rattle.mencius_choices.specs.Choices.{ChooserState}
 use Rattle.mencius_board.specs.Faults.{IsShowFault, IsTurnFault}
 use Rattle.mencius_board.specs.Turns.{EndsTurn, HasNoMemory, IsAfterTurn, TakesTurn}
 

@@ -1,6 +1,3 @@
-pub mod Picks
-pub mod Plans
-pub mod Choices
 pub mod Marks
 pub mod Rules
 pub mod Shown

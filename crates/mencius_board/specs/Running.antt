@@ -6,8 +6,8 @@ use Rattle.mencius_board.specs.declared.fault.BoardFault.{BoardFault}
 use Rattle.mencius_board.specs.declared.fault.BoardFault.TheVariants.{NoWorker}
 use Rattle.mencius_board.specs.declared.workers.ProgressOf.{ProgressOf}
 use Rattle.mencius_board.specs.Faults.{IsWorkerFault}
-use Rattle.mencius_board.specs.Plans.{PlanState}
-use Rattle.mencius_board.specs.Choices.{ChooserState, HasTurned, ProgressState, chooser_at, drawing_after}
+use Rattle.mencius_choices.specs.Plans.{PlanState}
+use Rattle.mencius_choices.specs.Choices.{ChooserState, HasTurned, ProgressState, chooser_at, drawing_after}
 
 -- how a worker ended
 abbrev pub EndState : Type 0

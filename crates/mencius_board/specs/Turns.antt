@@ -9,7 +9,7 @@ use Rattle.mencius_board.specs.declared.fault.BoardFault.{BoardFault}
 use Rattle.mencius_board.specs.declared.fault.BoardFault.TheVariants.{NoMemory as No_memory}
 use Rattle.mencius_board.specs.Boards.{BoardState, longest}
 use Rattle.mencius_board.specs.Faults.{IsShowFault}
-use Rattle.mencius_board.specs.Choices.{ChooserState, IsChosen, IsPutOff}
+use Rattle.mencius_choices.specs.Choices.{ChooserState, IsChosen, IsPutOff}
 
 -- the cluster accepted the event, and the rest of the board stayed
 pub record IsAccepted (before after : BoardState) (e : Event) : Type 0 where

@@ -12,26 +12,19 @@
 #![tactic(auto)]
 
 mod board;
-mod choice;
-mod chooser;
 mod fault;
 mod longest;
 mod news;
 mod pending;
-mod plan;
 mod reader;
 mod shown;
 mod shown_log;
-mod table;
 mod version;
 mod workers;
 
 pub use board::Board;
-pub use choice::Pick;
-pub use chooser::Chooser;
 pub use fault::BoardFault;
+pub use mencius_choices::{Chooser, Pick, Plan, pick};
 pub use news::News;
-pub use plan::Plan;
 pub use reader::Reader;
-pub use table::pick;
 pub use workers::{Gate, Open, lend, run_workers, worker_turn};

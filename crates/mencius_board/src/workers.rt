@@ -1,16 +1,15 @@
 //! Workers that step one board in threads of their own.
 ghost use Rattle.std.specs.Prelude.{◌≡◌, ◌<◌, ◌≤◌, ℕ, IfErr, IfOk, MatchResult, vec_len, vec_capacity, slice_index_or};
 ghost use Rattle.std.specs.Fn.{FnOnceReturnsAtMut};
-ghost use Rattle.mencius_board.specs.Choices.{chooser_at, drawn};
+ghost use Rattle.mencius_choices.specs.Choices.{chooser_at, drawn};
 ghost use Rattle.mencius_board.specs.Turns.{EndsTurn, IsAfterTurn, TakesTurn};
 ghost use Rattle.mencius_board.specs.Faults.{IsRunFault, IsTurnFault};
 ghost use Rattle.mencius_board.specs.Running.{Answers, EndsAs, HasEnded, HaveEnded, HaveTurned, settled};
 
 use crate::board::Board;
-use crate::chooser::{Chooser, Progress};
 use crate::fault::BoardFault;
-use crate::plan::Plan;
 use mencius_base::{NoMemory, Refusal};
+use mencius_choices::{Chooser, Plan, Progress};
 use std::alloc::Global;
 use std::sync::{Mutex, Wait};
 use std::thread;

@@ -1,5 +1,5 @@
 use Rattle.std.proofs.Common.{◌≡◌}
-use Rattle.mencius_board.specs.Choices.{drawing_after}
+use Rattle.mencius_choices.specs.Choices.{drawing_after}
 use Rattle.mencius_board.proofs.workers.work.Given as goal
 
 abbrev pub invariant-loop-turn : goal.invariant-loop-turn

@@ -2,7 +2,7 @@ use denote.Enum.Bare.{same_false}
 use Rattle.std.proofs.Common.{sym, subst, inr}
 use Rattle.mencius_base.specs.contracts.refusal.Refusal.{the_type}
 use Rattle.mencius_cluster.specs.State.{ClusterState}
-use Rattle.mencius_board.specs.Choices.{IsChosen}
+use Rattle.mencius_choices.specs.Choices.{IsChosen}
 use Rattle.mencius_board.proofs.workers.worker_turn.Goals as goal
 
 pub returns-else-eq-clause-turn : goal.returns-else-eq-clause-turn

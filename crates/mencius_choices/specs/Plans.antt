@@ -6,7 +6,7 @@ use Rattle.std.specs.Option.{option_and_then, option_map}
 use Rattle.mencius_base.specs.Numbers.{ServerId}
 use Rattle.mencius_base.specs.Limits.{greatest_loss, most_servers, most_turns, most_workers}
 use Rattle.mencius_base.specs.declared.command.Command.{Command}
-use Rattle.mencius_board.specs.declared.plan.Place.{Place}
+use Rattle.mencius_choices.specs.declared.plan.Place.{Place}
 
 -- the workers, the seed, the turns of each, the loss, and a list of commands for each server
 pub record PlanState : Type 0 where

@@ -3,10 +3,10 @@ use Rattle.std.proofs.Common.{◌≡◌, ℕ, suc, ◌+◌, ◌-◌, ◌<◌, �
 use Rattle.std.proofs.Common.{length, refl, sym, ap, ◌∙◌, arith, filter_map}
 use Rattle.std.specs.List.{cons_option, flat_map, range_with_len}
 use Rattle.mencius_base.specs.declared.command.Command.{Command}
-use Rattle.mencius_board.specs.declared.plan.Place.{Place}
-use Rattle.mencius_board.specs.Plans.{IsFound, IsLed, PlanState, after_place, from_to, own_command, row_count, row_from}
-use Rattle.mencius_board.specs.Plans.{rows_from}
-use Rattle.mencius_board.specs.Choices.{left_at, led_by}
+use Rattle.mencius_choices.specs.declared.plan.Place.{Place}
+use Rattle.mencius_choices.specs.Plans.{IsFound, IsLed, PlanState, after_place, from_to, own_command, row_count, row_from}
+use Rattle.mencius_choices.specs.Plans.{rows_from}
+use Rattle.mencius_choices.specs.Choices.{left_at, led_by}
 
 from_to-more : (a b : ℕ) → a < b → from_to a b ≡ a ∷ from_to (a + 1) b
 from_to-more a b h = let one : b - a ≡ suc (b - (a + 1)) = omega arith in ap (range_with_len a) one

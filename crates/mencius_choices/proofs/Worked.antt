@@ -6,9 +6,9 @@ use Rattle.mencius_base.specs.declared.event.Event.{Event}
 use Rattle.mencius_base.specs.declared.event.Event.TheVariants.{Submit, Deliver, Execute, Lose, Retry, Suspect}
 use Rattle.mencius_base.specs.Members.{below, instances, most_messages, most_events, most_rounds}
 use Rattle.mencius_cluster.specs.State.{ClusterState}
-use Rattle.mencius_board.specs.declared.choice.Pick.TheVariants.{NextCommand, Is}
-use Rattle.mencius_board.specs.Picks.{pick_of}
-use Rattle.mencius_board.specs.Plans.{PlanState, commands_of_worker, plan_of}
+use Rattle.mencius_choices.specs.declared.choice.Pick.TheVariants.{NextCommand, Is}
+use Rattle.mencius_choices.specs.Picks.{pick_of}
+use Rattle.mencius_choices.specs.Plans.{PlanState, commands_of_worker, plan_of}
 
 -- client 1 reads the key `a`
 abbrev get : ℕ → Command

@@ -7,8 +7,8 @@ use Rattle.mencius_base.specs.declared.message.Message.{Message}
 use Rattle.mencius_base.specs.declared.message.Message.TheVariants.{Accepted, Promise}
 use Rattle.mencius_model.specs.Trace.{sent}
 use Rattle.mencius_cluster.specs.State.{ClusterState, trace_of}
-use Rattle.mencius_board.specs.declared.choice.Pick.{Pick}
-use Rattle.mencius_board.specs.declared.choice.Pick.TheVariants.{NextCommand, Is}
+use Rattle.mencius_choices.specs.declared.choice.Pick.{Pick}
+use Rattle.mencius_choices.specs.declared.choice.Pick.TheVariants.{NextCommand, Is}
 
 -- the message that a word names among so many: any of them by an even word, and one of the last 32 by an odd one
 abbrev pub message_named : ℕ → ℕ → MessageNo

@@ -5,10 +5,10 @@ use Rattle.mencius_base.specs.declared.command.Command.{Command}
 use Rattle.mencius_base.specs.declared.event.Event.{Event}
 use Rattle.mencius_base.specs.declared.event.Event.TheVariants.{Submit}
 use Rattle.mencius_cluster.specs.State.{ClusterState}
-use Rattle.mencius_board.specs.declared.choice.Pick.{Pick}
-use Rattle.mencius_board.specs.declared.choice.Pick.TheVariants.{NextCommand, Is}
-use Rattle.mencius_board.specs.Picks.{pick_of}
-use Rattle.mencius_board.specs.Choices.{ChooserState, IsChosen, IsPutOff, IsTaken, drawn, is_any, picked, words_of}
+use Rattle.mencius_choices.specs.declared.choice.Pick.{Pick}
+use Rattle.mencius_choices.specs.declared.choice.Pick.TheVariants.{NextCommand, Is}
+use Rattle.mencius_choices.specs.Picks.{pick_of}
+use Rattle.mencius_choices.specs.Choices.{ChooserState, IsChosen, IsPutOff, IsTaken, drawn, is_any, picked, words_of}
 
 -- there is a next command exactly where any is left
 pub any_left : {A B : Type 0} (o : Option A) (left : List B) (first : A → B) (rest : A → List B)

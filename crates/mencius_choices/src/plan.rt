@@ -1,7 +1,7 @@
 //! What the workers of a run are to do.
 ghost use Rattle.std.specs.Prelude.{◌≡◌, ◌+◌, ◌<◌, ◌≤◌, ◌^◌, ◌↔◌, [], IsSome, IfSome, OnSome, MatchOption, map, length, vec_len, option_map, option_copied};
 ghost use Rattle.mencius_base.specs.Limits.{most_servers, most_turns, most_workers};
-ghost use Rattle.mencius_board.specs.Plans.{AreInRange, IsFound, IsLed, after_place, own_command, plan_of, row_count, row_from, rows_from};
+ghost use Rattle.mencius_choices.specs.Plans.{AreInRange, IsFound, IsLed, after_place, own_command, plan_of, row_count, row_from, rows_from};
 
 use mencius_base::{Command, GREATEST_LOSS, MOST_SERVERS, MOST_TURNS, MOST_WORKERS};
 use std::marker::Model;
@@ -25,7 +25,7 @@ pub struct Plan {
 
 impl Model for Plan {
     ghost use Rattle.std.specs.Prelude.{◌≡◌, length, map};
-    ghost use Rattle.mencius_board.specs.Plans.{AreInRange, PlanState, plan_of, row_count};
+    ghost use Rattle.mencius_choices.specs.Plans.{AreInRange, PlanState, plan_of, row_count};
 
     ghost Value = { PlanState };
 

@@ -2,8 +2,8 @@
 ghost use Rattle.std.specs.Prelude.{◌≡◌, ◌+◌, ◌<◌, ◌^◌, ◌∷◌, [], MatchOption, MatchResult, OnSome, IfSome};
 ghost use Rattle.mencius_base.specs.Limits.{most_servers};
 ghost use Rattle.mencius_base.specs.declared.event.Event.TheVariants.{Submit};
-ghost use Rattle.mencius_board.specs.Plans.{after_place};
-ghost use Rattle.mencius_board.specs.Choices.{IsChosen, IsPutOff, chooser_at, drawn, first_chooser, words_of};
+ghost use Rattle.mencius_choices.specs.Plans.{after_place};
+ghost use Rattle.mencius_choices.specs.Choices.{IsChosen, IsPutOff, chooser_at, drawn, first_chooser, words_of};
 
 use crate::choice::Pick;
 use crate::plan::{Place, Plan};
@@ -24,7 +24,7 @@ pub struct Progress {
 }
 
 impl Model for Progress {
-    ghost use Rattle.mencius_board.specs.Choices.{ProgressState};
+    ghost use Rattle.mencius_choices.specs.Choices.{ProgressState};
 
     ghost Value = { ProgressState };
 
@@ -46,7 +46,7 @@ pub struct Chooser<'a> {
 }
 
 impl<'a> Model for Chooser<'a> {
-    ghost use Rattle.mencius_board.specs.Choices.{ChooserState, chooser_at};
+    ghost use Rattle.mencius_choices.specs.Choices.{ChooserState, chooser_at};
 
     ghost Value = { ChooserState };
 
@@ -68,14 +68,15 @@ impl<'a> Chooser<'a> {
         Chooser { plan, progress }
     }
 
-    // The worker of this plan whose choices have come so far.
-    pub(crate) fn of(plan: &'a Plan, progress: Progress) -> Chooser<'a>
+    /// The choices of a worker of the plan that have come so far.
+    pub fn of(plan: &'a Plan, progress: Progress) -> Chooser<'a>
         ensures { result ≡ chooser_at plan.now progress }
     {
         Chooser { plan, progress }
     }
 
-    pub(crate) fn into_progress(self) -> Progress
+    /// How far the choices have come. With the same plan, [`Chooser::of`] goes on from there.
+    pub fn into_progress(self) -> Progress
         ensures { chooser_at self.entry.plan result ≡ self.entry }
     {
         let Chooser { plan: _, progress } = self;

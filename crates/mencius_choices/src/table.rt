@@ -2,7 +2,7 @@
 ghost use Rattle.std.specs.Prelude.{◌≡◌, ◌<◌, ◌%◌, length, slice_get, slice_index};
 ghost use Rattle.mencius_model.specs.Trace.{sent};
 ghost use Rattle.mencius_cluster.specs.State.{trace_of};
-ghost use Rattle.mencius_board.specs.Picks.{addressee_or, message_named, pick_by, pick_of};
+ghost use Rattle.mencius_choices.specs.Picks.{addressee_or, message_named, pick_by, pick_of};
 
 use crate::choice::Pick;
 use mencius_base::{Event, Message};

@@ -2,7 +2,7 @@
 use Rattle.std.proofs.Common.{◌≡◌, ℕ, zero, suc, ◌+◌, ◌*◌, refl, ap, sym, ◌∙◌, arith}
 use Rattle.rand_pcg.specs.Lcg.{Lcg, advance, next_state, state_after, started, increment_of}
 use Rattle.rand_pcg.specs.Pcg.{multiplier_64}
-use Rattle.mencius_board.specs.Choices.{drawing_after, drawn, first_drawing, one_on, three_on}
+use Rattle.mencius_choices.specs.Choices.{drawing_after, drawn, first_drawing, one_on, three_on}
 
 one_later : (x m p n s : ℕ) → state_after x m p (suc n) s ≡ next_state x m p (state_after x m p n s)
 unfolding state_after

@@ -1,0 +1,4 @@
+pub mod Drawn
+pub mod Queue
+pub mod Taken
+pub mod Worked
