@@ -1,5 +1,6 @@
 //! What two clusters answer, compared.
 
+use mencius_base::INSTANCES;
 use mencius_cluster::Cluster;
 use std::alloc::{AllocError, Global};
 use std::fmt::Debug;
@@ -15,7 +16,7 @@ fn of_server(first: &Cluster, second: &Cluster, server: u8) -> Option<&'static s
     if first.history(server) != second.history(server) {
         return Some("history");
     }
-    for inst in 0..4096 {
+    for inst in 0..INSTANCES {
         if first.learned(server, inst) != second.learned(server, inst) {
             return Some("learned");
         }
