@@ -1,13 +1,12 @@
 -- Why a task ended at a fault.
-use Rattle.std.proofs.Common.{◌≡◌, ℕ, Bool, false, List, Option, Some, IfSome, IfErr, OnOk, Result, Ok, Err, refl, sym, subst}
+use Rattle.std.proofs.Common.{◌≡◌, ℕ, Bool, false, List, Option, Some, None, IfSome, IfErr, Result, Ok, Err, String, Global, refl, sym, subst}
 use Rattle.mencius_ends.specs.declared.fault.AppFault.{AppFault}
 use Rattle.mencius_app.specs.Calls.{IsCause}
 use Rattle.mencius_app.specs.Replay.{IsReplayOf, accepts_all}
 use Rattle.mencius_app.specs.Run.{IsRunOf}
-use Rattle.mencius_app.specs.Ending.{IsTextOf, ending_of, fault_in, tells_of_refusals}
+use Rattle.mencius_app.specs.Ending.{IsTextOf, ending_of, ending_of_check, ending_with, fault_in, tells_of_refusals}
 use Rattle.mencius_app.specs.declared.checking.Finding.{Finding}
 use Rattle.mencius_app.specs.declared.ending.Ending.{Ending}
-use Rattle.mencius_app.specs.declared.ending.Ending.TheVariants.{Done}
 use Rattle.mencius_command_line.specs.CommandLine.{asked_replay, asked_run}
 
 -- where its text is also one of another kind
@@ -40,8 +39,11 @@ pub of_result : {T : Type 0} (done : Result T AppFault) (ending : Ending) (P : A
 of_result (Ok x) ending P e h = subst (λ d. IfSome (fault_in d) P) (sym e) tt
 of_result (Err fault) ending P e h = subst (λ d. IfSome (fault_in d) P) (sym e) h
 
+-- so of a check
 pub of_check : {T : Type 0} (done : Result T Finding) (ending : Ending) (P : AppFault → Type 0)
-    → OnOk done (ending ≡ Done) → IfErr done (λ found. fault_in ending ≡ Some found.fault)
-    → IfErr done (λ found. P found.fault) → IfSome (fault_in ending) P
-of_check (Ok x) ending P d e h = subst (λ d. IfSome (fault_in d) P) (sym d) tt
-of_check (Err found) ending P d e h = subst (λ o. IfSome o P) (sym e) h
+    → ending ≡ ending_of_check done → IfErr done (λ found. P found.fault) → IfSome (fault_in ending) P
+of_check (Ok x) ending P e h = subst (λ d. IfSome (fault_in d) P) (sym e) tt
+of_check (Err found) ending P e h = subst (λ d. IfSome (fault_in d) P) (sym e) (worded found.words) where
+  worded : (words : Option (String Global)) → IfSome (fault_in (ending_with found.fault words)) P
+  worded (Some words) = h
+  worded None = h

@@ -1,5 +1,6 @@
 -- How a call of the program ends: its exit status, its line on standard error, and what was done before.
-use Rattle.std.specs.Prelude.{◌≡◌, ◌≢◌, ◌⊎◌, ◌&&◌, ℕ, Bool, true, false, not, List, [], ◌∷◌, ◌++◌, Option, Some, None, codes, decimal, string_bytes, Result, Ok, Err}
+use Rattle.std.specs.Prelude.{◌≡◌, ◌≢◌, ◌⊎◌, ◌&&◌, ℕ, Bool, true, false, not, List, [], ◌∷◌, ◌++◌, Option, Some, None, codes, decimal, String, string_bytes, Result, Ok, Err}
+use Rattle.std.specs.Global.{Global}
 use Rattle.std.specs.Io.KnownBytes.{Appends}
 use Rattle.clap.specs.Words.{IsAmong, Text}
 use Rattle.clap.specs.declared.error.kind.ErrorKind.{ErrorKind}
@@ -10,9 +11,10 @@ use Rattle.mencius_ends.specs.Fault.{fault_name, fault_number}
 use Rattle.mencius_ends.specs.Status.{status_of}
 use Rattle.mencius_app.specs.Replay.{IsFaultOf, IsJudgedReplayOf}
 use Rattle.mencius_trace.specs.Words.{line_feed}
-use Rattle.mencius_app.specs.Check.{IsCheckOf}
+use Rattle.mencius_app.specs.Check.{AreWordsOfInput, IsCheckOf}
 use Rattle.mencius_app.specs.Trace.{IsTraceOf}
 use Rattle.mencius_app.specs.Run.{IsPlanFaultOf, IsRunOf}
+use Rattle.mencius_app.specs.declared.checking.Finding.{Finding}
 use Rattle.mencius_app.specs.declared.ending.Ending.{Ending}
 use Rattle.mencius_app.specs.declared.ending.Ending.TheVariants.{Done, Refused, BadCommandLine, Failed, Explained}
 
@@ -54,6 +56,21 @@ lines_of_ending (Explained fault words) = fault_line fault ++ string_bytes words
 abbrev pub ending_of : {T : Type 0} → Result T AppFault → Ending
 ending_of (Ok done) = Done
 ending_of (Err fault) = Failed fault
+
+-- how a call ends at a fault, with words for it where there are any
+abbrev pub ending_with : AppFault → Option (String Global) → Ending
+ending_with fault (Some words) = Explained fault words
+ending_with fault None = Failed fault
+
+-- how a call ends whose check came to this
+abbrev pub ending_of_check : {T : Type 0} → Result T Finding → Ending
+ending_of_check (Ok done) = Done
+ending_of_check (Err found) = ending_with found.fault found.words
+
+-- what words there are say where all that a reader has, so far as that is known, has the fault
+abbrev pub TellsOf : Option (List ℕ) → Ending → Type 0
+TellsOf known (Explained fault words) = AreWordsOfInput known fault (string_bytes words)
+TellsOf known _ = Unit {0}
 
 -- a strict replay tells of refused events
 abbrev pub tells_of_refusals : Bool → Bool → Bool

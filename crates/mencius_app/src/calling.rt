@@ -6,7 +6,7 @@ ghost use Rattle.clap.specs.Words.{kind_of};
 ghost use Rattle.mencius_command_line.specs.CommandLine.{are_texts, asked, asked_check, asked_in, bytes_of, faults, line_of};
 ghost use Rattle.mencius_ends.specs.Ends.{HasFailed, WritesFront, most_failed_calls};
 ghost use Rattle.mencius_app.specs.Calls.{AsksLittle, IsCause};
-ghost use Rattle.mencius_app.specs.Ending.{Did, DidTask, IsAskedFor, IsFaultFor, IsInputFaultOf, IsMistaken, IsTextOf, IsToShow, ending_of, fault_in, is_explained};
+ghost use Rattle.mencius_app.specs.Ending.{Did, DidTask, IsAskedFor, IsFaultFor, IsInputFaultOf, IsMistaken, IsTextOf, IsToShow, TellsOf, ending_of, ending_of_check, fault_in, is_explained};
 
 use crate::checking::{Finding, check};
 use crate::ending::Ending;
@@ -69,6 +69,7 @@ pub fn perform<R: Source, W: Sink, E: Sink, T: Threads + Wait + Sync>(
         (W.contents sink.old) (W.contents sink.new)) }
     ensures explained { is_explained result ≡ true
         → asked (line_of (bytes_of arguments.now)) ≡ asked_check }
+    ensures words { TellsOf (R.remaining source.old) result }
     ensures asked { AsksLittle (R.remaining source.old) (R.remaining source.new)
         (R.failed source.old) (R.failed source.new) (W.failed sink.old) (W.failed sink.new) }
 {
@@ -137,6 +138,7 @@ fn perform_task<R: Source, W: Sink, T: Threads + Wait + Sync>(
         (R.failed source.old) (R.failed source.new) (W.failed sink.old) (W.failed sink.new)
         (W.contents sink.old) (W.contents sink.new)) }
     ensures explained { is_explained result ≡ true → asked_in task ≡ asked_check }
+    ensures words { TellsOf (R.remaining source.old) result }
     ensures asked { AsksLittle (R.remaining source.old) (R.remaining source.new)
         (R.failed source.old) (R.failed source.new) (W.failed sink.old) (W.failed sink.new) }
 {
@@ -172,8 +174,7 @@ fn ending_of(done: Result<(), AppFault>) -> Ending
 
 // How a call ends whose check came to this.
 fn ending_of_check(done: Result<(), Finding>) -> Ending
-    ensures done { OnOk done (result ≡ Ending.Done) }
-    ensures fault { IfErr done (λ found. fault_in result ≡ Some found.fault) }
+    ensures { result ≡ ending_of_check done }
 {
     match done {
         Ok(()) => Ending::Done,

@@ -5,7 +5,7 @@ ghost use Rattle.std.specs.Io.KnownBytes.{Appends, IsAtEnd};
 ghost use Rattle.mencius_ends.specs.Ends.{HasFailed, TakesAtMost, most_bytes, most_failed_calls};
 ghost use Rattle.mencius_input.specs.Scenario.{written_in};
 ghost use Rattle.mencius_app.specs.Calls.{AsksLittle, IsCause};
-ghost use Rattle.mencius_app.specs.Check.{IsCheckOf, ok_line};
+ghost use Rattle.mencius_app.specs.Check.{AreWordsOf, AreWordsOfInput, IsCheckOf, ok_line};
 ghost use Rattle.mencius_app.specs.Replay.{IsBadInput, IsFaultOf, input_of};
 
 use mencius_base::Members;
@@ -25,9 +25,9 @@ pub struct Finding {
 }
 
 impl From<AppFault> for Finding {
-    ghost use Rattle.std.specs.Prelude.{◌≡◌};
+    ghost use Rattle.std.specs.Prelude.{◌≡◌, None};
 
-    ghost from_gives = { λ fault found. found.fault ≡ fault };
+    ghost from_gives = { λ fault found. (found.fault ≡ fault) × (found.words ≡ None) };
 
     fn from(fault: AppFault) -> Finding {
         Finding { fault, words: None }
@@ -35,10 +35,10 @@ impl From<AppFault> for Finding {
 }
 
 impl From<AllocError> for Finding {
-    ghost use Rattle.std.specs.Prelude.{◌≡◌};
+    ghost use Rattle.std.specs.Prelude.{◌≡◌, None};
     ghost use Rattle.mencius_ends.specs.declared.fault.AppFault.TheVariants as fault;
 
-    ghost from_gives = { λ _ found. found.fault ≡ fault.NoMemory };
+    ghost from_gives = { λ _ found. (found.fault ≡ fault.NoMemory) × (found.words ≡ None) };
 
     fn from(_refused: AllocError) -> Finding {
         Finding::from(AppFault::NoMemory)
@@ -63,6 +63,10 @@ pub fn check<R: Source, W: Sink>(alloc: Global, source: &mut R, sink: &mut W) ->
         (W.failed sink.old) (W.failed sink.new) (W.contents sink.old) (W.contents sink.new)
         found.fault) }
     ensures no_board { IfErr result (λ found. found.fault ≢ AppFault.BoardFailed) }
+
+    // The words, where there are any, are of the fault in these bytes.
+    ensures words { IfErr result (λ found. IfSome found.words (λ line.
+        AreWordsOfInput (R.remaining source.old) found.fault (string_bytes line))) }
     ensures asked { AsksLittle (R.remaining source.old) (R.remaining source.new)
         (R.failed source.old) (R.failed source.new) (W.failed sink.old) (W.failed sink.new) }
 {
@@ -84,6 +88,8 @@ fn read_input<R: Source>(alloc: Global, source: &mut R) -> Result<Scenario, Find
         → HasFailed (R.failed source.old) (R.failed source.new)) }
     ensures others { IfErr result (λ found.
         (found.fault ≢ AppFault.WriteFailed) × (found.fault ≢ AppFault.BoardFailed)) }
+    ensures words { IfErr result (λ found. IfSome found.words (λ line.
+        AreWordsOfInput (R.remaining source.old) found.fault (string_bytes line))) }
     ensures taken { TakesAtMost (most_bytes + 1) (R.remaining source.old) (R.remaining source.new) }
     ensures tried { R.failed source.new ≤ R.failed source.old + most_failed_calls }
 {
@@ -99,13 +105,17 @@ fn read_input<R: Source>(alloc: Global, source: &mut R) -> Result<Scenario, Find
 
 // A fault that these bytes have, with words for it if there is memory.
 fn found(alloc: Global, bytes: &[u8], fault: AppFault) -> Finding
-    ensures { result.fault ≡ fault }
+    ensures fault { result.fault ≡ fault }
+    ensures words { IfSome result.words (λ line. AreWordsOf fault bytes.now (string_bytes line)) }
 {
     let words = words_of(alloc, bytes, fault);
     Finding { fault, words }
 }
 
-fn words_of(alloc: Global, bytes: &[u8], fault: AppFault) -> Option<String> {
+// A line that says where these bytes have a fault, if there is memory.
+fn words_of(alloc: Global, bytes: &[u8], fault: AppFault) -> Option<String>
+    ensures { IfSome result (λ line. AreWordsOf fault bytes.now (string_bytes line)) }
+{
     let mut words = explain(alloc, bytes, fault).ok()?;
     words.push('\n').ok()?;
     Some(words)

@@ -2,7 +2,7 @@
 use Rattle.std.proofs.Common.{◌≡◌, ◌≢◌, ℕ, ◌==◌, List, [], ◌∷◌, Bool, true, false, cond, ◌&&◌, nat_eq, drop, length, Option, Some, None, refl, ap, ◌∙◌}
 use Rattle.std.specs.List.{starts_with}
 use Rattle.json.specs.Json.{after_end_array}
-use Rattle.json.specs.Lex.{Lexeme, Mode, Place, begins_colon, between, colon, comma, fresh, after_comma, after_key, after_value, if_allowed, in_word, lex, lex_byte, may_begin, operator_lexeme, place_token, punctuate, string_token, token}
+use Rattle.json.specs.Lex.{Lexeme, Mode, Place, begins_colon, between, fresh, after_comma, after_key, after_value, if_allowed, in_word, lex, lex_byte, may_begin, operator_lexeme, place_token, punctuate, string_token, token}
 use Rattle.json.specs.Text.{content, plain}
 use Rattle.json.specs.Token.{Token, begin_object, end_object, begin_array, end_array, key, string, number, boolean, null, bad}
 use Rattle.json.specs.Word.{after_number, ends_word, head, is_operator, is_space, literal, number_before, word}

@@ -19,3 +19,4 @@ pub mod Fields
 pub mod Plans
 pub mod Paired
 pub mod Placed
+pub mod Empty

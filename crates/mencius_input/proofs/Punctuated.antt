@@ -1,6 +1,6 @@
 -- What the rules for commas and colons make of a text's first byte.
-use Rattle.std.proofs.Common.{◌≡◌, ◌≢◌, ℕ, ◌==◌, List, [], ◌∷◌, Bool, true, false, cond, ◌||◌, ◌⊎◌, inl, inr, Some, None, refl, ap, ◌∙◌}
-use Rattle.json.specs.Lex.{Lexeme, Mode, Place, begins_colon, between, colon, comma, fresh, after_comma, after_key, after_value, in_string, lex, lex_byte, may_begin, operator_lexeme, place_token, punctuate, string_token, token}
+use Rattle.std.proofs.Common.{◌≡◌, ◌≢◌, ℕ, ◌==◌, List, [], ◌∷◌, Bool, true, false, ◌||◌, ◌⊎◌, inl, inr, Some, None, refl, ap, ◌∙◌}
+use Rattle.json.specs.Lex.{Lexeme, Mode, Place, begins_colon, between, colon, fresh, after_comma, after_key, after_value, in_string, lex, lex_byte, may_begin, operator_lexeme, place_token, punctuate, string_token, token}
 use Rattle.json.specs.Text.{content, plain}
 use Rattle.json.specs.Token.{Token, begin_object, end_object, begin_array, end_array, key, string, number, boolean, null, bad}
 use Rattle.json.specs.Word.{is_operator, is_space}

@@ -1,5 +1,6 @@
 use Rattle.std.proofs.Common.{inl, inr, refl}
 use Rattle.clap.specs.Words.{kind_of}
+use Rattle.mencius_app.proofs.Explained.{unexplained}
 use Rattle.mencius_app.proofs.calling.perform.Goals as goal
 
 pub returns-in-Err-clause-misused : goal.returns-in-Err-clause-misused
@@ -9,3 +10,6 @@ returns-in-Err-clause-misused g c = λ ended.
       | inl memory ↦ absurd (told.0 memory)
       | inr among ↦ (inr (kind_of c.in-Err.error, among, told.1, told.2), refl, told.3)
     ]
+
+pub returns-in-Err-clause-words : goal.returns-in-Err-clause-words
+returns-in-Err-clause-words g c = unexplained _ _ c.tell.ensures.plain

@@ -1,6 +1,7 @@
 use Rattle.std.proofs.Common.{Err, false, refl}
 use Rattle.std.proofs.lemmas.Result.{IfErr-weaker}
 use Rattle.mencius_app.proofs.Causes.{as_text, of_check, of_result, text_of_replay, text_of_run}
+use Rattle.mencius_app.proofs.Explained.{told_of_check, told_of_result}
 use Rattle.mencius_app.proofs.calling.perform_task.Goals as goal
 
 pub returns-in-Err-clause-fault : goal.returns-in-Err-clause-fault
@@ -10,7 +11,7 @@ returns-in-Err-clause-fault g c =
 
 pub returns-in-Check-clause-fault : goal.returns-in-Check-clause-fault
 returns-in-Check-clause-fault g c =
-    rw c.in-Check.is (of_check c.check.result _ _ c.ending_of_check.ensures.done c.ending_of_check.ensures.fault
+    rw c.in-Check.is (of_check c.check.result _ _ c.ending_of_check.ensures
     (IfErr-weaker c.check.result _ _ (λ found h. as_text (λ text is. (false, (is, refl))) h) c.check.ensures.fault))
 
 pub returns-in-Run-clause-fault : goal.returns-in-Run-clause-fault
@@ -18,3 +19,13 @@ returns-in-Run-clause-fault g c =
     rw c.in-Run.is (of_result c.run.result _ _ c.ending_of-in-Run.ensures
     (IfErr-weaker c.run.result _ _ (λ fault h. as_text (λ text is.
     text_of_run _ _ _ _ text c.as_deref-key.ensures.value is) h) c.run.ensures.fault))
+
+pub returns-in-Trace-clause-words : goal.returns-in-Trace-clause-words
+returns-in-Trace-clause-words g c = told_of_result _ c.trace.result _ c.ending_of-in-Trace.ensures
+
+pub returns-in-Check-clause-words : goal.returns-in-Check-clause-words
+returns-in-Check-clause-words g c =
+    told_of_check _ c.check.result _ c.ending_of_check.ensures c.check.ensures.words
+
+pub returns-in-Run-clause-words : goal.returns-in-Run-clause-words
+returns-in-Run-clause-words g c = told_of_result _ c.run.result _ c.ending_of-in-Run.ensures
