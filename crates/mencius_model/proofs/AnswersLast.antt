@@ -45,9 +45,9 @@ earlier_right (Some x) = refl
 
 pub oldest_none : {A : Type 0} (f : Line → Option A) (l : Line) (w : Trace) → oldest f w ≡ None → IsIn l w
     → f l ≡ None
-oldest_none f l [] h k = absurd k
+oldest_none f l [] h there = absurd there
 oldest_none f l (x ∷ w) h (inl e) = rw e (earlier_none (oldest f w) (f x) h).1
-oldest_none f l (x ∷ w) h (inr k) = oldest_none f l w (earlier_none (oldest f w) (f x) h).0 k
+oldest_none f l (x ∷ w) h (inr there) = oldest_none f l w (earlier_none (oldest f w) (f x) h).0 there
 
 pub in_sent : (x : Message) (w : Trace) → IsIn (Sent x) w → IsIn x (sent w)
 in_sent x [] h = h
@@ -69,8 +69,8 @@ pub sent_in : (x : Message) (w : Trace) → IsIn x (sent w) → IsIn (Sent x) w
 sent_in x [] h = h
 sent_in x (l ∷ w) h =
     elim (in_append x (sent w) (option_to_list (message_in l)) h) [
-      | inl k ↦ inr (sent_in x w k)
-      | inr k ↦ inl (message_line x l k)
+      | inl there ↦ inr (sent_in x w there)
+      | inr there ↦ inl (message_line x l there)
     ]
 
 -- ---- tests

@@ -105,15 +105,15 @@ all_decided m (l ∷ w) g =
           λ p i v h. elim h [
             | inl e ↦
                 let may : MayLearn m w i v = rw (← e) at g.1 in
-                decided_more m l w i v (elim may [ inl d ↦ d | inr k ↦ before.messages k.0 i v k.1 ])
-            | inr k ↦ decided_more m l w i v (before.lines p i v k)
+                decided_more m l w i v (elim may [ inl d ↦ d | inr there ↦ before.messages there.0 i v there.1 ])
+            | inr there ↦ decided_more m l w i v (before.lines p i v there)
           ];
       messages =
           λ p i v h. elim h [
             | inl e ↦
                 let may : IsIn (Learned p i v) w = rw (← e) at g.1 in
                 decided_more m l w i v (before.lines p i v may)
-            | inr k ↦ decided_more m l w i v (before.messages p i v k)
+            | inr there ↦ decided_more m l w i v (before.messages p i v there)
           ];
     }
 

@@ -19,7 +19,7 @@ HoldsAlong P w = (l : Line) → IsIn l w → P l
 module _ (P : Line → Type 0) where
   more_along : (w : Trace) (l : Line) → HoldsAlong P w → P l → HoldsAlong P (l ∷ w)
   more_along w l all h other (inl e) = rw e h
-  more_along w l all h other (inr k) = all other k
+  more_along w l all h other (inr there) = all other there
 
   followed_along : (ls : List Line) (w : Trace) → HoldsAlong P w → AreAll P ls → HoldsAlong P (followed_by w ls)
   followed_along [] w all h = all

@@ -98,7 +98,7 @@ fold_in [] start z h = inl h
 fold_in (o ∷ votes) start z h =
     elim (fold_in votes (higher_vote start o) z h) [
       | inl e ↦ elim (higher_cases start o z e) [ inl a ↦ inl a | inr a ↦ inr (inl (sym a)) ]
-      | inr k ↦ inr (inr k)
+      | inr there ↦ inr (inr there)
     ]
 
 in_votes : (i b : ℕ) (xs : List Message) (x : Message) (z : Vote) → IsIn x xs → vote_reported i b x ≡ Some z
@@ -133,8 +133,8 @@ pub reported_promise : (w : Trace) (p i b : ℕ) (z : Vote) → reported w p i b
 reported_promise w p i b z h =
     elim (fold_in (map (vote_reported i b) (heard w p)) None z h) [
       | inl e ↦ absurd (cc)
-      | inr k ↦
-          let r = votes_in i b (heard w p) z k in
+      | inr there ↦
+          let r = votes_in i b (heard w p) z there in
           let s = vote_message i b z r.0 r.2 in
           (s.0, s.1, rw s.2 (heard_in w p r.0 r.1))
     ]

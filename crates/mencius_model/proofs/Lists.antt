@@ -28,7 +28,7 @@ in_append_right a (x ∷ xs) ys h = inr (in_append_right a xs ys h)
 pub in_append : {A : Type 0} (a : A) (xs ys : List A) → IsIn a (xs ++ ys) → IsIn a xs ⊎ IsIn a ys
 in_append a [] ys h = inr h
 in_append a (x ∷ xs) ys (inl e) = inl (inl e)
-in_append a (x ∷ xs) ys (inr h) = elim (in_append a xs ys h) [ inl k ↦ inl (inr k) | inr k ↦ inr k ]
+in_append a (x ∷ xs) ys (inr h) = elim (in_append a xs ys h) [ inl there ↦ inl (inr there) | inr there ↦ inr there ]
 
 pub any_in : {A : Type 0} (test : A → Bool) (xs : List A) → list_any test xs ≡ true
     → (x : A) × IsIn x xs × (test x ≡ true)
@@ -36,13 +36,13 @@ any_in test [] h = absurd (cc)
 any_in test (x ∷ xs) h =
     elim (or_cases (test x) (list_any test xs) h) [
       | inl e ↦ (x, inl refl, e)
-      | inr k ↦ let r = any_in test xs k in (r.0, inr r.1, r.2)
+      | inr later ↦ let r = any_in test xs later in (r.0, inr r.1, r.2)
     ]
 
 pub in_any : {A : Type 0} (test : A → Bool) (x : A) (xs : List A) → IsIn x xs → test x ≡ true → list_any test xs ≡ true
 in_any test x [] h e = absurd h
-in_any test x (y ∷ xs) (inl k) e = or_left (test y) (list_any test xs) (rw (← k) e)
-in_any test x (y ∷ xs) (inr k) e = or_right (test y) (list_any test xs) (in_any test x xs k e)
+in_any test x (y ∷ xs) (inl same) e = or_left (test y) (list_any test xs) (rw (← same) e)
+in_any test x (y ∷ xs) (inr later) e = or_right (test y) (list_any test xs) (in_any test x xs later e)
 
 pub none_in : {A : Type 0} (test : A → Bool) (x : A) (xs : List A) → list_any test xs ≡ false → IsIn x xs
     → test x ≡ true → ⊥

@@ -26,8 +26,8 @@ one_further f n p h =
           rw e (record {
             member = omega arith;
             longest = λ q lt. elim (cases_lt q n) [
-              | inl k ↦ omega (arith, h.longest q k, more)
-              | inr k ↦ let same : q ≡ n = omega arith in subst (λ x. f q ≤ f x) same (omega arith)
+              | inl below ↦ omega (arith, h.longest q below, more)
+              | inr last ↦ let same : q ≡ n = omega arith in subst (λ x. f q ≤ f x) same (omega arith)
             ];
             least = λ q lt. omega (arith, h.longest q lt, more);
           })
@@ -36,8 +36,8 @@ one_further f n p h =
           rw e (record {
             member = let k = h.member in omega arith;
             longest = λ q lt. elim (cases_lt q n) [
-              | inl k ↦ h.longest q k
-              | inr k ↦ let same : n ≡ q = omega arith in subst (λ x. f x ≤ f p) same less
+              | inl below ↦ h.longest q below
+              | inr last ↦ let same : n ≡ q = omega arith in subst (λ x. f x ≤ f p) same less
             ];
             least = h.least;
           })

@@ -120,7 +120,7 @@ safe_more m l w i b z may s =
           λ q to c a h lt. elim h [
             | inl e ↦ let can : MayAccept w q to i c =
                 rw (← e) at may in absurd (omega (arith, can.free, s.bound q a, lt))
-            | inr k ↦ s.covers q to c a k lt
+            | inr there ↦ s.covers q to c a there lt
           ];
       backed = backed_more l w i b s.highest s.backed;
       is = s.is;

@@ -80,15 +80,15 @@ not_proposed w p i b z pos none h =
 
 pub propose_once : (m : Membership) (w : Trace) → IsGrown m w → (p q i b : ℕ) (z x : Value)
     → IsIn (Sent (Propose p i b z)) w → IsIn (Sent (Propose q i b x)) w → (p ≡ q) × (z ≡ x)
-propose_once m [] g p q i b z x h k = absurd h
+propose_once m [] g p q i b z x h also = absurd h
 propose_once m (l ∷ w) g p q i b z x (inl e) (inl f) = (cc, cc)
-propose_once m (l ∷ w) g p q i b z x (inl e) (inr k) =
+propose_once m (l ∷ w) g p q i b z x (inl e) (inr also) =
     let may : MayPropose m w p i b z = rw (← e) at g.1 in
-    absurd (not_proposed w q i b x (propose_positive m w g.0 q i b x k) may.none k)
+    absurd (not_proposed w q i b x (propose_positive m w g.0 q i b x also) may.none also)
 propose_once m (l ∷ w) g p q i b z x (inr h) (inl f) =
     let may : MayPropose m w q i b x = rw (← f) at g.1 in
     absurd (not_proposed w p i b z (propose_positive m w g.0 p i b z h) may.none h)
-propose_once m (l ∷ w) g p q i b z x (inr h) (inr k) = propose_once m w g.0 p q i b z x h k
+propose_once m (l ∷ w) g p q i b z x (inr h) (inr also) = propose_once m w g.0 p q i b z x h also
 
 -- acceptances and promises answer a server that asked
 asked_more : (l : Line) (w : Trace) (to i b : ℕ) → IsAsked w to i b → IsAsked (l ∷ w) to i b

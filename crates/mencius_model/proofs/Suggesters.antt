@@ -33,13 +33,13 @@ module _ (m : Membership) where
 
   pub suggest_once : (w : Trace) → 1 ≤ m.count → IsGrown m w → (p q i t u : ℕ) → IsIn (Sent (Suggest p i t)) w
       → IsIn (Sent (Suggest q i u)) w → (p ≡ q) × (t ≡ u)
-  suggest_once [] few g p q i t u h k = absurd h
+  suggest_once [] few g p q i t u h also = absurd h
   suggest_once (l ∷ w) few g p q i t u (inl e) (inl f) = (cc, cc)
-  suggest_once (l ∷ w) few g p q i t u (inl e) (inr k) =
+  suggest_once (l ∷ w) few g p q i t u (inl e) (inr also) =
       let may : MaySuggest m w p i t = rw (← e) at g.1 in
-      let o = suggest_owner w g.0 q i u k in
+      let o = suggest_owner w g.0 q i u also in
       let same : q ≡ p = sym o ∙ may.own in
-      let f = suggest_front w q i u few k in
+      let f = suggest_front w q i u few also in
       absurd (omega (arith, may.past, rw same at f))
   suggest_once (l ∷ w) few g p q i t u (inr h) (inl e) =
       let may : MaySuggest m w q i u = rw (← e) at g.1 in
@@ -47,17 +47,17 @@ module _ (m : Membership) where
       let same : p ≡ q = sym o ∙ may.own in
       let f = suggest_front w p i t few h in
       absurd (omega (arith, may.past, rw same at f))
-  suggest_once (l ∷ w) few g p q i t u (inr h) (inr k) = suggest_once w few g.0 p q i t u h k
+  suggest_once (l ∷ w) few g p q i t u (inr h) (inr also) = suggest_once w few g.0 p q i t u h also
 
   pub skip_free : (w : Trace) → 1 ≤ m.count → IsGrown m w → (p first stop q i t : ℕ) → owner m i ≡ p → first ≤ i
       → i < stop
       → IsIn (Sent (Skip p first stop)) w → IsIn (Sent (Suggest q i t)) w → ⊥
-  skip_free [] few g p first stop q i t o le lt h k = h
+  skip_free [] few g p first stop q i t o le lt h also = h
   skip_free (l ∷ w) few g p first stop q i t o le lt (inl e) (inl f) = absurd (cc)
-  skip_free (l ∷ w) few g p first stop q i t o le lt (inl e) (inr k) =
+  skip_free (l ∷ w) few g p first stop q i t o le lt (inl e) (inr also) =
       let may : front m w p ≤ first = rw (← e) at g.1 in
-      let same : q ≡ p = sym (suggest_owner w g.0 q i t k) ∙ o in
-      let f = suggest_front w q i t few k in
+      let same : q ≡ p = sym (suggest_owner w g.0 q i t also) ∙ o in
+      let f = suggest_front w q i t few also in
       absurd (omega (arith, may, le, rw same at f))
   skip_free (l ∷ w) few g p first stop q i t o le lt (inr h) (inl e) =
       let may : MaySuggest m w q i t = rw (← e) at g.1 in
@@ -65,5 +65,5 @@ module _ (m : Membership) where
       let past : front m w p ≤ i = rw same at may.past in
       let s = skip_front w p first stop h in
       absurd (omega (arith, past, s, lt))
-  skip_free (l ∷ w) few g p first stop q i t o le lt (inr h) (inr k) =
-      skip_free w few g.0 p first stop q i t o le lt h k
+  skip_free (l ∷ w) few g p first stop q i t o le lt (inr h) (inr also) =
+      skip_free w few g.0 p first stop q i t o le lt h also

@@ -39,7 +39,7 @@ module _ (m : Membership) where
       let s = submitted_more l w in
       elim may.ticket [
         | inl f ↦ omega (arith, fresh_last w t f, s)
-        | inr k ↦ omega (arith, ticket_submitted w g.0 p k.0 t k.1.before, s)
+        | inr before ↦ omega (arith, ticket_submitted w g.0 p before.0 t before.1.before, s)
       ]
   ticket_submitted (l ∷ w) g p i t (inr h) = omega (arith, ticket_submitted w g.0 p i t h, submitted_more l w)
 
@@ -53,13 +53,13 @@ module _ (m : Membership) where
   -- only one server suggests a ticket
   same_home : (w : Trace) → IsGrown m w → (p q i j t : ℕ) → IsIn (Sent (Suggest p i t)) w
       → IsIn (Sent (Suggest q j t)) w → p ≡ q
-  same_home [] g p q i j t h k = absurd h
+  same_home [] g p q i j t h also = absurd h
   same_home (l ∷ w) g p q i j t (inl e) (inl f) = cc
-  same_home (l ∷ w) g p q i j t (inl e) (inr k) =
+  same_home (l ∷ w) g p q i j t (inl e) (inr also) =
       let may : MaySuggest m w p i t = rw (← e) at g.1 in
       elim may.ticket [
-        | inl f ↦ absurd (fresh_new w g.0 q j t f k)
-        | inr n ↦ same_home w g.0 p q n.0 j t n.1.before k
+        | inl f ↦ absurd (fresh_new w g.0 q j t f also)
+        | inr n ↦ same_home w g.0 p q n.0 j t n.1.before also
       ]
   same_home (l ∷ w) g p q i j t (inr h) (inl e) =
       let may : MaySuggest m w q j t = rw (← e) at g.1 in
@@ -67,20 +67,20 @@ module _ (m : Membership) where
         | inl f ↦ absurd (fresh_new w g.0 p i t f h)
         | inr n ↦ same_home w g.0 p q i n.0 t h n.1.before
       ]
-  same_home (l ∷ w) g p q i j t (inr h) (inr k) = same_home w g.0 p q i j t h k
+  same_home (l ∷ w) g p q i j t (inr h) (inr also) = same_home w g.0 p q i j t h also
 
   -- a ticket that was suggested twice lost the first time
   pub suggested_twice : (w : Trace) → 1 ≤ m.count → IsGrown m w → (p q i j t : ℕ) → i < j
       → IsIn (Sent (Suggest p i t)) w → IsIn (Sent (Suggest q j t)) w → IsDecided m w i Noop
-  suggested_twice [] few g p q i j t lt h k = absurd h
+  suggested_twice [] few g p q i j t lt h also = absurd h
   suggested_twice (l ∷ w) few g p q i j t lt (inl e) (inl f) = let s : i ≡ j = cc in absurd (omega arith)
-  suggested_twice (l ∷ w) few g p q i j t lt (inl e) (inr k) =
+  suggested_twice (l ∷ w) few g p q i j t lt (inl e) (inr also) =
       let may : MaySuggest m w p i t = rw (← e) at g.1 in
       elim may.ticket [
-        | inl f ↦ absurd (fresh_new w g.0 q j t f k)
+        | inl f ↦ absurd (fresh_new w g.0 q j t f also)
         | inr n ↦
-            let s = same_home w g.0 p q n.0 j t n.1.before k in
-            let f = suggest_front m w q j t few k in
+            let s = same_home w g.0 p q n.0 j t n.1.before also in
+            let f = suggest_front m w q j t few also in
             absurd (omega (arith, may.past, rw (← s) at f, lt))
       ]
   suggested_twice (l ∷ w) few g p q i j t lt (inr h) (inl e) =
@@ -98,8 +98,8 @@ module _ (m : Membership) where
                   rw here at ((all_decided m w g.0).lines q n.0 Noop n.1.lost)
             ]
       ])
-  suggested_twice (l ∷ w) few g p q i j t lt (inr h) (inr k) =
-      decided_more m l w i Noop (suggested_twice w few g.0 p q i j t lt h k)
+  suggested_twice (l ∷ w) few g p q i j t lt (inr h) (inr also) =
+      decided_more m l w i Noop (suggested_twice w few g.0 p q i j t lt h also)
 
   -- a decided ticket was suggested there
   decided_suggested : (w : Trace) → IsGrown m w → (i t : ℕ) → IsDecided m w i (Ticket t)
@@ -122,9 +122,9 @@ module _ (m : Membership) where
   -- it is decided at no lower instance, for there no-op is
   decided_not_before : (w : Trace) → 1 ≤ m.count → IsGrown m w → (i j t : ℕ) → i < j → IsDecided m w i (Ticket t)
       → IsDecided m w j (Ticket t) → ⊥
-  decided_not_before w few g i j t lt h k =
+  decided_not_before w few g i j t lt h also =
       let r = decided_suggested w g i t h in
-      let s = decided_suggested w g j t k in
+      let s = decided_suggested w g j t also in
       let n = suggested_twice w few g r.0 s.0 i j t lt r.1 s.1 in
       let e = agreement m w few g i (Ticket t) Noop h n in
       absurd (cc)
@@ -132,12 +132,12 @@ module _ (m : Membership) where
   -- a ticket is decided at one instance
   pub decided_once : (w : Trace) → 1 ≤ m.count → IsGrown m w → (i j t : ℕ) → IsDecided m w i (Ticket t)
       → IsDecided m w j (Ticket t) → i ≡ j
-  decided_once w few g i j t h k =
+  decided_once w few g i j t h also =
       elim (cases_order i j) [
         | inl e ↦ e
         | inr o ↦ elim o [
-          | inl lt ↦ absurd (decided_not_before w few g i j t lt h k)
-          | inr gt ↦ absurd (decided_not_before w few g j i t gt k h)
+          | inl lt ↦ absurd (decided_not_before w few g i j t lt h also)
+          | inr gt ↦ absurd (decided_not_before w few g j i t gt also h)
         ]
       ]
 
@@ -167,17 +167,17 @@ module _ (w : Trace) (t u : ℕ) (x y : Submission) (e : is_same_id x.0.id y.0.i
       → ((z : Submission) → o ≡ Some z → list_any (λ (a : Submission). is_same_id a.0.id z.0.id) (submitted w) ≡ false)
       → slice_get (submitted w ++ option_to_list o) t ≡ Some x → slice_get (submitted w ++ option_to_list o) u ≡ Some y
       → (slice_get (submitted w) t ≡ Some x → slice_get (submitted w) u ≡ Some y → t ≡ u) → t ≡ u
-  identity_at None fresh h k rest = rest (rw append-nil at h) (rw append-nil at k)
-  identity_at (Some z) fresh h k rest =
+  identity_at None fresh h also rest = rest (rw append-nil at h) (rw append-nil at also)
+  identity_at (Some z) fresh h also rest =
       let new = fresh z refl in
       elim (get_push (submitted w) z x t h) [
-        | inl a ↦ elim (get_push (submitted w) z y u k) [
+        | inl a ↦ elim (get_push (submitted w) z y u also) [
           | inl b ↦ rest a b
           | inr b ↦ absurd
               (none_in (λ (s : Submission). is_same_id s.0.id z.0.id) x (submitted w) new
               (get_in (submitted w) t x a) (rw b.1 e))
         ]
-        | inr a ↦ elim (get_push (submitted w) z y u k) [
+        | inr a ↦ elim (get_push (submitted w) z y u also) [
           | inl b ↦ absurd
               (none_in (λ (s : Submission). is_same_id s.0.id z.0.id) y (submitted w) new
               (get_in (submitted w) u y b) (rw a.1 (same_id_back x.0.id y.0.id e)))
@@ -189,7 +189,7 @@ module _ (w : Trace) (t u : ℕ) (x y : Submission) (e : is_same_id x.0.id y.0.i
 command_new : (m : Membership) (w : Trace) (l : Line) → May m w l → (z : Submission) → command_in l ≡ Some z
     → list_any (λ (a : Submission). is_same_id a.0.id z.0.id) (submitted w) ≡ false
 command_new m w (Submitted command p) may z e =
-    let k : command ≡ z.0 = ap (λ (o : Option Submission). first_or command o) e in rw (← k) may where
+    let same : command ≡ z.0 = ap (λ (o : Option Submission). first_or command o) e in rw (← same) may where
       first_or : Command → Option Submission → Command
       first_or command None = command
       first_or command (Some z) = z.0
@@ -199,6 +199,6 @@ command_new m w _ may z e = absurd (cc)
 pub identity_once : (m : Membership) (w : Trace) → IsGrown m w → (t u : ℕ) (x y : Submission)
     → slice_get (submitted w) t ≡ Some x → slice_get (submitted w) u ≡ Some y
     → is_same_id x.0.id y.0.id ≡ true → t ≡ u
-identity_once m [] g t u x y h k e = absurd (cc)
-identity_once m (l ∷ w) g t u x y h k e =
-    identity_at w t u x y e (command_in l) (command_new m w l g.1) h k (λ a b. identity_once m w g.0 t u x y a b e)
+identity_once m [] g t u x y h also e = absurd (cc)
+identity_once m (l ∷ w) g t u x y h also e =
+    identity_at w t u x y e (command_in l) (command_new m w l g.1) h also (λ a b. identity_once m w g.0 t u x y a b e)

@@ -1,5 +1,5 @@
-//! Clusters that are watched while they run: the laws, asked of a running cluster's answers ([`observed`]) after each of
-//! the events that it is stepped through ([`walk`]); a cluster that is made again from the journal of another one
+//! Clusters that are watched while they run: the laws, asked of a running cluster's answers ([`observed`]) after each
+//! of the events that it is stepped through ([`walk`]); a cluster that is made again from the journal of another one
 //! ([`again`]); and the answers of two clusters, compared ([`same`]). What asks here is tested, not proved: it takes
 //! nothing from the contracts that already say it.
 #![tactic(auto)]
