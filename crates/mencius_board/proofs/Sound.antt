@@ -14,20 +14,20 @@ use Rattle.mencius_model.proofs.Prefixes.{prefix_empty, prefix_trans, prefix_len
 -- the first commands of a list are the first of each of which it is a prefix
 handed_grows : (shown : List Command) (os : List Operation) (n : ℕ) (xs ys : List Command) → IsPrefix xs ys
     → AreHanded shown os n xs → AreHanded shown os n ys
-handed_grows shown os n xs ys p h = record {
-  many = omega (arith, h.many, prefix_length xs ys p);
-  first = h.first ∙ (sym (take-append-le n xs p.0 h.many) ∙ ap (λ l. take n l) p.1);
+handed_grows shown os n xs ys prefix h = record {
+  many = omega (arith, h.many, prefix_length xs ys prefix);
+  first = h.first ∙ (sym (take-append-le n xs prefix.0 h.many) ∙ ap (λ l. take n l) prefix.1);
 }
 
 -- a board stays sound where its cluster's longest history grows
 pub sound_grows : (x y : ClusterState) (log opening : MarkState) (seen : Option MarkState) (shown : VersionState)
     (os : List Operation) (n : ℕ) → IsSteady y × IsPrefix (longest x) (longest y)
     → IsSound x log opening seen shown os n → IsSound y log opening seen shown os n
-sound_grows x y log opening seen shown os n p s = record {
-  steady = p.0;
+sound_grows x y log opening seen shown os n also s = record {
+  steady = also.0;
   marked = s.marked;
-  handed_is = handed_grows shown.list os n (longest x) (longest y) p.1 s.handed_is;
-  begins = prefix_trans log.log (longest x) (longest y) s.begins p.1;
+  handed_is = handed_grows shown.list os n (longest x) (longest y) also.1 s.handed_is;
+  begins = prefix_trans log.log (longest x) (longest y) s.begins also.1;
   opening_is = s.opening_is;
   seen_is = s.seen_is;
 }

@@ -16,8 +16,8 @@ use Rattle.mencius_model.proofs.Prefixes.{prefix_self, prefix_trans}
 
 follows_on : (a : Option MarkState) (m n : MarkState) → Follows a m → m.book ≡ n.book → IsPrefix m.log n.log
     → Follows a n
-follows_on None m n f book grows = tt
-follows_on (Some a) m n f book grows = (f.0 ∙ book, prefix_trans a.log m.log n.log f.1 grows)
+follows_on None m n follows book grows = tt
+follows_on (Some a) m n follows book grows = (follows.0 ∙ book, prefix_trans a.log m.log n.log follows.1 grows)
 
 pub turns : (seat : ℕ) (z : Option MarkState) (x y : VersionState) → x.mark.book ≡ y.mark.book
     → IsPrefix x.mark.log y.mark.log → y.mark.log ≡ y.list → TurnsAt Keeps seat z x y Shows
@@ -46,27 +46,27 @@ admits x views h = (
 
 set_follows : (seat : ℕ) (x : VersionState) (a : Option MarkState) (views : List (Option MarkState)) → Keeps x views
     → Follows a x.mark → Keeps x (set views seat a)
-set_follows seat x a views h f = (
+set_follows seat x a views h follows = (
   h.0,
-  λ j u e. ⊎_elim (λ (y : (j ≡ seat) × (a ≡ u)). subst (λ (d : Option MarkState). Follows d x.mark) y.1 f)
+  λ j u e. ⊎_elim (λ (y : (j ≡ seat) × (a ≡ u)). subst (λ (d : Option MarkState). Follows d x.mark) y.1 follows)
       (λ (y : (j ≢ seat) × (get_elem? views j ≡ some u)). h.1 j u y.1) (at_set views seat j a u e),
 )
 
 pub forks : (seat : ℕ) (a : Option MarkState) → Forks Keeps seat a a a
 forks seat a x views h at =
-    let k = set_follows seat x a views h (h.1 seat a at) in (
+    let following = set_follows seat x a views h (h.1 seat a at) in (
       h.0,
-      λ j u e. ⊎_elim (λ (y : get_elem? (set views seat a) j ≡ some u). k.1 j u y)
+      λ j u e. ⊎_elim (λ (y : get_elem? (set views seat a) j ≡ some u). following.1 j u y)
           (λ (y : a ≡ u). subst (λ (d : Option MarkState). Follows d x.mark) y (h.1 seat a at))
           (at_snoc (set views seat a) a u j e),
     )
 
 pub merges : (seat : ℕ) (z : Option MarkState) (other : ℕ) (d : Option MarkState) → Merges Keeps seat z other d d None
 merges seat z other d x views h at apart there =
-    let f : Follows d x.mark = ⊎_elim (λ (y : (other ≡ seat) × (d ≡ d)). absurd (apart y.0))
+    let follows : Follows d x.mark = ⊎_elim (λ (y : (other ≡ seat) × (d ≡ d)). absurd (apart y.0))
     (λ (y : (other ≢ seat) × (get_elem? views other ≡ some d)). h.1 other d y.1)
     (at_set views seat other d d there) in
-    set_follows other x None (set views seat d) (set_follows seat x d views h f) tt
+    set_follows other x None (set views seat d) (set_follows seat x d views h follows) tt
 
 -- a mark of all that is then shown keeps the rule
 pub stamped_turns : (seat : ℕ) (a : Option MarkState) (x now next : VersionState) (old all : List Operation)

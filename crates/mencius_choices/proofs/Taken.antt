@@ -19,9 +19,9 @@ any_left (Some x) left first rest h = ap is_any (sym h)
 pub picked_is : (y : ChooserState) (x : ClusterState) (loss : ℕ) (left : Bool) (words : List ℕ) (z : Pick)
     → loss ≡ y.plan.loss → left ≡ is_any y.left
     → words ≡ words_of y.drawing.generator → z ≡ pick_of x loss left words → picked y x ≡ z
-picked_is y x loss left words z a b d is =
+picked_is y x loss left words z a same d is =
     ap (λ n. pick_of x n (is_any y.left) (words_of y.drawing.generator)) (sym a)
-    ∙ (ap (λ (o : Bool). pick_of x loss o (words_of y.drawing.generator)) (sym b)
+    ∙ (ap (λ (o : Bool). pick_of x loss o (words_of y.drawing.generator)) (sym same)
     ∙ (ap (λ (ws : List ℕ). pick_of x loss left ws) (sym d) ∙ sym is))
 
 -- an event is picked

@@ -24,11 +24,12 @@ use Rattle.mencius_command_line.specs.CommandLine.{Asked, asked, asked_replay, a
 -- whether a text that was found is that of a flag
 pub flag_there : (f : Found) (id : Text) (s : Bor Text) (a : Bool) → Some s.now ≡ first_value f id
     → a ≡ bytes_eq s.now (codes "true") → a ≡ has_flag id (rows_of f)
-flag_there f id s a e is = is ∙ ap (λ o. option_map_or (λ text. bytes_eq text (codes "true")) o false) (e
-    ∙ first_value-rows f id)
+flag_there found id s a e is = is ∙ ap (λ o. option_map_or (λ text. bytes_eq text (codes "true")) o false) (e
+    ∙ first_value-rows found id)
 
 pub flag_missing : (f : Found) (id : Text) → None ≡ first_value f id → false ≡ has_flag id (rows_of f)
-flag_missing f id e = ap (λ o. option_map_or (λ text. bytes_eq text (codes "true")) o false) (e ∙ first_value-rows f id)
+flag_missing found id e =
+    ap (λ o. option_map_or (λ text. bytes_eq text (codes "true")) o false) (e ∙ first_value-rows found id)
 
 -- the name and the rows of a task that was found
 pub task_found : {Z : Type 0} (s : Option (Box SubCommand Z)) (name : Text) (rows : List Row)
@@ -54,7 +55,8 @@ kinds_first (k ∷ ks) next e h = h
 
 pub err_first : {T : Type 0} (kinds next : Kinds) (r : Result T Error) (e : Error) → IsErrAnd r (λ x. x ≡ e)
     → HasKind kinds e → FailsBy (or_else kinds next) r
-err_first kinds next r e is h = let p = err_from_is_err_and r is in rw (p.1, p.2) (kinds_first kinds next e h)
+err_first kinds next r e is h =
+    let failing = err_from_is_err_and r is in rw (failing.1, failing.2) (kinds_first kinds next e h)
 
 pub kinds_next : (kinds next : Kinds) → kinds ≡ [] → or_else kinds next ≡ next
 kinds_next kinds next h = ap (λ ks. or_else ks next) h

@@ -21,14 +21,14 @@ use Rattle.mencius_conclusions.specs.Hands.{AreAt}
 
 on_first : (a : Bool) (r : Refusal) (o x : Option Refusal) → cond a (Some r) o ≡ None → (o ≡ None → x ≡ None)
     → cond a (Some r) x ≡ None
-on_first true r o x h g = absurd (cc)
-on_first false r o x h g = g h
+on_first true r o x h each = absurd (cc)
+on_first false r o x h each = each h
 
 both_none : (cs ds : List (Bool × Refusal)) → first_cause cs ≡ None → first_cause ds ≡ None
     → first_cause (cs ++ ds) ≡ None
-both_none [] ds h g = g
-both_none (c ∷ cs) ds h g =
-    on_first c.0 c.1 (first_cause cs) (first_cause (cs ++ ds)) h (λ n. both_none cs ds n g)
+both_none [] ds h none = none
+both_none (c ∷ cs) ds h none =
+    on_first c.0 c.1 (first_cause cs) (first_cause (cs ++ ds)) h (λ n. both_none cs ds n none)
 
 -- a server that heard nothing is at the longer trace too
 stays : LeavesOthers → (m : Membership) (w : Trace) (k p : ℕ) (s : ServerState) → IsAt w s → s.members ≡ m

@@ -131,14 +131,14 @@ module _ (depth : ℕ) (x : Token) (ts old : List Token) (is : old ≡ x ∷ ts)
   pub whole_first : (s : List ℕ) (whole : Option ℕ) → Some s ≡ number_text x
       → Some whole ≡ option_map as_u64 (number_of s)
       → (d : Data) × (next_value depth old ≡ Some (d, ts)) × (whole ≡ whole_in d)
-  whole_first s whole e w =
-      let n = next_counted depth s ts whole w in
+  whole_first s whole e same =
+      let n = next_counted depth s ts whole same in
       (number n.0, ap (next_value depth) (is ∙ ap (λ k. k ∷ ts) (was_number x s e)) ∙ n.1, n.2)
 
   pub no_whole_first : (s : List ℕ) → Some s ≡ number_text x → None ≡ option_map as_u64 (number_of s)
       → next_value depth old ≡ None
-  no_whole_first s e w =
-      ap (next_value depth) (is ∙ ap (λ k. k ∷ ts) (was_number x s e)) ∙ next_uncounted depth s ts w
+  no_whole_first s e same =
+      ap (next_value depth) (is ∙ ap (λ k. k ∷ ts) (was_number x s e)) ∙ next_uncounted depth s ts same
 
   -- what was passed is no such value
   module _ (d : Data) (r : List Token) (next : next_value depth (x ∷ ts) ≡ Some (d, r)) where

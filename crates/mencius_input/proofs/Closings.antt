@@ -28,8 +28,8 @@ is_closing null = false
 is_closing bad = false
 
 pick : (b : Bool) (x y : Token) → is_closing x ≡ false → is_closing y ≡ false → is_closing (cond b x y) ≡ false
-pick true x y e f = e
-pick false x y e f = f
+pick true x y e fails = e
+pick false x y e fails = fails
 
 no_closing_number : (t : List ℕ) (o : Option (List ℕ)) → is_closing (number_before t o) ≡ false
 no_closing_number t None = refl
@@ -83,36 +83,36 @@ operator_after : (a b c d e f : Bool) (ls : List Lexeme) → b ≡ false → d �
     → punctuate after_value (operator_by a b c d f ∷ ls)
     ≡ bad ∷ []
 unfolding punctuate
-operator_after true b c d e f ls g h i = refl
-operator_after false true c d e f ls g h i = absurd (cc)
-operator_after false false true d e f ls g h i = refl
-operator_after false false false true e f ls g h i = absurd (cc)
-operator_after false false false false e true ls g h i = absurd (cc)
-operator_after false false false false e false ls g h i = refl
+operator_after true b c d e f ls fails h lacks = refl
+operator_after false true c d e f ls fails h lacks = absurd (cc)
+operator_after false false true d e f ls fails h lacks = refl
+operator_after false false false true e f ls fails h lacks = absurd (cc)
+operator_after false false false false e true ls fails h lacks = absurd (cc)
+operator_after false false false false e false ls fails h lacks = refl
 
 byte_after : (q b o s : Bool) (x : ℕ) (xs : List ℕ) (k : Mode → List Lexeme) → s ≡ false
     → punctuate after_value (operator_lexeme x ∷ k between) ≡ bad ∷ []
     → punctuate after_value (lex_byte between (class_by q b o s) x xs k) ≡ bad ∷ []
-byte_after true b o s x xs k e f =
+byte_after true b o s x xs k e same =
     at_token after_value _ _
     ∙ placed_after (string_token (content plain xs)) _ _ (no_closing_string (content plain xs))
-byte_after false true o s x xs k e f =
+byte_after false true o s x xs k e same =
     at_token after_value _ _ ∙ placed_after bad (begins_colon (k in_word)) (λ n. punctuate n (k in_word)) refl
-byte_after false false true s x xs k e f = f
-byte_after false false false true x xs k e f = absurd (cc)
-byte_after false false false false x xs k e f =
+byte_after false false true s x xs k e same = same
+byte_after false false false true x xs k e same = absurd (cc)
+byte_after false false false false x xs k e same =
     at_token after_value _ _ ∙ placed_after (word (x ∷ xs)) _ _ (no_closing_word (x ∷ xs))
 
 pub not_begun : (p : At) (x : ℕ) (xs : List ℕ) → at.may_begin p ≡ false → is_space x ≡ false
     → (p ≡ AfterValue → x ≢ 44) → x ≢ 93 → x ≢ 125 → tokens_at p (x ∷ xs) ≡ refused_at p
 unfolding lex
-not_begun Fresh x xs e solid f g h = absurd (cc)
-not_begun AfterValue x xs e solid f g h =
+not_begun Fresh x xs e solid each unlike h = absurd (cc)
+not_begun AfterValue x xs e solid each unlike h =
     byte_after (x == 34) (x == 92) (is_operator x) (is_space x) x xs (λ n. lex n xs) solid
     (operator_after (x == 123) (x == 125) (x == 91) (x == 93) (x == 58) (x == 44) (lex between xs) (eqb_false x 125 h)
-    (eqb_false x 93 g) (eqb_false x 44 (f refl)))
-not_begun AfterComma x xs e solid f g h = absurd (cc)
-not_begun Failed x xs e solid f g h = refl
+    (eqb_false x 93 unlike) (eqb_false x 44 (each refl)))
+not_begun AfterComma x xs e solid each unlike h = absurd (cc)
+not_begun Failed x xs e solid each unlike h = refl
 
 -- ---- no list is closed
 
@@ -148,15 +148,15 @@ byte_open : (p : Place) (q b o s : Bool) (x : ℕ) (xs : List ℕ) (k : Mode →
     → after_end_array (punctuate p (operator_lexeme x ∷ k between)) ≡ None
     → (s ≡ true → after_end_array (punctuate p (k between)) ≡ None)
     → after_end_array (punctuate p (lex_byte between (class_by q b o s) x xs k)) ≡ None
-byte_open p true b o s x xs k e f =
+byte_open p true b o s x xs k e each =
     ap after_end_array (at_token p _ _)
     ∙ placed_open p (string_token (content plain xs)) _ _ (no_closing_string (content plain xs))
-byte_open p false true o s x xs k e f =
+byte_open p false true o s x xs k e each =
     ap after_end_array (at_token p _ _)
     ∙ placed_open p bad (begins_colon (k in_word)) (λ n. punctuate n (k in_word)) refl
-byte_open p false false true s x xs k e f = e
-byte_open p false false false true x xs k e f = f refl
-byte_open p false false false false x xs k e f =
+byte_open p false false true s x xs k e each = e
+byte_open p false false false true x xs k e each = each refl
+byte_open p false false false false x xs k e each =
     ap after_end_array (at_token p _ _) ∙ placed_open p (word (x ∷ xs)) _ _ (no_closing_word (x ∷ xs))
 
 comma_open : (a b c d f : Bool) (ls : List Lexeme)
@@ -192,30 +192,30 @@ value_open : (a b c d f : Bool) (ls : List Lexeme) → d ≡ false → after_end
     → after_end_array (punctuate after_value (operator_by a b c d f ∷ ls))
     ≡ None
 unfolding punctuate
-value_open true b c d f ls e g = refl
-value_open false true c d f ls e g = refl
-value_open false false true d f ls e g = refl
-value_open false false false true f ls e g = absurd (cc)
-value_open false false false false true ls e g = g
-value_open false false false false false ls e g = refl
+value_open true b c d f ls e none = refl
+value_open false true c d f ls e none = refl
+value_open false false true d f ls e none = refl
+value_open false false false true f ls e none = absurd (cc)
+value_open false false false false true ls e none = none
+value_open false false false false false ls e none = refl
 
 apart : (s : Bool) {A : Type 0} → s ≡ false → s ≡ true → A
-apart true e f = absurd (cc)
-apart false e f = absurd (cc)
+apart true e holds = absurd (cc)
+apart false e holds = absurd (cc)
 
 pub no_end_array : (p : At) (t : List ℕ) → is_space (first t) ≡ false → (at.may_close p ≡ true → first t ≢ 93)
     → after_end_array (tokens_at p t) ≡ None
 unfolding lex punctuate
-no_end_array Fresh [] e f = refl
-no_end_array AfterValue [] e f = refl
-no_end_array Fresh (x ∷ xs) e f =
+no_end_array Fresh [] e each = refl
+no_end_array AfterValue [] e each = refl
+no_end_array Fresh (x ∷ xs) e each =
     byte_open fresh (x == 34) (x == 92) (is_operator x) (is_space x) x xs (λ n. lex n xs)
-    (fresh_open (x == 123) (x == 125) (x == 91) (x == 93) (x == 44) (lex between xs) (eqb_false x 93 (f refl)))
+    (fresh_open (x == 123) (x == 125) (x == 91) (x == 93) (x == 44) (lex between xs) (eqb_false x 93 (each refl)))
     (apart (is_space x) e)
-no_end_array AfterValue (x ∷ xs) e f =
+no_end_array AfterValue (x ∷ xs) e each =
     byte_open after_value (x == 34) (x == 92) (is_operator x) (is_space x) x xs (λ n. lex n xs)
-    (value_open (x == 123) (x == 125) (x == 91) (x == 93) (x == 44) (lex between xs) (eqb_false x 93 (f refl))
+    (value_open (x == 123) (x == 125) (x == 91) (x == 93) (x == 44) (lex between xs) (eqb_false x 93 (each refl))
     (behind_comma xs))
     (apart (is_space x) e)
-no_end_array AfterComma t e f = behind_comma t
-no_end_array Failed t e f = refl
+no_end_array AfterComma t e each = behind_comma t
+no_end_array Failed t e each = refl

@@ -30,14 +30,14 @@ at_place test text i e = by_test (ltb (position_or_len test text) (length text))
 
 pub found_byte : (c : ℕ) (text : List ℕ) (i : ℕ) → position (λ b. b == c) text ≡ Some i
     → (i < length text) × (get_or text i 0 ≡ c)
-found_byte c text i e = let f = position-Some (λ b. b == c) text i 0 e in (f.0, eqb-true _ _ f.1)
+found_byte c text i e = let found = position-Some (λ b. b == c) text i 0 e in (found.0, eqb-true _ _ found.1)
 
 -- the first part, and the parts of what follows
 pub found_parts : (c : ℕ) (text : List ℕ) (i : ℕ) → position (λ b. b == c) text ≡ Some i
     → parts c text ≡ take i text ∷ parts c (drop (i + 1) text)
 found_parts c text i e =
-    let f = at_place (λ b. b == c) text i e in
-    rw f.0 (slice_split_first (λ b. b == c) text 0 f.1)
+    let found = at_place (λ b. b == c) text i e in
+    rw found.0 (slice_split_first (λ b. b == c) text 0 found.1)
 
 uncut : (test : ℕ → Bool) (text : List ℕ) → ((i : ℕ) → i < length text → test (get_or text i 0) ≡ false)
     → slice_split test text ≡ text ∷ []
@@ -84,8 +84,8 @@ first_part c (b ∷ bs) = by_test (b == c) (first_part c bs)
   where
     by_test : (a : Bool) → (xs : List ℕ) × (ps : List (List ℕ)) × (parts c bs ≡ xs ∷ ps)
         → (xs : List ℕ) × (ps : List (List ℕ)) × (cond a ([] ∷ parts c bs) (onto_first b (parts c bs)) ≡ xs ∷ ps)
-    by_test true f = ([], parts c bs, refl)
-    by_test false f = (b ∷ f.0, f.1, ap (onto_first b) f.2)
+    by_test true same = ([], parts c bs, refl)
+    by_test false same = (b ∷ same.0, same.1, ap (onto_first b) same.2)
 
 -- there are two parts at least, and a byte that fails the test
 abbrev HasMore : (ℕ → Bool) → List ℕ → List (List ℕ) → Type 0
@@ -101,16 +101,16 @@ one_or_more test c lacks (b ∷ bs) = by_test (b == c) refl (one_or_more test c 
         → (xs : List ℕ) × (ps : List (List ℕ)) × (parts c bs ≡ xs ∷ ps)
         → (cond a ([] ∷ parts c bs) (onto_first b (parts c bs)) ≡ (b ∷ bs) ∷ [])
         ⊎ HasMore test (b ∷ bs) (cond a ([] ∷ parts c bs) (onto_first b (parts c bs)))
-    by_test true is rest f =
+    by_test true is rest same =
         inr (
           [],
-          f.0,
-          f.1,
-          ap (λ ps. [] ∷ ps) f.2,
+          same.0,
+          same.1,
+          ap (λ ps. [] ∷ ps) same.2,
           and_left (test b) (list_all test bs) (ap test (eqb-true b c is) ∙ lacks),
         )
-    by_test false is (inl one) f = inl (ap (onto_first b) one)
-    by_test false is (inr more) f =
+    by_test false is (inl one) same = inl (ap (onto_first b) one)
+    by_test false is (inr more) same =
         inr (b ∷ more.0, more.1, more.2, ap (onto_first b) more.3, and_right (test b) (list_all test bs) more.4)
 
 -- a reader that takes no byte at which the text is cut reads the whole rest
@@ -170,9 +170,9 @@ space_behind word rest text e = rw e (get_or-append_seam word 32 rest 0)
 pub not_first : (word text : List ℕ) (i : ℕ) → position (λ b. b == 32) text ≡ Some i
     → ((rest : List ℕ) → text ≡ word ++ 32 ∷ rest → ⊥) → take i text ≡ word → ⊥
 not_first word text i e none is =
-    let f = found_byte 32 text i e in
+    let found = found_byte 32 text i e in
     none (drop (i + 1) text)
     (sym (take-append-drop i text)
     ∙ ap (λ (l : List ℕ). l ++ drop i text) is
     ∙ ap (λ (l : List ℕ). word ++ l)
-    (drop_more text i 0 f.0 ∙ ap (λ (b : ℕ). b ∷ drop (i + 1) text) f.1))
+    (drop_more text i 0 found.0 ∙ ap (λ (b : ℕ). b ∷ drop (i + 1) text) found.1))

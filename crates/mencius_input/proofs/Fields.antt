@@ -43,10 +43,10 @@ is_named name n e =
   where
     by_tests : (v s e : Bool) → bytes_eq name (codes "version") ≡ v → bytes_eq name (codes "servers") ≡ s
         → bytes_eq name (codes "events") ≡ e → IsNamed name (cond v Version (cond s Servers (cond e Events Other)))
-    by_tests true s e p q r = same_name name (codes "version") p
-    by_tests false true e p q r = same_name name (codes "servers") q
-    by_tests false false true p q r = same_name name (codes "events") r
-    by_tests false false false p q r = rw (r, q, p) refl
+    by_tests true s e same equal r = same_name name (codes "version") same
+    by_tests false true e same equal r = same_name name (codes "servers") equal
+    by_tests false false true same equal r = same_name name (codes "events") r
+    by_tests false false false same equal r = rw (r, equal, same) refl
 
 -- ---- what a field more leaves
 
@@ -162,8 +162,8 @@ by_list : (v s : ℕ) (es : List Event) (a d : Bool) → a ≡ (v == 1) → d �
     → (l : Bool)
     → fitted_events v s (cond l (Ok es) (Err BadLimit))
     ≡ cond (a && d && l) (Ok (record { version = v; servers = s; events = es })) (Err BadLimit)
-by_list v s es a d e f true = rw (← e, ← f) (all_hold _ _ a d)
-by_list v s es a d e f false = one_fails _ _ a d
+by_list v s es a d e same true = rw (← e, ← same) (all_hold _ _ a d)
+by_list v s es a d e same false = one_fails _ _ a d
 
 with_events : (v s : ℕ) (o : Option (List Event))
     → said (Some (Some v)) (Some (Some s)) (Some (judged (list_all event_within) o))

@@ -8,7 +8,7 @@ use Rattle.mencius_input.specs.Scenario.{json_of}
 
 pub utf8_yes : (bytes : List ℕ) → IsUtf8 bytes → json_of bytes ≡ read bytes
 unfolding json_of
-utf8_yes bytes u = rw (is_utf8-from_IsUtf8 bytes u) refl
+utf8_yes bytes spelled = rw (is_utf8-from_IsUtf8 bytes spelled) refl
 
 pub utf8_no : (bytes : List ℕ) → (IsUtf8 bytes → read bytes ≡ None) → json_of bytes ≡ None
 unfolding json_of

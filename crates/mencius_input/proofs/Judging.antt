@@ -73,16 +73,17 @@ seen_given make (Err fault) answer h = fails_on (seen make) fault answer refl h
 
 joined_given : {X Y : Type 0} (r a : Result X AppFault) (s answer : Result Y AppFault) → Gives r a → Gives s answer
     → Gives (joined r s) (joined a answer)
-joined_given (Ok x) a (Ok y) answer h i = rw (h, i) refl
-joined_given (Ok x) a (Err fault) answer h i = rw h (fails_on (joined (Ok x)) fault answer refl i)
-joined_given (Err BadLimit) a (Ok y) answer h i = rw (h, i) refl
-joined_given (Err BadLimit) a (Err fault) answer h i = rw h (fails_on (joined (Err BadLimit)) fault answer refl i)
-joined_given (Err NoMemory) a s answer h i = tt
-joined_given (Err NotJson) a s answer h i = rw h refl
-joined_given (Err BadShape) a s answer h i = rw h refl
-joined_given (Err ReadFailed) a s answer h i = rw h refl
-joined_given (Err WriteFailed) a s answer h i = rw h refl
-joined_given (Err BoardFailed) a s answer h i = rw h refl
+joined_given (Ok x) a (Ok y) answer h given = rw (h, given) refl
+joined_given (Ok x) a (Err fault) answer h given = rw h (fails_on (joined (Ok x)) fault answer refl given)
+joined_given (Err BadLimit) a (Ok y) answer h given = rw (h, given) refl
+joined_given (Err BadLimit) a (Err fault) answer h given =
+    rw h (fails_on (joined (Err BadLimit)) fault answer refl given)
+joined_given (Err NoMemory) a s answer h given = tt
+joined_given (Err NotJson) a s answer h given = rw h refl
+joined_given (Err BadShape) a s answer h given = rw h refl
+joined_given (Err ReadFailed) a s answer h given = rw h refl
+joined_given (Err WriteFailed) a s answer h given = rw h refl
+joined_given (Err BoardFailed) a s answer h given = rw h refl
 
 -- what is made of one thing, and of two
 pub made_given : {X Y : Type 0} (make : X → Y) (f : X → Bool) (g : Y → Bool) → ((x : X) → g (make x) ≡ f x)
@@ -94,26 +95,29 @@ pub pair_given : {X Y : Type 0} (f : X → Bool) (g : Y
     → Bool) (o : Option X) (s : Option Y) (r : Result X AppFault) (answer : Result Y AppFault)
     (result : Result (X × Y) AppFault) → result ≡ joined r answer → Gives r (judged f o) → Gives answer (judged g s)
     → Gives result (judged (λ z. f z.0 && g z.1) (option_zip o s))
-pair_given f g o s r answer result is h i =
-    rw (is, ← joined_judged f g o s) (joined_given r (judged f o) answer (judged g s) h i)
+pair_given f g o s r answer result is h given =
+    rw (is, ← joined_judged f g o s) (joined_given r (judged f o) answer (judged g s) h given)
 
 pub both_given : {X Y Z : Type 0} (make : X × Y → Z) (f : X → Bool) (g : Y → Bool) (ok : Z → Bool)
     → ((z : X × Y) → ok (make z) ≡ (f z.0 && g z.1))
     → (o : Option X) (s : Option Y) (r : Result X AppFault) (answer : Result Y AppFault)
     (result : Result (X × Y) AppFault) → result ≡ joined r answer → Gives r (judged f o) → Gives answer (judged g s)
     → Gives (seen make result) (judged ok (option_map make (option_zip o s)))
-both_given make f g ok same o s r answer result is h i =
-    made_given make (λ z. f z.0 && g z.1) ok same (option_zip o s) result (pair_given f g o s r answer result is h i)
+both_given make f g ok same o s r answer result is h given =
+    made_given make (λ z. f z.0 && g z.1) ok same (option_zip o s) result
+    (pair_given f g o s r answer result is h given)
 
 -- ---- at the exit of a `?`
 
 pub passed_on : {X : Type 0} (result answer : Result X AppFault) (fault : AppFault)
     → IsErrAnd result (λ e. e ≡ fault) → FailsBy fault answer → Gives result answer
-passed_on result answer fault h i = let p = err_from_is_err_and result h in rw (p.1, p.2) i
+passed_on result answer fault h failing =
+    let refused = err_from_is_err_and result h in rw (refused.1, refused.2) failing
 
 pub passed_on_as : {X : Type 0} (result answer : Result X AppFault) (fault : AppFault)
     → IsErrAnd result (λ e. e ≡ fault) → answer ≡ Err fault → result ≡ answer
-passed_on_as result answer fault h i = let p = err_from_is_err_and result h in rw (p.1, p.2) (sym i)
+passed_on_as result answer fault h failed =
+    let failing = err_from_is_err_and result h in rw (failing.1, failing.2) (sym failed)
 
 -- no shape
 pub shapeless : {X : Type 0} (within : X → Bool) (o : Option X) (fault : AppFault) → fault ≡ BadShape → o ≡ None

@@ -44,12 +44,12 @@ neither false false h = (refl, refl)
 -- ---- blanks
 
 pub is_one_blank : (P : ℕ → Type 0) → P 32 → P 9 → P 10 → P 13 → (c : ℕ) → is_space c ≡ true → P c
-is_one_blank P a b d e c h = elim (or_cases _ _ h) [
+is_one_blank P a holds d e c h = elim (or_cases _ _ h) [
   | inr last ↦ subst P (sym (eqb-true c 13 last)) e
   | inl more ↦ elim (or_cases _ _ more) [
     | inr last ↦ subst P (sym (eqb-true c 10 last)) d
     | inl two ↦ elim (or_cases _ _ two) [
-      | inr last ↦ subst P (sym (eqb-true c 9 last)) b
+      | inr last ↦ subst P (sym (eqb-true c 9 last)) holds
       | inl one ↦ subst P (sym (eqb-true c 32 one)) a
     ]
   ]
@@ -77,25 +77,25 @@ operator_by a b c d f =
 
 string_byte : (q b o s : Bool) (x : ℕ) (xs : List ℕ) (k : Mode → List Lexeme) → q ≡ false → b ≡ false
     → lex_byte in_string (class_by q b o s) x xs k ≡ k in_string
-string_byte true b o s x xs k e f = absurd (cc)
-string_byte false true o s x xs k e f = absurd (cc)
-string_byte false false true s x xs k e f = refl
-string_byte false false false true x xs k e f = refl
-string_byte false false false false x xs k e f = refl
+string_byte true b o s x xs k e fails = absurd (cc)
+string_byte false true o s x xs k e fails = absurd (cc)
+string_byte false false true s x xs k e fails = refl
+string_byte false false false true x xs k e fails = refl
+string_byte false false false false x xs k e fails = refl
 
 -- within a string
 pub string_passes : (x : ℕ) (xs : List ℕ) → (x == 34) ≡ false → (x == 92) ≡ false
     → lex in_string (x ∷ xs) ≡ lex in_string xs
 unfolding lex
-string_passes x xs e f = string_byte (x == 34) (x == 92) (is_operator x) (is_space x) x xs (λ n. lex n xs) e f
+string_passes x xs e fails = string_byte (x == 34) (x == 92) (is_operator x) (is_space x) x xs (λ n. lex n xs) e fails
 
 word_byte : (q b o s : Bool) (x : ℕ) (xs : List ℕ) (k : Mode → List Lexeme) → o ≡ false → s ≡ false
     → lex_byte in_word (class_by q b o s) x xs k ≡ k in_word
-word_byte true b o s x xs k e f = refl
-word_byte false true o s x xs k e f = refl
-word_byte false false true s x xs k e f = absurd (cc)
-word_byte false false false true x xs k e f = absurd (cc)
-word_byte false false false false x xs k e f = refl
+word_byte true b o s x xs k e fails = refl
+word_byte false true o s x xs k e fails = refl
+word_byte false false true s x xs k e fails = absurd (cc)
+word_byte false false false true x xs k e fails = absurd (cc)
+word_byte false false false false x xs k e fails = refl
 
 -- within a word
 pub word_passes : (x : ℕ) (xs : List ℕ) → is_delimiter x ≡ false → lex in_word (x ∷ xs) ≡ lex in_word xs
@@ -106,29 +106,29 @@ word_passes x xs e =
 
 ending_byte : (q b o s : Bool) (x : ℕ) (xs : List ℕ) (k : Mode → List Lexeme) → (o || s) ≡ true → q ≡ false → b ≡ false
     → lex_byte in_word (class_by q b o s) x xs k ≡ lex_byte between (class_by q b o s) x xs k
-ending_byte true b o s x xs k e f g = absurd (cc)
-ending_byte false true o s x xs k e f g = absurd (cc)
-ending_byte false false true s x xs k e f g = refl
-ending_byte false false false true x xs k e f g = refl
-ending_byte false false false false x xs k e f g = absurd (cc)
+ending_byte true b o s x xs k e fails lacks = absurd (cc)
+ending_byte false true o s x xs k e fails lacks = absurd (cc)
+ending_byte false false true s x xs k e fails lacks = refl
+ending_byte false false false true x xs k e fails lacks = refl
+ending_byte false false false false x xs k e fails lacks = absurd (cc)
 
 -- where a word ends, what follows is read as if none had been there
 pub word_ends : (x : ℕ) (xs : List ℕ) → is_delimiter x ≡ true → x ≢ 34 → x ≢ 92
     → lex in_word (x ∷ xs) ≡ lex between (x ∷ xs)
 unfolding lex
-word_ends x xs e f g =
-    ending_byte (x == 34) (x == 92) (is_operator x) (is_space x) x xs (λ n. lex n xs) e (eqb_false x 34 f)
-    (eqb_false x 92 g)
+word_ends x xs e unlike apart =
+    ending_byte (x == 34) (x == 92) (is_operator x) (is_space x) x xs (λ n. lex n xs) e (eqb_false x 34 unlike)
+    (eqb_false x 92 apart)
 
 -- a byte of no other class
 pub other_class : (x : ℕ) → x ≢ 34 → (x == 92) ≡ false → x ≢ 123 → x ≢ 125 → x ≢ 91 → x ≢ 93 → x ≢ 58 → x ≢ 44
     → is_space x ≡ false → class x ≡ other
-other_class x a b c d e f g h s =
-    let q = eqb_false x 34 a in
-    let c1 = eqb_false x 123 c in
+other_class x a fails unlike d e apart otherwise h s =
+    let same = eqb_false x 34 a in
+    let c1 = eqb_false x 123 unlike in
     let c2 = eqb_false x 125 d in
     let c3 = eqb_false x 91 e in
-    let c4 = eqb_false x 93 f in
-    let c5 = eqb_false x 58 g in
+    let c4 = eqb_false x 93 apart in
+    let c5 = eqb_false x 58 otherwise in
     let c6 = eqb_false x 44 h in
-    rw (q, b, c1, c2, c3, c4, c5, c6, s) refl
+    rw (same, fails, c1, c2, c3, c4, c5, c6, s) refl

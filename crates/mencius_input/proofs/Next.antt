@@ -27,7 +27,7 @@ stops_whole part whole fault none (inr own) = inr (own.0, none own.1)
 
 pub stops_at : {X Y : Type 0} (result : Result X AppFault) (next : Option Y) (fault : AppFault)
     → IsErrAnd result (λ e. e ≡ fault) → StopsBy next fault → IfErr result (λ f. StopsBy next f)
-stops_at result next fault h stops = let p = err_from_is_err_and result h in rw (p.1, p.2) stops
+stops_at result next fault h stops = let failing = err_from_is_err_and result h in rw (failing.1, failing.2) stops
 
 pub errs_whole : {X Y Z : Type 0} (result : Result X AppFault) (part : Option Y) (whole : Option Z)
     → (part ≡ None → whole ≡ None) → IfErr result (λ f. StopsBy part f) → IfErr result (λ f. StopsBy whole f)
@@ -185,21 +185,21 @@ module _ (depth : ℕ) (s : List ℕ) (ts : List Token) where
 
   counted : (whole : Option ℕ) (o : Option Num) → number_of s ≡ o → Some whole ≡ option_map as_u64 o
       → (n : Num) × (next_value depth (Token.number s ∷ ts) ≡ Some (number n, ts)) × (whole ≡ as_u64 n)
-  counted whole None e w = absurd (cc)
-  counted whole (Some n) e w = (n, first (Some n) e, ap (λ o. unwrap_or o whole) w)
+  counted whole None e same = absurd (cc)
+  counted whole (Some n) e same = (n, first (Some n) e, ap (λ o. unwrap_or o whole) same)
 
   -- a number that is not too large
   pub next_counted : (whole : Option ℕ) → Some whole ≡ option_map as_u64 (number_of s)
       → (n : Num) × (next_value depth (Token.number s ∷ ts) ≡ Some (number n, ts)) × (whole ≡ as_u64 n)
-  next_counted whole w = counted whole (number_of s) refl w
+  next_counted whole same = counted whole (number_of s) refl same
 
   uncounted : (o : Option Num) → number_of s ≡ o → None ≡ option_map as_u64 o
       → next_value depth (Token.number s ∷ ts) ≡ None
-  uncounted None e w = first None e
-  uncounted (Some n) e w = absurd (cc)
+  uncounted None e same = first None e
+  uncounted (Some n) e same = absurd (cc)
 
   pub next_uncounted : None ≡ option_map as_u64 (number_of s) → next_value depth (Token.number s ∷ ts) ≡ None
-  next_uncounted w = uncounted (number_of s) refl w
+  next_uncounted same = uncounted (number_of s) refl same
 
 -- ---- the same, of the token as the code has it
 

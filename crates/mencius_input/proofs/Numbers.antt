@@ -36,11 +36,12 @@ digit_below c e = grind (arith, nat_tests)
 all_digits : (bs : List ℕ) → list_all is_ascii_digit bs ≡ true → AllDigits 10 bs
 all_digits [] e = tt
 all_digits (b ∷ bs) e =
-    let p = and_parts (is_ascii_digit b) (list_all is_ascii_digit bs) e in (digit_below b p.0, all_digits bs p.1)
+    let parts = and_parts (is_ascii_digit b) (list_all is_ascii_digit bs) e in
+    (digit_below b parts.0, all_digits bs parts.1)
 
 weaker : {E : Type 0} (r : Result ℕ E) (P Q : Type 0) (v : ℕ) → OkIff r (P × Q) v → P → OkIff r Q v
-weaker (Ok x) P Q v h p = (h.0.1, h.1)
-weaker (Err x) P Q v h p = λ q. h (p, q)
+weaker (Ok x) P Q v h holds = (h.0.1, h.1)
+weaker (Err x) P Q v h holds = λ q. h (holds, q)
 
 -- std's reader takes a number exactly when its type holds it
 pub parsed : {E : Type 0} (k : ℕ) (word : List ℕ) (r : Result ℕ E) → ParsesUnsigned k 10 word r → is_number word ≡ true

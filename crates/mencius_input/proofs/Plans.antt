@@ -160,11 +160,11 @@ all_there (Some v) (Some s) (Some o) (Some g) (Some r) (Some l) n e =
 all_found : (ms : Members) (n : Numbers) (d : Data) → numbers_of (object ms) ≡ Some n
     → get_member (codes "commands") ms ≡ Some d → AllFound plan_names (λ key. get_member key ms)
 unfolding numbers_of
-all_found ms n d e c =
+all_found ms n d e found =
     let whole = λ (key : List ℕ). whole_of key (object ms) in
     let all = all_there (whole (codes "version")) (whole (codes "servers")) (whole (codes "workers"))
     (whole (codes "seed")) (whole (codes "turns")) (whole (codes "loss")) n e in (
-      (d, c),
+      (d, found),
       (
         whole_found (codes "loss") ms all.5.0 all.5.1,
         (

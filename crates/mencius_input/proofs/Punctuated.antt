@@ -30,21 +30,21 @@ as_key after_key s ls e = absurd (cc)
 as_string : (p : Place) (s : List ℕ) (ls : List Lexeme) → may_begin p ≡ true → begins_colon ls ≡ false
     → punctuate p (token (string s) ∷ ls) ≡ string s ∷ punctuate after_value ls
 unfolding punctuate
-as_string fresh s ls e f = ap (λ b. place_token fresh (string s) b (λ n. punctuate n ls)) f
-as_string after_value s ls e f = absurd (cc)
-as_string after_comma s ls e f = ap (λ b. place_token after_comma (string s) b (λ n. punctuate n ls)) f
-as_string after_key s ls e f = absurd (cc)
+as_string fresh s ls e fails = ap (λ b. place_token fresh (string s) b (λ n. punctuate n ls)) fails
+as_string after_value s ls e fails = absurd (cc)
+as_string after_comma s ls e fails = ap (λ b. place_token after_comma (string s) b (λ n. punctuate n ls)) fails
+as_string after_key s ls e fails = absurd (cc)
 
 pub as_word : (p : Place) (t : Token) (ls : List Lexeme) → may_begin p ≡ true → is_word t ≡ true
     → punctuate p (token t ∷ ls) ≡ t ∷ punctuate after_value ls
 unfolding punctuate
-as_word fresh (number s) ls e f = refl
-as_word fresh (boolean b) ls e f = refl
-as_word fresh null ls e f = refl
-as_word after_comma (number s) ls e f = refl
-as_word after_comma (boolean b) ls e f = refl
-as_word after_comma null ls e f = refl
-as_word p t ls e f = absurd (cc)
+as_word fresh (number s) ls e holds = refl
+as_word fresh (boolean b) ls e holds = refl
+as_word fresh null ls e holds = refl
+as_word after_comma (number s) ls e holds = refl
+as_word after_comma (boolean b) ls e holds = refl
+as_word after_comma null ls e holds = refl
+as_word p t ls e holds = absurd (cc)
 
 -- ---- a colon
 
@@ -63,19 +63,19 @@ no_colon_operator false false false false false false ls h none = absurd (cc)
 no_colon_byte : (q b o s : Bool) (x : ℕ) (xs : List ℕ) (k : Mode → List Lexeme) → s ≡ false
     → (o ≡ true → begins_colon (operator_lexeme x ∷ k between) ≡ false)
     → begins_colon (lex_byte between (class_by q b o s) x xs k) ≡ false
-no_colon_byte true b o s x xs k e f = refl
-no_colon_byte false true o s x xs k e f = refl
-no_colon_byte false false true s x xs k e f = f refl
-no_colon_byte false false false true x xs k e f = absurd (cc)
-no_colon_byte false false false false x xs k e f = refl
+no_colon_byte true b o s x xs k e each = refl
+no_colon_byte false true o s x xs k e each = refl
+no_colon_byte false false true s x xs k e each = each refl
+no_colon_byte false false false true x xs k e each = absurd (cc)
+no_colon_byte false false false false x xs k e each = refl
 
 no_colon : (t : List ℕ) → is_space (first t) ≡ false → first t ≢ 58 → begins_colon (lex between t) ≡ false
 unfolding lex
-no_colon [] e f = refl
-no_colon (x ∷ xs) e f =
+no_colon [] e unlike = refl
+no_colon (x ∷ xs) e unlike =
     no_colon_byte (x == 34) (x == 92) (is_operator x) (is_space x) x xs (λ n. lex n xs) e
     (λ o. no_colon_operator (x == 123) (x == 125) (x == 91) (x == 93) (x == 58) (x == 44) (lex between xs) o
-    (eqb_false x 58 f))
+    (eqb_false x 58 unlike))
 
 -- ---- a string and a key
 
@@ -95,22 +95,22 @@ no_string p xs e =
 -- a string s was read up to what `rest` is read as
 string_read : (xs s rest : List ℕ) → content plain xs ≡ Some s → lex in_string xs ≡ lex between rest
     → lex between (34 ∷ xs) ≡ token (string s) ∷ lex between rest
-string_read xs s rest e f =
-    at_quote xs ∙ ap (λ o. token (string_token o) ∷ lex in_string xs) e ∙ ap (λ ls. token (string s) ∷ ls) f
+string_read xs s rest e same =
+    at_quote xs ∙ ap (λ o. token (string_token o) ∷ lex in_string xs) e ∙ ap (λ ls. token (string s) ∷ ls) same
 
 pub key_read : (p : Place) (xs s rest behind : List ℕ) → may_begin p ≡ true → content plain xs ≡ Some s
     → lex in_string xs ≡ lex between rest → rest ≡ 58 ∷ behind
     → punctuate p (lex between (34 ∷ xs)) ≡ key s ∷ punctuate fresh (lex between behind)
-key_read p xs s rest behind may e f is =
+key_read p xs s rest behind may e same is =
     ap (punctuate p)
-    (string_read xs s rest e f ∙ ap (λ ls. token (string s) ∷ ls) (ap (lex between) is ∙ at_colon behind))
+    (string_read xs s rest e same ∙ ap (λ ls. token (string s) ∷ ls) (ap (lex between) is ∙ at_colon behind))
     ∙ as_key p s (lex between behind) may
 
 pub text_read : (p : Place) (xs s rest : List ℕ) → may_begin p ≡ true → content plain xs ≡ Some s
     → lex in_string xs ≡ lex between rest → is_space (first rest) ≡ false → first rest ≢ 58
     → punctuate p (lex between (34 ∷ xs)) ≡ string s ∷ punctuate after_value (lex between rest)
-text_read p xs s rest may e f solid none =
-    ap (punctuate p) (string_read xs s rest e f) ∙ as_string p s (lex between rest) may (no_colon rest solid none)
+text_read p xs s rest may e same solid none =
+    ap (punctuate p) (string_read xs s rest e same) ∙ as_string p s (lex between rest) may (no_colon rest solid none)
 
 -- ---- brackets, commas and colons
 
@@ -133,12 +133,12 @@ opens_array after_key xs e = absurd (cc)
 pub stray : (p : Place) (c : ℕ) (xs : List ℕ) → may_begin p ≡ true → (c ≡ 44) ⊎ (c ≡ 58)
     → punctuate p (lex between (c ∷ xs)) ≡ bad ∷ []
 unfolding lex punctuate
-stray fresh c xs e (inl f) = ap (λ (b : ℕ). punctuate fresh (lex between (b ∷ xs))) f
-stray fresh c xs e (inr f) = ap (λ (b : ℕ). punctuate fresh (lex between (b ∷ xs))) f
-stray after_value c xs e f = absurd (cc)
-stray after_comma c xs e (inl f) = ap (λ (b : ℕ). punctuate after_comma (lex between (b ∷ xs))) f
-stray after_comma c xs e (inr f) = ap (λ (b : ℕ). punctuate after_comma (lex between (b ∷ xs))) f
-stray after_key c xs e f = absurd (cc)
+stray fresh c xs e (inl left) = ap (λ (b : ℕ). punctuate fresh (lex between (b ∷ xs))) left
+stray fresh c xs e (inr right) = ap (λ (b : ℕ). punctuate fresh (lex between (b ∷ xs))) right
+stray after_value c xs e either = absurd (cc)
+stray after_comma c xs e (inl left) = ap (λ (b : ℕ). punctuate after_comma (lex between (b ∷ xs))) left
+stray after_comma c xs e (inr right) = ap (λ (b : ℕ). punctuate after_comma (lex between (b ∷ xs))) right
+stray after_key c xs e either = absurd (cc)
 
 pub comma_passed : (xs : List ℕ) → tokens_at AfterValue (44 ∷ xs) ≡ tokens_at AfterComma xs
 unfolding lex punctuate
@@ -165,11 +165,11 @@ closes_object Failed xs e = absurd (cc)
 pub not_closed : (p : At) (c : ℕ) (xs : List ℕ) → at.may_close p ≡ false → (c ≡ 93) ⊎ (c ≡ 125)
     → tokens_at p (c ∷ xs) ≡ refused_at p
 unfolding lex punctuate
-not_closed Fresh c xs e f = absurd (cc)
-not_closed AfterValue c xs e f = absurd (cc)
-not_closed AfterComma c xs e (inl f) = ap (λ (b : ℕ). tokens_at AfterComma (b ∷ xs)) f
-not_closed AfterComma c xs e (inr f) = ap (λ (b : ℕ). tokens_at AfterComma (b ∷ xs)) f
-not_closed Failed c xs e f = refl
+not_closed Fresh c xs e either = absurd (cc)
+not_closed AfterValue c xs e either = absurd (cc)
+not_closed AfterComma c xs e (inl left) = ap (λ (b : ℕ). tokens_at AfterComma (b ∷ xs)) left
+not_closed AfterComma c xs e (inr right) = ap (λ (b : ℕ). tokens_at AfterComma (b ∷ xs)) right
+not_closed Failed c xs e either = refl
 
 -- ---- the end of the text
 

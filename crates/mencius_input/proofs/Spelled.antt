@@ -15,18 +15,18 @@ use Rattle.mencius_input.proofs.Lexing.{eqb_false, is_one_blank, not_true}
 
 pub is_one_delimiter : (P : ℕ → Type 0) → P 123 → P 125 → P 91 → P 93 → P 58 → P 44 → P 32 → P 9 → P 10 → P 13
     → (c : ℕ) → is_delimiter c ≡ true → P c
-is_one_delimiter P a b d e f g r s t u c h = elim (or_cases (is_operator c) (is_space c) h) [
-  | inr blank ↦ is_one_blank P r s t u c blank
+is_one_delimiter P a holds d e also further r s besides beyond c h = elim (or_cases (is_operator c) (is_space c) h) [
+  | inr blank ↦ is_one_blank P r s besides beyond c blank
   | inl o6 ↦ elim (or_cases _ _ o6) [
-    | inr is ↦ subst P (sym (eqb-true c 44 is)) g
+    | inr is ↦ subst P (sym (eqb-true c 44 is)) further
     | inl o5 ↦ elim (or_cases _ _ o5) [
-      | inr is ↦ subst P (sym (eqb-true c 58 is)) f
+      | inr is ↦ subst P (sym (eqb-true c 58 is)) also
       | inl o4 ↦ elim (or_cases _ _ o4) [
         | inr is ↦ subst P (sym (eqb-true c 93 is)) e
         | inl o3 ↦ elim (or_cases _ _ o3) [
           | inr is ↦ subst P (sym (eqb-true c 91 is)) d
           | inl o2 ↦ elim (or_cases _ _ o2) [
-            | inr is ↦ subst P (sym (eqb-true c 125 is)) b
+            | inr is ↦ subst P (sym (eqb-true c 125 is)) holds
             | inl is ↦ subst P (sym (eqb-true c 123 is)) a
           ]
         ]
@@ -46,12 +46,12 @@ spelled-drop (x ∷ xs) (suc i) h = spelled-drop xs i (and_parts _ _ h).1
 -- ---- the first byte, where something follows that ends a word
 
 unlike : (x c : ℕ) → is_delimiter x ≡ true → is_delimiter c ≡ false → (x == c) ≡ false
-unlike x c e f = eqb_false x c (λ is. (let same : is_delimiter x ≡ is_delimiter c = ap is_delimiter is in cc))
+unlike x c e fails = eqb_false x c (λ is. (let same : is_delimiter x ≡ is_delimiter c = ap is_delimiter is in cc))
 
 pub same_head : (w rest : List ℕ) (c : ℕ) → ends_word rest ≡ true → is_delimiter c ≡ false
     → (head (w ++ rest) == c) ≡ (head w == c)
-same_head [] rest c e f = unlike (head rest) c e f ∙ sym (unlike 32 c refl f)
-same_head (x ∷ xs) rest c e f = refl
+same_head [] rest c e fails = unlike (head rest) c e fails ∙ sym (unlike 32 c refl fails)
+same_head (x ∷ xs) rest c e fails = refl
 
 -- ---- parts of a number
 
@@ -62,8 +62,8 @@ Same (Some l) long rest = (long ≡ Some (l ++ rest)) × (is_spelled l ≡ true)
 
 same_cond : (b : Bool) (o u : Option (List ℕ)) (long more : Option (List ℕ)) (rest : List ℕ) → Same o long rest
     → Same u more rest → Same (cond b o u) (cond b long more) rest
-same_cond true o u long more rest h k = h
-same_cond false o u long more rest h k = k
+same_cond true o u long more rest h same = h
+same_cond false o u long more rest h same = same
 
 same_then : (f : List ℕ → Option (List ℕ)) (rest : List ℕ)
     → ((l : List ℕ) → is_spelled l ≡ true → Same (f l) (f (l ++ rest)) rest) → (o long : Option (List ℕ))
@@ -111,9 +111,9 @@ module _ (rest : List ℕ) (ends : ends_word rest ≡ true) where
       ap₂-or (head rest == 45) (head rest == 43) (unlike (head rest) 45 ends refl) (unlike (head rest) 43 ends refl)
     where
       ap₂-or : (a b : Bool) → a ≡ false → b ≡ false → cond (a || b) (drop 1 rest) rest ≡ rest
-      ap₂-or true b e f = absurd (cc)
-      ap₂-or false true e f = absurd (cc)
-      ap₂-or false false e f = refl
+      ap₂-or true b e fails = absurd (cc)
+      ap₂-or false true e fails = absurd (cc)
+      ap₂-or false false e fails = refl
   sign (x ∷ xs) = appended ((x == 45) || (x == 43)) xs (x ∷ xs)
     where
       appended : (b : Bool) (u v : List ℕ) → cond b (u ++ rest) (v ++ rest) ≡ cond b u v ++ rest
@@ -155,9 +155,9 @@ module _ (rest : List ℕ) (ends : ends_word rest ≡ true) where
     where
       none : (a b : Bool) → a ≡ false → b ≡ false
           → Same (Some []) (cond (a || b) (after_digits (after_sign (drop 1 rest))) (Some rest)) rest
-      none true b e f = absurd (cc)
-      none false true e f = absurd (cc)
-      none false false e f = (refl, refl)
+      none true b e fails = absurd (cc)
+      none false true e fails = absurd (cc)
+      none false false e fails = (refl, refl)
   exponent (x ∷ xs) h =
       same_cond ((x == 101) || (x == 69)) (after_digits (after_sign xs)) (Some (x ∷ xs))
       (after_digits (after_sign (xs ++ rest))) (Some (x ∷ xs ++ rest)) rest (power xs (and_parts _ _ h).1) (refl, h)

@@ -27,15 +27,15 @@ prepend-prepend x s (Some r) = refl
 
 third : {A : Type 0} (a b c : Bool) (w x y z : A) → a ≡ false → b ≡ false → c ≡ false
     → cond a w (cond b x (cond c y z)) ≡ z
-third true b c w x y z e f g = absurd (cc)
-third false true c w x y z e f g = absurd (cc)
-third false false true w x y z e f g = absurd (cc)
-third false false false w x y z e f g = refl
+third true b c w x y z e fails lacks = absurd (cc)
+third false true c w x y z e fails lacks = absurd (cc)
+third false false true w x y z e fails lacks = absurd (cc)
+third false false false w x y z e fails lacks = refl
 
 one_passed : (x : ℕ) (xs : List ℕ) → (x == 34) ≡ false → (x == 92) ≡ false → nat_lt x 32 ≡ false
     → content plain (x ∷ xs) ≡ prepend (x ∷ []) (content plain xs)
 unfolding content
-one_passed x xs e f g = third (x == 34) (x == 92) (nat_lt x 32) _ _ _ _ e f g
+one_passed x xs e fails lacks = third (x == 34) (x == 92) (nat_lt x 32) _ _ _ _ e fails lacks
 
 passed : (xs : List ℕ) (i : ℕ) → i ≤ length xs → ((k : ℕ) → k < i → is_stop (get_or xs k 0) ≡ false)
     → is_plain xs ≡ true → Passed xs i

@@ -29,8 +29,8 @@ no_quote c h = (
 )
 
 both : (a b : Bool) → a ≡ true → b ≡ true → (a && b) ≡ true
-both true b e f = f
-both false b e f = absurd (cc)
+both true b e holds = holds
+both false b e holds = absurd (cc)
 
 pub parted : (t : List ℕ) → Parted t (position_or_len is_delimiter t)
 unfolding lex
@@ -56,12 +56,12 @@ parted (x ∷ xs) = by_test (is_delimiter x) refl (position_or_len is_delimiter 
 
 -- a text may be cut where a word ends
 pub cut_there : (t : List ℕ) (n : ℕ) → Parted t n → IsCharBoundary t n
-cut_there t n p = elim (cases_lt n (length t)) [
+cut_there t n parted = elim (cases_lt n (length t)) [
   | inl less ↦
-      let is : is_delimiter (get_or t n 0) ≡ true = ap ends_word (sym (drop_more t n 0 less)) ∙ p.ends in
+      let is : is_delimiter (get_or t n 0) ≡ true = ap ends_word (sym (drop_more t n 0 less)) ∙ parted.ends in
       IsCharBoundary-before_ascii t n less (low (get_or t n 0) is)
   | inr past ↦
-      let le = p.within in
+      let le = parted.within in
       let last : length t ≡ n = omega arith in
       subst (IsCharBoundary t) last (IsCharBoundary-end t)
 ]
@@ -109,27 +109,27 @@ no_word_read p t e some is =
 
 same_word : (name w rest : List ℕ) → is_spelled name ≡ true → is_spelled w ≡ true → ends_word rest ≡ true
     → (starts_with nat_eq (w ++ rest) name && ends_word (drop (length name) (w ++ rest))) ≡ true → w ≡ name
-same_word [] [] rest h k ends is = refl
-same_word [] (x ∷ xs) rest h k ends is =
-    let no = and_parts (not (is_delimiter x)) (is_spelled xs) k in
+same_word [] [] rest h holds ends is = refl
+same_word [] (x ∷ xs) rest h agrees ends is =
+    let no = and_parts (not (is_delimiter x)) (is_spelled xs) agrees in
     absurd (clash (is_delimiter x) no.0 is)
   where
     clash : (b : Bool) → not b ≡ true → (true && b) ≡ true → ⊥
-    clash true e f = cc
-    clash false e f = cc
-same_word (n ∷ ns) [] [] h k ends is = absurd (cc)
-same_word (n ∷ ns) [] (y ∷ ys) h k ends is =
+    clash true e holds = cc
+    clash false e holds = cc
+same_word (n ∷ ns) [] [] h holds ends is = absurd (cc)
+same_word (n ∷ ns) [] (y ∷ ys) h agrees ends is =
     let first_same = and_parts _ _ (and_parts _ _ is).0 in
     let spelled = and_parts (not (is_delimiter n)) (is_spelled ns) h in
     absurd (clash (is_delimiter n) spelled.0 (ap is_delimiter (eqb-true n y first_same.0) ∙ ends))
   where
     clash : (b : Bool) → not b ≡ true → b ≡ true → ⊥
-    clash true e f = cc
-    clash false e f = cc
-same_word (n ∷ ns) (x ∷ xs) rest h k ends is =
+    clash true e holds = cc
+    clash false e holds = cc
+same_word (n ∷ ns) (x ∷ xs) rest h holds ends is =
     let outer = and_parts _ _ is in
     let inner = and_parts _ _ outer.0 in
-    let more = same_word ns xs rest (and_parts _ _ h).1 (and_parts _ _ k).1 ends (both _ _ inner.1 outer.1) in
+    let more = same_word ns xs rest (and_parts _ _ h).1 (and_parts _ _ holds).1 ends (both _ _ inner.1 outer.1) in
     ap (λ (b : ℕ). b ∷ xs) (sym (eqb-true n x inner.0)) ∙ ap (λ (l : List ℕ). n ∷ l) more
 
 no_literal : (name w rest : List ℕ) (k : Token) → is_spelled name ≡ true → is_spelled w ≡ true → ends_word rest ≡ true
@@ -156,14 +156,14 @@ null_word rest ends = ap (λ b. cond b null bad) ends
 -- ---- numbers, and what is no word
 
 no_letter : (x c : ℕ) (xs : List ℕ) → after_number (x ∷ xs) ≡ Some [] → after_number (c ∷ xs) ≡ None → (x == c) ≡ false
-no_letter x c xs e f = eqb_false x c (λ is. (let same = ap (λ (b : ℕ). after_number (b ∷ xs)) is in cc))
+no_letter x c xs e none = eqb_false x c (λ is. (let same = ap (λ (b : ℕ). after_number (b ∷ xs)) is in cc))
 
 fourth : {A : Type 0} (a b c : Bool) (w x y z : A) → a ≡ false → b ≡ false → c ≡ false
     → cond a w (cond b x (cond c y z)) ≡ z
-fourth true b c w x y z e f g = absurd (cc)
-fourth false true c w x y z e f g = absurd (cc)
-fourth false false true w x y z e f g = absurd (cc)
-fourth false false false w x y z e f g = refl
+fourth true b c w x y z e fails lacks = absurd (cc)
+fourth false true c w x y z e fails lacks = absurd (cc)
+fourth false false true w x y z e fails lacks = absurd (cc)
+fourth false false false w x y z e fails lacks = refl
 
 pub numbered : (w rest : List ℕ) → is_spelled w ≡ true → ends_word rest ≡ true → after_number w ≡ Some []
     → word (w ++ rest) ≡ number w
@@ -176,16 +176,16 @@ numbered (x ∷ xs) rest h ends e =
 
 all_bad : (a b c : Bool) (w x y z : Token) → w ≡ bad → x ≡ bad → y ≡ bad → z ≡ bad
     → cond a w (cond b x (cond c y z)) ≡ bad
-all_bad true b c w x y z e f g h = e
-all_bad false true c w x y z e f g h = f
-all_bad false false true w x y z e f g h = g
-all_bad false false false w x y z e f g h = h
+all_bad true b c w x y z e same equal h = e
+all_bad false true c w x y z e same equal h = same
+all_bad false false true w x y z e same equal h = equal
+all_bad false false false w x y z e same equal h = h
 
 pub no_word : (w rest : List ℕ) → is_spelled w ≡ true → ends_word rest ≡ true → (w ≡ true_text → ⊥)
     → (w ≡ false_text → ⊥) → (w ≡ null_text → ⊥) → (after_number w ≡ Some [] → ⊥) → word (w ++ rest) ≡ bad
 unfolding word
-no_word w rest h ends t f n lacks =
+no_word w rest h ends unlike apart n lacks =
     all_bad (head (w ++ rest) == 116) (head (w ++ rest) == 102) (head (w ++ rest) == 110) _ _ _ _
-    (no_literal true_text w rest (boolean true) refl h ends t)
-    (no_literal false_text w rest (boolean false) refl h ends f) (no_literal null_text w rest null refl h ends n)
+    (no_literal true_text w rest (boolean true) refl h ends unlike)
+    (no_literal false_text w rest (boolean false) refl h ends apart) (no_literal null_text w rest null refl h ends n)
     (no_number rest ends w h lacks)

@@ -15,7 +15,7 @@ use Rattle.mencius_model.proofs.Lists.{IsIn, in_append, in_append_left, in_appen
 
 pub greatest_ge : (f : Line → ℕ) (l : Line) (w : Trace) → IsIn l w → f l ≤ greatest f w
 greatest_ge f l [] h = absurd h
-greatest_ge f l (k ∷ w) (inl e) = let q = ap f e in omega (arith, q)
+greatest_ge f l (k ∷ w) (inl e) = let so = ap f e in omega (arith, so)
 greatest_ge f l (k ∷ w) (inr h) = omega (arith, greatest_ge f l w h)
 
 pub earlier_cases : {A : Type 0} (x y : Option A) (a : A) → earlier x y ≡ Some a → (x ≡ Some a) ⊎ (y ≡ Some a)
@@ -93,13 +93,13 @@ both_eq a b c d h = let r = and_parts (eqb a b) (eqb c d) h in (eqb-true a b r.0
 pub promise_within : (w : Trace) (q to i b : ℕ) (o : Option Vote) → IsIn (Sent (Promise q to i b o)) w
     → b ≤ promised w q i
 promise_within w q to i b o h =
-    let g = greatest_ge (promised_by q i) (Sent (Promise q to i b o)) w h in
-    rw (same_two q i) at g
+    let greatest = greatest_ge (promised_by q i) (Sent (Promise q to i b o)) w h in
+    rw (same_two q i) at greatest
 
 pub acceptance_within : (w : Trace) (q to i b : ℕ) → IsIn (Sent (Accepted q to i b)) w → b ≤ promised w q i
 acceptance_within w q to i b h =
-    let g = greatest_ge (promised_by q i) (Sent (Accepted q to i b)) w h in
-    rw (same_two q i) at g
+    let greatest = greatest_ge (promised_by q i) (Sent (Accepted q to i b)) w h in
+    rw (same_two q i) at greatest
 
 pub promised_more : (l : Line) (w : Trace) (q i b : ℕ) → b ≤ promised w q i → b ≤ promised (l ∷ w) q i
 promised_more l w q i b h = omega arith
@@ -138,8 +138,8 @@ accepted_above (l ∷ w) q to i b (inl e) =
     (r.0, rw (← e, same_two q i) r.1, r.2)
 accepted_above (l ∷ w) q to i b (inr h) =
     let r = accepted_above w q to i b h in
-    let g = greater_left r.0 (accepted_by q i l) in
-    (g.0, rw r.1 g.1, omega (arith, r.2, g.2))
+    let greatest = greater_left r.0 (accepted_by q i l) in
+    (greatest.0, rw r.1 greatest.1, omega (arith, r.2, greatest.2))
 
 accepted_line : (q i b : ℕ) (l : Line) → accepted_by q i l ≡ Some b → (to : ℕ) × (Sent (Accepted q to i b) ≡ l)
 accepted_line q i b (Sent (Accepted from to inst ballot)) h =
@@ -234,7 +234,7 @@ pub acceptance_message : (i b q : ℕ) (x : Message) → is_acceptance i b q x �
 acceptance_message i b q (Accepted from to inst ballot) h =
     let r = and_parts (eqb inst i && eqb ballot b) (eqb from q) h in
     let e = both_eq inst i ballot b r.0 in
-    let f = eqb-true from q r.1 in
+    let same = eqb-true from q r.1 in
     (to, cc)
 acceptance_message i b q _ h = absurd (cc)
 

@@ -20,8 +20,8 @@ pub record IsTold (m : Membership) (w : Trace) : Type 0 where
 -- both hold of every reached trace
 pub told : (m : Membership) (w : Trace) → IsReached m w → IsTold m w
 told m w reached =
-    let g = reached_grown m w reached in
+    let grown = reached_grown m w reached in
     record {
-      executed = executed_learned m w g;
-      ticketed = λ p i t h. decided_submitted m w g i t (learned_decided m w g p i (Ticket t) h);
+      executed = executed_learned m w grown;
+      ticketed = λ p i t h. decided_submitted m w grown i t (learned_decided m w grown p i (Ticket t) h);
     }

@@ -50,11 +50,11 @@ skipped_more m l w i h =
 -- a later line leaves what is decided
 pub decided_more : (m : Membership) (l : Line) (w : Trace) (i : ℕ) (z : Value) → IsDecided m w i z
     → IsDecided m (l ∷ w) i z
-decided_more m l w i z (inl c) =
+decided_more m l w i z (inl left) =
     inl (
-      c.0,
-      proposed_more l w i c.0 z c.1,
-      majority_more m (has_accepted w i c.0) (has_accepted (l ∷ w) i c.0) (acceptance_more l w i c.0) c.2,
+      left.0,
+      proposed_more l w i left.0 z left.1,
+      majority_more m (has_accepted w i left.0) (has_accepted (l ∷ w) i left.0) (acceptance_more l w i left.0) left.2,
     )
 decided_more m l w i z (inr s) = inr (skipped_more m l w i s.0, s.1)
 
@@ -67,29 +67,29 @@ decided_past m (l ∷ ls) w i z h = decided_more m l (ls ++ w) i z (decided_past
 -- where a Skip covers i, every proposal at i is no-op
 pub skipped_noop : (m : Membership) (w : Trace) → 1 ≤ m.count → IsGrown m w → (i b : ℕ) (x : Value)
     → IsSkipped m w i → proposed w i b ≡ Some x → x ≡ Noop
-skipped_noop m w few g i b x h e =
-    elim (origin m w g i b x e) [
+skipped_noop m w few grown i b x h e =
+    elim (origin m w grown i b x e) [
       | inl n ↦ n
       | inr s ↦
           let r = start_in w i x s in
-          let k = skip_of m w i h in
-          absurd (skip_free m w few g (owner m i) k.first k.stop r.0 i r.1 refl k.from k.to k.skip r.2)
+          let so = skip_of m w i h in
+          absurd (skip_free m w few grown (owner m i) so.first so.stop r.0 i r.1 refl so.from so.to so.skip r.2)
     ]
 
 -- decided values agree, in one trace
 pub agreement : (m : Membership) (w : Trace) → 1 ≤ m.count → IsGrown m w → (i : ℕ) (z x : Value)
     → IsDecided m w i z → IsDecided m w i x → z ≡ x
-agreement m w few g i z x (inl c) (inl d) =
-    elim (cases_order c.0 d.0) [
-      | inl e ↦ let one = c.1 in let other = rw (← e) at d.1 in cc
+agreement m w few grown i z x (inl left) (inl d) =
+    elim (cases_order left.0 d.0) [
+      | inl e ↦ let one = left.1 in let other = rw (← e) at d.1 in cc
       | inr o ↦ elim o [
-        | inl lt ↦ sym (chosen_above m w g i c.0 z c.1 c.2 d.0 x lt d.1)
-        | inr gt ↦ chosen_above m w g i d.0 x d.1 d.2 c.0 z gt c.1
+        | inl lt ↦ sym (chosen_above m w grown i left.0 z left.1 left.2 d.0 x lt d.1)
+        | inr gt ↦ chosen_above m w grown i d.0 x d.1 d.2 left.0 z gt left.1
       ]
     ]
-agreement m w few g i z x (inl c) (inr s) = skipped_noop m w few g i c.0 z s.0 c.1 ∙ sym s.1
-agreement m w few g i z x (inr s) (inl c) = s.1 ∙ sym (skipped_noop m w few g i c.0 x s.0 c.1)
-agreement m w few g i z x (inr s) (inr r) = s.1 ∙ sym r.1
+agreement m w few grown i z x (inl left) (inr s) = skipped_noop m w few grown i left.0 z s.0 left.1 ∙ sym s.1
+agreement m w few grown i z x (inr s) (inl left) = s.1 ∙ sym (skipped_noop m w few grown i left.0 x s.0 left.1)
+agreement m w few grown i z x (inr s) (inr r) = s.1 ∙ sym r.1
 
 -- what was learned, and what a Learn message tells, is decided
 pub record AreDecided (m : Membership) (w : Trace) : Type 0 where
@@ -97,21 +97,21 @@ pub record AreDecided (m : Membership) (w : Trace) : Type 0 where
   pub messages : (p : ServerId) (i : Inst) (z : Value) → IsIn (Sent (Learn p i z)) w → IsDecided m w i z
 
 pub all_decided : (m : Membership) (w : Trace) → IsGrown m w → AreDecided m w
-all_decided m [] g = record { lines = λ p i v h. absurd h; messages = λ p i v h. absurd h }
-all_decided m (l ∷ w) g =
-    let before = all_decided m w g.0 in
+all_decided m [] grown = record { lines = λ p i v h. absurd h; messages = λ p i v h. absurd h }
+all_decided m (l ∷ w) grown =
+    let before = all_decided m w grown.0 in
     record {
       lines =
           λ p i v h. elim h [
             | inl e ↦
-                let may : MayLearn m w i v = rw (← e) at g.1 in
+                let may : MayLearn m w i v = rw (← e) at grown.1 in
                 decided_more m l w i v (elim may [ inl d ↦ d | inr there ↦ before.messages there.0 i v there.1 ])
             | inr there ↦ decided_more m l w i v (before.lines p i v there)
           ];
       messages =
           λ p i v h. elim h [
             | inl e ↦
-                let may : IsIn (Learned p i v) w = rw (← e) at g.1 in
+                let may : IsIn (Learned p i v) w = rw (← e) at grown.1 in
                 decided_more m l w i v (before.lines p i v may)
             | inr there ↦ decided_more m l w i v (before.messages p i v there)
           ];
@@ -120,4 +120,4 @@ all_decided m (l ∷ w) g =
 -- every learned value is decided
 pub learned_decided : (m : Membership) (w : Trace) → IsGrown m w → (p i : ℕ) (z : Value) → learned w p i ≡ Some z
     → IsDecided m w i z
-learned_decided m w g p i z h = (all_decided m w g).lines p i z (learned_in w p i z h)
+learned_decided m w grown p i z h = (all_decided m w grown).lines p i z (learned_in w p i z h)

@@ -34,8 +34,8 @@ AllMay m w (l ∷ ls) = May m w l × AllMay m (l ∷ w) ls
 
 grown_followed : (m : Membership) (w : Trace) (ls : List Line) → IsGrown m w → AllMay m w ls
     → IsGrown m (followed_by w ls)
-grown_followed m w [] g a = g
-grown_followed m w (l ∷ ls) g a = grown_followed m (l ∷ w) ls (g, a.0) a.1
+grown_followed m w [] grown a = grown
+grown_followed m w (l ∷ ls) grown a = grown_followed m (l ∷ w) ls (grown, a.0) a.1
 
 -- ---- Submit and Retry
 
@@ -55,8 +55,8 @@ free_ahead m w p i h =
 
 suggestion_may : (m : Membership) (w : Trace) (p : ℕ) (o : Option ℕ) (t : ℕ)
     → ((i : ℕ) → o ≡ Some i → MaySuggest m w p i t) → AllMay m w (suggestion p o t)
-suggestion_may m w p None t f = tt
-suggestion_may m w p (Some i) t f = (f i refl, tt)
+suggestion_may m w p None t each = tt
+suggestion_may m w p (Some i) t each = (each i refl, tt)
 
 submit_may : (m : Membership) (w : Trace) (p : ℕ) (command : Command)
     → AllMay m (Submitted command p ∷ w) (suggestion p (free_instance m w p) (length (submitted w)))
@@ -112,9 +112,9 @@ waiting_lost m w p t h =
 
 retry_may : (m : Membership) (w : Trace) (p : ℕ) (o : Option ℕ)
     → ((t : ℕ) → o ≡ Some t → (i : ℕ) × HasLost w p t i) → AllMay m (Retried p ∷ w) (again m w p o)
-retry_may m w p None f = tt
-retry_may m w p (Some t) f =
-    let r = f t refl in
+retry_may m w p None each = tt
+retry_may m w p (Some t) each =
+    let r = each t refl in
     suggestion_may m (Retried p ∷ w) p (free_instance m w p) t
     (λ i e.
     let a = free_ahead m w p i e in
@@ -156,7 +156,7 @@ suspect_may m w v p q (i ∷ xs) lt ne =
       suspect_other i e mine =
           let r = and_parts (eqb (owner m i) q && leb i (front m w p)) (is_none (learned w p i)) e in
           let s = eqb-true (owner m i) q (and_parts (eqb (owner m i) q) (leb i (front m w p)) r.0).0 in
-          let t : eqb p q ≡ true = eq-eqb p q (sym mine ∙ s) in
+          let holds : eqb p q ≡ true = eq-eqb p q (sym mine ∙ s) in
           absurd (cc)
 
 -- ---- Deliver
@@ -185,7 +185,7 @@ suggest_proposed w p i t h =
       | inl r ↦ r
       | inr e ↦
           let n = oldest_none (proposed_by i 0) (Sent (Suggest p i t)) w e h in
-          let k = rw (same i) at n in absurd (cc)
+          let turned = rw (same i) at n in absurd (cc)
     ]
 
 pub propose_proposed : (w : Trace) (p i b : ℕ) (x : Value) → 0 < b → IsIn (Sent (Propose p i b x)) w
@@ -195,25 +195,25 @@ propose_proposed w p i b x pos h =
       | inl r ↦ r
       | inr e ↦
           let n = oldest_none (proposed_by i b) (Sent (Propose p i b x)) w e h in
-          let k = rw (same_two i b, lt-ltb 0 b pos) at n in absurd (cc)
+          let turned = rw (same_two i b, lt-ltb 0 b pos) at n in absurd (cc)
     ]
 
 promise_positive : (m : Membership) (w : Trace) → IsGrown m w → (q to i b : ℕ) (o : Option Vote)
     → IsIn (Sent (Promise q to i b o)) w → 0 < b
-promise_positive m [] g q to i b o h = absurd h
-promise_positive m (l ∷ w) g q to i b o (inl e) =
-    let may : MayPromise w q to i b o = rw (← e) at g.1 in omega (arith, may.above)
-promise_positive m (l ∷ w) g q to i b o (inr h) = promise_positive m w g.0 q to i b o h
+promise_positive m [] grown q to i b o h = absurd h
+promise_positive m (l ∷ w) grown q to i b o (inl e) =
+    let may : MayPromise w q to i b o = rw (← e) at grown.1 in omega (arith, may.above)
+promise_positive m (l ∷ w) grown q to i b o (inr h) = promise_positive m w grown.0 q to i b o h
 
 pub propose_positive : (m : Membership) (w : Trace) → IsGrown m w → (p i b : ℕ) (z : Value)
     → IsIn (Sent (Propose p i b z)) w → 0 < b
-propose_positive m [] g p i b z h = absurd h
-propose_positive m (l ∷ w) g p i b z (inl e) =
-    let may : MayPropose m w p i b z = rw (← e) at g.1 in
+propose_positive m [] grown p i b z h = absurd h
+propose_positive m (l ∷ w) grown p i b z (inl e) =
+    let may : MayPropose m w p i b z = rw (← e) at grown.1 in
     let one = majorities_meet m may.among may.among may.majority may.majority in
     let r = may.promised one.0 one.1 in
-    promise_positive m w g.0 one.0 r.to i b r.vote r.promise
-propose_positive m (l ∷ w) g p i b z (inr h) = propose_positive m w g.0 p i b z h
+    promise_positive m w grown.0 one.0 r.to i b r.vote r.promise
+propose_positive m (l ∷ w) grown p i b z (inr h) = propose_positive m w grown.0 p i b z h
 
 vote_heard : (w : Trace) (k q p i : ℕ) → vote (Heard k q ∷ w) p i ≡ vote w p i
 vote_heard w k q p i = go (accepted w p i) where
@@ -226,8 +226,8 @@ module _ (m : Membership) (w : Trace) (g : IsGrown m w) (k p : ℕ) where
       → AllMay m (Heard k p ∷ w)
       ((if a then Sent (Skip p (front m w p) (first_owned m p (i + 1))) ∷ [] else [])
       ++ (if d then Sent (Accepted p q i 0) ∷ [] else []))
-  suggest_lines q i t h true true f =
-      let z = f refl in
+  suggest_lines q i t h true true each =
+      let z = each refl in
       let r = suggest_proposed w q i t h in
       let v = Heard k p ∷ w in
       let l = Sent (Skip p (front m w p) (first_owned m p (i + 1))) in (
@@ -242,9 +242,9 @@ module _ (m : Membership) (w : Trace) (g : IsGrown m w) (k p : ℕ) where
           tt,
         ),
       )
-  suggest_lines q i t h true false f = (omega arith, tt)
-  suggest_lines q i t h false true f =
-      let z = f refl in
+  suggest_lines q i t h true false each = (omega arith, tt)
+  suggest_lines q i t h false true each =
+      let z = each refl in
       let r = suggest_proposed w q i t h in (
         record {
           asked = inl (refl, (t, inr h));
@@ -254,7 +254,7 @@ module _ (m : Membership) (w : Trace) (g : IsGrown m w) (k p : ℕ) where
         },
         tt,
       )
-  suggest_lines q i t h false false f = tt
+  suggest_lines q i t h false false each = tt
 
   skip_lines : (q first stop : ℕ) (v : Trace) (xs : List ℕ) → IsIn (Sent (Skip q first stop)) v
       → AllMay m v (map (λ j. Learned p j Noop) (filter (is_given_up m w p q first stop) xs))
@@ -407,14 +407,14 @@ step_ok w v (Some r) h = absurd (cc)
 
 pub step_may : (m : Membership) (w : Trace) (e : Event) → IsGrown m w → NoneHolds (causes m w e)
     → May m w (head e) × AllMay m (head e ∷ w) (lines m w e)
-step_may m w (Submit p command) g h = (h.1.0, submit_may m w p command)
-step_may m w (Deliver k p) g h = (tt, delivery_lines m w g k p (slice_get (sent w) k) refl)
-step_may m w (Lose k p) g h = (tt, tt)
-step_may m w (Suspect p q) g h =
-    let b = or_parts (leb m.count p) (leb m.count q) h.0 in
-    (tt, suspect_may m w (Suspected p q ∷ w) p q instances (leb-false m.count p b.0) h.1.0)
-step_may m w (Retry p) g h = (tt, retry_may m w p (first_item (waiting w p)) (λ t e. waiting_lost m w p t e))
-step_may m w (Execute p) g h = (some_is (learned w p (done w p)) h.1.0, tt)
+step_may m w (Submit p command) grown h = (h.1.0, submit_may m w p command)
+step_may m w (Deliver k p) grown h = (tt, delivery_lines m w grown k p (slice_get (sent w) k) refl)
+step_may m w (Lose k p) grown h = (tt, tt)
+step_may m w (Suspect p q) grown h =
+    let parts = or_parts (leb m.count p) (leb m.count q) h.0 in
+    (tt, suspect_may m w (Suspected p q ∷ w) p q instances (leb-false m.count p parts.0) h.1.0)
+step_may m w (Retry p) grown h = (tt, retry_may m w p (first_item (waiting w p)) (λ t e. waiting_lost m w p t e))
+step_may m w (Execute p) grown h = (some_is (learned w p (done w p)) h.1.0, tt)
 
 -- what is known of an event that is not refused
 pub record IsStep (m : Membership) (w v : Trace) (e : Event) : Type 0 where
@@ -428,7 +428,7 @@ next_is m w v e h =
     record { allowed = r.1; is = s.1 }
 
 pub grown_next : (m : Membership) (w v : Trace) (e : Event) → IsGrown m w → next m w e ≡ Ok v → IsGrown m v
-grown_next m w v e g h =
+grown_next m w v e grown h =
     let n = next_is m w v e h in
-    let a = step_may m w e g n.allowed in
-    rw n.is at (grown_followed m (head e ∷ w) (lines m w e) (g, a.0) a.1)
+    let a = step_may m w e grown n.allowed in
+    rw n.is at (grown_followed m (head e ∷ w) (lines m w e) (grown, a.0) a.1)

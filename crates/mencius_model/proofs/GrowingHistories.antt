@@ -31,10 +31,10 @@ done_later w end past p = rw past.is (done_past past.since w p)
 -- a server's history only grows
 pub history_grows : (m : Membership) (w end : Trace) → IsPast w end → IsGrown m end → (p : ℕ)
     → IsPrefix (executed w p) (executed end p)
-history_grows m w end past g p =
+history_grows m w end past grown p =
     let same =
     tickets_same (learned w p) (learned end p) (done w p)
     (λ i lt.
-    let r = executed_learned m w (past_grown m w end past g) p i lt in
+    let r = executed_learned m w (past_grown m w end past grown) p i lt in
     r.1 ∙ sym (learned_later w end past p i r.0 r.1)) in
     rw same (tickets_prefix (learned end p) (done w p) (done end p) (done_later w end past p))

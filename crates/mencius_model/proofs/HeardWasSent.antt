@@ -39,8 +39,8 @@ promise_message i b q (Promise from to inst ballot vote) h =
     let r = and_parts (eqb inst i && eqb ballot b) (eqb from q) h in
     let s = and_parts (eqb inst i) (eqb ballot b) r.0 in
     let e = eqb-true inst i s.0 in
-    let f = eqb-true ballot b s.1 in
-    let g = eqb-true from q r.1 in
+    let same = eqb-true ballot b s.1 in
+    let so = eqb-true from q r.1 in
     (to, vote, cc)
 promise_message i b q _ h = absurd (cc)
 
@@ -123,8 +123,8 @@ vote_message i b z (Promise from to inst ballot vote) h =
     let r = if_vote (eqb inst i && eqb ballot b) vote z h in
     let s = and_parts (eqb inst i) (eqb ballot b) r.0 in
     let e = eqb-true inst i s.0 in
-    let f = eqb-true ballot b s.1 in
-    let g = r.1 in
+    let same = eqb-true ballot b s.1 in
+    let so = r.1 in
     (from, to, cc)
 vote_message i b z _ h = absurd (cc)
 

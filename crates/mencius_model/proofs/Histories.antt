@@ -32,15 +32,15 @@ executed_line p _ = inl refl
 -- an instance that s executed it had learned
 pub executed_learned : (m : Membership) (w : Trace) → IsGrown m w → (p i : ℕ) → i < done w p
     → (x : Value) × (learned w p i ≡ Some x)
-executed_learned m [] g p i lt = absurd (omega arith)
-executed_learned m (l ∷ w) g p i lt =
+executed_learned m [] grown p i lt = absurd (omega arith)
+executed_learned m (l ∷ w) grown p i lt =
     elim (cases_lt i (done w p)) [
-      | inl below ↦ let r = executed_learned m w g.0 p i below in (r.0, learned_more l w p i r.0 r.1)
+      | inl below ↦ let r = executed_learned m w grown.0 p i below in (r.0, learned_more l w p i r.0 r.1)
       | inr ge ↦
           elim (executed_line p l) [
             | inl z ↦ absurd (omega (arith, z, ge, lt))
             | inr d ↦
-                let may : (x : Value) × (learned w p (done w p) ≡ Some x) = rw d.1 at g.1 in
+                let may : (x : Value) × (learned w p (done w p) ≡ Some x) = rw d.1 at grown.1 in
                 let here : done w p ≡ i = omega (arith, d.0, ge, lt) in
                 (may.0, learned_more l w p i may.0 (rw here at may.1))
           ]
@@ -116,13 +116,13 @@ IsOnce xs = (j k t : ℕ) → slice_get xs j ≡ Some t → slice_get xs k ≡ S
 once_push : (xs : List ℕ) (x : ℕ) → IsOnce xs → (IsIn x xs → ⊥) → IsOnce (xs ++ x ∷ [])
 once_push xs x h new j k t a b =
     elim (get_push xs x t j a) [
-      | inl c ↦ elim (get_push xs x t k b) [
-        | inl d ↦ h j k t c d
-        | inr d ↦ absurd (new (rw d.1 (get_in xs j t c)))
+      | inl left ↦ elim (get_push xs x t k b) [
+        | inl d ↦ h j k t left d
+        | inr d ↦ absurd (new (rw d.1 (get_in xs j t left)))
       ]
-      | inr c ↦ elim (get_push xs x t k b) [
-        | inl d ↦ absurd (new (rw c.1 (get_in xs k t d)))
-        | inr d ↦ c.0 ∙ sym d.0
+      | inr right ↦ elim (get_push xs x t k b) [
+        | inl d ↦ absurd (new (rw right.1 (get_in xs k t d)))
+        | inr d ↦ right.0 ∙ sym d.0
       ]
     ]
 
@@ -152,12 +152,12 @@ heads x y xs ys (inr h) = let e = h.1 in (cc, inr (h.0, cc))
 -- of comparable lists the one without t is a prefix of the part before t
 pub begins_before : (xs front back : List ℕ) (t : ℕ) → IsComparable xs (front ++ t ∷ back) → (IsIn t xs → ⊥)
     → IsPrefix xs front
-begins_before [] front back t c new = (front, refl)
-begins_before (x ∷ xs) [] back t c new = absurd (new (inl (sym (heads x t xs back c).0)))
-begins_before (x ∷ xs) (a ∷ front) back t c new =
-    let h = heads x a xs (front ++ t ∷ back) c in
-    let r = begins_before xs front back t h.1 (λ k. new (inr k)) in
-    (r.0, let e = r.1 in let f = h.0 in cc)
+begins_before [] front back t comparable new = (front, refl)
+begins_before (x ∷ xs) [] back t comparable new = absurd (new (inl (sym (heads x t xs back comparable).0)))
+begins_before (x ∷ xs) (a ∷ front) back t comparable new =
+    let h = heads x a xs (front ++ t ∷ back) comparable in
+    let r = begins_before xs front back t h.1 (λ behind. new (inr behind)) in
+    (r.0, let e = r.1 in let so = h.0 in cc)
 
 -- ---- the theorems, over histories of one course
 
@@ -171,18 +171,19 @@ module _ (m : Membership) (few : 1 ≤ m.count) (end : Trace) (g : IsGrown m end
   -- two values decided at two moments are decided in the end, and there they agree
   pub one_value : (w v : Trace) → IsPast w end → IsPast v end → (i : ℕ) (z x : Value) → IsDecided m w i z
       → IsDecided m v i x → z ≡ x
-  one_value w v a b i z x h k =
-      agreement m end few g i z x (rw a.is (decided_past m a.since w i z h)) (rw b.is (decided_past m b.since v i x k))
+  one_value w v a past i z x h decided =
+      agreement m end few g i z x (rw a.is (decided_past m a.since w i z h))
+      (rw past.is (decided_past m past.since v i x decided))
 
   -- two servers that executed an instance learned the same there
   pub histories_comparable : (w v : Trace) → IsPast w end → IsPast v end → (p q : ℕ)
       → IsComparable (executed w p) (executed v q)
-  histories_comparable w v a b p q =
+  histories_comparable w v a past p q =
       comparable (learned w p) (learned v q) (done w p) (done v q)
       (λ i lt below.
       let x = executed_learned m w (past_grown m w end a g) p i lt in
-      let y = executed_learned m v (past_grown m v end b g) q i below in
-      let e = agreement m end few g i x.0 y.0 (learned_end w a p i x.0 x.1) (learned_end v b q i y.0 y.1) in
+      let y = executed_learned m v (past_grown m v end past g) q i below in
+      let e = agreement m end few g i x.0 y.0 (learned_end w a p i x.0 x.1) (learned_end v past q i y.0 y.1) in
       x.1 ∙ (ap Some e ∙ sym y.1))
 
 module _ (m : Membership) (few : 1 ≤ m.count) (w : Trace) (g : IsGrown m w) where
@@ -203,7 +204,7 @@ module _ (m : Membership) (few : 1 ≤ m.count) (w : Trace) (g : IsGrown m w) wh
 pub order : (m : Membership) → 1 ≤ m.count → (w end : Trace) → IsPast w end → IsGrown m end
     → (p q t : ℕ) (front back : List ℕ)
     → length (submitted w) ≤ t → executed end q ≡ front ++ t ∷ back → IsPrefix (executed w p) front
-order m few w end past g p q t front back late is =
+order m few w end past grown p q t front back late is =
     begins_before (executed w p) front back t
-    (rw is at (histories_comparable m few end g w end past (record { since = []; is = refl }) p q))
-    (λ h. omega (arith, history_submitted m few w (past_grown m w end past g) p t h, late))
+    (rw is at (histories_comparable m few end grown w end past (record { since = []; is = refl }) p q))
+    (λ h. omega (arith, history_submitted m few w (past_grown m w end past grown) p t h, late))

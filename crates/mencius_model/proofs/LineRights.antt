@@ -113,11 +113,11 @@ pub record IsPast (w v : Trace) : Type 0 where
   pub is : v ≡ since ++ w
 
 pub grown_past : (m : Membership) (ls : List Line) (w : Trace) → IsGrown m (ls ++ w) → IsGrown m w
-grown_past m [] w g = g
-grown_past m (l ∷ ls) w g = grown_past m ls w g.0
+grown_past m [] w grown = grown
+grown_past m (l ∷ ls) w grown = grown_past m ls w grown.0
 
 pub past_grown : (m : Membership) (w v : Trace) → IsPast w v → IsGrown m v → IsGrown m w
-past_grown m w v h g = grown_past m h.since w (rw h.is at g)
+past_grown m w v h grown = grown_past m h.since w (rw h.is at grown)
 
 pub in_past : (l : Line) (ls : List Line) (w : Trace) → IsIn l w → IsIn l (ls ++ w)
 in_past l [] w h = h
@@ -126,4 +126,4 @@ in_past l (k ∷ ls) w h = inr (in_past l ls w h)
 -- the line between what came before it and after it
 pub right_at : (m : Membership) (newer : List Line) (l : Line) (older : Trace) → IsGrown m (newer ++ l ∷ older)
     → May m older l
-right_at m newer l older g = (grown_past m newer (l ∷ older) g).1
+right_at m newer l older grown = (grown_past m newer (l ∷ older) grown).1

@@ -46,7 +46,7 @@ in_any test x (y ∷ xs) (inr later) e = or_right (test y) (list_any test xs) (i
 
 pub none_in : {A : Type 0} (test : A → Bool) (x : A) (xs : List A) → list_any test xs ≡ false → IsIn x xs
     → test x ≡ true → ⊥
-none_in test x xs h k e = let t : list_any test xs ≡ true = in_any test x xs k e in cc
+none_in test x xs h inside e = let holds : list_any test xs ≡ true = in_any test x xs inside e in cc
 
 pub get_in : {A : Type 0} (xs : List A) (k : ℕ) (x : A) → slice_get xs k ≡ Some x → IsIn x xs
 get_in [] k x h = absurd (cc)
@@ -95,11 +95,11 @@ length_below n = length-range_with_len 0 n
 pub majorities_meet : (m : Membership) (test other : ℕ → Bool) → are_majority m test ≡ true
     → are_majority m other ≡ true
     → (x : ℕ) × (test x ≡ true) × (other x ≡ true)
-majorities_meet m test other h k =
+majorities_meet m test other h holds =
     let a : majority m ≤ count_by test (below m.count) = leb-true _ _ h in
-    let b : majority m ≤ count_by other (below m.count) = leb-true _ _ k in
+    let within : majority m ≤ count_by other (below m.count) = leb-true _ _ holds in
     let both = both_count test other (below m.count) in
-    let r = counted (λ x. test x && other x) (below m.count) (omega (arith, a, b, both, length_below m.count)) in
+    let r = counted (λ x. test x && other x) (below m.count) (omega (arith, a, within, both, length_below m.count)) in
     let parts = and_parts (test r.0) (other r.0) r.1 in
     (r.0, parts.0, parts.1)
 
@@ -110,8 +110,8 @@ bit_le false d h = omega arith
 pub majority_more : (m : Membership) (test other : ℕ → Bool) → ((x : ℕ) → test x ≡ true → other x ≡ true)
     → are_majority m test ≡ true
     → are_majority m other ≡ true
-majority_more m test other h k =
-    let a : majority m ≤ count_by test (below m.count) = leb-true _ _ k in
+majority_more m test other h holds =
+    let a : majority m ≤ count_by test (below m.count) = leb-true _ _ holds in
     let s = sum_by-le-sum_by (λ y. cond (test y) 1 0) (λ y. cond (other y) 1 0) (below m.count)
     (λ x. bit_le (test x) (other x) (h x)) in
     le-leb _ _ (omega (arith, a, s))

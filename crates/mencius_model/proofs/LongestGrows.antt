@@ -16,14 +16,14 @@ use Rattle.mencius_model.proofs.Prefixes.{prefix_length, shorter_begins}
 -- the longest is no longer than its server's later history, and that no longer than the later longest
 pub longest_grows : (m : Membership) (w end : Trace) → 1 ≤ m.count → IsPast w end → IsGrown m end
     → IsPrefix (executed w (longest_at m w)) (executed end (longest_at m end))
-longest_grows m w end few past g =
+longest_grows m w end few past also =
     let p = longest_at m w in
     let q = longest_at m end in
     let member : p < m.count = omega (arith, (longest_is m w).member) in
-    let own = history_grows m w end past g p in
+    let own = history_grows m w end past also p in
     let grown = prefix_length (executed w p) (executed end p) own in
     shorter_begins (executed w p) (executed end q)
-    (histories_comparable m few end g w end past (record { since = []; is = refl }) p q)
+    (histories_comparable m few end also w end past (record { since = []; is = refl }) p q)
     (omega (arith, grown, (longest_is m end).longest p member))
 
 -- ---- its commands
@@ -48,9 +48,9 @@ command_later w end past t h =
 pub longest_commands_grow : (m : Membership) (w end : Trace) → 1 ≤ m.count → IsPast w end → IsGrown m end
     → AreBelow (length (submitted w)) (executed w (longest_at m w))
     → IsPrefix (longest_commands m w) (longest_commands m end)
-longest_commands_grow m w end few past g below =
+longest_commands_grow m w end few past also below =
     let ts = executed w (longest_at m w) in
-    let grown = longest_grows m w end few past g in
+    let grown = longest_grows m w end few past also in
     let kept : commands_of end ts ≡ commands_of w ts =
     commands_same end w (length (submitted w)) ts (command_later w end past) below in
     let rest = commands_of end grown.0 in (

@@ -34,7 +34,7 @@ one_further f n p h =
       | inr e ↦
           let less = ltb-false (f p) (f n) e in
           rw e (record {
-            member = let k = h.member in omega arith;
+            member = let so = h.member in omega arith;
             longest = λ q lt. elim (cases_lt q n) [
               | inl below ↦ h.longest q below
               | inr last ↦ let same : n ≡ q = omega arith in subst (λ x. f x ≤ f p) same less

@@ -44,14 +44,14 @@ IsAtMost-cond true b = omega arith
 IsAtMost-cond false b = tt
 
 IsAtMost-greater : (x y : Option ℕ) (n k : ℕ) → IsAtMost x n → IsAtMost y k → IsAtMost (greater x y) (max n k)
-IsAtMost-greater None None n k p q = tt
-IsAtMost-greater None (Some b) n k p q = omega arith
-IsAtMost-greater (Some a) None n k p q = omega arith
-IsAtMost-greater (Some a) (Some b) n k p q = either (ltb a b) a b n k p q
+IsAtMost-greater None None n k bounded also = tt
+IsAtMost-greater None (Some b) n k bounded also = omega arith
+IsAtMost-greater (Some a) None n k bounded also = omega arith
+IsAtMost-greater (Some a) (Some b) n k bounded also = either (ltb a b) a b n k bounded also
   where
     either : (d : Bool) (a b n k : ℕ) → a ≤ n → b ≤ k → IsAtMost (cond d (Some b) (Some a)) (max n k)
-    either true a b n k p q = omega arith
-    either false a b n k p q = omega arith
+    either true a b n k below within = omega arith
+    either false a b n k below within = omega arith
 
 accepted_by-small : (p i : ℕ) (l : Line) → IsAtMost (accepted_by p i l) (promised_by p i l)
 accepted_by-small p i (Sent (Accepted from to inst ballot)) = IsAtMost-cond (eqb from p && eqb inst i) ballot
@@ -75,8 +75,8 @@ accepted_small [] p i = tt
 accepted_small (l ∷ w) p i = IsAtMost-greater _ _ _ _ (accepted_small w p i) (accepted_by-small p i l)
 
 pub greater_above : (o : Option ℕ) (n b : ℕ) → IsAtMost o n → n ≤ b → greater o (Some b) ≡ Some b
-greater_above None n b p q = refl
-greater_above (Some a) n b p q =
+greater_above None n b bounded below = refl
+greater_above (Some a) n b bounded below =
     ⊎_elim
     (λ (e : a < b). rw (lt-ltb a b e))
     (λ (e : b ≤ a). let same : a ≡ b = omega arith in rw (le-ltb a b e, same))

@@ -42,38 +42,38 @@ backed_more l w i b (Some u) h = (h.0, proposed_more l w i u.ballot u.value h.1)
 
 backed_from : (w : Trace) (i b : ℕ) (h : Option Vote) → ((z : Vote) → h ≡ Some z → Backed w i b (Some z))
     → Backed w i b h
-backed_from w i b None f = tt
-backed_from w i b (Some z) f = f z refl
+backed_from w i b None each = tt
+backed_from w i b (Some z) each = each z refl
 
 -- a vote that covers a ballot is covered by each vote that is not less
 reaches_through : (o h : Option Vote) (c : ℕ) → Reaches o c → ((y : Vote) → o ≡ Some y → Reaches h y.ballot)
     → Reaches h c
-reaches_through None h c r f = absurd r
-reaches_through (Some y) None c r f = f y refl
-reaches_through (Some y) (Some x) c r f = let k : y.ballot ≤ x.ballot = f y refl in omega (arith, r)
+reaches_through None h c r each = absurd r
+reaches_through (Some y) None c r each = each y refl
+reaches_through (Some y) (Some x) c r each = let below : y.ballot ≤ x.ballot = each y refl in omega (arith, r)
 
 -- what is accepted was proposed
 pub accepted_proposed : (m : Membership) (w : Trace) → IsGrown m w → (q to i b : ℕ)
     → IsIn (Sent (Accepted q to i b)) w → (z : Value) × (proposed w i b ≡ Some z)
-accepted_proposed m [] g q to i b h = absurd h
-accepted_proposed m (l ∷ w) g q to i b (inl e) =
-    let may : MayAccept w q to i b = rw (← e) at g.1 in
+accepted_proposed m [] grown q to i b h = absurd h
+accepted_proposed m (l ∷ w) grown q to i b (inl e) =
+    let may : MayAccept w q to i b = rw (← e) at grown.1 in
     (may.value, proposed_more l w i b may.value may.there)
-accepted_proposed m (l ∷ w) g q to i b (inr h) =
-    let r = accepted_proposed m w g.0 q to i b h in
+accepted_proposed m (l ∷ w) grown q to i b (inr h) =
+    let r = accepted_proposed m w grown.0 q to i b h in
     (r.0, proposed_more l w i b r.0 r.1)
 
 -- the vote of a new promise
 vote_kept : (m : Membership) (w : Trace) → IsGrown m w → (q i b : ℕ) (o : Option ℕ) → accepted w q i ≡ o
     → promised w q i < b → IsKept w q i b (vote w q i)
-vote_kept m w g q i b None e a =
+vote_kept m w grown q i b None e a =
     record {
       covers = λ to c h lt. let r = accepted_above w q to i c h in absurd (cc);
       backed = rw e tt;
     }
-vote_kept m w g q i b (Some last) e a =
+vote_kept m w grown q i b (Some last) e a =
     let there = accepted_in w q i last e in
-    let said = accepted_proposed m w g q there.0 i last there.1 in
+    let said = accepted_proposed m w grown q there.0 i last there.1 in
     let within = acceptance_within w q there.0 i last there.1 in
     record {
       covers =
@@ -87,24 +87,24 @@ vote_kept m w g q i b (Some last) e a =
 -- nothing is accepted below a promise, but what its vote covers
 pub promise_covers : (m : Membership) (w : Trace) → IsGrown m w → (q to i b : ℕ) (o : Option Vote)
     → IsIn (Sent (Promise q to i b o)) w → IsKept w q i b o
-promise_covers m [] g q to i b o h = absurd h
-promise_covers m (l ∷ w) g q to i b o (inl e) =
-    let may : MayPromise w q to i b o = rw (← e) at g.1 in
-    let k : IsKept w q i b o = rw may.is (vote_kept m w g.0 q i b (accepted w q i) refl may.above) in
+promise_covers m [] grown q to i b o h = absurd h
+promise_covers m (l ∷ w) grown q to i b o (inl e) =
+    let may : MayPromise w q to i b o = rw (← e) at grown.1 in
+    let kept : IsKept w q i b o = rw may.is (vote_kept m w grown.0 q i b (accepted w q i) refl may.above) in
     record {
-      covers = λ t c h lt. elim h [ inl x ↦ absurd (cc) | inr x ↦ k.covers t c x lt ];
-      backed = backed_more l w i b o k.backed;
+      covers = λ t c h lt. elim h [ inl x ↦ absurd (cc) | inr x ↦ kept.covers t c x lt ];
+      backed = backed_more l w i b o kept.backed;
     }
-promise_covers m (l ∷ w) g q to i b o (inr h) =
-    let k = promise_covers m w g.0 q to i b o h in
+promise_covers m (l ∷ w) grown q to i b o (inr h) =
+    let covered = promise_covers m w grown.0 q to i b o h in
     let s = promise_within w q to i b o h in
     record {
       covers =
           λ t c y lt. elim y [
-            | inl x ↦ let may : MayAccept w q t i c = rw (← x) at g.1 in absurd (omega (arith, may.free, s, lt))
-            | inr x ↦ k.covers t c x lt
+            | inl x ↦ let may : MayAccept w q t i c = rw (← x) at grown.1 in absurd (omega (arith, may.free, s, lt))
+            | inr x ↦ covered.covers t c x lt
           ];
-      backed = backed_more l w i b o k.backed;
+      backed = backed_more l w i b o covered.backed;
     }
 
 -- and stays safe
@@ -129,7 +129,7 @@ safe_more m l w i b z may s =
 -- a proposal is safe when it is made
 safe_at : (m : Membership) (w : Trace) (p i b : ℕ) (z : Value) → IsGrown m w → MayPropose m w p i b z
     → IsSafe m w i b z
-safe_at m w p i b z g may =
+safe_at m w p i b z grown may =
     record {
       among = may.among;
       majority = may.majority;
@@ -139,36 +139,36 @@ safe_at m w p i b z g may =
           λ q to c a h lt.
           let r = may.promised q a in
           reaches_through r.vote may.highest c
-          ((promise_covers m w g q r.to i b r.vote r.promise).covers to c h lt) r.within;
+          ((promise_covers m w grown q r.to i b r.vote r.promise).covers to c h lt) r.within;
       backed =
           backed_from w i b may.highest
-          (λ u e. let r = may.reported u e in (promise_covers m w g r.0 r.1 i b (Some u) r.2).backed);
+          (λ u e. let r = may.reported u e in (promise_covers m w grown r.0 r.1 i b (Some u) r.2).backed);
       is = may.is;
     }
 
 -- every proposal is safe by a majority
 pub propose_safe : (m : Membership) (w : Trace) → IsGrown m w → (p i b : ℕ) (z : Value)
     → IsIn (Sent (Propose p i b z)) w → IsSafe m w i b z
-propose_safe m [] g p i b z h = absurd h
-propose_safe m (l ∷ w) g p i b z (inl e) =
-    let may : MayPropose m w p i b z = rw (← e) at g.1 in
-    safe_more m l w i b z g.1 (safe_at m w p i b z g.0 may)
-propose_safe m (l ∷ w) g p i b z (inr h) = safe_more m l w i b z g.1 (propose_safe m w g.0 p i b z h)
+propose_safe m [] grown p i b z h = absurd h
+propose_safe m (l ∷ w) grown p i b z (inl e) =
+    let may : MayPropose m w p i b z = rw (← e) at grown.1 in
+    safe_more m l w i b z grown.1 (safe_at m w p i b z grown.0 may)
+propose_safe m (l ∷ w) grown p i b z (inr h) = safe_more m l w i b z grown.1 (propose_safe m w grown.0 p i b z h)
 
 proposal_safe : (m : Membership) (w : Trace) → IsGrown m w → (i b : ℕ) (z : Value) → 0 < b
     → proposed w i b ≡ Some z → IsSafe m w i b z
-proposal_safe m w g i b z pos h = let r = proposal_in w i b z pos h in propose_safe m w g r.0 i b z r.1
+proposal_safe m w grown i b z pos h = let r = proposal_in w i b z pos h in propose_safe m w grown r.0 i b z r.1
 
 -- where v was chosen at ballot c: every proposal at a greater ballot has v
 module _ (m : Membership) (w : Trace) (g : IsGrown m w) (i c : ℕ) (z : Value) (start : proposed w i c ≡ Some z)
     (chosen : are_majority m (has_accepted w i c) ≡ true) where
   above : (b : ℕ) (x : Value) (h : Option Vote) → Reaches h c → Backed w i b h → x ≡ value_or_noop h
       → ((between : ℕ) (y : Value) → between < b → c < between → proposed w i between ≡ Some y → y ≡ z) → x ≡ z
-  above b x None r k is rest = absurd r
-  above b x (Some u) r k is rest =
+  above b x None r backed is rest = absurd r
+  above b x (Some u) r backed is rest =
       elim (cases_lt c u.ballot) [
-        | inl lt ↦ is ∙ rest u.ballot u.value k.0 lt k.1
-        | inr ge ↦ let e : u.ballot ≡ c = omega (arith, r, ge) in let s = k.1 in cc
+        | inl lt ↦ is ∙ rest u.ballot u.value backed.0 lt backed.1
+        | inr ge ↦ let e : u.ballot ≡ c = omega (arith, r, ge) in let s = backed.1 in cc
       ]
 
   pub chosen_above_to : (n b : ℕ) (x : Value) → b ≤ n → c < b → proposed w i b ≡ Some x → x ≡ z
@@ -187,8 +187,8 @@ module _ (m : Membership) (w : Trace) (g : IsGrown m w) (i : ℕ) where
   under : (b : ℕ) (x : Value) (h : Option Vote) → Backed w i b h → x ≡ value_or_noop h
       → ((c : ℕ) (y : Value) → c < b → proposed w i c ≡ Some y → (y ≡ Noop) ⊎ (proposed w i 0 ≡ Some y))
       → (x ≡ Noop) ⊎ (proposed w i 0 ≡ Some x)
-  under b x None k is rest = inl is
-  under b x (Some u) k is rest = rw is (rest u.ballot u.value k.0 k.1)
+  under b x None backed is rest = inl is
+  under b x (Some u) backed is rest = rw is (rest u.ballot u.value backed.0 backed.1)
 
   origin_below : (n b : ℕ) (x : Value) → b ≤ n → proposed w i b ≡ Some x → (x ≡ Noop) ⊎ (proposed w i 0 ≡ Some x)
   origin_below zero b x le h = let e : b ≡ 0 = omega arith in inr (rw e at h)

@@ -14,20 +14,21 @@ pub prefix_append : {A : Type 0} (xs ys : List A) → IsPrefix xs (xs ++ ys)
 prefix_append xs ys = (ys, refl)
 
 pub prefix_trans : {A : Type 0} (xs ys zs : List A) → IsPrefix xs ys → IsPrefix ys zs → IsPrefix xs zs
-prefix_trans xs ys zs h g = (h.0 ++ g.0, sym (append_assoc xs h.0 g.0) ∙ (ap (λ l. l ++ g.0) h.1 ∙ g.1))
+prefix_trans xs ys zs h prefix =
+    (h.0 ++ prefix.0, sym (append_assoc xs h.0 prefix.0) ∙ (ap (λ l. l ++ prefix.0) h.1 ∙ prefix.1))
 
 pub prefix_length : {A : Type 0} (xs ys : List A) → IsPrefix xs ys → length xs ≤ length ys
 prefix_length xs ys h = omega (arith, sym (ap length h.1) ∙ length-append xs h.0)
 
 -- of two prefixes of one list one is a prefix of the other
 pub prefix_either : {A : Type 0} (xs ys zs : List A) → IsPrefix xs zs → IsPrefix ys zs → IsComparable xs ys
-prefix_either [] ys zs h g = inl (ys, refl)
-prefix_either (x ∷ xs) [] zs h g = inr (x ∷ xs, refl)
-prefix_either (x ∷ xs) (y ∷ ys) [] h g = absurd (cc (h.1))
-prefix_either (x ∷ xs) (y ∷ ys) (z ∷ zs) h g =
-    let heads : x ≡ y = cc (h.1, g.1) in
+prefix_either [] ys zs h prefix = inl (ys, refl)
+prefix_either (x ∷ xs) [] zs h prefix = inr (x ∷ xs, refl)
+prefix_either (x ∷ xs) (y ∷ ys) [] h prefix = absurd (cc (h.1))
+prefix_either (x ∷ xs) (y ∷ ys) (z ∷ zs) h prefix =
+    let heads : x ≡ y = cc (h.1, prefix.1) in
     ⊎_elim (λ (r : IsPrefix xs ys). inl (r.0, cc (heads, r.1))) (λ (r : IsPrefix ys xs). inr (r.0, cc (heads, r.1)))
-    (prefix_either xs ys zs (h.0, cc (h.1)) (g.0, cc (g.1)))
+    (prefix_either xs ys zs (h.0, cc (h.1)) (prefix.0, cc (prefix.1)))
 
 -- a prefix as long as the whole is the whole
 pub prefix_whole : {A : Type 0} (xs ys : List A) → IsPrefix xs ys → length ys ≤ length xs → xs ≡ ys

@@ -57,8 +57,8 @@ AreBelow n (t ∷ ts) = (t < n) × AreBelow n ts
 
 below_put : (n : ℕ) (o : Option ℕ) (ts : List ℕ) → ((t : ℕ) → o ≡ Some t → t < n) → AreBelow n ts
     → AreBelow n (cons_option o ts)
-below_put n None ts h k = k
-below_put n (Some t) ts h k = (h t refl, k)
+below_put n None ts h below = below
+below_put n (Some t) ts h below = (h t refl, below)
 
 below_all : (n : ℕ) (f : ℕ → Option ℕ) (xs : List ℕ) → ((i t : ℕ) → f i ≡ Some t → t < n) → AreBelow n (filter_map f xs)
 below_all n f [] h = tt

@@ -32,8 +32,8 @@ mapped (Some j) k h = (j, refl, cc)
 later_place : {A : Type 0} (test : A → Bool) (x : A) (xs : List A) (i : ℕ) → test x ≡ false
     → ((j : ℕ) (y : A) → slice_get xs j ≡ Some y → test y ≡ true → i ≤ j)
     → (j : ℕ) (y : A) → slice_get (x ∷ xs) j ≡ Some y → test y ≡ true → suc i ≤ j
-later_place test x xs i miss f zero y a b = let s : x ≡ y = cc in absurd (let t = rw s at miss in cc)
-later_place test x xs i miss f (suc j) y a b = omega (arith, f j y a b)
+later_place test x xs i miss each zero y a holds = let s : x ≡ y = cc in absurd (let turned = rw s at miss in cc)
+later_place test x xs i miss each (suc j) y a holds = omega (arith, each j y a holds)
 
 place_next : {A : Type 0} (test : A → Bool) (x : A) (xs : List A) (i k : ℕ) → k ≡ suc i → test x ≡ false
     → IsPlace A test xs i
@@ -82,12 +82,12 @@ some_place test (x ∷ xs) h =
 
 -- who has the identity of a third has the identity of each other
 same_ids : (a d id : CommandId) → is_same_id a id ≡ true → is_same_id d id ≡ true → is_same_id a d ≡ true
-same_ids a d id h k =
+same_ids a d id h holds =
     let r = and_parts (eqb a.client id.client) (eqb a.number id.number) h in
-    let s = and_parts (eqb d.client id.client) (eqb d.number id.number) k in
-    let c = eqb-true a.client id.client r.0 ∙ sym (eqb-true d.client id.client s.0) in
+    let s = and_parts (eqb d.client id.client) (eqb d.number id.number) holds in
+    let same = eqb-true a.client id.client r.0 ∙ sym (eqb-true d.client id.client s.0) in
     let n = eqb-true a.number id.number r.1 ∙ sym (eqb-true d.number id.number s.1) in
-    rw (eq-eqb a.client d.client c, eq-eqb a.number d.number n)
+    rw (eq-eqb a.client d.client same, eq-eqb a.number d.number n)
 
 module _ (m : Membership) (few : 1 ≤ m.count) (w : Trace) (g : IsGrown m w) (id : CommandId) where
   abbrev is_id : Submission → Bool
@@ -100,9 +100,9 @@ module _ (m : Membership) (few : 1 ≤ m.count) (w : Trace) (g : IsGrown m w) (i
   same_submission : (t u : ℕ) (x y : Submission) → slice_get (submitted w) t ≡ Some x
       → slice_get (submitted w) u ≡ Some y
       → is_same_id x.0.id id ≡ true → is_same_id y.0.id id ≡ true → (t ≡ u) × (x ≡ y)
-  same_submission t u x y a d h k =
-      let e = identity_once m w g t u x y a d (same_ids x.0.id y.0.id id h k) in
-      let c = rw (← e) at d in
+  same_submission t u x y a d h holds =
+      let e = identity_once m w g t u x y a d (same_ids x.0.id y.0.id id h holds) in
+      let turned = rw (← e) at d in
       (e, cc)
 
   -- it stands at one place of its home's history, so it has one reply
@@ -111,8 +111,8 @@ module _ (m : Membership) (few : 1 ≤ m.count) (w : Trace) (g : IsGrown m w) (i
       let s = same_submission a.ticket d.ticket (a.command, a.home) (d.command, d.home) a.given d.given a.same d.same in
       let parts = some_pair_parts a.command d.command a.home d.home (ap Some s.1) in
       let there : slice_get (executed w a.home) d.place ≡ Some a.ticket = rw (parts.1, s.0) d.there in
-      let p = history_once m few w g a.home a.place d.place a.ticket a.there there in
-      a.is ∙ (rw (parts.0, parts.1, p) (sym d.is))
+      let once = history_once m few w g a.home a.place d.place a.ticket a.there there in
+      a.is ∙ (rw (parts.0, parts.1, once) (sym d.is))
 
   -- a reply is not given and awaited at once
   not_both : (r : Option (List ℕ)) → IsReply w id r → IsPending w id → ⊥
@@ -128,8 +128,8 @@ module _ (m : Membership) (few : 1 ≤ m.count) (w : Trace) (g : IsGrown m w) (i
       → place_of (is_ticket t) (executed w x.1) ≡ o → reply_from w x.0 x.1 o ≡ Is r → IsReply w id r
   given_at t x None r a s e h = absurd (cc)
   given_at t x (Some k) r a s e h =
-      let p = place_is (is_ticket t) (executed w x.1) k e in
-      let same = eqb-true p.item t p.passes in
+      let placed = place_is (is_ticket t) (executed w x.1) k e in
+      let same = eqb-true placed.item t placed.passes in
       record {
         ticket = t;
         command = x.0;
@@ -137,8 +137,8 @@ module _ (m : Membership) (few : 1 ≤ m.count) (w : Trace) (g : IsGrown m w) (i
         place = k;
         given = a;
         same = s;
-        there = p.there ∙ ap Some same;
-        first = λ j d. p.first j t d (eq-eqb t t refl);
+        there = placed.there ∙ ap Some same;
+        first = λ j d. placed.first j t d (eq-eqb t t refl);
         is = cc;
       }
 
@@ -161,22 +161,22 @@ module _ (m : Membership) (few : 1 ≤ m.count) (w : Trace) (g : IsGrown m w) (i
       → reply_of_place w o ≡ Some (Is r) → IsReply w id r
   given_for None r e h = absurd (cc)
   given_for (Some t) r e h =
-      let p = place_is is_id (submitted w) t e in
-      let k = rw p.there at h in
-      given_at t p.item (place_of (is_ticket t) (executed w p.item.1)) r p.there p.passes refl (cc)
+      let placed = place_is is_id (submitted w) t e in
+      let turned = rw placed.there at h in
+      given_at t placed.item (place_of (is_ticket t) (executed w placed.item.1)) r placed.there placed.passes refl (cc)
 
   pending_for : (o : Option ℕ) → place_of is_id (submitted w) ≡ o → reply_of_place w o ≡ Some NotYet → IsPending w id
   pending_for None e h = absurd (cc)
   pending_for (Some t) e h =
-      let p = place_is is_id (submitted w) t e in
-      let k = rw p.there at h in
-      pending_at t p.item (place_of (is_ticket t) (executed w p.item.1)) p.there p.passes refl (cc)
+      let placed = place_is is_id (submitted w) t e in
+      let turned = rw placed.there at h in
+      pending_at t placed.item (place_of (is_ticket t) (executed w placed.item.1)) placed.there placed.passes refl (cc)
 
   none_for : (o : Option ℕ) → place_of is_id (submitted w) ≡ o → reply_of_place w o ≡ None → o ≡ None
   none_for None e h = refl
   none_for (Some t) e h =
-      let p = place_is is_id (submitted w) t e in
-      let k = rw p.there at h in
+      let placed = place_is is_id (submitted w) t e in
+      let turned = rw placed.there at h in
       absurd (cc)
 
   -- ---- and what is so it answers
@@ -189,7 +189,7 @@ module _ (m : Membership) (few : 1 ≤ m.count) (w : Trace) (g : IsGrown m w) (i
   pub unknown : (reply_of w id ≡ None) ↔ (IsSubmitted w id → ⊥)
   unknown = (
     (λ h s. let n = no_place is_id (submitted w) (none_for (place_of is_id (submitted w)) refl h) in
-        let t : list_any is_id (submitted w) ≡ true = s in absurd (cc)),
+        let holds : list_any is_id (submitted w) ≡ true = s in absurd (cc)),
     (λ h. rw (some_place is_id (submitted w) (not_true (list_any is_id (submitted w)) h))),
   )
 
@@ -206,11 +206,11 @@ module _ (m : Membership) (few : 1 ≤ m.count) (w : Trace) (g : IsGrown m w) (i
       → ((r : Option (List ℕ)) → IsReply w id r → o ≡ Some (Is r)) × (IsPending w id → o ≡ Some NotYet)
   by_cases None e t x a s = absurd (something t x a s e)
   by_cases (Some NotYet) e t x a s =
-      let p = pending_for (place_of is_id (submitted w)) refl e in
-      ((λ r k. absurd (not_both r k p)), (λ k. refl))
+      let place = pending_for (place_of is_id (submitted w)) refl e in
+      ((λ r k. absurd (not_both r k place)), (λ k. refl))
   by_cases (Some (Is y)) e t x a s =
-      let p = given_for (place_of is_id (submitted w)) y refl e in
-      ((λ r k. ap (λ z. Some (Is z)) (reply_once y r p k)), (λ k. absurd (not_both y p k)))
+      let place = given_for (place_of is_id (submitted w)) y refl e in
+      ((λ r k. ap (λ z. Some (Is z)) (reply_once y r place k)), (λ k. absurd (not_both y place k)))
 
   -- a reply is given exactly where there is one
   pub replied : (r : Option (List ℕ)) → (reply_of w id ≡ Some (Is r)) ↔ IsReply w id r

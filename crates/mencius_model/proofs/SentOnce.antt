@@ -41,12 +41,12 @@ module _ (m : Membership) (test : Message → Bool) (first : (w : Trace) (x : Me
     → test x ≡ true → (y : Message) → IsIn (Sent y) w → test y ≡ true → ⊥) where
   once_sent : (w : Trace) (x : Message) → IsGrown m (Sent x ∷ w) → count_by test (sent w) ≤ 1
       → count_by test (sent w ++ x ∷ []) ≤ 1
-  once_sent w x g before =
+  once_sent w x grown before =
       elim (cases_Bool (test x)) [
         | inl e ↦
             let here : bit test x ≡ 1 = rw e refl in
             let none : count_by test (sent w) ≤ 0 =
-            none_counted test (sent w) (λ y h passes. first w x g e y (sent_in y w h) passes) in
+            none_counted test (sent w) (λ y h passes. first w x grown e y (sent_in y w h) passes) in
             omega (arith, one_more test x (sent w), here, none)
         | inr e ↦
             let here : bit test x ≡ 0 = rw e refl in
@@ -57,44 +57,44 @@ module _ (m : Membership) (test : Message → Bool) (first : (w : Trace) (x : Me
   same_sent xs h = omega (arith, sum_by-append (bit test) xs [], h)
 
   once : (w : Trace) → IsGrown m w → count_by test (sent w) ≤ 1
-  once [] g = omega arith
-  once (Sent x ∷ w) g = once_sent w x g (once w g.0)
-  once (Submitted command p ∷ w) g = same_sent (sent w) (once w g.0)
-  once (Heard k p ∷ w) g = same_sent (sent w) (once w g.0)
-  once (Lost k p ∷ w) g = same_sent (sent w) (once w g.0)
-  once (Suspected p q ∷ w) g = same_sent (sent w) (once w g.0)
-  once (Retried p ∷ w) g = same_sent (sent w) (once w g.0)
-  once (Executed p ∷ w) g = same_sent (sent w) (once w g.0)
-  once (Learned p i v ∷ w) g = same_sent (sent w) (once w g.0)
+  once [] grown = omega arith
+  once (Sent x ∷ w) grown = once_sent w x grown (once w grown.0)
+  once (Submitted command p ∷ w) grown = same_sent (sent w) (once w grown.0)
+  once (Heard k p ∷ w) grown = same_sent (sent w) (once w grown.0)
+  once (Lost k p ∷ w) grown = same_sent (sent w) (once w grown.0)
+  once (Suspected p q ∷ w) grown = same_sent (sent w) (once w grown.0)
+  once (Retried p ∷ w) grown = same_sent (sent w) (once w grown.0)
+  once (Executed p ∷ w) grown = same_sent (sent w) (once w grown.0)
+  once (Learned p i v ∷ w) grown = same_sent (sent w) (once w grown.0)
 
 suggestion_first : (m : Membership) (i : ℕ) → 1 ≤ m.count → (w : Trace) (x : Message) → IsGrown m (Sent x ∷ w)
     → is_suggestion_at i x ≡ true → (y : Message) → IsIn (Sent y) w
     → is_suggestion_at i y ≡ true → ⊥
-suggestion_first m i some w (Suggest p j t) g e (Suggest q inst u) h f =
-    let may : MaySuggest m w p j t = g.1 in
+suggestion_first m i some w (Suggest p j t) grown e (Suggest q inst u) h holds =
+    let may : MaySuggest m w p j t = grown.1 in
     let at : j ≡ i = eqb-true j i e in
-    let there : inst ≡ i = eqb-true inst i f in
-    let mine : owner m inst ≡ q = suggest_owner m w g.0 q inst u h in
+    let there : inst ≡ i = eqb-true inst i holds in
+    let mine : owner m inst ≡ q = suggest_owner m w grown.0 q inst u h in
     let same : q ≡ p = sym mine ∙ ap (owner m) (there ∙ sym at) ∙ may.own in
     let before = suggest_front m w q inst u some h in
     omega (arith, may.past, rw same at before)
-suggestion_first m i some w (Suggest p j t) g e _ h f = cc
-suggestion_first m i some w _ g e y h f = cc
+suggestion_first m i some w (Suggest p j t) grown e _ h holds = cc
+suggestion_first m i some w _ grown e y h holds = cc
 
 proposal_first : (m : Membership) (i b : ℕ) → (w : Trace) (x : Message) → IsGrown m (Sent x ∷ w)
     → is_proposal_at i b x ≡ true → (y : Message) → IsIn (Sent y) w → is_proposal_at i b y ≡ true → ⊥
-proposal_first m i b w (Propose p j c v) g e (Propose q inst ballot y) h f =
-    let may : MayPropose m w p j c v = g.1 in
+proposal_first m i b w (Propose p j c v) grown e (Propose q inst ballot y) h holds =
+    let may : MayPropose m w p j c v = grown.1 in
     let mine = and_parts (eqb j i) (eqb c b) e in
-    let other = and_parts (eqb inst i) (eqb ballot b) f in
+    let other = and_parts (eqb inst i) (eqb ballot b) holds in
     let same_place : inst ≡ j = eqb-true inst i other.0 ∙ sym (eqb-true j i mine.0) in
     let same_ballot : ballot ≡ c = eqb-true ballot b other.1 ∙ sym (eqb-true c b mine.1) in
     let there : IsIn (Sent (Propose q j c y)) w =
     subst (λ (n : ℕ). IsIn (Sent (Propose q j n y)) w) same_ballot
     (subst (λ (n : ℕ). IsIn (Sent (Propose q n ballot y)) w) same_place h) in
-    not_proposed w q j c y (propose_positive m w g.0 q j c y there) may.none there
-proposal_first m i b w (Propose p j c v) g e _ h f = cc
-proposal_first m i b w _ g e y h f = cc
+    not_proposed w q j c y (propose_positive m w grown.0 q j c y there) may.none there
+proposal_first m i b w (Propose p j c v) grown e _ h holds = cc
+proposal_first m i b w _ grown e y h holds = cc
 
 no_line : (m : Membership) (w : Trace) (r : IsReached m w) (test : Message → Bool)
     → (1 ≤ m.count → count_by test (sent w) ≤ 1) → (v : Trace) → w ≡ v → count_by test (sent w) ≤ 1

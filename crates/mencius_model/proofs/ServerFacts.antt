@@ -65,8 +65,8 @@ module _ (m : Membership) (few : 1 ≤ m.count) (w : Trace) (g : IsGrown m w) wh
   own_unsaid_at p i mine past (Some z) e =
       let s = start_in w i z e in
       let same : s.0 ≡ p = sym (suggest_owner m w g s.0 i s.1 s.2) ∙ mine in
-      let f = suggest_front m w s.0 i s.1 few s.2 in
-      absurd (omega (arith, past, rw same at f))
+      let ahead = suggest_front m w s.0 i s.1 few s.2 in
+      absurd (omega (arith, past, rw same at ahead))
 
   sound_grown : IsSound m w
   sound_grown = record {

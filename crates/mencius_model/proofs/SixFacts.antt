@@ -22,14 +22,15 @@ use Rattle.mencius_model.proofs.Tickets as tickets
 later_acceptance : (m : Membership) (newer : List Line) (older : Trace) (q to i b : ℕ) (o : Option Vote)
     → IsGrown m (newer ++ Sent (Promise q to i b o) ∷ older)
     → (c t : ℕ) → IsIn (Sent (Accepted q t i c)) newer → b ≤ c
-later_acceptance m [] older q to i b o g c t h = absurd h
-later_acceptance m (l ∷ newer) older q to i b o g c t (inl e) =
+later_acceptance m [] older q to i b o grown c t h = absurd h
+later_acceptance m (l ∷ newer) older q to i b o grown c t (inl e) =
     let w = newer ++ Sent (Promise q to i b o) ∷ older in
-    let may : MayAccept w q t i c = rw (← e) at g.1 in
-    let p = promise_within w q to i b o
+    let may : MayAccept w q t i c = rw (← e) at grown.1 in
+    let covered = promise_within w q to i b o
     (in_past (Sent (Promise q to i b o)) newer (Sent (Promise q to i b o) ∷ older) (inl refl)) in
-    omega (arith, may.free, p)
-later_acceptance m (l ∷ newer) older q to i b o g c t (inr h) = later_acceptance m newer older q to i b o g.0 c t h
+    omega (arith, may.free, covered)
+later_acceptance m (l ∷ newer) older q to i b o grown c t (inr h) =
+    later_acceptance m newer older q to i b o grown.0 c t h
 
 module _ (m : Membership) (few : 1 ≤ m.count) (w : Trace) (r : IsReached m w) where
   grown : IsGrown m w
@@ -51,13 +52,13 @@ module _ (m : Membership) (few : 1 ≤ m.count) (w : Trace) (r : IsReached m w) 
   -- 3. an instance has one suggestion at most
   pub one_suggestion : (p q i t u : ℕ) → IsIn (Sent (Suggest p i t)) w → IsIn (Sent (Suggest q i u)) w
       → (p ≡ q) × (t ≡ u)
-  one_suggestion p q i t u h k = owners.suggest_once m w few grown p q i t u h k
+  one_suggestion p q i t u h inside = owners.suggest_once m w few grown p q i t u h inside
 
   -- and none where its owner skipped it
   pub no_suggestion_where_skipped : (first stop q i t : ℕ) → first ≤ i → i < stop
       → IsIn (Sent (Skip (owner m i) first stop)) w → IsIn (Sent (Suggest q i t)) w → ⊥
-  no_suggestion_where_skipped first stop q i t from to h k =
-      owners.skip_free m w few grown (owner m i) first stop q i t refl from to h k
+  no_suggestion_where_skipped first stop q i t from to h inside =
+      owners.skip_free m w few grown (owner m i) first stop q i t refl from to h inside
 
   -- 4. where a value is chosen at a ballot, every proposal at a greater ballot has it
   pub chosen_is_proposed_above : (i c b : ℕ) (o x : Value) → proposed w i c ≡ Some o
@@ -75,4 +76,4 @@ module _ (m : Membership) (few : 1 ≤ m.count) (w : Trace) (r : IsReached m w) 
   -- 6. a ticket that was suggested twice lost the first time: no-op is decided at the lower instance
   pub suggested_twice_lost_first : (p q i j t : ℕ) → i < j → IsIn (Sent (Suggest p i t)) w
       → IsIn (Sent (Suggest q j t)) w → IsDecided m w i Noop
-  suggested_twice_lost_first p q i j t lt h k = tickets.suggested_twice m w few grown p q i j t lt h k
+  suggested_twice_lost_first p q i j t lt h inside = tickets.suggested_twice m w few grown p q i j t lt h inside

@@ -21,7 +21,7 @@ use Rattle.mencius_model.proofs.ReplyPlaces as replying
 
 -- in what a journal makes each line had its right to come
 pub course_grown : (m : Membership) (journal : List Event) (end : Trace) → IsCourse m journal end → IsGrown m end
-course_grown m journal end c = grown_from m journal [] end tt c.replays
+course_grown m journal end course = grown_from m journal [] end tt course.replays
 
 pub agreement : DecidedValuesAgree
 agreement m journal end w v c a d =
@@ -42,9 +42,9 @@ submitting m journal w c p place t h =
 
 pub once : ExecutedOnce
 once m journal w c p place other t u x y h l a d e =
-    let g = course_grown m journal w c in
-    let same = identity_once m w g t u x y a d e in
-    histories.history_once m c.some_server w g p place other t h (rw (← same) at l)
+    let grown = course_grown m journal w c in
+    let same = identity_once m w grown t u x y a d e in
+    histories.history_once m c.some_server w grown p place other t h (rw (← same) at l)
 
 pub order : LaterCommandsStandBehind
 order m journal end w c a p q t front back late is =

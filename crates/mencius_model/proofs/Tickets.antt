@@ -33,111 +33,112 @@ module _ (m : Membership) where
   -- a suggested ticket was submitted
   pub ticket_submitted : (w : Trace) → IsGrown m w → (p i t : ℕ) → IsIn (Sent (Suggest p i t)) w
       → t < length (submitted w)
-  ticket_submitted [] g p i t h = absurd h
-  ticket_submitted (l ∷ w) g p i t (inl e) =
-      let may : MaySuggest m w p i t = rw (← e) at g.1 in
+  ticket_submitted [] grown p i t h = absurd h
+  ticket_submitted (l ∷ w) grown p i t (inl e) =
+      let may : MaySuggest m w p i t = rw (← e) at grown.1 in
       let s = submitted_more l w in
       elim may.ticket [
-        | inl f ↦ omega (arith, fresh_last w t f, s)
-        | inr before ↦ omega (arith, ticket_submitted w g.0 p before.0 t before.1.before, s)
+        | inl left ↦ omega (arith, fresh_last w t left, s)
+        | inr before ↦ omega (arith, ticket_submitted w grown.0 p before.0 t before.1.before, s)
       ]
-  ticket_submitted (l ∷ w) g p i t (inr h) = omega (arith, ticket_submitted w g.0 p i t h, submitted_more l w)
+  ticket_submitted (l ∷ w) grown p i t (inr h) = omega (arith, ticket_submitted w grown.0 p i t h, submitted_more l w)
 
   -- it was not suggested before
   fresh_new : (w : Trace) → IsGrown m w → (p i t : ℕ) → IsFresh w t → IsIn (Sent (Suggest p i t)) w → ⊥
-  fresh_new [] g p i t f h = f
-  fresh_new (Submitted command q ∷ w) g p i t f (inl e) = absurd (cc)
-  fresh_new (Submitted command q ∷ w) g p i t f (inr h) = absurd (omega (arith, f, ticket_submitted w g.0 p i t h))
-  fresh_new (_ ∷ w) g p i t f h = f
+  fresh_new [] grown p i t fresh h = fresh
+  fresh_new (Submitted command q ∷ w) grown p i t fresh (inl e) = absurd (cc)
+  fresh_new (Submitted command q ∷ w) grown p i t fresh (inr h) =
+      absurd (omega (arith, fresh, ticket_submitted w grown.0 p i t h))
+  fresh_new (_ ∷ w) grown p i t fresh h = fresh
 
   -- only one server suggests a ticket
   same_home : (w : Trace) → IsGrown m w → (p q i j t : ℕ) → IsIn (Sent (Suggest p i t)) w
       → IsIn (Sent (Suggest q j t)) w → p ≡ q
-  same_home [] g p q i j t h also = absurd h
-  same_home (l ∷ w) g p q i j t (inl e) (inl f) = cc
-  same_home (l ∷ w) g p q i j t (inl e) (inr also) =
-      let may : MaySuggest m w p i t = rw (← e) at g.1 in
+  same_home [] grown p q i j t h also = absurd h
+  same_home (l ∷ w) grown p q i j t (inl e) (inl left) = cc
+  same_home (l ∷ w) grown p q i j t (inl e) (inr also) =
+      let may : MaySuggest m w p i t = rw (← e) at grown.1 in
       elim may.ticket [
-        | inl f ↦ absurd (fresh_new w g.0 q j t f also)
-        | inr n ↦ same_home w g.0 p q n.0 j t n.1.before also
+        | inl left ↦ absurd (fresh_new w grown.0 q j t left also)
+        | inr n ↦ same_home w grown.0 p q n.0 j t n.1.before also
       ]
-  same_home (l ∷ w) g p q i j t (inr h) (inl e) =
-      let may : MaySuggest m w q j t = rw (← e) at g.1 in
+  same_home (l ∷ w) grown p q i j t (inr h) (inl e) =
+      let may : MaySuggest m w q j t = rw (← e) at grown.1 in
       elim may.ticket [
-        | inl f ↦ absurd (fresh_new w g.0 p i t f h)
-        | inr n ↦ same_home w g.0 p q i n.0 t h n.1.before
+        | inl left ↦ absurd (fresh_new w grown.0 p i t left h)
+        | inr n ↦ same_home w grown.0 p q i n.0 t h n.1.before
       ]
-  same_home (l ∷ w) g p q i j t (inr h) (inr also) = same_home w g.0 p q i j t h also
+  same_home (l ∷ w) grown p q i j t (inr h) (inr also) = same_home w grown.0 p q i j t h also
 
   -- a ticket that was suggested twice lost the first time
   pub suggested_twice : (w : Trace) → 1 ≤ m.count → IsGrown m w → (p q i j t : ℕ) → i < j
       → IsIn (Sent (Suggest p i t)) w → IsIn (Sent (Suggest q j t)) w → IsDecided m w i Noop
-  suggested_twice [] few g p q i j t lt h also = absurd h
-  suggested_twice (l ∷ w) few g p q i j t lt (inl e) (inl f) = let s : i ≡ j = cc in absurd (omega arith)
-  suggested_twice (l ∷ w) few g p q i j t lt (inl e) (inr also) =
-      let may : MaySuggest m w p i t = rw (← e) at g.1 in
+  suggested_twice [] few grown p q i j t lt h also = absurd h
+  suggested_twice (l ∷ w) few grown p q i j t lt (inl e) (inl left) = let s : i ≡ j = cc in absurd (omega arith)
+  suggested_twice (l ∷ w) few grown p q i j t lt (inl e) (inr also) =
+      let may : MaySuggest m w p i t = rw (← e) at grown.1 in
       elim may.ticket [
-        | inl f ↦ absurd (fresh_new w g.0 q j t f also)
+        | inl left ↦ absurd (fresh_new w grown.0 q j t left also)
         | inr n ↦
-            let s = same_home w g.0 p q n.0 j t n.1.before also in
-            let f = suggest_front m w q j t few also in
-            absurd (omega (arith, may.past, rw (← s) at f, lt))
+            let s = same_home w grown.0 p q n.0 j t n.1.before also in
+            let ahead = suggest_front m w q j t few also in
+            absurd (omega (arith, may.past, rw (← s) at ahead, lt))
       ]
-  suggested_twice (l ∷ w) few g p q i j t lt (inr h) (inl e) =
-      let may : MaySuggest m w q j t = rw (← e) at g.1 in
+  suggested_twice (l ∷ w) few grown p q i j t lt (inr h) (inl e) =
+      let may : MaySuggest m w q j t = rw (← e) at grown.1 in
       decided_more m l w i Noop
       (elim may.ticket [
-        | inl f ↦ absurd (fresh_new w g.0 p i t f h)
+        | inl left ↦ absurd (fresh_new w grown.0 p i t left h)
         | inr n ↦
-            let s = same_home w g.0 p q i n.0 t h n.1.before in
+            let s = same_home w grown.0 p q i n.0 t h n.1.before in
             let last = n.1.last i (subst (λ x. IsIn (Sent (Suggest x i t)) w) s h) in
             elim (cases_lt i n.0) [
-              | inl below ↦ suggested_twice w few g.0 p q i n.0 t below h n.1.before
+              | inl below ↦ suggested_twice w few grown.0 p q i n.0 t below h n.1.before
               | inr ge ↦
                   let here : n.0 ≡ i = omega (arith, ge, last) in
-                  rw here at ((all_decided m w g.0).lines q n.0 Noop n.1.lost)
+                  rw here at ((all_decided m w grown.0).lines q n.0 Noop n.1.lost)
             ]
       ])
-  suggested_twice (l ∷ w) few g p q i j t lt (inr h) (inr also) =
-      decided_more m l w i Noop (suggested_twice w few g.0 p q i j t lt h also)
+  suggested_twice (l ∷ w) few grown p q i j t lt (inr h) (inr also) =
+      decided_more m l w i Noop (suggested_twice w few grown.0 p q i j t lt h also)
 
   -- a decided ticket was suggested there
   decided_suggested : (w : Trace) → IsGrown m w → (i t : ℕ) → IsDecided m w i (Ticket t)
       → (p : ℕ) × IsIn (Sent (Suggest p i t)) w
-  decided_suggested w g i t (inl command) =
-      elim (origin m w g i command.0 (Ticket t) command.1) [
+  decided_suggested w grown i t (inl command) =
+      elim (origin m w grown i command.0 (Ticket t) command.1) [
         | inl n ↦ absurd (cc)
         | inr s ↦
             let r = start_in w i (Ticket t) s in
-            let e : r.1 ≡ t = (let f = r.3 in cc) in
+            let e : r.1 ≡ t = (let so = r.3 in cc) in
             (r.0, rw e at r.2)
       ]
-  decided_suggested w g i t (inr s) = let e = s.1 in absurd (cc)
+  decided_suggested w grown i t (inr s) = let e = s.1 in absurd (cc)
 
   -- and so it was submitted
   pub decided_submitted : (w : Trace) → IsGrown m w → (i t : ℕ) → IsDecided m w i (Ticket t)
       → t < length (submitted w)
-  decided_submitted w g i t h = let r = decided_suggested w g i t h in ticket_submitted w g r.0 i t r.1
+  decided_submitted w grown i t h = let r = decided_suggested w grown i t h in ticket_submitted w grown r.0 i t r.1
 
   -- it is decided at no lower instance, for there no-op is
   decided_not_before : (w : Trace) → 1 ≤ m.count → IsGrown m w → (i j t : ℕ) → i < j → IsDecided m w i (Ticket t)
       → IsDecided m w j (Ticket t) → ⊥
-  decided_not_before w few g i j t lt h also =
-      let r = decided_suggested w g i t h in
-      let s = decided_suggested w g j t also in
-      let n = suggested_twice w few g r.0 s.0 i j t lt r.1 s.1 in
-      let e = agreement m w few g i (Ticket t) Noop h n in
+  decided_not_before w few grown i j t lt h also =
+      let r = decided_suggested w grown i t h in
+      let s = decided_suggested w grown j t also in
+      let n = suggested_twice w few grown r.0 s.0 i j t lt r.1 s.1 in
+      let e = agreement m w few grown i (Ticket t) Noop h n in
       absurd (cc)
 
   -- a ticket is decided at one instance
   pub decided_once : (w : Trace) → 1 ≤ m.count → IsGrown m w → (i j t : ℕ) → IsDecided m w i (Ticket t)
       → IsDecided m w j (Ticket t) → i ≡ j
-  decided_once w few g i j t h also =
+  decided_once w few grown i j t h also =
       elim (cases_order i j) [
         | inl e ↦ e
         | inr o ↦ elim o [
-          | inl lt ↦ absurd (decided_not_before w few g i j t lt h also)
-          | inr gt ↦ absurd (decided_not_before w few g j i t gt also h)
+          | inl lt ↦ absurd (decided_not_before w few grown i j t lt h also)
+          | inr gt ↦ absurd (decided_not_before w few grown j i t gt also h)
         ]
       ]
 
@@ -147,8 +148,8 @@ same_id_back : (a d : CommandId) → is_same_id a d ≡ true → is_same_id d a 
 same_id_back a d h =
     let r = and_parts (eqb a.client d.client) (eqb a.number d.number) h in
     let s = eqb-true a.client d.client r.0 in
-    let t = eqb-true a.number d.number r.1 in
-    rw (eq-eqb d.client a.client (sym s), eq-eqb d.number a.number (sym t))
+    let same = eqb-true a.number d.number r.1 in
+    rw (eq-eqb d.client a.client (sym s), eq-eqb d.number a.number (sym same))
 
 -- an item of a longer list stood there before, or is the new one
 pub get_push : {A : Type 0} (xs : List A) (x y : A) (k : ℕ) → slice_get (xs ++ x ∷ []) k ≡ Some y
@@ -156,7 +157,8 @@ pub get_push : {A : Type 0} (xs : List A) (x y : A) (k : ℕ) → slice_get (xs 
 get_push [] x y zero h = inr (refl, cc)
 get_push [] x y (suc k) h = absurd (cc)
 get_push (z ∷ xs) x y zero h = inl h
-get_push (z ∷ xs) x y (suc k) h = elim (get_push xs x y k h) [ inl a ↦ inl a | inr b ↦ inr (ap suc b.0, b.1) ]
+get_push (z ∷ xs) x y (suc k) h =
+    elim (get_push xs x y k h) [ inl a ↦ inl a | inr right ↦ inr (ap suc right.0, right.1) ]
 
 abbrev pub Submission : Type 0
 Submission = Command × ℕ
@@ -172,16 +174,16 @@ module _ (w : Trace) (t u : ℕ) (x y : Submission) (e : is_same_id x.0.id y.0.i
       let new = fresh z refl in
       elim (get_push (submitted w) z x t h) [
         | inl a ↦ elim (get_push (submitted w) z y u also) [
-          | inl b ↦ rest a b
-          | inr b ↦ absurd
+          | inl left ↦ rest a left
+          | inr right ↦ absurd
               (none_in (λ (s : Submission). is_same_id s.0.id z.0.id) x (submitted w) new
-              (get_in (submitted w) t x a) (rw b.1 e))
+              (get_in (submitted w) t x a) (rw right.1 e))
         ]
         | inr a ↦ elim (get_push (submitted w) z y u also) [
-          | inl b ↦ absurd
+          | inl leftmost ↦ absurd
               (none_in (λ (s : Submission). is_same_id s.0.id z.0.id) y (submitted w) new
-              (get_in (submitted w) u y b) (rw a.1 (same_id_back x.0.id y.0.id e)))
-          | inr b ↦ a.0 ∙ sym b.0
+              (get_in (submitted w) u y leftmost) (rw a.1 (same_id_back x.0.id y.0.id e)))
+          | inr rightmost ↦ a.0 ∙ sym rightmost.0
         ]
       ]
 
@@ -199,6 +201,7 @@ command_new m w _ may z e = absurd (cc)
 pub identity_once : (m : Membership) (w : Trace) → IsGrown m w → (t u : ℕ) (x y : Submission)
     → slice_get (submitted w) t ≡ Some x → slice_get (submitted w) u ≡ Some y
     → is_same_id x.0.id y.0.id ≡ true → t ≡ u
-identity_once m [] g t u x y h also e = absurd (cc)
-identity_once m (l ∷ w) g t u x y h also e =
-    identity_at w t u x y e (command_in l) (command_new m w l g.1) h also (λ a b. identity_once m w g.0 t u x y a b e)
+identity_once m [] grown t u x y h also e = absurd (cc)
+identity_once m (l ∷ w) grown t u x y h also e =
+    identity_at w t u x y e (command_in l) (command_new m w l grown.1) h also
+    (λ a b. identity_once m w grown.0 t u x y a b e)

@@ -123,21 +123,21 @@ module _ (s : ServerState) (member : s.id < s.members.count) (few : s.members.co
   decision_hearable i inst (Some v) = one s.members (Learn s.id i v) (and_from _ _ sender inst)
 
   on_hearable : (x : Message) → is_within s.members x ≡ true → AreHearable s.members (sent_on s x)
-  on_hearable (Suggest q i t) h = let k = and_parts _ _ h in suggest_hearable q i k.0 k.1
+  on_hearable (Suggest q i t) h = let parts = and_parts _ _ h in suggest_hearable q i parts.0 parts.1
   on_hearable (Skip q first stop) h = nothing s.members
   on_hearable (Accepted q to i b) h =
-      let k = and_parts _ _ h in decision_hearable i k.1 (accept_answer (slot s i) q b)
+      let parts = and_parts _ _ h in decision_hearable i parts.1 (accept_answer (slot s i) q b)
   on_hearable (Prepare q i b) h =
-      let k = and_parts _ _ h in
-      let n = and_parts _ _ k.0 in
-      answer_hearable q i b n.0 n.1 k.1 (prepare_answer (slot s i) b)
+      let parts = and_parts _ _ h in
+      let n = and_parts _ _ parts.0 in
+      answer_hearable q i b n.0 n.1 parts.1 (prepare_answer (slot s i) b)
   on_hearable (Promise q to i b v) h =
-      let k = and_parts _ _ h in
-      let n = and_parts _ _ k.0 in
-      proposal_hearable i b n.1 k.1 (promise_answer (slot s i) q b v)
+      let parts = and_parts _ _ h in
+      let n = and_parts _ _ parts.0 in
+      proposal_hearable i b n.1 parts.1 (promise_answer (slot s i) q b v)
   on_hearable (Propose q i b v) h =
-      let k = and_parts _ _ h in
-      let n = and_parts _ _ k.0 in
+      let parts = and_parts _ _ h in
+      let n = and_parts _ _ parts.0 in
       one_where s.members (leb (slot s i).promised b) (Accepted s.id q i b)
       (λ e. and_from _ _ (and_from _ _ sender n.0) n.1)
   on_hearable (Learn q i v) h = nothing s.members

@@ -35,8 +35,8 @@ in_low : (a : Stretch) (j : ℕ) → is_in a j ≡ true → j < a.stop
 in_low a j e = ltb-true j a.stop (and_parts _ _ e).1
 
 clash : (a : Bool) → a ≡ true → a ≡ false → ⊥
-clash true e f = cc
-clash false e f = cc
+clash true e fails = cc
+clash false e fails = cc
 
 -- messages for the instances that pass, where tests and messages are the same
 sent_same : (f g : ℕ → Message) (a test : ℕ → Bool) (n : ℕ) → ((j : ℕ) → j < n → a j ≡ test j)
@@ -54,8 +54,8 @@ sent_same f g a test (suc n) e h =
     ∙ sym (ap (map g) (filter-below_more test n) ∙ map-append g (filter test (below n)) _))
   where
     last : (d : Bool) → a n ≡ d → map f (cond (a n) (n ∷ []) []) ≡ map g (cond (a n) (n ∷ []) [])
-    last true k = rw k (ap (λ x. x ∷ []) (h n (omega arith) k))
-    last false k = rw k refl
+    last true same = rw same (ap (λ x. x ∷ []) (h n (omega arith) same))
+    last false same = rw same refl
 
 -- rounds are left where nothing was heard
 unspent_unheard : (m : Membership) (a : Bool) → is_spent m (unheard m a) ≡ false
@@ -89,12 +89,12 @@ module _ (m : Membership) (slots : List (Option SlotState)) (rs : List (List Spa
     open_bare : (j : ℕ) → j < instance_count → stand_at slots j ≡ None
         → (is_in a j && not (covers r j)) ≡ is_open_in now a j
     open_bare j l e = elim (cases_Bool (is_in a j)) [
-      | inl i ↦
-          ap (λ z. z && not (covers r j)) i ∙ ap not (covered_is j i)
-          ∙ sym (ap (λ z. z && is_none (known_slot now j).learned) i
+      | inl left ↦
+          ap (λ z. z && not (covers r j)) left ∙ ap not (covered_is j left)
+          ∙ sym (ap (λ z. z && is_none (known_slot now j).learned) left
           ∙ ap (λ (s : SlotState). is_none s.learned) (seen_none m slots rs now shown j l e)
           ∙ open_unheard m (is_passed m rs j))
-      | inr i ↦ and_left _ _ i ∙ sym (and_left _ _ i)
+      | inr right ↦ and_left _ _ right ∙ sym (and_left _ _ right)
     ]
 
     lacking_open : (j : ℕ) → j < instance_count → (o : Option SlotState) → stand_at slots j ≡ o

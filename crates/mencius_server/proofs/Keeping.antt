@@ -132,6 +132,6 @@ module _ (m : Membership) (p f : ℕ) (s new : KnownState) (before after : Noted
     where
       noted_is : after.lost_from ≡ before.lost_from → after.free_from ≡ before.free_from
           → after ≡ record before { next_ticket = after.next_ticket; moved = after.moved }
-      noted_is e f =
+      noted_is e same =
           ap (λ (l : ℕ). record after { lost_from = l }) e
-          ∙ ap (λ (l : ℕ). record after { lost_from = before.lost_from; free_from = l }) f
+          ∙ ap (λ (l : ℕ). record after { lost_from = before.lost_from; free_from = l }) same

@@ -306,8 +306,8 @@ changed_learned s (CountAccept q b) h = counted (eqb b s.trying)
 changed_learned s (Learn v) h = rw h h
 
 pub none_there : {A : Type 0} (o : Option A) (a : Bool) → a ≡ is_some o → a ≡ false → o ≡ None
-none_there None a e f = refl
-none_there (Some x) a e f = absurd (cc)
+none_there None a e fails = refl
+none_there (Some x) a e fails = absurd (cc)
 
 pub some_there : {A : Type 0} (o : Option A) → is_some o ≡ true → IsSome o
 some_there o e = e

@@ -19,9 +19,9 @@ use Rattle.mencius_base.specs.Limits.{instance_count}
 
 -- two tests that follow from each other
 pub both_ways : (a d : Bool) → (a ≡ true → d ≡ true) → (d ≡ true → a ≡ true) → a ≡ d
-both_ways true d f g = sym (f refl)
-both_ways false true f g = g refl
-both_ways false false f g = refl
+both_ways true d each whenever = sym (each refl)
+both_ways false true each whenever = whenever refl
+both_ways false false each whenever = refl
 
 -- the same own suggestions
 pub record SaysSame (s x : ServerState) : Type 0 where
@@ -31,12 +31,12 @@ pub past_same : (s x : ServerState) → SaysSame s x → (t i : ℕ)
     → list_any (is_suggested_past x t i) instances ≡ list_any (is_suggested_past s t i) instances
 past_same s x said t i =
     both_ways _ _
-    (λ h. let f = any-instances_found (is_suggested_past x t i) h in
-    any-instances (is_suggested_past s t i) f.0 f.1
-    (ap (λ (o : Option ℕ). ltb i f.0 && is_ticket t o) (sym (said.same f.0 f.1)) ∙ f.2))
-    (λ h. let f = any-instances_found (is_suggested_past s t i) h in
-    any-instances (is_suggested_past x t i) f.0 f.1
-    (ap (λ (o : Option ℕ). ltb i f.0 && is_ticket t o) (said.same f.0 f.1) ∙ f.2))
+    (λ h. let found = any-instances_found (is_suggested_past x t i) h in
+    any-instances (is_suggested_past s t i) found.0 found.1
+    (ap (λ (o : Option ℕ). ltb i found.0 && is_ticket t o) (sym (said.same found.0 found.1)) ∙ found.2))
+    (λ h. let so = any-instances_found (is_suggested_past s t i) h in
+    any-instances (is_suggested_past x t i) so.0 so.1
+    (ap (λ (o : Option ℕ). ltb i so.0 && is_ticket t o) (said.same so.0 so.1) ∙ so.2))
 
 unless_none : (d : Bool) (t : ℕ) → unless d (Some t) ≡ None → d ≡ true
 unless_none true t h = refl
@@ -54,7 +54,7 @@ waits_cases s x said j none since (Some t) e =
             let past : list_any (is_suggested_past s t j) instances ≡ true =
             unless_none _ t (rw before at (rw e at none)) in
             rw (lost, past_same s x said t j, past) refl
-        | inr nothing ↦ let k = sym e ∙ nothing in absurd (cc)
+        | inr nothing ↦ let turned = sym e ∙ nothing in absurd (cc)
       ]
       | inr kept ↦ rw kept refl
     ]
@@ -82,13 +82,13 @@ said_before s kept j t e =
     unsaid : s.front ≤ j → (a : Bool) → eqb (owner s.members j) s.id ≡ a → ⊥
     unsaid past true mine =
         let none : (slot s j).proposal ≡ None = kept.unsaid j (eqb-true _ _ mine) past in
-        let k = rw (mine, none) at e in cc
-    unsaid past false other = let k = rw other at e in cc
+        let turned = rw (mine, none) at e in cc
+    unsaid past false other = let turned = rw other at e in cc
 
 either_no : (a d : Bool) → (a ≡ true → ⊥) → (d ≡ true → ⊥) → (a || d) ≡ false
-either_no true d f g = absurd (f refl)
-either_no false true f g = absurd (g refl)
-either_no false false f g = refl
+either_no true d unlike apart = absurd (unlike refl)
+either_no false true unlike apart = absurd (apart refl)
+either_no false false unlike apart = refl
 
 and-true : (a : Bool) → (a && true) ≡ a
 and-true true = refl
@@ -138,18 +138,18 @@ module _ (s : ServerState) (i t : ℕ) (kept : IsServer s) (mine : owner s.membe
 
       more : list_any (is_suggested_past later u j) instances ≡ true
           → (list_any (is_suggested_past s u j) instances || (eqb t u && ltb j i)) ≡ true
-      more h = let f = any-instances_found (is_suggested_past later u j) h in found f.0 f.2 f.1
+      more h = let so = any-instances_found (is_suggested_past later u j) h in found so.0 so.2 so.1
 
       fewer : (list_any (is_suggested_past s u j) instances || (eqb t u && ltb j i)) ≡ true
           → list_any (is_suggested_past later u j) instances ≡ true
       fewer h =
           ⊎_elim
           (λ (e : list_any (is_suggested_past s u j) instances ≡ true).
-          let f = any-instances_found (is_suggested_past s u j) e in
-          let parts = and_parts (ltb j f.0) (is_ticket u (suggested_at s f.0)) f.2 in
-          let off : f.0 ≡ i → ⊥ = λ at. unsaid_here u (ap (suggested_at s) (sym at) ∙ ticket_is u _ parts.1) in
-          any-instances (is_suggested_past later u j) f.0 f.1
-          (ap (λ (o : Option ℕ). ltb j f.0 && is_ticket u o) (said_there f.0 off) ∙ f.2))
+          let found = any-instances_found (is_suggested_past s u j) e in
+          let parts = and_parts (ltb j found.0) (is_ticket u (suggested_at s found.0)) found.2 in
+          let off : found.0 ≡ i → ⊥ = λ at. unsaid_here u (ap (suggested_at s) (sym at) ∙ ticket_is u _ parts.1) in
+          any-instances (is_suggested_past later u j) found.0 found.1
+          (ap (λ (o : Option ℕ). ltb j found.0 && is_ticket u o) (said_there found.0 off) ∙ found.2))
           (λ (e : (eqb t u && ltb j i) ≡ true).
           let parts = and_parts (eqb t u) (ltb j i) e in
           let same : t ≡ u = eqb-true t u parts.0 in
@@ -197,10 +197,10 @@ module _ (s : ServerState) (i t : ℕ) (kept : IsServer s) (mine : owner s.membe
           let none : length old ≤ j = omega arith in
           either_no _ _
           (λ h.
-          let f = any-instances_found (is_suggested_past s u j) h in
-          let parts = and_parts (ltb j f.0) (is_ticket u (suggested_at s f.0)) f.2 in
-          let low : f.0 < s.front = said_before s kept f.0 u (ticket_is u _ parts.1) in
-          let high : j < f.0 = ltb-true j f.0 parts.0 in
+          let found = any-instances_found (is_suggested_past s u j) h in
+          let parts = and_parts (ltb j found.0) (is_ticket u (suggested_at s found.0)) found.2 in
+          let low : found.0 < s.front = said_before s kept found.0 u (ticket_is u _ parts.1) in
+          let high : j < found.0 = ltb-true j found.0 parts.0 in
           absurd (omega arith))
           (λ h. let high : j < i = ltb-true j i (and_parts (eqb t u) (ltb j i) h).1 in absurd (omega arith))
           ∙ sym (marked j

@@ -63,7 +63,8 @@ module _ (p q : ℕ) (ne : p ≡ q → ⊥) where
         record { promised = refl; proposed = λ c. refl; accepted = refl; learned = rw (not_q from e); tried = refl }
 
     voted : IsGrown m w → IsVoted w q i
-    voted g = record { proposal = λ b e. let r = accepted_in w q i b e in accepted_proposed m w g q r.0 i b r.1 }
+    voted grown =
+        record { proposal = λ b e. let r = accepted_in w q i b e in accepted_proposed m w grown q r.0 i b r.1 }
 
     -- a proposal of another is at no ballot that q tries
     suggest_other : (from j t b : ℕ) → owner m j ≡ p → (a : Bool) → (eqb j i && eqb b 0) ≡ a
@@ -89,34 +90,34 @@ module _ (p q : ℕ) (ne : p ≡ q → ⊥) where
 
     sent_other : (x : Message) → IsGrown m (Sent x ∷ w) → IsBy p (Sent x)
         → slot_at m (Sent x ∷ w) q i ≡ slot_at m w q i
-    sent_other (Suggest from j t) g by =
-        let may : MaySuggest m w from j t = g.1 in
+    sent_other (Suggest from j t) grown by =
+        let may : MaySuggest m w from j t = grown.1 in
         slot_at-proposing m w (Sent (Suggest from j t)) q i
-        (if_own m q i (trying w q i) (proposed w i (trying w q i))) (voted g.0) refl refl refl refl refl
+        (if_own m q i (trying w q i) (proposed w i (trying w q i))) (voted grown.0) refl refl refl refl refl
         (suggest_other from j t (trying w q i) (may.own ∙ by) (eqb j i && eqb (trying w q i) 0) refl)
-    sent_other (Skip from first stop) g by =
+    sent_other (Skip from first stop) grown by =
         slot_at-quiet m w (Sent (Skip from first stop)) q i (skip_quiet from first stop) refl
-    sent_other (Accepted from to j b) g by =
+    sent_other (Accepted from to j b) grown by =
         slot_at-quiet m w (Sent (Accepted from to j b)) q i (accepted_quiet from to j b by) refl
-    sent_other (Prepare from j b) g by =
+    sent_other (Prepare from j b) grown by =
         slot_at-quiet m w (Sent (Prepare from j b)) q i (prepare_quiet from j b by) refl
-    sent_other (Promise from to j b o) g by =
+    sent_other (Promise from to j b o) grown by =
         slot_at-quiet m w (Sent (Promise from to j b o)) q i (promise_quiet from to j b o by) refl
-    sent_other (Propose from j b z) g by =
+    sent_other (Propose from j b z) grown by =
         slot_at-proposing m w (Sent (Propose from j b z)) q i
-        (if_own m q i (trying w q i) (proposed w i (trying w q i))) (voted g.0) refl refl refl refl refl
+        (if_own m q i (trying w q i) (proposed w i (trying w q i))) (voted grown.0) refl refl refl refl refl
         (propose_other from j b z (trying w q i)
-        ((propose_ballot m (Sent (Propose from j b z) ∷ w) g from j b z (inl refl)).1
-        ∙ by) (tried_owner m w g.0 q i)
+        ((propose_ballot m (Sent (Propose from j b z) ∷ w) grown from j b z (inl refl)).1
+        ∙ by) (tried_owner m w grown.0 q i)
         ((eqb j i && eqb b (trying w q i)) && ltb 0 (trying w q i)) refl)
-    sent_other (Learn from j z) g by =
+    sent_other (Learn from j z) grown by =
         slot_at-quiet m w (Sent (Learn from j z)) q i
         (record { promised = refl; proposed = λ b. refl; accepted = refl; learned = refl; tried = refl }) refl
 
     slot_other : (l : Line) → IsGrown m (l ∷ w) → IsBy p l → slot_at m (l ∷ w) q i ≡ slot_at m w q i
-    slot_other (Sent x) g by = sent_other x g by
-    slot_other (Learned from j z) g by = slot_at-quiet m w (Learned from j z) q i (learned_quiet from j z by) refl
-    slot_other (Heard k to) g by =
+    slot_other (Sent x) grown by = sent_other x grown by
+    slot_other (Learned from j z) grown by = slot_at-quiet m w (Learned from j z) q i (learned_quiet from j z by) refl
+    slot_other (Heard k to) grown by =
         slot_at-quiet m w (Heard k to) q i
         (record {
           promised = refl;
@@ -125,19 +126,19 @@ module _ (p q : ℕ) (ne : p ≡ q → ⊥) where
           learned = refl;
           tried = refl;
         }) (rw (not_q to by))
-    slot_other (Submitted command from) g by =
+    slot_other (Submitted command from) grown by =
         slot_at-quiet m w (Submitted command from) q i
         (record { promised = refl; proposed = λ b. refl; accepted = refl; learned = refl; tried = refl }) refl
-    slot_other (Lost k to) g by =
+    slot_other (Lost k to) grown by =
         slot_at-quiet m w (Lost k to) q i
         (record { promised = refl; proposed = λ b. refl; accepted = refl; learned = refl; tried = refl }) refl
-    slot_other (Suspected from to) g by =
+    slot_other (Suspected from to) grown by =
         slot_at-quiet m w (Suspected from to) q i
         (record { promised = refl; proposed = λ c. refl; accepted = refl; learned = refl; tried = refl }) refl
-    slot_other (Retried from) g by =
+    slot_other (Retried from) grown by =
         slot_at-quiet m w (Retried from) q i
         (record { promised = refl; proposed = λ b. refl; accepted = refl; learned = refl; tried = refl }) refl
-    slot_other (Executed from) g by =
+    slot_other (Executed from) grown by =
         slot_at-quiet m w (Executed from) q i
         (record { promised = refl; proposed = λ b. refl; accepted = refl; learned = refl; tried = refl }) refl
 
@@ -159,25 +160,25 @@ module _ (p q : ℕ) (ne : p ≡ q → ⊥) where
 
   server_other : (m : Membership) (w : Trace) (l : Line) → IsGrown m (l ∷ w) → IsBy p l
       → server_at m w q ≡ server_at m (l ∷ w) q
-  server_other m w l g by =
+  server_other m w l grown by =
       server_unchanged m w (l ∷ w) q (ap (max q) (greatest_quiet (front_by m q) l w (front_other m l by)))
-      (λ j. slot_other m w j l g by)
+      (λ j. slot_other m w j l grown by)
 
   servers_other : (m : Membership) (ls : List Line) (w : Trace) → IsGrown m w → AllMay m w ls → AreBy p ls
       → server_at m w q ≡ server_at m (followed_by w ls) q
-  servers_other m [] w g may by = refl
-  servers_other m (l ∷ ls) w g may by =
-      server_other m w l (g, may.0) by.0 ∙ servers_other m ls (l ∷ w) (g, may.0) may.1 by.1
+  servers_other m [] w grown may by = refl
+  servers_other m (l ∷ ls) w grown may by =
+      server_other m w l (grown, may.0) by.0 ∙ servers_other m ls (l ∷ w) (grown, may.0) may.1 by.1
 
 -- an event that is not refused leaves every server but its own as it was
 pub others_stay : (m : Membership) (w : Trace) (e : Event) → IsReached m w → refused m w e ≡ None → (q : ℕ)
     → (server_of e ≡ q → ⊥)
     → server_at m (with_event m w e) q ≡ server_at m w q
 others_stay m w e r allowed q ne =
-    let g = reached_grown m w r in
+    let grown = reached_grown m w r in
     let none = none_holds ((nat_le most_events (events w), EventsFull) ∷ causes m w e) allowed in
-    let may = step_may m w e g none.1 in
-    sym (servers_other (server_of e) q ne m (head e ∷ lines m w e) w g may (head_by e, lines_by m w e))
+    let may = step_may m w e grown none.1 in
+    sym (servers_other (server_of e) q ne m (head e ∷ lines m w e) w grown may (head_by e, lines_by m w e))
 
 -- a loss or an execution leaves every server as it was
 pub loss_stays : (m : Membership) (w : Trace) (k p q : ℕ)

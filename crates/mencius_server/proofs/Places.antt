@@ -40,8 +40,8 @@ pub somewhere : (places : List (Option ℕ)) (slots : List SlotState) (n : ℕ) 
 somewhere places slots n e h j = ap is_some (stand_is places slots h.few j) ∙ go (get_or places j None) refl
   where
     go : (o : Option ℕ) → get_or places j None ≡ o → is_some (slot_in slots o) ≡ is_some o
-    go None p = refl
-    go (Some place) p = slice_get_some slots place (let l = h.within j place p in omega (arith, l))
+    go None same = refl
+    go (Some place) same = slice_get_some slots place (let l = h.within j place same in omega (arith, l))
 
 pub stands_there : (places : List (Option ℕ)) (slots : List SlotState) (n : ℕ) → n ≡ length slots
     → IsPlaced places n → (j place : ℕ) (s : SlotState)
@@ -67,8 +67,8 @@ place_of places ys slots n now i place o e h view there same read is =
     sym here ∙ go o some ∙ ap (λ x. Some x) (sym is)
   where
     go : (o : Option ℕ) → is_some o ≡ true → o ≡ Some (unwrap_or o 0)
-    go None f = absurd (cc)
-    go (Some x) f = refl
+    go None holds = absurd (cc)
+    go (Some x) holds = refl
 
 -- ---- how many there are
 
@@ -246,8 +246,8 @@ module _ (places wide : List (Option ℕ)) (slots : List SlotState) (now : List 
       (sym (somewhere places slots n e h i) ∙ ap (λ ss. is_some (stand_at ss i)) view ∙ ap is_some none)
     where
       go : (o : Option ℕ) → is_some o ≡ false → o ≡ None
-      go None f = refl
-      go (Some place) f = absurd (cc)
+      go None fails = refl
+      go (Some place) fails = absurd (cc)
 
   pub placed_stand : (more : ℕ) → more ≡ m + 1 → IsPlaced (set wide i (Some m)) more
   placed_stand more is = rw len (placed_push wide slots n e (placed_wider places wide n few same h) i within
@@ -271,8 +271,8 @@ none_read places slots i o a few within read tells true_is =
     stands_nowhere places slots few i (get_or_default places i None o within ∙ sym read ∙ go o (tells ∙ ap not true_is))
   where
     go : (o : Option ℕ) → is_some o ≡ false → o ≡ None
-    go None f = refl
-    go (Some place) f = absurd (cc)
+    go None fails = refl
+    go (Some place) fails = absurd (cc)
 
 pub some_read : (places : List (Option ℕ)) (slots : List SlotState) (n i : ℕ) (o : Option ℕ) (a : Bool)
     → n ≡ length slots → IsPlaced places n → i < length places → o ≡ get_or places i o
@@ -283,5 +283,5 @@ some_read places slots n i o a e h within read tells false_is =
     ∙ ap not false_is)
   where
     turn : (o : Option SlotState) → is_some o ≡ true → is_none o ≡ false
-    turn None f = absurd (cc)
-    turn (Some place) f = refl
+    turn None holds = absurd (cc)
+    turn (Some place) holds = refl

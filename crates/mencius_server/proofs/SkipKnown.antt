@@ -61,9 +61,9 @@ given_none : (d : Stretch) (j : ℕ) (s : SlotState) → (is_in d j && is_none s
 given_none d j s e = go (is_in d j) (is_none s.learned) refl e
   where
     go : (a x : Bool) → is_none s.learned ≡ x → (a && x) ≡ false → cond a (after_learn s Noop) s ≡ s
-    go false x k h = refl
-    go true false k h = rw k refl
-    go true true k h = absurd (cc)
+    go false x same h = refl
+    go true false same h = rw same refl
+    go true true same h = absurd (cc)
 
 module _ (m : Membership) (a : Stretch) (members : a.members ≡ m) (slots new : List (Option SlotState))
     (rs : List (List Span)) (member : a.server < length rs)
@@ -191,9 +191,9 @@ module _ (m : Membership) (a : Stretch) (members : a.members ≡ m) (slots new :
         where
           by_range : (d z : Bool) → is_passed m rs j ≡ d → is_in a j ≡ z → (d || z) ≡ true
               → (d ≡ true → is_none v.learned ≡ false) → is_none (given a j v).learned ≡ false
-          by_range true z p s y old = stays_learned a j v (old refl)
-          by_range false true p s y old = rw s (learned_noop v)
-          by_range false false p s y old = absurd (cc)
+          by_range true z same s y old = stays_learned a j v (old refl)
+          by_range false true same s y old = rw s (learned_noop v)
+          by_range false false same s y old = absurd (cc)
 
 -- where the whole range was skipped before, all is as it was
 pub skip_again : (m : Membership) (d : Stretch) (slots : List (Option SlotState)) (rs : List (List Span))
@@ -245,10 +245,10 @@ given_same m d slots rs low members h j small =
 
     go : (o : Option SlotState) → stand_at slots j ≡ o → (y : Bool) → is_passed m rs j ≡ y
         → (not (is_passed m rs j) && not (is_learned (stand_at slots j))) ≡ is_none (known_at m slots rs j).learned
-    go None e true p = rw (e, p) refl
-    go None e false p = rw (e, p) refl
-    go (Some u) e true p = let k = h.told j u small p e in rw (e, p, k) refl
-    go (Some u) e false p = rw (e, p) (twice (is_none u.learned))
+    go None e true same = rw (e, same) refl
+    go None e false same = rw (e, same) refl
+    go (Some u) e true same = let so = h.told j u small same e in rw (e, same, so) refl
+    go (Some u) e false same = rw (e, same) (twice (is_none u.learned))
 
 -- a stretch of q has its instances from one place on and below another
 pub record IsAligned (q first stop : ℕ) (a : Stretch) : Type 0 where

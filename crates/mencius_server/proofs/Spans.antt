@@ -9,38 +9,39 @@ use Rattle.mencius_server.specs.Ranges.{IsOwned, IsRising, covers, is_within, jo
 
 pub rising_at : (low : ℕ) (rs : List Span) → IsRising low rs → (j : ℕ) (d : Span) → j < length rs
     → (low ≤ (get_or rs j d).first) × ((get_or rs j d).first < (get_or rs j d).stop)
-rising_at low [] h j d k = absurd (omega arith)
-rising_at low (r ∷ rs) h zero d k = (h.0, h.1)
-rising_at low (r ∷ rs) h (suc j) d k =
-    let t = rising_at (r.stop + 1) rs h.2 j d (omega arith) in (omega (arith, t.0, h.0, h.1), t.1)
+rising_at low [] h j d below = absurd (omega arith)
+rising_at low (r ∷ rs) h zero d below = (h.0, h.1)
+rising_at low (r ∷ rs) h (suc j) d below =
+    let rises = rising_at (r.stop + 1) rs h.2 j d (omega arith) in (omega (arith, rises.0, h.0, h.1), rises.1)
 
 pub rising_stop : (low : ℕ) (rs : List Span) → IsRising low rs → (i j : ℕ) (d : Span) → i ≤ j → j < length rs
     → (get_or rs i d).stop ≤ (get_or rs j d).stop
-rising_stop low [] h i j d l k = absurd (omega arith)
-rising_stop low (r ∷ rs) h zero zero d l k = omega arith
-rising_stop low (r ∷ rs) h zero (suc j) d l k =
-    let t = rising_at (r.stop + 1) rs h.2 j d (omega arith) in omega (arith, t.0, t.1)
-rising_stop low (r ∷ rs) h (suc i) zero d l k = absurd (omega arith)
-rising_stop low (r ∷ rs) h (suc i) (suc j) d l k = rising_stop (r.stop + 1) rs h.2 i j d (omega arith) (omega arith)
+rising_stop low [] h i j d l below = absurd (omega arith)
+rising_stop low (r ∷ rs) h zero zero d l below = omega arith
+rising_stop low (r ∷ rs) h zero (suc j) d l below =
+    let rises = rising_at (r.stop + 1) rs h.2 j d (omega arith) in omega (arith, rises.0, rises.1)
+rising_stop low (r ∷ rs) h (suc i) zero d l below = absurd (omega arith)
+rising_stop low (r ∷ rs) h (suc i) (suc j) d l below = rising_stop (r.stop + 1) rs h.2 i j d (omega arith) (omega arith)
 
 pub rising_first : (low : ℕ) (rs : List Span) → IsRising low rs → (i j : ℕ) (d : Span) → i ≤ j → j < length rs
     → (get_or rs i d).first ≤ (get_or rs j d).first
-rising_first low [] h i j d l k = absurd (omega arith)
-rising_first low (r ∷ rs) h zero zero d l k = omega arith
-rising_first low (r ∷ rs) h zero (suc j) d l k =
-    let t = rising_at (r.stop + 1) rs h.2 j d (omega arith) in omega (arith, t.0, h.1)
-rising_first low (r ∷ rs) h (suc i) zero d l k = absurd (omega arith)
-rising_first low (r ∷ rs) h (suc i) (suc j) d l k = rising_first (r.stop + 1) rs h.2 i j d (omega arith) (omega arith)
+rising_first low [] h i j d l below = absurd (omega arith)
+rising_first low (r ∷ rs) h zero zero d l below = omega arith
+rising_first low (r ∷ rs) h zero (suc j) d l below =
+    let rises = rising_at (r.stop + 1) rs h.2 j d (omega arith) in omega (arith, rises.0, h.1)
+rising_first low (r ∷ rs) h (suc i) zero d l below = absurd (omega arith)
+rising_first low (r ∷ rs) h (suc i) (suc j) d l below =
+    rising_first (r.stop + 1) rs h.2 i j d (omega arith) (omega arith)
 
 -- each begins past the end of those before it
 rising_gap : (low : ℕ) (rs : List Span) → IsRising low rs → (i j : ℕ) (d : Span) → i < j → j < length rs
     → (get_or rs i d).stop < (get_or rs j d).first
-rising_gap low [] h i j d l k = absurd (omega arith)
-rising_gap low (r ∷ rs) h zero zero d l k = absurd (omega arith)
-rising_gap low (r ∷ rs) h zero (suc j) d l k =
-    let t = rising_at (r.stop + 1) rs h.2 j d (omega arith) in omega (arith, t.0)
-rising_gap low (r ∷ rs) h (suc i) zero d l k = absurd (omega arith)
-rising_gap low (r ∷ rs) h (suc i) (suc j) d l k = rising_gap (r.stop + 1) rs h.2 i j d (omega arith) (omega arith)
+rising_gap low [] h i j d l below = absurd (omega arith)
+rising_gap low (r ∷ rs) h zero zero d l below = absurd (omega arith)
+rising_gap low (r ∷ rs) h zero (suc j) d l below =
+    let rises = rising_at (r.stop + 1) rs h.2 j d (omega arith) in omega (arith, rises.0)
+rising_gap low (r ∷ rs) h (suc i) zero d l below = absurd (omega arith)
+rising_gap low (r ∷ rs) h (suc i) (suc j) d l below = rising_gap (r.stop + 1) rs h.2 i j d (omega arith) (omega arith)
 
 -- a lower bound may be lowered
 pub rising_from : (low less : ℕ) (rs : List Span) → less ≤ low → IsRising low rs → IsRising less rs
@@ -82,9 +83,9 @@ within_past first stop j h = and_right _ _ (le-ltb j stop h)
 
 pub covers_in : (rs : List Span) (at i : ℕ) (d : Span) → at < length rs → (get_or rs at d).first ≤ i
     → i < (get_or rs at d).stop → covers rs i ≡ true
-covers_in [] at i d k low high = absurd (omega arith)
-covers_in (r ∷ rs) zero i d k low high = rw (within_yes r.first r.stop i low high) refl
-covers_in (r ∷ rs) (suc at) i d k low high =
+covers_in [] at i d below low high = absurd (omega arith)
+covers_in (r ∷ rs) zero i d below low high = rw (within_yes r.first r.stop i low high) refl
+covers_in (r ∷ rs) (suc at) i d below low high =
     rw (covers_in rs at i d (omega arith) low high) (or-true (is_within r.first r.stop i))
 
 outside : (r : Span) (i : ℕ) → (r.stop ≤ i) ⊎ (i < r.first) → is_within r.first r.stop i ≡ false
@@ -99,9 +100,9 @@ covers_out (r ∷ rs) i d h = rw (outside r i (h 0 (omega arith))) (covers_out r
 -- the end of a range lies in none
 pub open_stop : (rs : List Span) → IsRising 0 rs → (at : ℕ) (d : Span) → at < length rs
     → covers rs (get_or rs at d).stop ≡ false
-open_stop rs h at d k = covers_out rs (get_or rs at d).stop d (λ j within. ⊎_elim
+open_stop rs h at d below = covers_out rs (get_or rs at d).stop d (λ j within. ⊎_elim
     (λ (past : at < j). inr (rising_gap 0 rs h at j d past within))
-    (λ (upto : j ≤ at). inl (rising_stop 0 rs h j at d upto k))
+    (λ (upto : j ≤ at). inl (rising_stop 0 rs h j at d upto below))
     (cases_lt at j))
 
 -- nor does what lies past the end of those before it, and before the next one
@@ -118,7 +119,7 @@ open_between rs h at i d before next = covers_out rs i d (λ j within. ⊎_elim
 
 -- two ranges that meet make one
 hull : (a b c e j : ℕ) → a ≤ e → c ≤ b → is_within (min a c) (max b e) j ≡ (is_within c e j || is_within a b j)
-hull a b c e j h k =
+hull a b c e j h below =
     ⊎_elim
     (λ (low : j < min a c). rw (
       within_before (min a c) (max b e) j low,
@@ -150,11 +151,11 @@ after_it r rs f s h = rw (lt-ltb r.stop f h) refl
 
 before_it : (r : Span) (rs : List Span) (f s : ℕ) → f ≤ r.stop → s < r.first
     → joined (r ∷ rs) f s ≡ record { first = f; stop = s } ∷ r ∷ rs
-before_it r rs f s h k = rw (le-ltb r.stop f h, lt-ltb s r.first k) refl
+before_it r rs f s h below = rw (le-ltb r.stop f h, lt-ltb s r.first below) refl
 
 pub meeting_it : (r : Span) (rs : List Span) (f s : ℕ) → f ≤ r.stop → r.first ≤ s
     → joined (r ∷ rs) f s ≡ joined rs (min f r.first) (max s r.stop)
-meeting_it r rs f s h k = rw (le-ltb r.stop f h, le-ltb s r.first k) refl
+meeting_it r rs f s h below = rw (le-ltb r.stop f h, le-ltb s r.first below) refl
 
 -- the three places where a range may go
 IsPlace : Span → ℕ → ℕ → Type 0
@@ -172,12 +173,13 @@ covers_joined (r ∷ rs) f s j =
     elim (place_of r f s) [
       | inl h ↦ rw (after_it r rs f s h, covers_joined rs f s j)
           (or-assoc (is_within r.first r.stop j) (covers rs j) (is_within f s j))
-      | inr p ↦ elim p.1 [
-        | inl k ↦ rw (before_it r rs f s p.0 k) (or-swap (is_within f s j) (is_within r.first r.stop j) (covers rs j))
-        | inr k ↦ rw (
-          meeting_it r rs f s p.0 k,
+      | inr right ↦ elim right.1 [
+        | inl left ↦
+            rw (before_it r rs f s right.0 left) (or-swap (is_within f s j) (is_within r.first r.stop j) (covers rs j))
+        | inr rightmost ↦ rw (
+          meeting_it r rs f s right.0 rightmost,
           covers_joined rs (min f r.first) (max s r.stop) j,
-          hull f s r.first r.stop j p.0 k,
+          hull f s r.first r.stop j right.0 rightmost,
         ) (or-middle (covers rs j) (is_within r.first r.stop j) (is_within f s j))
       ]
     ]
@@ -185,44 +187,44 @@ covers_joined (r ∷ rs) f s j =
 pub rising_joined : (low : ℕ) (rs : List Span) (f s : ℕ) → low ≤ f → f < s → IsRising low rs
     → IsRising low (joined rs f s)
 unfolding IsPlace
-rising_joined low [] f s l k h = (l, k, tt)
-rising_joined low (r ∷ rs) f s l k h =
+rising_joined low [] f s l below h = (l, below, tt)
+rising_joined low (r ∷ rs) f s l below h =
     elim (place_of r f s) [
-      | inl e ↦ rw (after_it r rs f s e) (h.0, h.1, rising_joined (r.stop + 1) rs f s (omega arith) k h.2)
-      | inr p ↦ elim p.1 [
-        | inl e ↦ rw (before_it r rs f s p.0 e) (l, k, (omega arith, h.1, h.2))
-        | inr e ↦ rw (meeting_it r rs f s p.0 e)
+      | inl e ↦ rw (after_it r rs f s e) (h.0, h.1, rising_joined (r.stop + 1) rs f s (omega arith) below h.2)
+      | inr right ↦ elim right.1 [
+        | inl e ↦ rw (before_it r rs f s right.0 e) (l, below, (omega arith, h.1, h.2))
+        | inr e ↦ rw (meeting_it r rs f s right.0 e)
             (rising_joined low rs (min f r.first) (max s r.stop) (omega (arith, h.0)) (omega (arith, h.1))
             (rising_from (r.stop + 1) low rs (omega (arith, h.0, h.1)) h.2))
       ]
     ]
 
 owner_min : (m : Membership) (q i j : ℕ) → owner m i ≡ q → owner m j ≡ q → owner m (min i j) ≡ q
-owner_min m q i j h k =
+owner_min m q i j h same =
     ⊎_elim
     (λ (l : i < j). let e : min i j ≡ i = omega arith in rw e h)
-    (λ (l : j ≤ i). let e : min i j ≡ j = omega arith in rw e k)
+    (λ (l : j ≤ i). let e : min i j ≡ j = omega arith in rw e same)
     (cases_lt i j)
 
 owner_max : (m : Membership) (q i j : ℕ) → owner m i ≡ q → owner m j ≡ q → owner m (max i j) ≡ q
-owner_max m q i j h k =
+owner_max m q i j h same =
     ⊎_elim
-    (λ (l : i < j). let e : max i j ≡ j = omega arith in rw e k)
+    (λ (l : i < j). let e : max i j ≡ j = omega arith in rw e same)
     (λ (l : j ≤ i). let e : max i j ≡ i = omega arith in rw e h)
     (cases_lt i j)
 
 pub owned_joined : (m : Membership) (q top : ℕ) (rs : List Span) (f s : ℕ) → owner m f ≡ q → owner m s ≡ q → s ≤ top
     → IsOwned m q top rs → IsOwned m q top (joined rs f s)
 unfolding IsPlace
-owned_joined m q top [] f s a b c h = (a, b, c, tt)
-owned_joined m q top (r ∷ rs) f s a b c h =
+owned_joined m q top [] f s a same below h = (a, same, below, tt)
+owned_joined m q top (r ∷ rs) f s a same below h =
     elim (place_of r f s) [
-      | inl e ↦ rw (after_it r rs f s e) (h.0, h.1, h.2, owned_joined m q top rs f s a b c h.3)
-      | inr p ↦ elim p.1 [
-        | inl e ↦ rw (before_it r rs f s p.0 e) (a, b, c, h)
-        | inr e ↦ rw (meeting_it r rs f s p.0 e)
+      | inl e ↦ rw (after_it r rs f s e) (h.0, h.1, h.2, owned_joined m q top rs f s a same below h.3)
+      | inr right ↦ elim right.1 [
+        | inl e ↦ rw (before_it r rs f s right.0 e) (a, same, below, h)
+        | inr e ↦ rw (meeting_it r rs f s right.0 e)
             (owned_joined m q top rs (min f r.first) (max s r.stop) (owner_min m q f r.first a h.0)
-            (owner_max m q s r.stop b h.1) (omega (arith, h.2)) h.3)
+            (owner_max m q s r.stop same h.1) (omega (arith, h.2)) h.3)
       ]
     ]
 
@@ -231,9 +233,9 @@ owned_joined m q top (r ∷ rs) f s a b c h =
 -- the ranges that end before the new one stay
 pub joined_from : (rs : List Span) (at f s : ℕ) (d : Span) → at ≤ length rs
     → ((j : ℕ) → j < at → (get_or rs j d).stop < f) → joined rs f s ≡ take at rs ++ joined (drop at rs) f s
-joined_from rs zero f s d k h = refl
-joined_from [] (suc at) f s d k h = absurd (omega arith)
-joined_from (r ∷ rs) (suc at) f s d k h =
+joined_from rs zero f s d below h = refl
+joined_from [] (suc at) f s d below h = absurd (omega arith)
+joined_from (r ∷ rs) (suc at) f s d below h =
     after_it r rs f s (h 0 (omega arith))
     ∙ ap (λ xs. r ∷ xs) (joined_from rs at f s d (omega arith) (λ j l. h (suc j) (omega arith)))
 
@@ -321,8 +323,8 @@ drop_again (x ∷ xs) ys zero e = absurd (omega arith)
 drop_again (x ∷ xs) ys (suc at) e = drop_again xs ys at (omega arith)
 
 past_more : (low f : ℕ) (rs : List Span) → f ≤ low → IsRising low rs → HeadPast f rs
-past_more low f [] h k = tt
-past_more low f (r ∷ rs) h k = omega (arith, k.0, k.1)
+past_more low f [] h rising = tt
+past_more low f (r ∷ rs) h rising = omega (arith, rising.0, rising.1)
 
 -- one range is absorbed
 pub joining_more : (old now new : List Span) (first stop at f s absorbed g y more : ℕ) (r : Span) → at < length now

@@ -226,7 +226,7 @@ module _ (m : Membership) (w : Trace) (p q : ℕ) (r : IsReached m w) (member : 
 same_causes : (a x b' y c' d d' : Bool) → x ≡ b' → y ≡ c' → d ≡ d'
     → first_cause ((a, SelfSuspect) ∷ (x, NothingToRevoke) ∷ (y, RoundsFull) ∷ (d, MessagesFull) ∷ [])
     ≡ first_cause ((a, SelfSuspect) ∷ (b', NothingToRevoke) ∷ (c', RoundsFull) ∷ (d', MessagesFull) ∷ [])
-same_causes a x b' y c' d d' e f g = rw (e, f, g)
+same_causes a x b' y c' d d' e same equal = rw (e, same, equal)
 
 suspect_causes : (m : Membership) (w : Trace) (p q : ℕ) (s : ServerState) (o : Outgoing) → s ≡ server_at m w p
     → IsReached m w → p < m.count

@@ -46,8 +46,8 @@ count_less f g (suc n) h =
     rw next (omega (arith, count_by-below_more f n, count_by-below_more g n, before, here))
   where
     bit_less : (a d : Bool) → (a ≡ true → d ≡ true) → bit a ≤ bit d
-    bit_less false d k = omega arith
-    bit_less true d k = let one : bit d ≡ 1 = ap bit (k refl) in omega (arith, one)
+    bit_less false d each = omega arith
+    bit_less true d each = let one : bit d ≡ 1 = ap bit (each refl) in omega (arith, one)
 
 -- two tests that differ at one place
 pub count_but : (f g : ℕ → Bool) (n i : ℕ) → i < n → ((j : ℕ) → (j ≡ i → ⊥) → f j ≡ g j)

@@ -31,7 +31,7 @@ past_line p t i (Sent (Suggest from inst ticket)) h =
     let r = and_parts (eqb from p && eqb ticket t) (ltb i inst) h in
     let s = and_parts (eqb from p) (eqb ticket t) r.0 in
     let e = eqb-true from p s.0 in
-    let f = eqb-true ticket t s.1 in
+    let same = eqb-true ticket t s.1 in
     (inst, r.1, cc)
 past_line p t i _ h = absurd (cc)
 
@@ -45,7 +45,7 @@ module _ (m : Membership) (w : Trace) (p : ℕ) (r : IsReached m w) where
     go : (o : Option ℕ) → suggested w p i ≡ o → suggested w p i ≡ Some t
     go None e =
         let n = oldest_none (suggested_by p i) (Sent (Suggest p i t)) w e h in
-        let k = rw (same_two p i) at n in
+        let turned = rw (same_two p i) at n in
         absurd (cc)
     go (Some u) e =
         let few = some_server_of m w r (Sent (Suggest p i t)) h in
@@ -56,7 +56,7 @@ module _ (m : Membership) (w : Trace) (p : ℕ) (r : IsReached m w) where
   owner_said i mine None e = go (suggested w p i) refl where
     go : (o : Option ℕ) → suggested w p i ≡ o → None ≡ suggested w p i
     go None h = sym h
-    go (Some t) h = let s = suggest_proposed w p i t (suggested_in w p i t h) in let k = s.1 in absurd (cc)
+    go (Some t) h = let s = suggest_proposed w p i t (suggested_in w p i t h) in let so = s.1 in absurd (cc)
   owner_said i mine (Some v) e =
       let s = start_in w i v e in
       let home : s.0 ≡ p = sym (suggest_owner m w grown s.0 i s.1 s.2) ∙ mine in
@@ -74,7 +74,7 @@ module _ (m : Membership) (w : Trace) (p : ℕ) (r : IsReached m w) where
       ∙ ap (λ (d : Bool). ticket_of (cond (d || ltb 0 0) (proposed w i 0) None)) e
       ∙ owner_said i mine (proposed w i 0) refl
   ticket_at i false e =
-      other_unsaid i (λ mine. let k : eqb (owner m i) p ≡ true = eq-eqb (owner m i) p mine in
+      other_unsaid i (λ mine. let holds : eqb (owner m i) p ≡ true = eq-eqb (owner m i) p mine in
       absurd (cc)) (suggested w p i) refl
 
   suggested_same : (i : ℕ) → i < instance_count → suggested_at (server_at m w p) i ≡ suggested w p i

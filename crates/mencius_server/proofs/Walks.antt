@@ -182,12 +182,12 @@ stood_none a rs ss j e = go (stand_at ss j) refl
 
 pub stood_in : (a : Stretch) (rs : List Span) (j : ℕ) (o : Option SlotState) → is_in a j ≡ true → covers rs j ≡ false
     → cond (is_none o) (Some (new_slot a.members)) o ≡ stood_at a rs j o
-stood_in a rs j None e f = rw (e, f) refl
-stood_in a rs j (Some s) e f = refl
+stood_in a rs j None e fails = rw (e, fails) refl
+stood_in a rs j (Some s) e fails = refl
 
 pub lacking_in : (a : Stretch) (rs : List Span) (ss : List (Option SlotState)) (j : ℕ) → is_in a j ≡ true
     → covers rs j ≡ false → is_lacking a rs ss j ≡ is_none (stand_at ss j)
-lacking_in a rs ss j e f = rw (e, f) refl
+lacking_in a rs ss j e fails = rw (e, fails) refl
 
 pub lacking_out : (a : Stretch) (rs : List Span) (ss : List (Option SlotState)) (j : ℕ) → is_in a j ≡ false
     → is_lacking a rs ss j ≡ false

@@ -19,13 +19,13 @@ pub of_member_is : {A : Type 0} (m : Membership) (p : ℕ) (o : Option A) → p 
 of_member_is m p o h = ap (λ (a : Bool). cond a o None) (lt-ltb p m.count h)
 
 pub if_member_is : {A : Type 0} (m : Membership) (p : ℕ) (x y : A) → p < m.count → Some y ≡ if_member m p x → y ≡ x
-if_member_is m p x y h e = let f = e ∙ of_member_is m p (Some x) h in cc
+if_member_is m p x y h e = let so = e ∙ of_member_is m p (Some x) h in cc
 
 pub executing_is : (m : Membership) (w : Trace) (p i : ℕ) (x : Value) → p < m.count
     → Some i ≡ if_member m p (done w p) → Some x ≡ of_member m p (learned w p i) → Some (i, x) ≡ executing w (Execute p)
-executing_is m w p i x h e f =
+executing_is m w p i x h e same =
     let at : i ≡ done w p = if_member_is m p (done w p) i h e in
-    let value : Some x ≡ learned w p i = f ∙ of_member_is m p (learned w p i) h in
+    let value : Some x ≡ learned w p i = same ∙ of_member_is m p (learned w p i) h in
     rw (← at, ← value) refl
 
 -- the count of a server that there is

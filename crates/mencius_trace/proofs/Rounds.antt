@@ -78,12 +78,13 @@ pub waiting_next : (w : Trace) (p i : ℕ) (some one : Bool) (before old new : L
 waiting_next w p i some one before old new had got is =
     let o = waiting_at w p i in
     let xs = waiting_below w p i in
-    let f = waiting_ticket w in
+    let waiting = waiting_ticket w in
     record {
-      text = got ∙ ap (λ text. text ++ ticket_in w o) had.text ∙ append_assoc before (flat_map f xs) (ticket_in w o)
-          ∙ ap (λ text. before ++ (flat_map f xs ++ text)) (one_more w o)
-          ∙ ap (λ text. before ++ text) (sym (ap (flat_map f) (waiting_more w p i)
-          ∙ flat_map-append f xs (cons_option o [])));
+      text =
+          got ∙ ap (λ text. text ++ ticket_in w o) had.text ∙ append_assoc before (flat_map waiting xs) (ticket_in w o)
+          ∙ ap (λ text. before ++ (flat_map waiting xs ++ text)) (one_more w o)
+          ∙ ap (λ text. before ++ text) (sym (ap (flat_map waiting) (waiting_more w p i)
+          ∙ flat_map-append waiting xs (cons_option o [])));
       some_is = ap (λ a. a || some) is ∙ ap (λ a. is_some o || a) had.some_is ∙ some_more xs o
           ∙ ap is_some_list (sym (waiting_more w p i));
     }

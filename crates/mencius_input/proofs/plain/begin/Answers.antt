@@ -9,11 +9,11 @@ use Rattle.mencius_input.proofs.plain.begin.Goals as goal
 -- a text that begins with a byte, once that byte is known
 begun : (text behind : List ℕ) (x c : ℕ) → text ≡ x ∷ drop 1 text → text ≡ first text ∷ behind → x ≡ c
     → text ≡ c ∷ behind
-begun text behind x c e f g = f ∙ ap (λ (b : ℕ). b ∷ behind) (ap first e ∙ g)
+begun text behind x c e same equal = same ∙ ap (λ (b : ℕ). b ∷ behind) (ap first e ∙ equal)
 
 either : {A B C : Type 0} → A ⊎ (B × C) → A ⊎ C
 either (inl a) = inl a
-either (inr b) = inr b.1
+either (inr right) = inr right.1
 
 pub returns-then-byte-eq123-clause-value : goal.returns-then-byte-eq123-clause-value
 returns-then-byte-eq123-clause-value c p may =

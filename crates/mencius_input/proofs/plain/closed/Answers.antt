@@ -15,8 +15,8 @@ returns-then-as_bytes-end-ne34-clause-value c =
 
 pub range_from-requires : goal.range_from-requires
 range_from-requires c _ =
-    let f = found_bounds c.args.inside.now c.in-Some.end (sym c.in-Some.ensures) in
-    IsCharBoundary-after_ascii c.args.inside.now c.in-Some.end c.utf8.inside f.0 f.1
+    let found = found_bounds c.args.inside.now c.in-Some.end (sym c.in-Some.ensures) in
+    IsCharBoundary-after_ascii c.args.inside.now c.in-Some.end c.utf8.inside found.0 found.1
 
 pub returns-clause-value : goal.returns-clause-value
 returns-clause-value c =

@@ -33,8 +33,8 @@ range-requires-clause-end_boundary c =
 
 pub word_token-requires : goal.word_token-requires
 word_token-requires c =
-    let k = cut c.args.text.now c.range.result.now c.word_len-end.result c.range.ensures.value in
-    rw k.front (here c.args.text.now c.word_len-end.result c.word_len-end.ensures).spelled
+    let parts = cut c.args.text.now c.range.result.now c.word_len-end.result c.range.ensures.value in
+    rw parts.front (here c.args.text.now c.word_len-end.result c.word_len-end.ensures).spelled
 
 pub range_from-requires : goal.range_from-requires
 range_from-requires c _ =
@@ -44,9 +44,9 @@ pub returns-in-Some-clause-value : goal.returns-in-Some-clause-value
 returns-in-Some-clause-value c p may =
     let text : List ℕ = c.args.text.now in
     let n : ℕ = c.word_len-end.result in
-    let k = cut text c.range.result.now n c.range.ensures.value in
+    let parts = cut text c.range.result.now n c.range.ensures.value in
     let ends = (here text n c.word_len-end.ensures).ends in
-    let is : word text ≡ token_of c.in-Some.token = ap word k.whole ∙ c.in-Some.ensures.0 (drop n text) ends in
+    let is : word text ≡ token_of c.in-Some.token = ap word parts.whole ∙ c.in-Some.ensures.0 (drop n text) ends in
     word_read p text (token_of c.in-Some.token) may c.requires.other c.requires.some is c.in-Some.ensures.1
     ∙ ap (λ (l : List ℕ). token_of c.in-Some.token ∷ tokens_at AfterValue l)
     (ap (λ (i : ℕ). drop i text) (sym c.word_len-end.ensures) ∙ sym c.range_from.ensures.value)
@@ -58,7 +58,7 @@ pub returns-in-None-clause-value : goal.returns-in-None-clause-value
 returns-in-None-clause-value c p may =
     let text : List ℕ = c.args.text.now in
     let n : ℕ = c.word_len-end.result in
-    let k = cut text c.range.result.now n c.range.ensures.value in
+    let parts = cut text c.range.result.now n c.range.ensures.value in
     let ends = (here text n c.word_len-end.ensures).ends in
-    let is : word text ≡ bad = ap word k.whole ∙ c.in-None.ensures (drop n text) ends in
+    let is : word text ≡ bad = ap word parts.whole ∙ c.in-None.ensures (drop n text) ends in
     c.failed.ensures.value _ (no_word_read p text c.requires.other c.requires.some is)

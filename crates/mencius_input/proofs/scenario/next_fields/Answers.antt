@@ -18,24 +18,24 @@ returns-in_err-name-clause-err c =
 pub fields-preserved : goal.fields-preserved
 fields-preserved c =
     let l = c.fields in
-    let k = c.in-Some.name.now in
+    let key = c.in-Some.name.now in
     let s = c.next_name.new.reader in
-    let named : read_key l.reader ≡ Some (Some k, s) = grind arith in
+    let named : read_key l.reader ≡ Some (Some key, s) = grind arith in
     let done = c.in_ok-read_field.ensures in (
       _,
-      members_further _ _ l.reader l.invariant.0 l.invariant.1 k s _ done.ok.0 named
-          (read_key-shorter l.reader (Some k) s named) done.shorter done.ok.1,
+      members_further _ _ l.reader l.invariant.0 l.invariant.1 key s _ done.ok.0 named
+          (read_key-shorter l.reader (Some key) s named) done.shorter done.ok.1,
       done.ok.2 l.invariant.0 l.invariant.2,
     )
 
 pub returns-in_err-read_field-clause-err : goal.returns-in_err-read_field-clause-err
 returns-in_err-read_field-clause-err c =
     let l = c.fields in
-    let k = c.in-Some.name.now in
+    let key = c.in-Some.name.now in
     let s = c.next_name.new.reader in
-    let named : read_key l.reader ≡ Some (Some k, s) = grind arith in
+    let named : read_key l.reader ≡ Some (Some key, s) = grind arith in
     stops_at _ _ _ c.from_residual-in_err-read_field.ensures.1
-    (stops_whole _ _ _ (λ none. members_stop _ _ l.reader l.invariant.0 l.invariant.1 k s named none)
+    (stops_whole _ _ _ (λ none. members_stop _ _ l.reader l.invariant.0 l.invariant.1 key s named none)
     c.in_err-read_field.ensures.err)
 
 pub returns-clause-ok : goal.returns-clause-ok

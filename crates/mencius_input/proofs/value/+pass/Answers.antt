@@ -114,23 +114,23 @@ pass_members-returns-in_err-next_name-clause-err t c =
 pub pass_members-members-preserved : goal.pass_members-members-preserved
 pass_members-members-preserved t c =
     let l = c.members in
-    let k = c.in-Some.field-0.now in
+    let key = c.in-Some.field-0.now in
     let s = c.next_name.new.reader in
-    let named : read_key l.reader ≡ Some (Some k, s) = grind arith in
+    let named : read_key l.reader ≡ Some (Some key, s) = grind arith in
     let done = c.in_ok-pass.ensures in (
       _,
-      members_further _ _ l.reader l.invariant.0 l.invariant.1 k s _ done.ok.0 named
-          (read_key-shorter l.reader (Some k) s named) done.shorter done.ok.1,
+      members_further _ _ l.reader l.invariant.0 l.invariant.1 key s _ done.ok.0 named
+          (read_key-shorter l.reader (Some key) s named) done.shorter done.ok.1,
     )
 
 pub pass_members-returns-in_err-pass-clause-err : goal.pass_members-returns-in_err-pass-clause-err
 pass_members-returns-in_err-pass-clause-err t c =
     let l = c.members in
-    let k = c.in-Some.field-0.now in
+    let key = c.in-Some.field-0.now in
     let s = c.next_name.new.reader in
-    let named : read_key l.reader ≡ Some (Some k, s) = grind arith in
+    let named : read_key l.reader ≡ Some (Some key, s) = grind arith in
     stops_at _ _ _ c.from_residual-in_err-pass.ensures.1
-    (stops_whole _ _ _ (λ none. members_stop _ _ l.reader l.invariant.0 l.invariant.1 k s named none)
+    (stops_whole _ _ _ (λ none. members_stop _ _ l.reader l.invariant.0 l.invariant.1 key s named none)
     c.in_err-pass.ensures.err)
 
 pub pass_members-returns-clause-ok : goal.pass_members-returns-clause-ok

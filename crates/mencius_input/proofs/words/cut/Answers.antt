@@ -5,13 +5,13 @@ use Rattle.mencius_input.proofs.words.cut.Goals as goal
 
 pub range-requires-clause-end_boundary : goal.range-requires-clause-end_boundary
 range-requires-clause-end_boundary c =
-    let f = found_byte c.args.at c.args.text.now c.in-Some.place (sym c.in-Some.ensures) in
-    IsCharBoundary-before_ascii c.args.text.now c.in-Some.place f.0 (rw f.1 c.requires)
+    let found = found_byte c.args.at c.args.text.now c.in-Some.place (sym c.in-Some.ensures) in
+    IsCharBoundary-before_ascii c.args.text.now c.in-Some.place found.0 (rw found.1 c.requires)
 
 pub range_from-requires : goal.range_from-requires
 range_from-requires c _ =
-    let f = found_byte c.args.at c.args.text.now c.in-Some.place (sym c.in-Some.ensures) in
-    IsCharBoundary-after_ascii c.args.text.now c.in-Some.place c.utf8.text f.0 (rw f.1 c.requires)
+    let found = found_byte c.args.at c.args.text.now c.in-Some.place (sym c.in-Some.ensures) in
+    IsCharBoundary-after_ascii c.args.text.now c.in-Some.place c.utf8.text found.0 (rw found.1 c.requires)
 
 pub returns-in-Some : goal.returns-in-Some
 returns-in-Some c =

@@ -28,7 +28,7 @@ invariant_of-self-else-is_lost c =
     let said : IsSaid c.self.inside.members c.args.change = subst
     (λ (s : ServerState). IsSaid s.members c.args.change) (sym c.self.view_is) c.requires.said in
     let other_value : is_noop c.learned.result ≡ false = elim c.match-matches.branch [
-      | in-Some-Noop w ↦ absurd (let e = w.matches-is in let f = c.if-is_lost.false in cc)
+      | in-Some-Noop w ↦ absurd (let e = w.matches-is in let so = c.if-is_lost.false in cc)
       | in_default w ↦ search rules
       | in_default-2 w ↦ search rules
     ] in

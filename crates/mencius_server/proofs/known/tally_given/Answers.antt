@@ -24,9 +24,9 @@ without-requires-clause-fewer c =
 
 pub returns : goal.returns
 returns c =
-    let f = known_at c.args.stretch.now.members c.args.slots.now c.args.skipped.now.items in
-    subst (IsTally c.args.stretch.now.members (λ j. given c.args.stretch.now j (f j)) c.args.stretch.now.server)
+    let known = known_at c.args.stretch.now.members c.args.slots.now c.args.skipped.now.items in
+    subst (IsTally c.args.stretch.now.members (λ j. given c.args.stretch.now j (known j)) c.args.stretch.now.server)
     (sym c.without.ensures)
-    (less_some c.args.stretch.now f c.args.tally c.tally_from-given.result
+    (less_some c.args.stretch.now known c.args.tally c.tally_from-given.result
     (omega (arith, c.min-stop.ensures, c.if-first-stop.false))
     (c.tally_from-given.ensures.stop ∙ c.min-stop.ensures) c.tally_from-given.ensures.counted c.requires.counted)

@@ -43,11 +43,12 @@ shows m slots rs i old stood s x ch there shown ok is made =
 pub change-requires-clause-counted : goal.change-requires-clause-counted
 change-requires-clause-counted c = λ less.
     let m = c.self.inside.members in
-    let t = tally_of c.self.inside.tallies (owner m c.args.inst) in
-    subst (λ (s : SlotState). HasCounted m t s)
+    let tally = tally_of c.self.inside.tallies (owner m c.args.inst) in
+    subst (λ (s : SlotState). HasCounted m tally s)
     (known_there m c.self.inside.slots c.self.inside.skipped.items c.args.inst c.at-slot.result.now
     c.at-slot.ensures.value)
-    (has_counted m (known_at m c.self.inside.slots c.self.inside.skipped.items) (owner m c.args.inst) c.args.inst t refl
+    (has_counted m (known_at m c.self.inside.slots c.self.inside.skipped.items) (owner m c.args.inst) c.args.inst
+    tally refl
     (c.self.invariant.counted (owner m c.args.inst)) less)
 
 -- what is known, and what was counted of it, with the slot that is written

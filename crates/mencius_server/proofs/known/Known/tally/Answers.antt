@@ -32,17 +32,17 @@ counted_on m slots rs low q first tallies start further known was ahead past cou
 
 pub returns-then-start-stop-clause-survey : goal.returns-then-start-stop-clause-survey
 returns-then-start-stop-clause-survey c =
-    let f = known_at c.self.inside.members c.self.inside.slots c.self.inside.skipped.items in
+    let known = known_at c.self.inside.members c.self.inside.slots c.self.inside.skipped.items in
     tally_survey c.self.inside.members c.self.inside.slots c.self.inside.skipped.items c.args.self.now c.self.view_is
     c.args.suspected c.args.front c.up_to-start.result
-    (started c.self.inside.members f c.args.suspected c.self.inside.tallies c.up_to-start.result
+    (started c.self.inside.members known c.args.suspected c.self.inside.tallies c.up_to-start.result
     c.self.invariant.counted c.up_to-start.ensures.was)
     (c.if-start-stop.true ∙ c.min-stop.ensures)
 
 pub plus-tally-requires-clause-few : goal.plus-tally-requires-clause-few
 plus-tally-requires-clause-few c =
-    let f = known_at c.self.inside.members c.self.inside.slots c.self.inside.skipped.items in
-    (tally_few c.self.inside.members f c.args.suspected _
+    let known = known_at c.self.inside.members c.self.inside.slots c.self.inside.skipped.items in
+    (tally_few c.self.inside.members known c.args.suspected _
     (counted_on c.self.inside.members c.self.inside.slots c.self.inside.skipped.items _ c.args.suspected
     c.min-first.result c.self.inside.tallies c.up_to-start.result _ c.self.invariant c.up_to-start.ensures.was
     (omega (arith, c.max.ensures, c.min-first.ensures, c.min-stop.ensures, c.up_to-start.ensures.low))
@@ -50,8 +50,8 @@ plus-tally-requires-clause-few c =
 
 pub plus-tally-requires-clause-fewer : goal.plus-tally-requires-clause-fewer
 plus-tally-requires-clause-fewer c =
-    let f = known_at c.self.inside.members c.self.inside.slots c.self.inside.skipped.items in
-    (tally_few c.self.inside.members f c.args.suspected _
+    let known = known_at c.self.inside.members c.self.inside.slots c.self.inside.skipped.items in
+    (tally_few c.self.inside.members known c.args.suspected _
     (counted_on c.self.inside.members c.self.inside.slots c.self.inside.skipped.items _ c.args.suspected
     c.min-first.result c.self.inside.tallies c.up_to-start.result _ c.self.invariant c.up_to-start.ensures.was
     (omega (arith, c.max.ensures, c.min-first.ensures, c.min-stop.ensures, c.up_to-start.ensures.low))
@@ -59,12 +59,12 @@ plus-tally-requires-clause-fewer c =
 
 pub invariant_of-self : goal.invariant_of-self
 invariant_of-self c =
-    let f = known_at c.self.inside.members c.self.inside.slots c.self.inside.skipped.items in
+    let known = known_at c.self.inside.members c.self.inside.slots c.self.inside.skipped.items in
     counts_put c.self.inside.members c.self.inside.slots c.self.inside.slots c.self.inside.skipped.items
     c.self.inside.skipped.items c.self.inside.learned_below c.self.inside.learned_below c.self.inside.tallies
     c.put.new.self c.args.suspected c.self.invariant.sound
     (λ j small other. alike_same c.self.inside.members _ _ refl)
-    (subst (IsTally c.self.inside.members f c.args.suspected)
+    (subst (IsTally c.self.inside.members known c.args.suspected)
     (sym (c.put.ensures c.args.suspected
     ∙ ap (λ b. cond b c.plus-tally.result (tally_of c.self.inside.tallies c.args.suspected))
     (eq-eqb c.args.suspected c.args.suspected refl) ∙ c.plus-tally.ensures))
@@ -78,10 +78,10 @@ invariant_of-self c =
 
 pub returns-clause-survey : goal.returns-clause-survey
 returns-clause-survey c =
-    let f = known_at c.self.inside.members c.self.inside.slots c.self.inside.skipped.items in
+    let known = known_at c.self.inside.members c.self.inside.slots c.self.inside.skipped.items in
     tally_survey c.self.inside.members c.self.inside.slots c.self.inside.skipped.items c.args.self.now c.self.view_is
     c.args.suspected c.args.front c.plus-tally.result
-    (subst (IsTally c.self.inside.members f c.args.suspected) (sym c.plus-tally.ensures)
+    (subst (IsTally c.self.inside.members known c.args.suspected) (sym c.plus-tally.ensures)
     (counted_on c.self.inside.members c.self.inside.slots c.self.inside.skipped.items _ c.args.suspected
     c.min-first.result c.self.inside.tallies c.up_to-start.result _ c.self.invariant c.up_to-start.ensures.was
     (omega (arith, c.max.ensures, c.min-first.ensures, c.min-stop.ensures, c.up_to-start.ensures.low))
