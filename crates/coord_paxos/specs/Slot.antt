@@ -13,7 +13,7 @@ use Rattle.coord_paxos.specs.Fresh.{nobody}
 
 -- whether a majority of the servers is in the set, which has one truth value a server
 abbrev pub is_majority : Membership → List Bool → Bool
-is_majority m among = nat_le (majority m) (count_by (λ b. b) among)
+is_majority m among = nat_le (majority m) (count_by (λ bit. bit) among)
 
 -- what is answered to a Prepare
 abbrev pub prepare_answer : SlotState → BallotNo → Answer

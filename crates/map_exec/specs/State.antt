@@ -14,7 +14,7 @@ pub record ExecutorState : Type 0 where
 abbrev pub executor_code : Coded ExecutorState
 executor_code =
     code_by (Store × List ℕ) (coded× (finite.code (coded_list coded_ℕ) (coded_list coded_ℕ)) (coded_list coded_ℕ))
-    (λ x. (x.store, x.history)) (λ p. record { store = p.0; history = p.1 }) (λ _. refl)
+    (λ x. (x.store, x.history)) (λ pair. record { store = pair.0; history = pair.1 }) (λ _. refl)
 
 -- the executor after one more command, with its ticket
 abbrev pub after_execution : ExecutorState → Command → TicketNo → ExecutorState

@@ -75,7 +75,7 @@ ends_from plan n ends len h k d below =
 pub come_to : {V : Type 0} (plan : PlanState) (ends : List EndState) (items : V → List ChooserState) (many : V → ℕ)
     (r : Result V BoardFault) → ((x : V) → many x ≡ length (items x)) → length ends ≡ plan.workers
     → HaveEnded ends plan plan.workers
-    → MatchResult r (λ x. settled plan ends ≡ Ok (items x)) (λ f. settled plan ends ≡ Err f)
+    → MatchResult r (λ x. settled plan ends ≡ Ok (items x)) (λ fault. settled plan ends ≡ Err fault)
     → IfOk r (λ x. many x ≡ plan.workers) × IfOk r (λ x. HaveTurned (items x) plan) × IfErr r (IsRunFault plan.turns)
 come_to plan ends items many (Ok x) counts len h e =
     let from : EndFrom plan 0 ends = ends_from plan plan.workers ends len h in

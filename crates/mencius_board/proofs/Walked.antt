@@ -22,4 +22,4 @@ more_of P zero [] x d all is below = is
 more_of P (suc k) [] x d all is below = absurd (omega arith)
 more_of P zero (y ∷ xs) x d all is below = all 0 d (omega arith)
 more_of P (suc k) (y ∷ xs) x d all is below =
-    more_of (λ i. P (suc i)) k xs x d (λ j e b. all (suc j) e (omega arith)) is (omega arith)
+    more_of (λ i. P (suc i)) k xs x d (λ j e below. all (suc j) e (omega arith)) is (omega arith)

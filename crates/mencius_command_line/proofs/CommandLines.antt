@@ -33,8 +33,8 @@ flag_missing found id e =
 
 -- the name and the rows of a task that was found
 pub task_found : {Z : Type 0} (s : Option (Box SubCommand Z)) (name : Text) (rows : List Row)
-    → Some name ≡ option_map (λ b. (out-SubCommand (box_value b)).name.now) s
-    → Some rows ≡ option_map (λ p. p.1) (subcommand_rows s) → subcommand_rows s ≡ Some (name, rows)
+    → Some name ≡ option_map (λ task. (out-SubCommand (box_value task)).name.now) s
+    → Some rows ≡ option_map (λ pair. pair.1) (subcommand_rows s) → subcommand_rows s ≡ Some (name, rows)
 task_found None name rows n r = absurd (cc)
 task_found (Some b) name rows n r =
     let same : name ≡ (out-SubCommand (box_value b)).name.now = cc in

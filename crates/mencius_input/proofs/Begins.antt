@@ -126,19 +126,19 @@ was_object x e = absurd (cc)
 module _ (depth : ℕ) (x : Token) (ts old : List Token) (is : old ≡ x ∷ ts) where
   pub text_first : (s : List ℕ) → Some s ≡ text_of x → next_value depth old ≡ Some (string s, ts)
   text_first s e =
-      ap (next_value depth) (is ∙ ap (λ k. k ∷ ts) (was_text x s e)) ∙ next_string depth s ts
+      ap (next_value depth) (is ∙ ap (λ token. token ∷ ts) (was_text x s e)) ∙ next_string depth s ts
 
   pub whole_first : (s : List ℕ) (whole : Option ℕ) → Some s ≡ number_text x
       → Some whole ≡ option_map as_u64 (number_of s)
       → (d : Data) × (next_value depth old ≡ Some (d, ts)) × (whole ≡ whole_in d)
   whole_first s whole e same =
       let n = next_counted depth s ts whole same in
-      (number n.0, ap (next_value depth) (is ∙ ap (λ k. k ∷ ts) (was_number x s e)) ∙ n.1, n.2)
+      (number n.0, ap (next_value depth) (is ∙ ap (λ token. token ∷ ts) (was_number x s e)) ∙ n.1, n.2)
 
   pub no_whole_first : (s : List ℕ) → Some s ≡ number_text x → None ≡ option_map as_u64 (number_of s)
       → next_value depth old ≡ None
   no_whole_first s e same =
-      ap (next_value depth) (is ∙ ap (λ k. k ∷ ts) (was_number x s e)) ∙ next_uncounted depth s ts same
+      ap (next_value depth) (is ∙ ap (λ token. token ∷ ts) (was_number x s e)) ∙ next_uncounted depth s ts same
 
   -- what was passed is no such value
   module _ (d : Data) (r : List Token) (next : next_value depth (x ∷ ts) ≡ Some (d, r)) where
@@ -159,11 +159,13 @@ module _ (depth : ℕ) (x : Token) (ts old : List Token) (is : old ≡ x ∷ ts)
 
   pub array_first : 0 < depth → opens_array x ≡ true
       → next_value depth old ≡ parse_map array (next_items (depth - 1) ts)
-  array_first some e = ap (next_value depth) (is ∙ ap (λ k. k ∷ ts) (was_array x e)) ∙ opened_array depth ts some
+  array_first some e =
+      ap (next_value depth) (is ∙ ap (λ token. token ∷ ts) (was_array x e)) ∙ opened_array depth ts some
 
   pub object_first : 0 < depth → opens_object x ≡ true
       → next_value depth old ≡ parse_map object (next_members (depth - 1) ts)
-  object_first some e = ap (next_value depth) (is ∙ ap (λ k. k ∷ ts) (was_object x e)) ∙ opened_object depth ts some
+  object_first some e =
+      ap (next_value depth) (is ∙ ap (λ token. token ∷ ts) (was_object x e)) ∙ opened_object depth ts some
 
 -- an object that was entered, or another value that was passed
 pub entered : (depth : ℕ) (old new : List Token) (is_object : Bool) → EntersObject depth old new is_object

@@ -11,7 +11,7 @@ use Rattle.serde_json.specs.Read.{converted, of_items, of_json, of_members}
 
 behind : {B C : Type 0} (step : B → C) (rest : List Token) (made : Option B)
     → option_map (λ c. (c, rest)) (option_map step made)
-    ≡ parse_map step (option_map {U = B × List Token} (λ b. (b, rest)) made)
+    ≡ parse_map step (option_map {U = B × List Token} (λ c. (c, rest)) made)
 behind step rest None = refl
 behind step rest (Some b) = refl
 
@@ -84,7 +84,7 @@ object_converted parsed =
 stopped : {X Y : Type 0} (put_before : json.Json → X → X) (f : X → Option Y)
     → ((y : json.Json) → of_json y ≡ None → (x : X) → f (put_before y x) ≡ None)
     → (more : Parse X) (part : Option (json.Json × List Token)) → converted of_json part ≡ None
-    → converted f (option_and_then (λ q. parse_map (put_before q.0) (more q.1)) part) ≡ None
+    → converted f (option_and_then (λ pair. parse_map (put_before pair.0) (more pair.1)) part) ≡ None
 stopped put_before f none more None e = refl
 stopped put_before f none more (Some q) e =
     converted_step f (put_before q.0) (more q.1)

@@ -28,16 +28,16 @@ at_place test text i e = by_test (ltb (position_or_len test text) (length text))
     by_test true less is = (ap (λ (o : Option ℕ). unwrap_or o 0) (sym is), ltb-true _ _ less)
     by_test false less is = absurd (cc)
 
-pub found_byte : (c : ℕ) (text : List ℕ) (i : ℕ) → position (λ b. b == c) text ≡ Some i
+pub found_byte : (c : ℕ) (text : List ℕ) (i : ℕ) → position (λ byte. byte == c) text ≡ Some i
     → (i < length text) × (get_or text i 0 ≡ c)
-found_byte c text i e = let found = position-Some (λ b. b == c) text i 0 e in (found.0, eqb-true _ _ found.1)
+found_byte c text i e = let found = position-Some (λ byte. byte == c) text i 0 e in (found.0, eqb-true _ _ found.1)
 
 -- the first part, and the parts of what follows
-pub found_parts : (c : ℕ) (text : List ℕ) (i : ℕ) → position (λ b. b == c) text ≡ Some i
+pub found_parts : (c : ℕ) (text : List ℕ) (i : ℕ) → position (λ byte. byte == c) text ≡ Some i
     → parts c text ≡ take i text ∷ parts c (drop (i + 1) text)
 found_parts c text i e =
-    let found = at_place (λ b. b == c) text i e in
-    rw found.0 (slice_split_first (λ b. b == c) text 0 found.1)
+    let found = at_place (λ byte. byte == c) text i e in
+    rw found.0 (slice_split_first (λ byte. byte == c) text 0 found.1)
 
 uncut : (test : ℕ → Bool) (text : List ℕ) → ((i : ℕ) → i < length text → test (get_or text i 0) ≡ false)
     → slice_split test text ≡ text ∷ []
@@ -71,10 +71,10 @@ nowhere test text i within past before =
     rw (at, le-ltb (length text) (length text) (omega arith)) refl
 
 -- the text is one part
-pub lacking_parts : (c : ℕ) (text : List ℕ) → position (λ b. b == c) text ≡ None → parts c text ≡ text ∷ []
+pub lacking_parts : (c : ℕ) (text : List ℕ) → position (λ byte. byte == c) text ≡ None → parts c text ≡ text ∷ []
 lacking_parts c text e =
-    let far = no_place (λ b. b == c) text e in
-    uncut (λ b. b == c) text (λ i l. fails_before_first (λ b. b == c) text i 0 (omega arith))
+    let far = no_place (λ byte. byte == c) text e in
+    uncut (λ byte. byte == c) text (λ i l. fails_before_first (λ byte. byte == c) text i 0 (omega arith))
 
 -- ---- a word that is all the rest
 
@@ -167,7 +167,7 @@ pub space_behind : (word rest text : List ℕ) → text ≡ word ++ 32 ∷ rest 
 space_behind word rest text e = rw e (get_or-append_seam word 32 rest 0)
 
 -- what a text does not begin with is not its first word
-pub not_first : (word text : List ℕ) (i : ℕ) → position (λ b. b == 32) text ≡ Some i
+pub not_first : (word text : List ℕ) (i : ℕ) → position (λ byte. byte == 32) text ≡ Some i
     → ((rest : List ℕ) → text ≡ word ++ 32 ∷ rest → ⊥) → take i text ≡ word → ⊥
 not_first word text i e none is =
     let found = found_byte 32 text i e in

@@ -193,11 +193,12 @@ by_parts b three (Some dv) (Some ds) None h =
     ap (all_said b) (no_events (whole_in dv) (whole_in ds)) ∙ no_shape b
     ∙ sym (ap (judged within) (without_events three (whole_in dv) (whole_in ds)))
 by_parts true three (Some dv) (Some ds) (Some de) h =
-    sym (ap (λ b. judged within (bound b (whole_in dv) (whole_in ds) (as_array de))) (h dv ds de refl refl refl)
+    sym (ap (λ told. judged within (bound told (whole_in dv) (whole_in ds) (as_array de))) (h dv ds de refl refl refl)
     ∙ ap (judged within) (with_more (whole_in dv) (whole_in ds) (as_array de)))
 by_parts false three (Some dv) (Some ds) (Some de) h =
     all_three (whole_in dv) (whole_in ds) (as_array de)
-    ∙ sym (ap (λ b. judged within (bound b (whole_in dv) (whole_in ds) (as_array de))) (h dv ds de refl refl refl))
+    ∙ sym (ap (λ told. judged within (bound told (whole_in dv) (whole_in ds) (as_array de)))
+    (h dv ds de refl refl refl))
 
 -- ---- the answer
 

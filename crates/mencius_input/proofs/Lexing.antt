@@ -62,7 +62,7 @@ blank_bounds =
 
 pub blank_passed : (c : ℕ) (xs : List ℕ) → is_space c ≡ true → lex between (c ∷ xs) ≡ lex between xs
 unfolding lex
-blank_passed c xs = is_one_blank (λ b. lex between (b ∷ xs) ≡ lex between xs) refl refl refl refl c
+blank_passed c xs = is_one_blank (λ byte. lex between (byte ∷ xs) ≡ lex between xs) refl refl refl refl c
 
 -- ---- the class of a byte, by the four tests that decide it
 

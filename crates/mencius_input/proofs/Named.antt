@@ -160,14 +160,14 @@ module _ (names : List (List ℕ)) (name : List ℕ) (d : Data) (ms : Members) w
       → is_one_of name names ≡ true → AreNamed names has_other (put name d ms)
   one_named ordered has_other h one = record {
     only = λ e. ap (put name d) (h.only e)
-        ∙ put_these name d names (λ k. get_member k ms) (λ k. get_member k (put name d ms)) ordered one
-        (get_member-put name d ms) (λ k apart. get_member-put_other k name d ms apart);
+        ∙ put_these name d names (λ key. get_member key ms) (λ key. get_member key (put name d ms)) ordered one
+        (get_member-put name d ms) (λ key apart. get_member-put_other key name d ms apart);
     other = λ e. let o = h.other e in (
       o.0,
       o.1,
       o.2,
       get_member-put_other o.0 name d ms
-          (λ same. true≢false (sym one ∙ ap (λ k. is_one_of k names) (sym same) ∙ o.2)) ∙ o.3,
+          (λ same. true≢false (sym one ∙ ap (λ name. is_one_of name names) (sym same) ∙ o.2)) ∙ o.3,
     );
   }
 
@@ -205,7 +205,7 @@ without k (member l e ms) = cond (bytes_eq k l) (without k ms) (member l e (with
 get_first : (key l : List ℕ) (e : Data) (ms : Members)
     → get_member key (member l e ms) ≡ cond (bytes_eq key l) (Some e) (get_member key ms)
 get_first key l e ms =
-    by_order (slice_cmp nat_cmp key l) ∙ ap (λ b. cond b (Some e) (get_member key ms)) (is_eq-slice_cmp key l)
+    by_order (slice_cmp nat_cmp key l) ∙ ap (λ bit. cond bit (Some e) (get_member key ms)) (is_eq-slice_cmp key l)
   where
     by_order : (o : Ordering) → match_ordering o (get_member key ms) (Some e) (get_member key ms)
         ≡ cond (is_eq o) (Some e) (get_member key ms)
@@ -288,7 +288,7 @@ none_first : (key : List ℕ) (ks : List (List ℕ)) → list_all (is_before key
 none_first key [] e = refl
 none_first key (l ∷ ls) e =
     let parts = and_parts (is_before key l) (list_all (is_before key) ls) e in
-    ap (λ b. b || is_one_of key ls) (before_apart key l parts.0) ∙ none_first key ls parts.1
+    ap (λ bit. bit || is_one_of key ls) (before_apart key l parts.0) ∙ none_first key ls parts.1
 
 ordered_apart : (ks : List (List ℕ)) → are_ordered ks ≡ true → AreApart ks
 ordered_apart [] e = tt

@@ -26,11 +26,12 @@ stops_whole part whole fault none (inl memory) = inl memory
 stops_whole part whole fault none (inr own) = inr (own.0, none own.1)
 
 pub stops_at : {X Y : Type 0} (result : Result X AppFault) (next : Option Y) (fault : AppFault)
-    → IsErrAnd result (λ e. e ≡ fault) → StopsBy next fault → IfErr result (λ f. StopsBy next f)
+    → IsErrAnd result (λ e. e ≡ fault) → StopsBy next fault → IfErr result (λ stop. StopsBy next stop)
 stops_at result next fault h stops = let failing = err_from_is_err_and result h in rw (failing.1, failing.2) stops
 
 pub errs_whole : {X Y Z : Type 0} (result : Result X AppFault) (part : Option Y) (whole : Option Z)
-    → (part ≡ None → whole ≡ None) → IfErr result (λ f. StopsBy part f) → IfErr result (λ f. StopsBy whole f)
+    → (part ≡ None → whole ≡ None)
+    → IfErr result (λ stop. StopsBy part stop) → IfErr result (λ stop. StopsBy whole stop)
 errs_whole (Ok x) part whole none h = tt
 errs_whole (Err f) part whole none h = stops_whole part whole f none h
 
@@ -207,28 +208,28 @@ pub next_plain : (depth : ℕ) (t : code.Token) (ts : List Token)
     → ((x : Bor (List ℕ)) × (t ≡ String x)) ⊎ ((x : Bool) × (t ≡ BoolT x)) ⊎ (t ≡ Null)
     → (d : Data) × (next_value depth (token_of t ∷ ts) ≡ Some (d, ts))
 next_plain depth t ts (inl (x, e)) =
-    (string x.now, ap (λ k. next_value depth (token_of k ∷ ts)) e ∙ next_string depth x.now ts)
+    (string x.now, ap (λ kind. next_value depth (token_of kind ∷ ts)) e ∙ next_string depth x.now ts)
 next_plain depth t ts (inr (inl (x, e))) = (
   boolean x,
-  ap (λ k. next_value depth (token_of k ∷ ts)) e
+  ap (λ kind. next_value depth (token_of kind ∷ ts)) e
       ∙ ap (converted of_json) (value_is depth (Token.boolean x ∷ ts)),
 )
 next_plain depth t ts (inr (inr e)) = (
   null,
-  ap (λ k. next_value depth (token_of k ∷ ts)) e ∙ ap (converted of_json) (value_is depth (Token.null ∷ ts)),
+  ap (λ kind. next_value depth (token_of kind ∷ ts)) e ∙ ap (converted of_json) (value_is depth (Token.null ∷ ts)),
 )
 
 pub next_unfit : (depth : ℕ) (t : code.Token) (ts : List Token)
     → (t ≡ EndObject) ⊎ (t ≡ EndArray) ⊎ ((x : Bor (List ℕ)) × (t ≡ Key x)) ⊎ (t ≡ Bad)
     → next_value depth (token_of t ∷ ts) ≡ None
 next_unfit depth t ts (inl e) =
-    ap (λ k. next_value depth (token_of k ∷ ts)) e
+    ap (λ kind. next_value depth (token_of kind ∷ ts)) e
     ∙ ap (converted of_json) (value_is depth (Token.end_object ∷ ts))
 next_unfit depth t ts (inr (inl e)) =
-    ap (λ k. next_value depth (token_of k ∷ ts)) e
+    ap (λ kind. next_value depth (token_of kind ∷ ts)) e
     ∙ ap (converted of_json) (value_is depth (Token.end_array ∷ ts))
 next_unfit depth t ts (inr (inr (inl (x, e)))) =
-    ap (λ k. next_value depth (token_of k ∷ ts)) e
+    ap (λ kind. next_value depth (token_of kind ∷ ts)) e
     ∙ ap (converted of_json) (value_is depth (Token.key x.now ∷ ts))
 next_unfit depth t ts (inr (inr (inr e))) =
-    ap (λ k. next_value depth (token_of k ∷ ts)) e ∙ ap (converted of_json) (value_is depth (Token.bad ∷ ts))
+    ap (λ kind. next_value depth (token_of kind ∷ ts)) e ∙ ap (converted of_json) (value_is depth (Token.bad ∷ ts))

@@ -41,7 +41,7 @@ all_digits (b ∷ bs) e =
 
 weaker : {E : Type 0} (r : Result ℕ E) (P Q : Type 0) (v : ℕ) → OkIff r (P × Q) v → P → OkIff r Q v
 weaker (Ok x) P Q v h holds = (h.0.1, h.1)
-weaker (Err x) P Q v h holds = λ q. h (holds, q)
+weaker (Err x) P Q v h holds = λ other. h (holds, other)
 
 -- std's reader takes a number exactly when its type holds it
 pub parsed : {E : Type 0} (k : ℕ) (word : List ℕ) (r : Result ℕ E) → ParsesUnsigned k 10 word r → is_number word ≡ true

@@ -40,8 +40,8 @@ none_further fault items index d there fine before k earlier less is fails =
 
 -- a place in the value is a place in what the bytes are
 pub place_known : (result : Result (Option Place) NoMemory) (bytes : List ℕ) (d : Data) (fault : AppFault)
-    → json_of bytes ≡ Some d → IfOk result (λ o. IfSome o (λ p. IsAt fault d p))
-    → IfOk result (λ o. IfSome o (λ p. (e : Data) × (json_of bytes ≡ Some e) × IsAt fault e p))
+    → json_of bytes ≡ Some d → IfOk result (λ o. IfSome o (λ place. IsAt fault d place))
+    → IfOk result (λ o. IfSome o (λ place. (e : Data) × (json_of bytes ≡ Some e) × IsAt fault e place))
 place_known (Ok (Some place)) bytes d fault said at = (d, said, at)
 place_known (Ok None) bytes d fault said at = tt
 place_known (Err e) bytes d fault said at = tt

@@ -206,12 +206,12 @@ by_list : (n : Numbers) (all : List (List Request)) (l few : Bool) → nat_le (l
     ≡ cond ((numbers_within n && (length all == n.servers)) && l) (Ok (written n all)) (Err BadLimit)
 by_list n all true true e =
     let fits = numbers_within n && (length all == n.servers) in
-    ap (λ b. cond b (Ok (written n all)) (Err BadLimit)) (sym (and-true fits))
+    ap (λ bit. cond bit (Ok (written n all)) (Err BadLimit)) (sym (and-true fits))
 by_list n all true false e =
-    ap (λ b. cond (b && true) (Ok (written n all)) (Err BadLimit)) (sym (too_many n (length all) e))
+    ap (λ bit. cond (bit && true) (Ok (written n all)) (Err BadLimit)) (sym (too_many n (length all) e))
 by_list n all false few e =
     let fits = numbers_within n && (length all == n.servers) in
-    ap (λ b. cond b (Ok (written n all)) (Err BadLimit)) (sym (and-false fits))
+    ap (λ bit. cond bit (Ok (written n all)) (Err BadLimit)) (sym (and-false fits))
 
 with_all : (n : Numbers) (o : Option (List (List Request)))
     → plan_said (Some n) (Some (judged lists_within o))

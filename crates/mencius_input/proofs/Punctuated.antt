@@ -30,9 +30,9 @@ as_key after_key s ls e = absurd (cc)
 as_string : (p : Place) (s : List ℕ) (ls : List Lexeme) → may_begin p ≡ true → begins_colon ls ≡ false
     → punctuate p (token (string s) ∷ ls) ≡ string s ∷ punctuate after_value ls
 unfolding punctuate
-as_string fresh s ls e fails = ap (λ b. place_token fresh (string s) b (λ n. punctuate n ls)) fails
+as_string fresh s ls e fails = ap (λ bit. place_token fresh (string s) bit (λ n. punctuate n ls)) fails
 as_string after_value s ls e fails = absurd (cc)
-as_string after_comma s ls e fails = ap (λ b. place_token after_comma (string s) b (λ n. punctuate n ls)) fails
+as_string after_comma s ls e fails = ap (λ bit. place_token after_comma (string s) bit (λ n. punctuate n ls)) fails
 as_string after_key s ls e fails = absurd (cc)
 
 pub as_word : (p : Place) (t : Token) (ls : List Lexeme) → may_begin p ≡ true → is_word t ≡ true

@@ -75,7 +75,7 @@ same_then f rest step (Some l) long e =
 module _ (rest : List ℕ) (ends : ends_word rest ≡ true) where
   none_follows : (t : List ℕ) → ends_word t ≡ true → prefix_len is_ascii_digit t ≡ 0
   none_follows [] e = refl
-  none_follows (x ∷ xs) e = ap (λ b. cond b (1 + prefix_len is_ascii_digit xs) 0) (no_digit x e)
+  none_follows (x ∷ xs) e = ap (λ bit. cond bit (1 + prefix_len is_ascii_digit xs) 0) (no_digit x e)
 
   same_digits : (w : List ℕ) → prefix_len is_ascii_digit (w ++ rest) ≡ prefix_len is_ascii_digit w
   same_digits [] = none_follows rest ends
@@ -92,7 +92,7 @@ module _ (rest : List ℕ) (ends : ends_word rest ≡ true) where
       (ap Some dropped, spelled-drop w n h))
 
   minus : (w : List ℕ) → after_minus (w ++ rest) ≡ after_minus w ++ rest
-  minus [] = ap (λ b. cond b (drop 1 rest) rest) (unlike (head rest) 45 ends refl)
+  minus [] = ap (λ bit. cond bit (drop 1 rest) rest) (unlike (head rest) 45 ends refl)
   minus (x ∷ xs) = appended (x == 45) xs (x ∷ xs)
     where
       appended : (b : Bool) (u v : List ℕ) → cond b (u ++ rest) (v ++ rest) ≡ cond b u v ++ rest
@@ -129,7 +129,7 @@ module _ (rest : List ℕ) (ends : ends_word rest ≡ true) where
 
   whole : (w : List ℕ) → is_spelled w ≡ true → Same (after_whole w) (after_whole (w ++ rest)) rest
   whole [] h =
-      subst (λ b. Same (after_whole []) (cond b (Some (drop 1 rest)) (after_digits rest)) rest)
+      subst (λ bit. Same (after_whole []) (cond bit (Some (drop 1 rest)) (after_digits rest)) rest)
       (sym (unlike (head rest) 48 ends refl)) (digits [] h)
   whole (x ∷ xs) h =
       same_cond (x == 48) (Some xs) (after_digits (x ∷ xs)) (Some (xs ++ rest)) (after_digits (x ∷ xs ++ rest)) rest
@@ -137,7 +137,7 @@ module _ (rest : List ℕ) (ends : ends_word rest ≡ true) where
 
   fraction : (w : List ℕ) → is_spelled w ≡ true → Same (after_fraction w) (after_fraction (w ++ rest)) rest
   fraction [] h =
-      subst (λ b. Same (after_fraction []) (cond b (after_digits (drop 1 rest)) (Some rest)) rest)
+      subst (λ bit. Same (after_fraction []) (cond bit (after_digits (drop 1 rest)) (Some rest)) rest)
       (sym (unlike (head rest) 46 ends refl)) (refl, refl)
   fraction (x ∷ xs) h =
       same_cond (x == 46) (after_digits xs) (Some (x ∷ xs)) (after_digits (xs ++ rest)) (Some (x ∷ xs ++ rest)) rest
@@ -177,7 +177,7 @@ module _ (rest : List ℕ) (ends : ends_word rest ≡ true) where
   whole_word w e =
       let long : length (w ++ rest) - length rest ≡ length w = omega (arith, length-append w rest) in
       ap (number_before (w ++ rest)) e
-      ∙ ap (λ b. cond b (number (take (length (w ++ rest) - length rest) (w ++ rest))) bad) ends
+      ∙ ap (λ bit. cond bit (number (take (length (w ++ rest) - length rest) (w ++ rest))) bad) ends
       ∙ ap (λ (n : ℕ). number (take n (w ++ rest))) long
       ∙ ap number (take-append_seam w rest)
 
@@ -196,5 +196,5 @@ module _ (rest : List ℕ) (ends : ends_word rest ≡ true) where
       by_case (Some []) is same = absurd (none is)
       by_case (Some (x ∷ xs)) is same =
           ap (number_before (w ++ rest)) same.0
-          ∙ ap (λ b. cond b (number (take (length (w ++ rest) - length (x ∷ xs ++ rest)) (w ++ rest))) bad)
+          ∙ ap (λ bit. cond bit (number (take (length (w ++ rest) - length (x ∷ xs ++ rest)) (w ++ rest))) bad)
           (not_true (is_delimiter x) (and_parts _ _ same.1).0)

@@ -82,7 +82,7 @@ no_delimiter false false false false e = refl
 
 first_word : (x : ℕ) (xs : List ℕ) → class x ≡ other → lex between (x ∷ xs) ≡ token (word (x ∷ xs)) ∷ lex in_word xs
 unfolding lex
-first_word x xs e = ap (λ k. lex_byte between k x xs (λ n. lex n xs)) e
+first_word x xs e = ap (λ kind. lex_byte between kind x xs (λ n. lex n xs)) e
 
 at_word : (t : List ℕ) → class (first t) ≡ other → 0 < length t
     → lex between t ≡ token (word t) ∷ lex between (drop (position_or_len is_delimiter t) t)
@@ -139,19 +139,19 @@ no_literal name w rest k h spelled ends none = by_test _ refl
     by_test : (b : Bool) → (starts_with nat_eq (w ++ rest) name && ends_word (drop (length name) (w ++ rest))) ≡ b
         → literal name k (w ++ rest) ≡ bad
     by_test true is = absurd (none (same_word name w rest h spelled ends is))
-    by_test false is = ap (λ b. cond b k bad) is
+    by_test false is = ap (λ bit. cond bit k bad) is
 
 pub true_word : (rest : List ℕ) → ends_word rest ≡ true → word (true_text ++ rest) ≡ boolean true
 unfolding word
-true_word rest ends = ap (λ b. cond b (boolean true) bad) ends
+true_word rest ends = ap (λ bit. cond bit (boolean true) bad) ends
 
 pub false_word : (rest : List ℕ) → ends_word rest ≡ true → word (false_text ++ rest) ≡ boolean false
 unfolding word
-false_word rest ends = ap (λ b. cond b (boolean false) bad) ends
+false_word rest ends = ap (λ bit. cond bit (boolean false) bad) ends
 
 pub null_word : (rest : List ℕ) → ends_word rest ≡ true → word (null_text ++ rest) ≡ null
 unfolding word
-null_word rest ends = ap (λ b. cond b null bad) ends
+null_word rest ends = ap (λ bit. cond bit null bad) ends
 
 -- ---- numbers, and what is no word
 

@@ -62,8 +62,8 @@ IsAt fault d (Event index text) =
 -- those that there are have the fault
 abbrev pub ArePlaces : AppFault → Data → Places → Type 0
 ArePlaces fault d places =
-    IfSome places.version (λ p. IsAt fault d p) × IfSome places.servers (λ p. IsAt fault d p)
-    × IfSome places.events (λ p. IsAt fault d p)
+    IfSome places.version (λ place. IsAt fault d place) × IfSome places.servers (λ place. IsAt fault d place)
+    × IfSome places.events (λ place. IsAt fault d place)
 
 -- ---- the words that tell a place
 

@@ -37,7 +37,7 @@ refused_at Failed = []
 
 -- no byte is a backslash
 abbrev pub is_plain : List ℕ → Bool
-is_plain text = list_all (λ b. not (b == 92)) text
+is_plain text = list_all (λ byte. not (byte == 92)) text
 
 pub record IsLeft (text : List ℕ) : Type 0 where
   pub plain : is_plain text ≡ true
@@ -70,4 +70,4 @@ is_word bad = false
 
 -- no byte ends a word
 abbrev pub is_spelled : List ℕ → Bool
-is_spelled w = list_all (λ b. not (is_delimiter b)) w
+is_spelled w = list_all (λ byte. not (is_delimiter byte)) w

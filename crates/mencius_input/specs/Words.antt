@@ -7,7 +7,7 @@ use Rattle.mencius_base.specs.Command.{is_name}
 
 -- what stands between the bytes c
 abbrev pub parts : ℕ → List ℕ → List (List ℕ)
-parts c text = slice_split (λ b. b == c) text
+parts c text = slice_split (λ byte. byte == c) text
 
 -- the words, with one space between each and the next
 abbrev pub words : List ℕ → List (List ℕ)

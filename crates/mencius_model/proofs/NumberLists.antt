@@ -53,7 +53,7 @@ counts_alike : (f : ℕ → Bool) (n : ℕ) (xs : List ℕ)
 counts_alike f n [] = refl
 counts_alike f n (x ∷ xs) = counts_alike f (n + cond (f x) 1 0) xs
 
-pub count_by-map : (f : ℕ → Bool) (xs : List ℕ) → count_by (λ b. b) (map f xs) ≡ count_by f xs
+pub count_by-map : (f : ℕ → Bool) (xs : List ℕ) → count_by (λ bit. bit) (map f xs) ≡ count_by f xs
 count_by-map f xs = counts_alike f 0 xs
 
 pub instances-below : instances ≡ below instance_count

@@ -207,10 +207,12 @@ module _ (m : Membership) (few : 1 ≤ m.count) (w : Trace) (g : IsGrown m w) (i
   by_cases None e t x a s = absurd (something t x a s e)
   by_cases (Some NotYet) e t x a s =
       let place = pending_for (place_of is_id (submitted w)) refl e in
-      ((λ r k. absurd (not_both r k place)), (λ k. refl))
+      ((λ r given. absurd (not_both r given place)), (λ pending. refl))
   by_cases (Some (Is y)) e t x a s =
-      let place = given_for (place_of is_id (submitted w)) y refl e in
-      ((λ r k. ap (λ z. Some (Is z)) (reply_once y r place k)), (λ k. absurd (not_both y place k)))
+      let place = given_for (place_of is_id (submitted w)) y refl e in (
+        (λ r given. ap (λ z. Some (Is z)) (reply_once y r place given)),
+        (λ pending. absurd (not_both y place pending)),
+      )
 
   -- a reply is given exactly where there is one
   pub replied : (r : Option (List ℕ)) → (reply_of w id ≡ Some (Is r)) ↔ IsReply w id r

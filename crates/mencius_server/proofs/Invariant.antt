@@ -54,8 +54,8 @@ unfree_stays s f xs j ahead stays unfree = elim (cases_Bool (eqb (owner s.member
       (λ (before : j < f). and_left _ _ (and_right _ _ (lt-leb f j before)))
       (λ (from : f ≤ j).
       let reached : leb s.front j ≡ true = le-leb s.front j (omega arith) in
-      and_right _ _ (stays (sym (ap (λ b. (eqb (owner s.members j) s.id && b) && is_none (slot s j).learned) reached
-      ∙ ap (λ b. (b && true) && is_none (slot s j).learned) mine) ∙ unfree)))
+      and_right _ _ (stays (sym (ap (λ bit. (eqb (owner s.members j) s.id && bit) && is_none (slot s j).learned) reached
+      ∙ ap (λ bit. (bit && true) && is_none (slot s j).learned) mine) ∙ unfree)))
       (cases_lt j f)
   | inr other ↦ and_left _ _ (and_left _ _ other)
 ]

@@ -96,11 +96,12 @@ module _ (m : Membership) (slots new : List (Option SlotState)) (rs : List (List
     (empty : stand_at slots i ≡ None)
     (stands : (j : ℕ) → stand_at new j ≡ cond (eqb j i) (Some (unheard m (is_passed m rs i))) (stand_at slots j)) where
   stood_here : (j : ℕ) → j ≡ i → stand_at new j ≡ Some (unheard m (is_passed m rs i))
-  stood_here j at = stands j ∙ ap (λ b. cond b (Some (unheard m (is_passed m rs i))) (stand_at slots j)) (eq-eqb j i at)
+  stood_here j at =
+      stands j ∙ ap (λ bit. cond bit (Some (unheard m (is_passed m rs i))) (stand_at slots j)) (eq-eqb j i at)
 
   stood_off : (j : ℕ) → (j ≡ i → ⊥) → stand_at new j ≡ stand_at slots j
   stood_off j off =
-      stands j ∙ ap (λ b. cond b (Some (unheard m (is_passed m rs i))) (stand_at slots j)) (ne_eqb j i off)
+      stands j ∙ ap (λ bit. cond bit (Some (unheard m (is_passed m rs i))) (stand_at slots j)) (ne_eqb j i off)
 
   pub stood_at_same : (j : ℕ) → known_at m new rs j ≡ known_at m slots rs j
   stood_at_same j =
@@ -143,7 +144,7 @@ pub stood_has : (m : Membership) (slots new : List (Option SlotState)) (rs : Lis
     → ((j : ℕ) → stand_at new j ≡ cond (eqb j i) (Some s) (stand_at slots j)) → has_slot (known_of m new rs) i ≡ true
 stood_has m slots new rs i small s stands =
     get_or-map-instances (λ j. is_some (stand_at new j)) i false small
-    ∙ ap is_some (stands i ∙ ap (λ b. cond b (Some s) (stand_at slots i)) (eq-eqb i i refl))
+    ∙ ap is_some (stands i ∙ ap (λ bit. cond bit (Some s) (stand_at slots i)) (eq-eqb i i refl))
 
 -- what was known of an instance is what its slot says, once it stands
 pub stood_slot : (m : Membership) (slots : List (Option SlotState)) (rs : List (List Span))

@@ -47,7 +47,7 @@ passed_known m slots rs low now shown sound j small passed = go (stand_at slots 
         ap (λ (s : SlotState). is_none s.learned) (seen_some m slots rs now shown j x small e)
         ∙ sound.told j x small passed e
     go None e = ap (λ (s : SlotState). is_none s.learned) (seen_none m slots rs now shown j small e)
-        ∙ ap (λ b. is_none (unheard m b).learned) passed
+        ∙ ap (λ bit. is_none (unheard m bit).learned) passed
 
 -- ---- the stretch of a suspicion
 
@@ -67,7 +67,7 @@ module _ (now : KnownState) (a : Stretch) (stretch : IsStretch a) (members : a.m
   open_here : (j : ℕ) → owner now.members j ≡ a.server → a.first ≤ j → j < a.stop
       → is_open_in now a j ≡ is_none (known_slot now j).learned
   open_here j own low high =
-      ap (λ b. b && is_none (known_slot now j).learned)
+      ap (λ bit. bit && is_none (known_slot now j).learned)
       (skipped_here a.members a.server a.first a.stop j (ap (λ n. owner n j) members ∙ own) low high)
 
 -- the instances of a stretch that are not learned are those that a suspicion covers

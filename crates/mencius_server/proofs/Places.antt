@@ -108,7 +108,7 @@ pub placed_wider : (places wider : List (Option ℕ)) (n : ℕ) → length wider
 placed_wider places wider n few same h = record {
   few = few;
   within = λ j k e. h.within j k (sym (same j) ∙ e);
-  apart = λ i j k e f. h.apart i j k (sym (same i) ∙ e) (sym (same j) ∙ f);
+  apart = λ i j k here there. h.apart i j k (sym (same i) ∙ here) (sym (same j) ∙ there);
   count = h.count ∙ count_alike places wider (λ j. ap is_some (sym (same j)));
 }
 

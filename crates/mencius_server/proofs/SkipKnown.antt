@@ -264,7 +264,7 @@ aligned_in q first stop d al j small =
     ⊎_elim
     (λ (own : owner d.members j ≡ q).
     regroup (eqb d.server (owner d.members j)) (nat_le d.first j) (nat_lt j d.stop)
-    ∙ ap (λ k. eqb k (owner d.members j) && is_within d.first d.stop j) al.server
+    ∙ ap (λ q. eqb q (owner d.members j) && is_within d.first d.stop j) al.server
     ∙ ap (λ x. eqb q (owner d.members j) && x) (within own)
     ∙ sym (regroup (eqb q (owner d.members j)) (nat_le first j) (nat_lt j stop)))
     (λ (other : owner d.members j ≡ q → ⊥).
@@ -304,7 +304,7 @@ module _ (q first stop : ℕ) (a : Stretch) (al : IsAligned q first stop a) (now
       ap (λ xs. record now { slots = xs })
       (map-instances_same (λ j. given a j (known_slot now j))
       (λ j. slot_given now.members q first stop j (known_slot now j)) (new_slot now.members)
-      (λ j small. ap (λ b. cond b (after_learn (known_slot now j) Noop) (known_slot now j)) (in_is j small)))
+      (λ j small. ap (λ bit. cond bit (after_learn (known_slot now j) Noop) (known_slot now j)) (in_is j small)))
 
   pub news_is : (m : Membership) (slots : List (Option SlotState)) (rs : List (List Span)) (low : ℕ)
       → known_of m slots rs ≡ now → IsSound m slots rs low
@@ -315,7 +315,7 @@ module _ (q first stop : ℕ) (a : Stretch) (al : IsAligned q first stop a) (now
       ∙ count_same (is_given_in a (get_or rs a.server []) slots)
       (λ j. is_given now.members q first stop j (known_slot now j)) instance_count
       (λ j small. given_same m a slots rs low members sound j small
-      ∙ ap (λ b. b && is_none (known_at m slots rs j).learned) (in_is j small)
+      ∙ ap (λ bit. bit && is_none (known_at m slots rs j).learned) (in_is j small)
       ∙ ap (λ (s : SlotState). is_skipped now.members q first stop j && is_none s.learned)
       (sym (seen m slots rs now shown j small)))
       ∙ ap (count_by (λ j. is_given now.members q first stop j (known_slot now j))) (sym instances-below)

@@ -68,7 +68,7 @@ module _ (a : Stretch) (f : ℕ → SlotState) where
 
   given_full : (j : ℕ) → is_full_of a.members after a.server j
       ≡ (is_full_of a.members f a.server j && not (is_within a.first a.stop j))
-  given_full j = ap (λ b. b && is_spent a.members (after j)) (given_open j) ∙ ⊎_elim
+  given_full j = ap (λ bit. bit && is_spent a.members (after j)) (given_open j) ∙ ⊎_elim
       (λ (own : owner a.members j ≡ a.server).
       go (is_open_of a.members f a.server j) (is_within a.first a.stop j) (in_own j own))
       (λ (other : owner a.members j ≡ a.server → ⊥).
@@ -87,10 +87,10 @@ module _ (a : Stretch) (f : ℕ → SlotState) where
   less_none y none h = record {
     small = h.small;
     open_count = h.open_count ∙ count_same (is_open_of a.members f a.server) (is_open_of a.members after a.server)
-        y.stop (λ j l. sym (given_open j ∙ ap (λ b. is_open_of a.members f a.server j && not b) (out j l)
+        y.stop (λ j l. sym (given_open j ∙ ap (λ bit. is_open_of a.members f a.server j && not bit) (out j l)
         ∙ and-true (is_open_of a.members f a.server j)));
     full_count = h.full_count ∙ count_same (is_full_of a.members f a.server) (is_full_of a.members after a.server)
-        y.stop (λ j l. sym (given_full j ∙ ap (λ b. is_full_of a.members f a.server j && not b) (out j l)
+        y.stop (λ j l. sym (given_full j ∙ ap (λ bit. is_full_of a.members f a.server j && not bit) (out j l)
         ∙ and-true (is_full_of a.members f a.server j)));
   }
     where

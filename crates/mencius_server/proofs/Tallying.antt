@@ -96,11 +96,11 @@ other_open m f q j other = and_left _ _ (ne_eqb (owner m j) q other)
 
 own_open : (m : Membership) (f : ℕ → SlotState) (q j : ℕ) → owner m j ≡ q
     → is_open_of m f q j ≡ is_none (f j).learned
-own_open m f q j own = ap (λ b. b && is_none (f j).learned) (eq-eqb (owner m j) q own)
+own_open m f q j own = ap (λ bit. bit && is_none (f j).learned) (eq-eqb (owner m j) q own)
 
 own_full : (m : Membership) (f : ℕ → SlotState) (q j : ℕ) → owner m j ≡ q
     → is_full_of m f q j ≡ (is_none (f j).learned && is_spent m (f j))
-own_full m f q j own = ap (λ b. (b && is_none (f j).learned) && is_spent m (f j)) (eq-eqb (owner m j) q own)
+own_full m f q j own = ap (λ bit. (bit && is_none (f j).learned) && is_spent m (f j)) (eq-eqb (owner m j) q own)
 
 -- what is counted of two slots is the same
 pub record IsAlike (m : Membership) (s r : SlotState) : Type 0 where
@@ -197,10 +197,10 @@ module _ (m : Membership) (f : ℕ → SlotState) (q i : ℕ) (a : Tally) (own :
     tally_moved =
         ⊎_elim
         (λ (less : i < a.stop).
-        subst (λ b. IsTally m g q (cond b (tallied m (untallied m a (f i)) (g i)) a)) (sym (lt-ltb i a.stop less))
+        subst (λ bit. IsTally m g q (cond bit (tallied m (untallied m a (f i)) (g i)) a)) (sym (lt-ltb i a.stop less))
         (counted_anew less))
         (λ (past : a.stop ≤ i).
-        subst (λ b. IsTally m g q (cond b (tallied m (untallied m a (f i)) (g i)) a)) (sym (le-ltb i a.stop past))
+        subst (λ bit. IsTally m g q (cond bit (tallied m (untallied m a (f i)) (g i)) a)) (sym (le-ltb i a.stop past))
         (record {
           small = h.small;
           open_count = h.open_count ∙ count_same (is_open_of m f q) (is_open_of m g q) a.stop
@@ -391,13 +391,13 @@ from_gap m slots rs q first ranges d x stop covered_to past end told member thei
     from_more m (known_at m slots rs) q first (known_by_slot m slots) d x past (omega (arith, past_is))
     (λ j low high own. told j (omega (arith, high, further.ahead, further.small))
     (passed j own ∙ covered j low (omega (arith, high, past_is))))
-    (λ j low high own. ap (λ b. unwrap_or (stand_at slots j) (unheard m b))
+    (λ j low high own. ap (λ bit. unwrap_or (stand_at slots j) (unheard m bit))
     (passed j own ∙ clear j low (omega (arith, high, end_is))))
     further h
   where
     passed : (j : ℕ) → owner m j ≡ q → is_passed m rs j ≡ covers ranges j
     passed j own =
-        ap (λ k. covers (get_or rs k []) j) own
+        ap (λ q. covers (get_or rs q []) j) own
         ∙ ap (λ xs. covers xs j) (sym (theirs ∙ get_or_default rs q ranges [] member))
 
 -- what is counted from a place on, below which nothing is open, is a tally
@@ -540,14 +540,14 @@ counts_moved m slots new rs low next i tallies more s r was is rest moves sound 
   sound = sound;
   counted = λ q. subst (IsTally m (known_at m new rs) q) (sym (moves q)) (⊎_elim
       (λ (own : owner m i ≡ q).
-      subst (λ b. IsTally m (known_at m new rs) q
-      (cond b (moved m i (tally_of tallies q) s r) (tally_of tallies q))) (sym (eq-eqb q (owner m i) (sym own)))
+      subst (λ bit. IsTally m (known_at m new rs) q
+      (cond bit (moved m i (tally_of tallies q) s r) (tally_of tallies q))) (sym (eq-eqb q (owner m i) (sym own)))
       (subst (λ x. IsTally m (known_at m new rs) q (moved m i (tally_of tallies q) x r)) was
       (subst (λ x. IsTally m (known_at m new rs) q (moved m i (tally_of tallies q) (known_at m slots rs i) x)) is
       (tally_moved m (known_at m slots rs) q i (tally_of tallies q) own (h.counted q) (known_at m new rs) rest))))
       (λ (other : owner m i ≡ q → ⊥).
-      subst (λ b. IsTally m (known_at m new rs) q
-      (cond b (moved m i (tally_of tallies q) s r) (tally_of tallies q)))
+      subst (λ bit. IsTally m (known_at m new rs) q
+      (cond bit (moved m i (tally_of tallies q) s r) (tally_of tallies q)))
       (sym (ne_eqb q (owner m i) (λ e. other (sym e))))
       (tally_alike m (known_at m slots rs) (known_at m new rs) q (tally_of tallies q)
       (λ j small own. alike_same m _ _ (rest j (λ e. other (ap (owner m) (sym e) ∙ own)))) (h.counted q)))

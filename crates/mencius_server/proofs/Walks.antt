@@ -74,12 +74,12 @@ module _ (f : ℕ → Option SlotState → Option SlotState) (old : ℕ → Opti
 -- what is written at one instance
 pub written_here : (g : Option SlotState → Option SlotState) (now new : ℕ → Option SlotState) (i : ℕ)
     → ((j : ℕ) → new j ≡ cond (eqb j i) (g (now j)) (now j)) → new i ≡ g (now i)
-written_here g now new i written = written i ∙ ap (λ b. cond b (g (now i)) (now i)) (eq-eqb i i refl)
+written_here g now new i written = written i ∙ ap (λ bit. cond bit (g (now i)) (now i)) (eq-eqb i i refl)
 
 pub written_off : (g : Option SlotState → Option SlotState) (now new : ℕ → Option SlotState) (i : ℕ)
     → ((j : ℕ) → new j ≡ cond (eqb j i) (g (now j)) (now j))
     → (j : ℕ) → (j ≡ i → ⊥) → new j ≡ now j
-written_off g now new i written j off = written j ∙ ap (λ b. cond b (g (now j)) (now j)) (ne_eqb j i off)
+written_off g now new i written j off = written j ∙ ap (λ bit. cond bit (g (now j)) (now j)) (ne_eqb j i off)
 
 -- ---- no-op is learned
 

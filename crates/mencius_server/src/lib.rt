@@ -62,7 +62,8 @@ impl Model for Server {
 
     ghost Value = { ServerState };
 
-    ghost view = { λ s. record { members = s.members; id = s.id; front = s.front; slots = s.known.slots } };
+    ghost view = { λ s.
+        record { members = s.members; id = s.id; front = s.front; slots = s.known.slots } };
 
     ghost invariant = { λ s. IsKept
         (record { members = s.members; id = s.id; front = s.front; slots = s.known.slots })

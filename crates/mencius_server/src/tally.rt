@@ -178,7 +178,8 @@ impl Tallies {
     /// Keeps what was counted of a server's instances.
     pub(crate) fn put(&mut self, server: u8, tally: Tally)
         requires { server < most_servers }
-        ensures { (q : ℕ) → tally_of self.new q ≡ (if q == server then tally else tally_of self.old q) }
+        ensures { (q : ℕ) → tally_of self.new q
+            ≡ (if q == server then tally else tally_of self.old q) }
     {
         self.by_server[server as usize] = tally;
         self.reach = self.reach.max(tally.stop);
@@ -191,7 +192,8 @@ impl Tallies {
             → HasCounted members (tally_of self.old (owner members inst)) slot.old }
         ensures slot { slot.new ≡ changed slot.old change }
         ensures counted { (q : ℕ) → tally_of self.new q
-            ≡ (if q == owner members inst then moved members inst (tally_of self.old q) slot.old slot.new
+            ≡ (if q == owner members inst
+            then moved members inst (tally_of self.old q) slot.old slot.new
             else tally_of self.old q) }
     {
         if inst >= self.reach {

@@ -188,7 +188,8 @@ pub(crate) fn push_executed(
 }
 
 pub(crate) fn push_front(text: &mut String, server: u8, front: u32) -> Result<(), AllocError>
-    ensures { OnOk result (string_bytes text.new ≡ string_bytes text.old ++ front_line server front) }
+    ensures { OnOk result (string_bytes text.new
+        ≡ string_bytes text.old ++ front_line server front) }
 {
     writeln!(text, "front {server} {front}")
 }

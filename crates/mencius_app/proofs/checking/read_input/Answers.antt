@@ -7,7 +7,7 @@ use Rattle.mencius_app.proofs.checking.read_input.Goals as goal
 pub returns-in-Err-clause-words : goal.returns-in-Err-clause-words
 returns-in-Err-clause-words g c =
     of_any_input _ c.found.result.fault c.found.result.words
-    (subst (λ f. (f ≡ BadLimit) ⊎ (f ≡ ReadFailed) ⊎ (f ≡ NoMemory))
+    (subst (λ fault. (fault ≡ BadLimit) ⊎ (fault ≡ ReadFailed) ⊎ (fault ≡ NoMemory))
     (sym c.found.ensures.fault) c.in-Err.ensures.faults)
-    (subst (λ f. IfSome c.found.result.words (λ line. AreWordsOf f [] (string_bytes line)))
+    (subst (λ fault. IfSome c.found.result.words (λ line. AreWordsOf fault [] (string_bytes line)))
     (sym c.found.ensures.fault) c.found.ensures.words)

@@ -29,5 +29,5 @@ loop-child-preserved g c =
           let small : k < length c.loop-child.ends.items + 1 = omega (arith, len, longer, below) in
           let is : IsEndOf c.args.plan.now (length c.loop-child.ends.items) end = rw len is_end in
           rw c.push_reserved.ensures.items (more_of (IsEndOf c.args.plan.now) k c.loop-child.ends.items end d
-          (λ j e b. was.3 j e (omega (arith, len, b))) is small),
+          (λ j e under. was.3 j e (omega (arith, len, under))) is small),
     )

@@ -18,7 +18,7 @@ returns g c =
     subst (λ (y : ChooserState). EndsTurn y d x z turned) from c.worker_turn-turned.ensures.turn in
     let plan : d.plan ≡ c.args.plan.now = turn_plan first d x z turned ended in
     let to : last ≡ d =
-    ap (λ p. chooser_at p c.into_progress.result) (sym plan) ∙ c.into_progress.ensures in
+    ap (λ given. chooser_at given c.into_progress.result) (sym plan) ∙ c.into_progress.ensures in
     let turn : TakesTurn first last x c.show_after-answer.new.board c.args.shows c.show_after-answer.result = record {
       board = z;
       turned = turned;

@@ -13,4 +13,4 @@ returns-then-first-eq44-clause-same c =
     ∙ ap (λ (b : ℕ). punctuate after_value (lex between (b ∷ behind))) (sym comma)
     ∙ ap (λ (t : List ℕ). punctuate after_value (lex between t)) (sym c.behind_first.ensures.value)
     ∙ ap (punctuate after_value) c.past_blanks-rest.ensures.same
-    ∙ ap (λ p. tokens_at p c.args.text.now) (sym c.in-AfterValue.is)
+    ∙ ap (λ place. tokens_at place c.args.text.now) (sym c.in-AfterValue.is)

@@ -18,7 +18,7 @@ pub pass_from-returns-then-depth-eq0-clause-err : goal.pass_from-returns-then-de
 pass_from-returns-then-depth-eq0-clause-err t c =
     inr (
       refl,
-      ap (λ k. next_value c.args.depth (token_of k ∷ c.args.reader.now)) c.in-BeginArray.is
+      ap (λ kind. next_value c.args.depth (token_of kind ∷ c.args.reader.now)) c.in-BeginArray.is
           ∙ array_too_deep c.args.depth c.args.reader.now (omega arith),
     )
 
@@ -26,7 +26,7 @@ pub pass_from-returns-then-depth-eq0-2-clause-err : goal.pass_from-returns-then-
 pass_from-returns-then-depth-eq0-2-clause-err t c =
     inr (
       refl,
-      ap (λ k. next_value c.args.depth (token_of k ∷ c.args.reader.now)) c.in-BeginObject.is
+      ap (λ kind. next_value c.args.depth (token_of kind ∷ c.args.reader.now)) c.in-BeginObject.is
           ∙ object_too_deep c.args.depth c.args.reader.now (omega arith),
     )
 
@@ -36,13 +36,13 @@ pass_from-returns-in-String-clause-ok t c = next_plain c.args.depth c.args.token
 pub pass_from-returns-in-Some-clause-ok : goal.pass_from-returns-in-Some-clause-ok
 pass_from-returns-in-Some-clause-ok t c =
     let n = next_counted c.args.depth c.in-Number.text.now c.args.reader.now c.in-Some.field-0 c.in-Some.ensures in
-    (number n.0, ap (λ k. next_value c.args.depth (token_of k ∷ c.args.reader.now)) c.in-Number.is ∙ n.1)
+    (number n.0, ap (λ kind. next_value c.args.depth (token_of kind ∷ c.args.reader.now)) c.in-Number.is ∙ n.1)
 
 pub pass_from-returns-in-None-clause-err : goal.pass_from-returns-in-None-clause-err
 pass_from-returns-in-None-clause-err t c =
     inr (
       refl,
-      ap (λ k. next_value c.args.depth (token_of k ∷ c.args.reader.now)) c.in-Number.is
+      ap (λ kind. next_value c.args.depth (token_of kind ∷ c.args.reader.now)) c.in-Number.is
           ∙ next_uncounted c.args.depth c.in-Number.text.now c.args.reader.now c.in-None.ensures,
     )
 
@@ -53,25 +53,25 @@ pass_from-returns-in-EndObject-clause-err t c =
 pub pass_from-returns-else-depth-eq0-clause-ok : goal.pass_from-returns-else-depth-eq0-clause-ok
 pass_from-returns-else-depth-eq0-clause-ok t c =
     oks_whole _ array _ _ _
-    (ap (λ k. next_value c.args.depth (token_of k ∷ c.args.reader.now)) c.in-BeginArray.is
+    (ap (λ kind. next_value c.args.depth (token_of kind ∷ c.args.reader.now)) c.in-BeginArray.is
     ∙ opened_array c.args.depth c.args.reader.now (omega arith)) c.pass_items.ensures.ok
 
 pub pass_from-returns-else-depth-eq0-clause-err : goal.pass_from-returns-else-depth-eq0-clause-err
 pass_from-returns-else-depth-eq0-clause-err t c =
     errs_whole _ _ _
-    (λ none. ap (λ k. next_value c.args.depth (token_of k ∷ c.args.reader.now)) c.in-BeginArray.is
+    (λ none. ap (λ kind. next_value c.args.depth (token_of kind ∷ c.args.reader.now)) c.in-BeginArray.is
     ∙ opened_array c.args.depth c.args.reader.now (omega arith) ∙ ap (parse_map array) none) c.pass_items.ensures.err
 
 pub pass_from-returns-else-depth-eq0-2-clause-ok : goal.pass_from-returns-else-depth-eq0-2-clause-ok
 pass_from-returns-else-depth-eq0-2-clause-ok t c =
     oks_whole _ object _ _ _
-    (ap (λ k. next_value c.args.depth (token_of k ∷ c.args.reader.now)) c.in-BeginObject.is
+    (ap (λ kind. next_value c.args.depth (token_of kind ∷ c.args.reader.now)) c.in-BeginObject.is
     ∙ opened_object c.args.depth c.args.reader.now (omega arith)) c.pass_members.ensures.ok
 
 pub pass_from-returns-else-depth-eq0-2-clause-err : goal.pass_from-returns-else-depth-eq0-2-clause-err
 pass_from-returns-else-depth-eq0-2-clause-err t c =
     errs_whole _ _ _
-    (λ none. ap (λ k. next_value c.args.depth (token_of k ∷ c.args.reader.now)) c.in-BeginObject.is
+    (λ none. ap (λ kind. next_value c.args.depth (token_of kind ∷ c.args.reader.now)) c.in-BeginObject.is
     ∙ opened_object c.args.depth c.args.reader.now (omega arith) ∙ ap (parse_map object) none)
     c.pass_members.ensures.err
 

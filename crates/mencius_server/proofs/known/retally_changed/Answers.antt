@@ -10,7 +10,7 @@ returns-then-is_changed-clause-here c =
     let known = known_at c.args.members c.args.slots.now c.args.skipped.now.items in
     subst (IsTally c.args.members known c.args.server)
     (sym (c.put.ensures c.args.server
-    ∙ ap (λ b. cond b c.tally_from-tally.result (tally_of c.args.tallies.now c.args.server))
+    ∙ ap (λ bit. cond bit c.tally_from-tally.result (tally_of c.args.tallies.now c.args.server))
     (eq-eqb c.args.server c.args.server refl)))
     (tally_anew c.args.members known c.args.server 0 c.tally_from-tally.result
     (λ j low. absurd (omega (arith, low))) c.tally_from-tally.ensures.counted)

@@ -14,7 +14,7 @@ loop-ranges-init c = record {
   joining = elim c.if-first-eq0.branch [
     | then-first-eq0 w ↦ rw w.at-is
         (joining_start c.args.ranges.now.items c.args.first c.args.stop 0 none c.requires.rising c.requires.some
-        (omega arith) (λ j l. absurd (omega arith)) (λ j l k. omega (arith, w.if-first-eq0.true)))
+        (omega arith) (λ j l. absurd (omega arith)) (λ j l past. omega (arith, w.if-first-eq0.true)))
     | else-first-eq0 w ↦
         let items : w.deref.result.now ≡ c.args.ranges.now.items = w.deref.ensures.value in
         let P : List Span → Type 0 =
@@ -27,7 +27,7 @@ loop-ranges-init c = record {
         rw w.at-is (joining_start c.args.ranges.now.items c.args.first c.args.stop w.first_past-at.result none
         c.requires.rising c.requires.some
         (omega (arith, w.first_past-at.ensures.within, ap length items))
-        (λ j l. omega (arith, before j none l, w.if-first-eq0.false)) (λ j l k. omega (arith, after j none l k)))
+        (λ j l. omega (arith, before j none l, w.if-first-eq0.false)) (λ j l past. omega (arith, after j none l past)))
   ];
   room = c.requires.room;
 }

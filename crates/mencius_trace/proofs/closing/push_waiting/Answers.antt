@@ -12,9 +12,9 @@ pub loop-inst-preserved : goal.loop-inst-preserved
 loop-inst-preserved c =
     let either : (c.in_ok-some.some || c.loop-inst.some) ≡ c.if-branch.some =
     elim c.if-branch.branch [
-      | then-branch w ↦ ap (λ b. b || c.loop-inst.some) w.if-branch.true ∙ sym w.if-branch.true
+      | then-branch w ↦ ap (λ bit. bit || c.loop-inst.some) w.if-branch.true ∙ sym w.if-branch.true
           ∙ sym w.some-is
-      | else-branch w ↦ ap (λ b. b || c.loop-inst.some) w.if-branch.false ∙ sym w.some-is
+      | else-branch w ↦ ap (λ bit. bit || c.loop-inst.some) w.if-branch.false ∙ sym w.some-is
     ] in
     subst (λ b. IsWaitingTo (trace_of c.args.cluster.now) c.args.server (c.loop-inst.inst + 1) b
     (string_bytes c.args.text.now) (string_bytes c.push_waiting_at.new.text)) either

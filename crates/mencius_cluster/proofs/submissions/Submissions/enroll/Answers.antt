@@ -45,7 +45,7 @@ invariant_of-self c =
     let index =
     grown (map key_in rows) keys tickets key c.in-Err.place c.args.ticket c.self.invariant.1 place last in
     let ids : map key_in rows ++ key ∷ [] ≡ map key_in (rows ++ s ∷ []) =
-    ap (λ k. map key_in rows ++ k ∷ []) same ∙ sym (map-append key_in rows (s ∷ [])) in
+    ap (λ last. map key_in rows ++ last ∷ []) same ∙ sym (map-append key_in rows (s ∷ [])) in
     rw (c.push_reserved.ensures.items, c.in-Ok-Ok.ensures.items, c.in-Ok-Ok.ensures'.items) (
       small_more rows s c.self.invariant.0 small,
       subst (λ is. IsIndex is (insert keys c.in-Err.place key) (insert tickets c.in-Err.place c.args.ticket)) ids

@@ -76,7 +76,7 @@ invariant_of-self-2 c =
     c.skip_stretch.new.slots rs member c.skip_stretch.new.ranges covered c.in_ok-learned.ensures.slots j small other)))
     (subst (IsTally m (known_at m c.skip_stretch.new.slots (set rs c.args.from c.skip_stretch.new.ranges)) c.args.from)
     (sym (c.put.ensures c.args.from
-    ∙ ap (λ b. cond b c.tally_given-tally.result (tally_of c.self.inside.tallies c.args.from))
+    ∙ ap (λ bit. cond bit c.tally_given-tally.result (tally_of c.self.inside.tallies c.args.from))
     (eq-eqb c.args.from c.args.from refl)))
     (tally_alike m (λ j. given stretch j (known_at m c.self.inside.slots rs j))
     (known_at m c.skip_stretch.new.slots (set rs c.args.from c.skip_stretch.new.ranges)) c.args.from
@@ -85,7 +85,7 @@ invariant_of-self-2 c =
     rs member c.skip_stretch.new.ranges covered c.in_ok-learned.ensures.slots j small)))
     c.tally_given-tally.ensures))
     (λ q other. c.put.ensures q
-    ∙ ap (λ b. cond b c.tally_given-tally.result (tally_of c.self.inside.tallies q)) (ne_eqb q c.args.from other))
+    ∙ ap (λ bit. cond bit c.tally_given-tally.result (tally_of c.self.inside.tallies q)) (ne_eqb q c.args.from other))
     c.self.invariant
 
 pub returns-clause-after : goal.returns-clause-after

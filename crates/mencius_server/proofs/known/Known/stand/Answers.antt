@@ -21,7 +21,7 @@ invariant_of-self-2 c =
     let gone = none_there (stand_at c.self.inside.slots c.args.inst) c.has.result c.has.ensures c.if-has.false in
     let stands =
     λ (j : ℕ). c.in_ok-stand.ensures.ok j
-    ∙ ap (λ b. cond (eqb j c.args.inst) (Some (unheard c.self.inside.members b)) (stand_at c.self.inside.slots j))
+    ∙ ap (λ bit. cond (eqb j c.args.inst) (Some (unheard c.self.inside.members bit)) (stand_at c.self.inside.slots j))
     c.is_passed-was_skipped.ensures in
     counts_kept _ _ _ _ _ _ _ _
     (stood_sound _ _ _ _ _ gone stands c.self.inside.learned_below c.self.invariant.sound)
@@ -34,7 +34,7 @@ returns-clause-ok c =
     let gone = none_there (stand_at c.self.inside.slots c.args.inst) c.has.result c.has.ensures c.if-has.false in
     stood_shows _ _ _ _ _ gone
     (λ j. c.in_ok-stand.ensures.ok j
-    ∙ ap (λ b. cond (eqb j c.args.inst) (Some (unheard c.self.inside.members b))
+    ∙ ap (λ bit. cond (eqb j c.args.inst) (Some (unheard c.self.inside.members bit))
     (stand_at c.self.inside.slots j)) c.is_passed-was_skipped.ensures) c.args.self.now c.self.view_is
 
 pub returns-clause-there : goal.returns-clause-there

@@ -66,14 +66,14 @@ invariant_of-self c =
     (λ j small other. alike_same c.self.inside.members _ _ refl)
     (subst (IsTally c.self.inside.members known c.args.suspected)
     (sym (c.put.ensures c.args.suspected
-    ∙ ap (λ b. cond b c.plus-tally.result (tally_of c.self.inside.tallies c.args.suspected))
+    ∙ ap (λ bit. cond bit c.plus-tally.result (tally_of c.self.inside.tallies c.args.suspected))
     (eq-eqb c.args.suspected c.args.suspected refl) ∙ c.plus-tally.ensures))
     (counted_on c.self.inside.members c.self.inside.slots c.self.inside.skipped.items _ c.args.suspected
     c.min-first.result c.self.inside.tallies c.up_to-start.result _ c.self.invariant c.up_to-start.ensures.was
     (omega (arith, c.max.ensures, c.min-first.ensures, c.min-stop.ensures, c.up_to-start.ensures.low))
     (omega (arith, c.max.ensures, c.min-first.ensures)) c.tally_from-further.ensures.counted))
     (λ q other. c.put.ensures q
-    ∙ ap (λ b. cond b c.plus-tally.result (tally_of c.self.inside.tallies q)) (ne_eqb q c.args.suspected other))
+    ∙ ap (λ bit. cond bit c.plus-tally.result (tally_of c.self.inside.tallies q)) (ne_eqb q c.args.suspected other))
     c.self.invariant
 
 pub returns-clause-survey : goal.returns-clause-survey
