@@ -40,17 +40,20 @@ fn traces_and_checks_are_asked_for(rt: HostRuntime) -> Result<(), Fail> {
     Ok(())
 }
 
+// Lines that ask for a run: whether with its journal, and the key of a lookup.
+const RUN_LINES: [(&str, bool, Option<&str>); 7] = [
+    ("mencius run", false, None),
+    ("mencius run --journal", true, None),
+    ("mencius run --lookup a", false, Some("a")),
+    ("mencius run --lookup a_.-9 --journal", true, Some("a_.-9")),
+    ("mencius run --journal --lookup=-a", true, Some("-a")),
+    ("mencius run --lookup -a --journal", true, Some("-a")),
+    ("mencius run --lookup --journal", false, Some("--journal")),
+];
+
 #[test]
 fn runs_are_asked_for(rt: HostRuntime) -> Result<(), Fail> {
-    for (line, with_journal, key) in [
-        ("mencius run", false, None),
-        ("mencius run --journal", true, None),
-        ("mencius run --lookup a", false, Some("a")),
-        ("mencius run --lookup a_.-9 --journal", true, Some("a_.-9")),
-        ("mencius run --journal --lookup=-a", true, Some("-a")),
-        ("mencius run --lookup -a --journal", true, Some("-a")),
-        ("mencius run --lookup --journal", false, Some("--journal")),
-    ] {
+    for (line, with_journal, key) in RUN_LINES {
         let given = words(rt.alloc(), line)?;
         let task = read_command_line(rt.alloc(), given.as_slice()).map_err(|_| "refused")?;
         let key = match key {
@@ -80,58 +83,61 @@ fn exit_statuses(rt: HostRuntime) -> Result<(), Fail> {
 
 const TRY_HELP: &str = "\nFor more information, try '--help'.\n";
 
+// Lines that are refused, and what is said of each before the hint.
+const REFUSED_LINES: [(&str, &str); 11] = [
+    (
+        "mencius",
+        "error: 'mencius' requires a subcommand but one was not provided\n  \
+         [subcommands: replay, trace, check, run, help]\n\nUsage: mencius <COMMAND>\n",
+    ),
+    (
+        "mencius walk",
+        "error: unrecognized subcommand 'walk'\n\nUsage: mencius <COMMAND>\n",
+    ),
+    (
+        "mencius replay now",
+        "error: unexpected argument 'now' found\n\nUsage: mencius replay [OPTIONS] < SCENARIO\n",
+    ),
+    (
+        "mencius trace now",
+        "error: unexpected argument 'now' found\n\nUsage: mencius trace < SCENARIO\n",
+    ),
+    (
+        "mencius check --strict",
+        "error: unexpected argument '--strict' found\n\nUsage: mencius check < SCENARIO\n",
+    ),
+    (
+        "mencius --loud replay",
+        "error: unexpected argument '--loud' found\n\nUsage: mencius <COMMAND>\n",
+    ),
+    (
+        "mencius run now",
+        "error: unexpected argument 'now' found\n\nUsage: mencius run [OPTIONS] < SCENARIO\n",
+    ),
+    (
+        "mencius run --lookup",
+        "error: a value is required for '--lookup <KEY>' but none was supplied\n",
+    ),
+    (
+        "mencius run --lookup -a!",
+        "error: invalid value '-a!' for '--lookup <KEY>': a key has 1 to 64 ASCII letters, digits, `_`, `-` or `.`\
+         \n\nUsage: mencius <COMMAND>\n",
+    ),
+    (
+        "mencius run --lookup a!",
+        "error: invalid value 'a!' for '--lookup <KEY>': a key has 1 to 64 ASCII letters, digits, `_`, `-` or `.`\
+         \n\nUsage: mencius <COMMAND>\n",
+    ),
+    (
+        "mencius run --lookup=",
+        "error: invalid value '' for '--lookup <KEY>': a key has 1 to 64 ASCII letters, digits, `_`, `-` or `.`\
+         \n\nUsage: mencius <COMMAND>\n",
+    ),
+];
+
 #[test]
 fn bad_command_lines(rt: HostRuntime) -> Result<(), Fail> {
-    for (line, want) in [
-        (
-            "mencius",
-            "error: 'mencius' requires a subcommand but one was not provided\n  \
-             [subcommands: replay, trace, check, run, help]\n\nUsage: mencius <COMMAND>\n",
-        ),
-        (
-            "mencius walk",
-            "error: unrecognized subcommand 'walk'\n\nUsage: mencius <COMMAND>\n",
-        ),
-        (
-            "mencius replay now",
-            "error: unexpected argument 'now' found\n\nUsage: mencius replay [OPTIONS] < SCENARIO\n",
-        ),
-        (
-            "mencius trace now",
-            "error: unexpected argument 'now' found\n\nUsage: mencius trace < SCENARIO\n",
-        ),
-        (
-            "mencius check --strict",
-            "error: unexpected argument '--strict' found\n\nUsage: mencius check < SCENARIO\n",
-        ),
-        (
-            "mencius --loud replay",
-            "error: unexpected argument '--loud' found\n\nUsage: mencius <COMMAND>\n",
-        ),
-        (
-            "mencius run now",
-            "error: unexpected argument 'now' found\n\nUsage: mencius run [OPTIONS] < SCENARIO\n",
-        ),
-        (
-            "mencius run --lookup",
-            "error: a value is required for '--lookup <KEY>' but none was supplied\n",
-        ),
-        (
-            "mencius run --lookup -a!",
-            "error: invalid value '-a!' for '--lookup <KEY>': a key has 1 to 64 ASCII letters, digits, `_`, `-` or `.`\
-             \n\nUsage: mencius <COMMAND>\n",
-        ),
-        (
-            "mencius run --lookup a!",
-            "error: invalid value 'a!' for '--lookup <KEY>': a key has 1 to 64 ASCII letters, digits, `_`, `-` or `.`\
-             \n\nUsage: mencius <COMMAND>\n",
-        ),
-        (
-            "mencius run --lookup=",
-            "error: invalid value '' for '--lookup <KEY>': a key has 1 to 64 ASCII letters, digits, `_`, `-` or `.`\
-             \n\nUsage: mencius <COMMAND>\n",
-        ),
-    ] {
+    for (line, want) in REFUSED_LINES {
         let given = words(rt.alloc(), line)?;
         let Err(error) = read_command_line(rt.alloc(), given.as_slice()) else {
             return Err(Fail::from("taken"));
@@ -388,20 +394,23 @@ Examples, at the top of the repository; the second replays a run:
 docs/FORMATS.md describes the format in full, and examples/ has runs to try.
 ";
 
+// Lines that are answered by a text.
+const TEXT_LINES: [(&str, &str); 10] = [
+    ("mencius --help", HELP),
+    ("mencius replay --help", REPLAY_HELP),
+    ("mencius help replay", REPLAY_HELP),
+    ("mencius trace --help", TRACE_HELP),
+    ("mencius help trace", TRACE_HELP),
+    ("mencius check --help", CHECK_HELP),
+    ("mencius run --help", RUN_HELP),
+    ("mencius help run", RUN_HELP),
+    ("mencius --version", "mencius 0.1.0\n"),
+    ("mencius -V", "mencius 0.1.0\n"),
+];
+
 #[test]
 fn help(rt: HostRuntime) -> Result<(), Fail> {
-    for (line, want) in [
-        ("mencius --help", HELP),
-        ("mencius replay --help", REPLAY_HELP),
-        ("mencius help replay", REPLAY_HELP),
-        ("mencius trace --help", TRACE_HELP),
-        ("mencius help trace", TRACE_HELP),
-        ("mencius check --help", CHECK_HELP),
-        ("mencius run --help", RUN_HELP),
-        ("mencius help run", RUN_HELP),
-        ("mencius --version", "mencius 0.1.0\n"),
-        ("mencius -V", "mencius 0.1.0\n"),
-    ] {
+    for (line, want) in TEXT_LINES {
         let given = words(rt.alloc(), line)?;
         let Err(asked) = read_command_line(rt.alloc(), given.as_slice()) else {
             return Err(Fail::from("taken"));

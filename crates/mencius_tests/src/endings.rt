@@ -83,40 +83,43 @@ fn ended<R: Threads + Wait + Sync>(
     ))
 }
 
+// Arguments and input, and the status, the output and the words of the call.
+const ENDED_CALLS: [(&str, &str, u8, &str, &str); 18] = [
+    ("replay", GOOD, 0, REPORT, ""),
+    ("replay --strict", GOOD, 0, REPORT, ""),
+    ("replay", REFUSED, 0, REFUSED_REPORT, ""),
+    ("replay --strict", REFUSED, 1, REFUSED_REPORT, ""),
+    ("replay", "{", 3, "", "mencius: fault 21 NotJson\n"),
+    (
+        "replay --strict",
+        "{}",
+        3,
+        "",
+        "mencius: fault 22 BadShape\n",
+    ),
+    (
+        "replay",
+        NINE_SERVERS,
+        3,
+        "",
+        "mencius: fault 23 BadLimit\n",
+    ),
+    ("trace", GOOD, 0, TRACE, ""),
+    ("trace", REFUSED, 0, REFUSED_TRACE, ""),
+    ("trace", "{", 3, "", "mencius: fault 21 NotJson\n"),
+    ("trace", NINE_SERVERS, 3, "", "mencius: fault 23 BadLimit\n"),
+    ("check", GOOD, 0, "ok servers 1 events 0\n", ""),
+    ("check", REFUSED, 0, "ok servers 1 events 1\n", ""),
+    ("run", GOOD, 3, "", "mencius: fault 22 BadShape\n"),
+    ("--version", "", 0, "mencius 0.1.0\n", ""),
+    ("walk", "", 2, "", UNKNOWN),
+    ("replay !", GOOD, 2, "", NOT_TEXT),
+    ("run --lookup a!", GOOD, 2, "", NOT_TEXT),
+];
+
 #[test]
 fn endings(rt: HostRuntime) -> Result<(), Fail> {
-    for (line, input, status, printed, said) in [
-        ("replay", GOOD, 0, REPORT, ""),
-        ("replay --strict", GOOD, 0, REPORT, ""),
-        ("replay", REFUSED, 0, REFUSED_REPORT, ""),
-        ("replay --strict", REFUSED, 1, REFUSED_REPORT, ""),
-        ("replay", "{", 3, "", "mencius: fault 21 NotJson\n"),
-        (
-            "replay --strict",
-            "{}",
-            3,
-            "",
-            "mencius: fault 22 BadShape\n",
-        ),
-        (
-            "replay",
-            NINE_SERVERS,
-            3,
-            "",
-            "mencius: fault 23 BadLimit\n",
-        ),
-        ("trace", GOOD, 0, TRACE, ""),
-        ("trace", REFUSED, 0, REFUSED_TRACE, ""),
-        ("trace", "{", 3, "", "mencius: fault 21 NotJson\n"),
-        ("trace", NINE_SERVERS, 3, "", "mencius: fault 23 BadLimit\n"),
-        ("check", GOOD, 0, "ok servers 1 events 0\n", ""),
-        ("check", REFUSED, 0, "ok servers 1 events 1\n", ""),
-        ("run", GOOD, 3, "", "mencius: fault 22 BadShape\n"),
-        ("--version", "", 0, "mencius 0.1.0\n", ""),
-        ("walk", "", 2, "", UNKNOWN),
-        ("replay !", GOOD, 2, "", NOT_TEXT),
-        ("run --lookup a!", GOOD, 2, "", NOT_TEXT),
-    ] {
+    for (line, input, status, printed, said) in ENDED_CALLS {
         let answer = ended(&rt, rt.alloc(), line, input, Trouble::None)?;
         assert_eq!(rt; answer.0, status, "at {line}");
         assert_eq!(rt; answer.1.as_str(), printed, "at {line}");

@@ -23,126 +23,154 @@ fn fault_of<R: Abort>(rt: &R, alloc: Global, scenario: &[u8]) -> Option<AppFault
     }
 }
 
+const NOT_JSON: Option<AppFault> = Some(AppFault::NotJson);
+
+const BAD_SHAPE: Option<AppFault> = Some(AppFault::BadShape);
+
+const BAD_LIMIT: Option<AppFault> = Some(AppFault::BadLimit);
+
+// Whole scenarios, each with its fault.
+const HOSTILE: [(&str, Option<AppFault>); 27] = [
+    (SCENARIO, None),
+    ("{\"version\":1,\"servers\":1,\"events\":[]}", None),
+    (
+        " {\n\"events\": [ ], \"servers\": 1, \"version\": 1 }\n",
+        None,
+    ),
+    ("{\"version\":1,\"servers\":0,\"events\":[]}", BAD_LIMIT),
+    ("{\"version\":1,\"servers\":8,\"events\":[]}", BAD_LIMIT),
+    ("{\"version\":1,", NOT_JSON),
+    ("{\"version\":1,\"servers\":3}", BAD_SHAPE),
+    ("{\"version\":1,\"servers\":3,\"events\":[]}x", NOT_JSON),
+    (
+        "{\"version\":1,\"servers\":3,\"events\":[],\"name\":0}",
+        BAD_SHAPE,
+    ),
+    ("{\"version\":1,\"servers\":3,\"events\":{}}", BAD_SHAPE),
+    ("{\"version\":1,\"servers\":3,\"events\":[7]}", BAD_SHAPE),
+    ("{\"version\":1,\"servers\":3.0,\"events\":[]}", BAD_SHAPE),
+    ("{\"version\":1,\"servers\":3.5,\"events\":[]}", BAD_SHAPE),
+    ("{\"version\":1,\"servers\":1e0,\"events\":[]}", BAD_SHAPE),
+    ("{\"version\":1,\"servers\":-1,\"events\":[]}", BAD_SHAPE),
+    ("{\"version\":1,\"servers\":-0,\"events\":[]}", BAD_SHAPE),
+    ("{\"version\":1,\"servers\":03,\"events\":[]}", NOT_JSON),
+    ("{\"version\":1,\"servers\":\"3\",\"events\":[]}", BAD_SHAPE),
+    (
+        "{\"version\":1,\"servers\":9,\"events\":[\"nop\"]}",
+        BAD_SHAPE,
+    ),
+    ("{\"version\":1e309,\"servers\":3,\"events\":[]}", NOT_JSON),
+    (
+        "{\"version\":18446744073709551615,\"servers\":3,\"events\":[]}",
+        BAD_LIMIT,
+    ),
+    (
+        "{\"version\":18446744073709551616,\"servers\":3,\"events\":[]}",
+        BAD_SHAPE,
+    ),
+    (
+        "{\"version\":3,\"servers\":3,\"events\":[\"nop\"]}",
+        BAD_SHAPE,
+    ),
+    (
+        "{\"version\":2,\"version\":1,\"servers\":3,\"events\":[]}",
+        None,
+    ),
+    (
+        "{\"version\":1,\"version\":3,\"servers\":3,\"events\":[]}",
+        BAD_LIMIT,
+    ),
+    ("[]", BAD_SHAPE),
+    ("7", BAD_SHAPE),
+];
+
 #[test]
 fn scenarios(rt: HostRuntime) -> Result<(), Fail> {
-    let json = Some(AppFault::NotJson);
-    let shape = Some(AppFault::BadShape);
-    let limit = Some(AppFault::BadLimit);
-    let rows = [
-        (SCENARIO, None),
-        ("{\"version\":1,\"servers\":1,\"events\":[]}", None),
-        (
-            " {\n\"events\": [ ], \"servers\": 1, \"version\": 1 }\n",
-            None,
-        ),
-        ("{\"version\":1,\"servers\":0,\"events\":[]}", limit),
-        ("{\"version\":1,\"servers\":8,\"events\":[]}", limit),
-        ("{\"version\":1,", json),
-        ("{\"version\":1,\"servers\":3}", shape),
-        ("{\"version\":1,\"servers\":3,\"events\":[]}x", json),
-        (
-            "{\"version\":1,\"servers\":3,\"events\":[],\"name\":0}",
-            shape,
-        ),
-        ("{\"version\":1,\"servers\":3,\"events\":{}}", shape),
-        ("{\"version\":1,\"servers\":3,\"events\":[7]}", shape),
-        ("{\"version\":1,\"servers\":3.0,\"events\":[]}", shape),
-        ("{\"version\":1,\"servers\":3.5,\"events\":[]}", shape),
-        ("{\"version\":1,\"servers\":1e0,\"events\":[]}", shape),
-        ("{\"version\":1,\"servers\":-1,\"events\":[]}", shape),
-        ("{\"version\":1,\"servers\":-0,\"events\":[]}", shape),
-        ("{\"version\":1,\"servers\":03,\"events\":[]}", json),
-        ("{\"version\":1,\"servers\":\"3\",\"events\":[]}", shape),
-        ("{\"version\":1,\"servers\":9,\"events\":[\"nop\"]}", shape),
-        ("{\"version\":1e309,\"servers\":3,\"events\":[]}", json),
-        (
-            "{\"version\":18446744073709551615,\"servers\":3,\"events\":[]}",
-            limit,
-        ),
-        (
-            "{\"version\":18446744073709551616,\"servers\":3,\"events\":[]}",
-            shape,
-        ),
-        ("{\"version\":3,\"servers\":3,\"events\":[\"nop\"]}", shape),
-        (
-            "{\"version\":2,\"version\":1,\"servers\":3,\"events\":[]}",
-            None,
-        ),
-        (
-            "{\"version\":1,\"version\":3,\"servers\":3,\"events\":[]}",
-            limit,
-        ),
-        ("[]", shape),
-        ("7", shape),
-    ];
-    for (scenario, want) in rows {
+    for (scenario, want) in HOSTILE {
         let fault = fault_of(&rt, rt.alloc(), scenario.as_bytes());
         assert_eq!(rt; fault, want, "at {scenario}");
     }
     Ok(())
 }
 
+// Texts of events, each with the fault of a scenario that has it.
+const SINGLE_EVENTS: [(&str, Option<AppFault>); 38] = [
+    ("submit 0 1.0 set a x", None),
+    ("submit 0 1.0 set a ", None),
+    ("submit 0 1.0 set a", BAD_SHAPE),
+    ("submit 0 1.0 set a x y", BAD_SHAPE),
+    ("submit 0 1.0 set a x ", BAD_SHAPE),
+    ("submit 0 1.0 set  x", BAD_LIMIT),
+    ("submit 0 1.0 set a  x", BAD_SHAPE),
+    ("submit 0 1.0 get", BAD_SHAPE),
+    ("submit 0 1.0 get ", BAD_LIMIT),
+    ("submit 0 1.0 del a", None),
+    ("submit 0 1 del a", BAD_SHAPE),
+    ("submit 0 1.0.0 del a", BAD_SHAPE),
+    ("submit 0 01.0 del a", BAD_SHAPE),
+    ("submit 0 4294967295.4294967295 del a", None),
+    ("submit 0 4294967296.0 del a", BAD_LIMIT),
+    ("submit 0 1.0 del a!", BAD_SHAPE),
+    ("submit 0 4294967296.0 del a!", BAD_SHAPE),
+    ("submit 0 1.0 put a x", BAD_SHAPE),
+    ("deliver 00 0", BAD_SHAPE),
+    ("deliver  0 0", BAD_SHAPE),
+    ("deliver 0", BAD_SHAPE),
+    ("deliver 4294967295 255", None),
+    ("deliver 4294967296 0", BAD_LIMIT),
+    ("deliver 0 256", BAD_LIMIT),
+    ("deliver 99999999999999999999999999 0", BAD_LIMIT),
+    ("deliver 99999999999999999999999999 x", BAD_SHAPE),
+    ("deliver +0 0", BAD_SHAPE),
+    ("lose 0 0", None),
+    ("lose 0", BAD_SHAPE),
+    ("suspect 0 1", None),
+    ("suspect 0 1 2", BAD_SHAPE),
+    ("retry 0", None),
+    ("retry", BAD_SHAPE),
+    ("execute 0", None),
+    ("Execute 0", BAD_SHAPE),
+    (" execute 0", BAD_SHAPE),
+    ("execute 0 ", BAD_SHAPE),
+    ("", BAD_SHAPE),
+];
+
+// A scenario with one event has this fault.
+fn assert_event<R: Abort>(
+    rt: &R,
+    alloc: Global,
+    event: &str,
+    want: Option<AppFault>,
+) -> Result<(), AllocError> {
+    let mut script = Script::new(alloc, 1)?;
+    script.add(event)?;
+    let fault = fault_of(rt, alloc, script.finish()?.as_slice());
+    assert_eq!(rt; fault, want, "at {event}");
+    Ok(())
+}
+
 #[test]
 fn events(rt: HostRuntime) -> Result<(), Fail> {
-    let shape = Some(AppFault::BadShape);
-    let limit = Some(AppFault::BadLimit);
+    for (event, want) in SINGLE_EVENTS {
+        assert_event(&rt, rt.alloc(), event, want)?;
+    }
+    Ok(())
+}
+
+#[test]
+fn longest_keys_and_texts(rt: HostRuntime) -> Result<(), Fail> {
+    let alloc = rt.alloc();
     let key = "kkkkkkkkkkkkkkkkkkkkkkkkkkkkkkkkkkkkkkkkkkkkkkkkkkkkkkkkkkkkkkkk";
     assert_eq!(rt; key.len(), 64);
-    let text = format!(in rt.alloc(); "{key}{key}{key}{key}")?;
-    let long_key = format!(in rt.alloc(); "submit 0 1.0 get {key}")?;
-    let longer_key = format!(in rt.alloc(); "submit 0 1.0 get {key}k")?;
-    let long_text = format!(in rt.alloc(); "submit 0 1.0 set a {text}")?;
-    let longer_text = format!(in rt.alloc(); "submit 0 1.0 set a {text}k")?;
-    let rows = [
-        ("submit 0 1.0 set a x", None),
-        ("submit 0 1.0 set a ", None),
-        ("submit 0 1.0 set a", shape),
-        ("submit 0 1.0 set a x y", shape),
-        ("submit 0 1.0 set a x ", shape),
-        ("submit 0 1.0 set  x", limit),
-        ("submit 0 1.0 set a  x", shape),
-        ("submit 0 1.0 get", shape),
-        ("submit 0 1.0 get ", limit),
-        ("submit 0 1.0 del a", None),
-        ("submit 0 1 del a", shape),
-        ("submit 0 1.0.0 del a", shape),
-        ("submit 0 01.0 del a", shape),
-        ("submit 0 4294967295.4294967295 del a", None),
-        ("submit 0 4294967296.0 del a", limit),
-        ("submit 0 1.0 del a!", shape),
-        ("submit 0 4294967296.0 del a!", shape),
-        ("submit 0 1.0 put a x", shape),
-        (long_key.as_str(), None),
-        (longer_key.as_str(), limit),
-        (long_text.as_str(), None),
-        (longer_text.as_str(), limit),
-        ("deliver 00 0", shape),
-        ("deliver  0 0", shape),
-        ("deliver 0", shape),
-        ("deliver 4294967295 255", None),
-        ("deliver 4294967296 0", limit),
-        ("deliver 0 256", limit),
-        ("deliver 99999999999999999999999999 0", limit),
-        ("deliver 99999999999999999999999999 x", shape),
-        ("deliver +0 0", shape),
-        ("lose 0 0", None),
-        ("lose 0", shape),
-        ("suspect 0 1", None),
-        ("suspect 0 1 2", shape),
-        ("retry 0", None),
-        ("retry", shape),
-        ("execute 0", None),
-        ("Execute 0", shape),
-        (" execute 0", shape),
-        ("execute 0 ", shape),
-        ("", shape),
-    ];
-    for (event, want) in rows {
-        let mut script = Script::new(rt.alloc(), 1)?;
-        script.add(event)?;
-        let fault = fault_of(&rt, rt.alloc(), script.finish()?.as_slice());
-        assert_eq!(rt; fault, want, "at {event}");
-    }
+    let text = format!(in alloc; "{key}{key}{key}{key}")?;
+    let long_key = format!(in alloc; "submit 0 1.0 get {key}")?;
+    assert_event(&rt, alloc, long_key.as_str(), None)?;
+    let longer_key = format!(in alloc; "submit 0 1.0 get {key}k")?;
+    assert_event(&rt, alloc, longer_key.as_str(), BAD_LIMIT)?;
+    let long_text = format!(in alloc; "submit 0 1.0 set a {text}")?;
+    assert_event(&rt, alloc, long_text.as_str(), None)?;
+    let longer_text = format!(in alloc; "submit 0 1.0 set a {text}k")?;
+    assert_event(&rt, alloc, longer_text.as_str(), BAD_LIMIT)?;
     Ok(())
 }
 

@@ -170,88 +170,95 @@ fn assert_fault<R: Abort + Threads + Wait + Sync>(
     assert!(rt; written.is_empty() == want.is_some(), "at {scenario}");
 }
 
+const NOT_JSON: Option<AppFault> = Some(AppFault::NotJson);
+
+const BAD_SHAPE: Option<AppFault> = Some(AppFault::BadShape);
+
+const BAD_LIMIT: Option<AppFault> = Some(AppFault::BadLimit);
+
+// Turns, loss, workers and commands, and the fault of a run with them.
+const LIMITED: [(u64, u64, u64, &str, Option<AppFault>); 19] = [
+    (0, 32, 8, "[[]]", None),
+    (100_001, 0, 1, "[[]]", BAD_LIMIT),
+    (0, 33, 1, "[[]]", BAD_LIMIT),
+    (0, 0, 0, "[[]]", BAD_LIMIT),
+    (0, 0, 9, "[[]]", BAD_LIMIT),
+    (4_294_967_296, 0, 1, "[[]]", BAD_LIMIT),
+    (0, 256, 1, "[[]]", BAD_LIMIT),
+    (0, 0, 257, "[[]]", BAD_LIMIT),
+    (0, 0, 1, "[]", BAD_LIMIT),
+    (0, 0, 1, "[[],[]]", BAD_LIMIT),
+    (0, 0, 1, "[[\"get a\"]]", BAD_SHAPE),
+    (0, 0, 9, "[[\"get a\"]]", BAD_SHAPE),
+    (0, 0, 1, "[[\"1.0 get a\",\"1.0 get a\"]]", None),
+    (0, 0, 1, "[[\"1.0 get \"]]", BAD_LIMIT),
+    (0, 0, 1, "[[\"1.0 get \",\"1.1 get a!\"]]", BAD_SHAPE),
+    (0, 0, 1, "[[\"1.0 get \"],7]", BAD_SHAPE),
+    (0, 0, 1, "[[7]]", BAD_SHAPE),
+    (0, 0, 1, "[\"1.0 get a\"]", BAD_SHAPE),
+    (0, 0, 1, "{}", BAD_SHAPE),
+];
+
 #[test]
 fn numbers_and_lists(rt: HostRuntime) -> Result<(), Fail> {
-    let shape = Some(AppFault::BadShape);
-    let limit = Some(AppFault::BadLimit);
-    for (turns, loss, workers, commands, want) in [
-        (0, 32, 8, "[[]]", None),
-        (100_001, 0, 1, "[[]]", limit),
-        (0, 33, 1, "[[]]", limit),
-        (0, 0, 0, "[[]]", limit),
-        (0, 0, 9, "[[]]", limit),
-        (4_294_967_296, 0, 1, "[[]]", limit),
-        (0, 256, 1, "[[]]", limit),
-        (0, 0, 257, "[[]]", limit),
-        (0, 0, 1, "[]", limit),
-        (0, 0, 1, "[[],[]]", limit),
-        (0, 0, 1, "[[\"get a\"]]", shape),
-        (0, 0, 9, "[[\"get a\"]]", shape),
-        (0, 0, 1, "[[\"1.0 get a\",\"1.0 get a\"]]", None),
-        (0, 0, 1, "[[\"1.0 get \"]]", limit),
-        (0, 0, 1, "[[\"1.0 get \",\"1.1 get a!\"]]", shape),
-        (0, 0, 1, "[[\"1.0 get \"],7]", shape),
-        (0, 0, 1, "[[7]]", shape),
-        (0, 0, 1, "[\"1.0 get a\"]", shape),
-        (0, 0, 1, "{}", shape),
-    ] {
+    for (turns, loss, workers, commands, want) in LIMITED {
         let scenario = plan_of(rt.alloc(), turns, loss, workers, commands)?;
         assert_fault(&rt, rt.alloc(), scenario.as_str(), want);
     }
     Ok(())
 }
 
+// Whole scenarios of runs, each with its fault.
+const HOSTILE: [(&str, Option<AppFault>); 13] = [
+    (EMPTY, None),
+    (
+        "{\"version\":1,\"servers\":1,\"workers\":1,\"turns\":0,\"loss\":0,\"commands\":[[]]}",
+        BAD_SHAPE,
+    ),
+    (
+        "{\"version\":1,\"servers\":1,\"workers\":1,\"seed\":1,\
+         \"turns\":0,\"loss\":0,\"commands\":[[]],\"beta\":0}",
+        BAD_SHAPE,
+    ),
+    (
+        "{\"version\":2,\"servers\":1,\"workers\":1,\"seed\":1,\"turns\":0,\"loss\":0,\"commands\":[[]]}",
+        BAD_LIMIT,
+    ),
+    (
+        "{\"version\":1,\"servers\":0,\"workers\":1,\"seed\":1,\"turns\":0,\"loss\":0,\"commands\":[]}",
+        BAD_LIMIT,
+    ),
+    (
+        "{\"version\":1,\"servers\":8,\"workers\":1,\"seed\":1,\
+         \"turns\":0,\"loss\":0,\"commands\":[[],[],[],[],[],[],[],[]]}",
+        BAD_LIMIT,
+    ),
+    (
+        "{\"version\":1,\"servers\":1,\"workers\":1,\"seed\":18446744073709551615,\
+         \"turns\":0,\"loss\":0,\"commands\":[[]]}",
+        None,
+    ),
+    (
+        "{\"version\":1,\"servers\":1,\"workers\":1,\"seed\":18446744073709551616,\
+         \"turns\":0,\"loss\":0,\"commands\":[[]]}",
+        BAD_SHAPE,
+    ),
+    (
+        "{\"version\":1,\"servers\":1,\"workers\":1,\"seed\":-1,\"turns\":0,\"loss\":0,\"commands\":[[]]}",
+        BAD_SHAPE,
+    ),
+    (
+        "{\"version\":1,\"servers\":1,\"workers\":1.0,\"seed\":1,\"turns\":0,\"loss\":0,\"commands\":[[]]}",
+        BAD_SHAPE,
+    ),
+    ("{\"version\":1,\"servers\":1,\"events\":[]}", BAD_SHAPE),
+    ("[]", BAD_SHAPE),
+    ("", NOT_JSON),
+];
+
 #[test]
 fn fields(rt: HostRuntime) {
-    let json = Some(AppFault::NotJson);
-    let shape = Some(AppFault::BadShape);
-    let limit = Some(AppFault::BadLimit);
-    for (scenario, want) in [
-        (EMPTY, None),
-        (
-            "{\"version\":1,\"servers\":1,\"workers\":1,\"turns\":0,\"loss\":0,\"commands\":[[]]}",
-            shape,
-        ),
-        (
-            "{\"version\":1,\"servers\":1,\"workers\":1,\"seed\":1,\
-             \"turns\":0,\"loss\":0,\"commands\":[[]],\"beta\":0}",
-            shape,
-        ),
-        (
-            "{\"version\":2,\"servers\":1,\"workers\":1,\"seed\":1,\"turns\":0,\"loss\":0,\"commands\":[[]]}",
-            limit,
-        ),
-        (
-            "{\"version\":1,\"servers\":0,\"workers\":1,\"seed\":1,\"turns\":0,\"loss\":0,\"commands\":[]}",
-            limit,
-        ),
-        (
-            "{\"version\":1,\"servers\":8,\"workers\":1,\"seed\":1,\
-             \"turns\":0,\"loss\":0,\"commands\":[[],[],[],[],[],[],[],[]]}",
-            limit,
-        ),
-        (
-            "{\"version\":1,\"servers\":1,\"workers\":1,\"seed\":18446744073709551615,\
-             \"turns\":0,\"loss\":0,\"commands\":[[]]}",
-            None,
-        ),
-        (
-            "{\"version\":1,\"servers\":1,\"workers\":1,\"seed\":18446744073709551616,\
-             \"turns\":0,\"loss\":0,\"commands\":[[]]}",
-            shape,
-        ),
-        (
-            "{\"version\":1,\"servers\":1,\"workers\":1,\"seed\":-1,\"turns\":0,\"loss\":0,\"commands\":[[]]}",
-            shape,
-        ),
-        (
-            "{\"version\":1,\"servers\":1,\"workers\":1.0,\"seed\":1,\"turns\":0,\"loss\":0,\"commands\":[[]]}",
-            shape,
-        ),
-        ("{\"version\":1,\"servers\":1,\"events\":[]}", shape),
-        ("[]", shape),
-        ("", json),
-    ] {
+    for (scenario, want) in HOSTILE {
         assert_fault(&rt, rt.alloc(), scenario, want);
     }
 }
