@@ -53,7 +53,7 @@ module _ (m : Membership) (w : Trace) (p q i b : ℕ) where
       → slot_at m (followed_by w (answer_lines p q i b (acceptor_answer (promised w p i) (vote w p i) b o))) p i
       ≡ cond (is_none o && ltb (promised w p i) b) promised_at (slot_at m w p i)
   prepared_knowing None = prepared_unlearned (ltb (promised w p i) b) refl
-  prepared_knowing (Some v) = slot_at-quiet m w (Sent (Learn p i v)) p i (quiet_learn p p i i v) refl
+  prepared_knowing (Some x) = slot_at-quiet m w (Sent (Learn p i x)) p i (quiet_learn p p i i x) refl
 
   pub prepared : slot_at m (followed_by w (on_prepare w p q i b)) p i ≡ after_prepare (slot_at m w p i) b
   prepared = prepared_knowing (learned w p i)
@@ -78,7 +78,7 @@ module _ (m : Membership) (w : Trace) (p q i b : ℕ) (z : Value) (said : propos
 learning_once : (s : SlotState) (z : Value) (o : Option Value) → s.learned ≡ o
     → record s { learned = earlier o (Some z) } ≡ cond (is_none o) (record s { learned = Some z }) s
 learning_once s z None e = refl
-learning_once s z (Some v) e = ap (λ (o : Option Value). record s { learned = o }) (sym e)
+learning_once s z (Some x) e = ap (λ (o : Option Value). record s { learned = o }) (sym e)
 
 pub learns : (m : Membership) (w : Trace) (p i : ℕ) (z : Value)
     → slot_at m (Learned p i z ∷ w) p i ≡ after_learn (slot_at m w p i) z
@@ -204,13 +204,13 @@ uncounted_acceptance from to i b j c other = record { promise = λ q. refl; acce
 due_unsaid : (l o : Option Value) (a : Bool) (x z : Value)
     → cond ((is_none l && is_none o) && a) (Some x) None ≡ Some z → o ≡ None
 due_unsaid None None a x z e = refl
-due_unsaid None (Some v) a x z e = absurd (cc)
-due_unsaid (Some v) o a x z e = absurd (cc)
+due_unsaid None (Some y) a x z e = absurd (cc)
+due_unsaid (Some y) o a x z e = absurd (cc)
 
 decided_unlearned : (l : Option Value) (a : Bool) (o : Option Value) (z : Value)
     → cond (is_none l && a) o None ≡ Some z → l ≡ None
 decided_unlearned None a o z e = refl
-decided_unlearned (Some v) a o z e = absurd (cc)
+decided_unlearned (Some x) a o z e = absurd (cc)
 
 module _ (m : Membership) (w : Trace) (k p i from b : ℕ) (r : Option Vote)
     (e : slice_get (sent w) k ≡ Some (Promise from p i b r)) where

@@ -9,7 +9,7 @@ use Rattle.coord_paxos.specs.SlotState.{SlotState}
 
 -- what was proposed at ballot b of i, as far as p may have proposed it: at ballot 0 only the owner does
 abbrev pub if_own : Membership → ServerId → Inst → BallotNo → Option Value → Option Value
-if_own m p i b v = if owner m i == p || nat_lt 0 b then v else None
+if_own m p i b x = if owner m i == p || nat_lt 0 b then x else None
 
 -- what p itself proposed at the ballot that it tries, which is ballot 0 until its first Prepare
 abbrev pub own_proposal : Membership → Trace → ServerId → Inst → Option Value

@@ -1,4 +1,4 @@
--- What each call answers and makes of a slot, where q is a server, b a ballot and v a value or a vote.
+-- What each call answers and makes of a slot, where q is a server, b a ballot and x a value or a vote.
 use Rattle.std.specs.Prelude.{Bool, true, List, Option, Some, None, ◌==◌, nat_lt, nat_le, if◌then◌else◌, ◌&&◌, is_none, slice_set}
 use Rattle.std.specs.List.{count_by}
 use Rattle.mencius_base.specs.Numbers.{ServerId, BallotNo}
@@ -25,8 +25,8 @@ after_prepare s b = if is_none s.learned && nat_lt s.promised b then record s { 
 
 -- a ballot that is not below the promise is accepted, and the promise and the vote are its own
 abbrev pub after_accept : SlotState → BallotNo → Value → SlotState
-after_accept s b v =
-    if nat_le s.promised b then record s { promised = b; vote = Some (record { ballot = b; value = v }) } else s
+after_accept s b x =
+    if nat_le s.promised b then record s { promised = b; vote = Some (record { ballot = b; value = x }) } else s
 
 -- a first phase starts with nothing reported, proposed or counted
 abbrev pub after_begin : SlotState → BallotNo → SlotState
@@ -40,9 +40,9 @@ after_begin s b = record s {
 
 -- one more promise of the ballot that is tried, and the vote in it
 abbrev pub with_promise : SlotState → ServerId → Option Vote → SlotState
-with_promise s q v = record s {
+with_promise s q x = record s {
   promisers = slice_set s.promisers q true;
-  reported = higher_vote s.reported v;
+  reported = higher_vote s.reported x;
 }
 
 -- the value to propose, if one is due
@@ -52,15 +52,15 @@ to_propose s = proposal_due s.learned s.proposal (is_majority s.members s.promis
 -- with the proposal noted, if there is one
 abbrev pub proposing : SlotState → Option Value → SlotState
 proposing s None = s
-proposing s (Some v) = record s { proposal = Some v }
+proposing s (Some x) = record s { proposal = Some x }
 
 -- only a promise of the ballot that is tried counts
 abbrev pub promise_answer : SlotState → ServerId → BallotNo → Option Vote → Option Value
-promise_answer s q b v = if b == s.trying then to_propose (with_promise s q v) else None
+promise_answer s q b x = if b == s.trying then to_propose (with_promise s q x) else None
 
 abbrev pub after_promise : SlotState → ServerId → BallotNo → Option Vote → SlotState
-after_promise s q b v =
-    if b == s.trying then proposing (with_promise s q v) (to_propose (with_promise s q v)) else s
+after_promise s q b x =
+    if b == s.trying then proposing (with_promise s q x) (to_propose (with_promise s q x)) else s
 
 -- one more acceptance at the ballot that is tried
 abbrev pub with_accept : SlotState → ServerId → SlotState
@@ -73,7 +73,7 @@ to_learn s = decision_due s.learned s.proposal (is_majority s.members s.accepter
 -- with the value noted as learned, if there is one
 abbrev pub learning : SlotState → Option Value → SlotState
 learning s None = s
-learning s (Some v) = record s { learned = Some v }
+learning s (Some x) = record s { learned = Some x }
 
 -- only an acceptance at the ballot that is tried counts
 abbrev pub accept_answer : SlotState → ServerId → BallotNo → Option Value
@@ -84,4 +84,4 @@ after_acceptance s q b = if b == s.trying then learning (with_accept s q) (to_le
 
 -- the first value that is learned stays
 abbrev pub after_learn : SlotState → Value → SlotState
-after_learn s v = if is_none s.learned then record s { learned = Some v } else s
+after_learn s x = if is_none s.learned then record s { learned = Some x } else s

@@ -87,7 +87,7 @@ fn push_server(text: &mut String, cluster: &Cluster, server: u8) -> Result<(), A
 }
 
 fn push_history(text: &mut String, cluster: &Cluster, tickets: &[u32]) -> Result<(), AllocError>
-    requires { (k t : ℕ) → slice_get tickets.now k ≡ Some t
+    requires { (n t : ℕ) → slice_get tickets.now n ≡ Some t
         → t < length (submitted (trace_of cluster.now)) }
     ensures { OnOk result (string_bytes text.new
         ≡ string_bytes text.old ++ history_text (trace_of cluster.now) tickets.now) }

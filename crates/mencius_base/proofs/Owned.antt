@@ -4,8 +4,8 @@ use Rattle.std.proofs.lemmas.Bool.{cases_lt}
 use Rattle.std.proofs.Math.Nat.{div-add-mod, add-mod_left, mul-le-mul_left, mod-eq_of_lt, mod-lt, mul-add-mod_self_left}
 use Rattle.mencius_base.specs.Members.{Membership, first_owned, owner}
 
-one_round : (n q : ℕ) → n * (q + 1) ≡ n * q + n
-one_round n q = grind arith
+one_round : (n turn : ℕ) → n * (turn + 1) ≡ n * turn + n
+one_round n turn = grind arith
 
 below_rest : (n p rest : ℕ) → p < rest → rest < n → (p + n - rest) % n ≡ p + n - rest
 below_rest n p rest less small = mod-eq_of_lt (omega arith)
@@ -15,22 +15,22 @@ above_rest n p rest more member =
     let e : p + n - rest ≡ n + (p - rest) = omega arith in
     rw e (add-mod_left n (p - rest) ∙ mod-eq_of_lt (omega arith))
 
--- p in a whole round: in round q where the rest did not pass p, and else in the next one
-record IsPlace (n p q rest place : ℕ) : Type 0 where
+-- p in a whole round: in this round where the rest did not pass p, and else in the next one
+record IsPlace (n p turn rest place : ℕ) : Type 0 where
   pub round : ℕ
   pub is : place ≡ n * round + p
-  pub which : ((round ≡ q) × (rest ≤ p)) ⊎ ((round ≡ q + 1) × (p < rest))
+  pub which : ((round ≡ turn) × (rest ≤ p)) ⊎ ((round ≡ turn + 1) × (p < rest))
 
-place_of : (n p q rest : ℕ) → p < n → rest < n → IsPlace n p q rest (n * q + rest + (p + n - rest) % n)
-place_of n p q rest member small =
+place_of : (n p turn rest : ℕ) → p < n → rest < n → IsPlace n p turn rest (n * turn + rest + (p + n - rest) % n)
+place_of n p turn rest member small =
     elim (cases_lt p rest) [
       | inl less ↦ record {
-        round = q + 1;
-        is = rw (below_rest n p rest less small) (omega (arith, one_round n q));
+        round = turn + 1;
+        is = rw (below_rest n p rest less small) (omega (arith, one_round n turn));
         which = inr (refl, less);
       }
       | inr more ↦ record {
-        round = q;
+        round = turn;
         is = rw (above_rest n p rest more member) (omega arith);
         which = inl (refl, more);
       }
@@ -41,8 +41,8 @@ placed : (m : Membership) (p from : ℕ) → p < m.count
 placed m p from member =
     let some : 0 < m.count = omega arith in
     let there = place_of m.count p (from / m.count) (from % m.count) member (mod-lt from some) in
-    subst (λ (k : ℕ). IsPlace m.count p (from / m.count) (from % m.count)
-    (k + (p + m.count - from % m.count) % m.count)) (div-add-mod from m.count) there
+    subst (λ (n : ℕ). IsPlace m.count p (from / m.count) (from % m.count)
+    (n + (p + m.count - from % m.count) % m.count)) (div-add-mod from m.count) there
 
 pub first_owned_owner : (m : Membership) (p from : ℕ) → p < m.count → owner m (first_owned m p from) ≡ p
 first_owned_owner m p from member =
@@ -50,16 +50,16 @@ first_owned_owner m p from member =
     rw there.is (mul-add-mod_self_left m.count there.round p ∙ mod-eq_of_lt member)
 
 -- an instance of p from a place on is in no earlier round
-not_before : (n p q rest round j : ℕ) → n * q + rest ≤ n * j + p → p < n
-    → ((round ≡ q) × (rest ≤ p)) ⊎ ((round ≡ q + 1) × (p < rest)) → n * round + p ≤ n * j + p
-not_before n p q rest round j above member (inl here) =
-    elim (cases_lt j q) [
-      | inl less ↦ omega (arith, one_round n j, mul-le-mul_left n (let h : j + 1 ≤ q = omega arith in h))
+not_before : (n p turn rest round other : ℕ) → n * turn + rest ≤ n * other + p → p < n
+    → ((round ≡ turn) × (rest ≤ p)) ⊎ ((round ≡ turn + 1) × (p < rest)) → n * round + p ≤ n * other + p
+not_before n p turn rest round other above member (inl here) =
+    elim (cases_lt other turn) [
+      | inl less ↦ omega (arith, one_round n other, mul-le-mul_left n (let h : other + 1 ≤ turn = omega arith in h))
       | inr more ↦ rw here.0 (omega (arith, mul-le-mul_left n more))
     ]
-not_before n p q rest round j above member (inr here) =
-    elim (cases_lt q j) [
-      | inl less ↦ rw here.0 (omega (arith, mul-le-mul_left n (let h : q + 1 ≤ j = omega arith in h)))
+not_before n p turn rest round other above member (inr here) =
+    elim (cases_lt turn other) [
+      | inl less ↦ rw here.0 (omega (arith, mul-le-mul_left n (let h : turn + 1 ≤ other = omega arith in h)))
       | inr more ↦ omega (arith, mul-le-mul_left n more)
     ]
 

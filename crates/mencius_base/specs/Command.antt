@@ -11,7 +11,7 @@ use Rattle.mencius_base.specs.declared.command.Op.TheVariants.{Set, Get, Del}
 
 -- a letter, a digit, `_`, `-` or `.`
 abbrev pub is_name_byte : ℕ → Bool
-is_name_byte b = is_ascii_alphanumeric b || b == 95 || b == 45 || b == 46
+is_name_byte byte = is_ascii_alphanumeric byte || byte == 95 || byte == 45 || byte == 46
 
 unfoldable pub is_name : List ℕ → Bool
 is_name word = list_all is_name_byte word

@@ -1,8 +1,9 @@
 -- What the numbers of the definitions count, and the letters that stand for them in definitions and lemmas:
 -- p, q for servers, i, j for instances, b, c for ballots, t, u for tickets, and k for the number of a message.
--- A list of lines is w, and another one beside it v. Where there is no other, v is a value or a vote, and x and y are
--- further ones. The servers of a cluster are m, an event is e, a line is l, and what one server knows is s. Its
--- front is f, and another one g.
+-- A list of lines is w, and another one beside it v. The servers of a cluster are m, an event is e, a line is l, and
+-- what one server knows is s. Its front is f, and another one g. A value, a vote and whatever has no letter of its own
+-- are x, y and z, a place in a list is n, and bytes, texts and tokens have words. Evidence is named by words too,
+-- or by e and h. In the proof of a goal, c is what the checker gives for it.
 use Rattle.std.specs.Prelude.{ℕ}
 
 -- a server's place among the members, from 0

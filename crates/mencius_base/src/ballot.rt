@@ -19,10 +19,10 @@ impl Model for Ballot {
 
     ghost Value = { ℕ };
 
-    ghost view = { λ b. b.number };
+    ghost view = { λ x. x.number };
 
     // The greatest ballot of seven servers.
-    ghost invariant = { λ b. b.number ≤ 458751 };
+    ghost invariant = { λ x. x.number ≤ 458751 };
 
     ghost inverse = { λ n. record { number = n } };
 }
@@ -36,7 +36,7 @@ impl Ballot {
     pub fn new(members: Members, round: u32, server: u8) -> Option<Ballot>
         ensures valid { IsSome result
             ↔ ((1 ≤ round) × (round ≤ greatest_round) × (server < members.count)) }
-        ensures value { IfSome result (λ b. b ≡ ballot_of members round server) }
+        ensures value { IfSome result (λ x. x ≡ ballot_of members round server) }
     {
         if round < 1 || round > GREATEST_ROUND || server >= members.count() {
             return None;

@@ -27,7 +27,7 @@ impl Model for Key {
 
     ghost Value = { List ℕ };
 
-    ghost view = { λ k. string_bytes k.name };
+    ghost view = { λ x. string_bytes x.name };
 }
 
 impl Key {
@@ -66,7 +66,7 @@ impl Model for Text {
 
     ghost Value = { List ℕ };
 
-    ghost view = { λ t. string_bytes t.text };
+    ghost view = { λ x. string_bytes x.text };
 }
 
 impl Text {
@@ -133,16 +133,16 @@ impl Model for Command {
 
     ghost use Rattle.mencius_base.specs.Command.{bad_op};
 
-    ghost view = { λ c. record { id = c.id; op = c.op } };
+    ghost view = { λ x. record { id = x.id; op = x.op } };
 
-    ghost invariant = { λ c. bad_op c.op ≡ None };
+    ghost invariant = { λ x. bad_op x.op ≡ None };
 }
 
 impl Command {
     /// The command of this identity and operation, or the first thing that is wrong with the
     /// operation: a bad byte in the key or in the text, and then a bad length of either.
     pub fn new(id: CommandId, op: Op) -> Result<Command, BadCommand>
-        ensures command { MatchResult result (λ c. c ≡ record { id = id; op = op })
+        ensures command { MatchResult result (λ x. x ≡ record { id = id; op = op })
             (λ e. bad_op op ≡ Some e) }
         ensures good { MatchResult result (λ _. bad_op op ≡ None) (λ e. bad_op op ≡ Some e) }
     {

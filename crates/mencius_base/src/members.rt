@@ -23,7 +23,7 @@ impl Model for Members {
 
     ghost invariant = { λ m. (1 ≤ m.count) × (m.count ≤ most_servers) };
 
-    ghost inverse = { λ v. record { count = v.count } };
+    ghost inverse = { λ x. record { count = x.count } };
 }
 
 impl Members {

@@ -25,10 +25,12 @@ turns seat z x y book grows own views h at = (
   Some y.mark,
   (
     own,
-    (λ j u e. ⊎_elim (λ (d : (j ≡ seat) × (Some y.mark ≡ u)). subst (λ (o : Option MarkState). Follows o y.mark) d.1
+    (λ n shown e. ⊎_elim
+        (λ (d : (n ≡ seat) × (Some y.mark ≡ shown)). subst (λ (o : Option MarkState). Follows o y.mark) d.1
         (refl, prefix_self y.mark.log))
-        (λ (d : (j ≢ seat) × (get_elem? views j ≡ some u)). follows_on u x.mark y.mark (h.1 j u d.1) book grows)
-        (at_set views seat j (Some y.mark) u e)),
+        (λ (d : (n ≢ seat) × (get_elem? views n ≡ some shown)).
+        follows_on shown x.mark y.mark (h.1 n shown d.1) book grows)
+        (at_set views seat n (Some y.mark) shown e)),
   ),
   (own, refl, follows_on z x.mark y.mark (h.1 seat z at) book grows),
 )
@@ -40,25 +42,25 @@ looks seat a x views h at = turns seat a x x refl (prefix_self x.mark.log) h.0 v
 pub admits : Admits Keeps None
 admits x views h = (
   h.0,
-  λ j u e. ⊎_elim (λ (y : get_elem? views j ≡ some u). h.1 j u y)
-      (λ (y : None ≡ u). subst (λ (d : Option MarkState). Follows d x.mark) y tt) (at_snoc views None u j e),
+  λ n shown e. ⊎_elim (λ (y : get_elem? views n ≡ some shown). h.1 n shown y)
+      (λ (y : None ≡ shown). subst (λ (d : Option MarkState). Follows d x.mark) y tt) (at_snoc views None shown n e),
 )
 
 set_follows : (seat : ℕ) (x : VersionState) (a : Option MarkState) (views : List (Option MarkState)) → Keeps x views
     → Follows a x.mark → Keeps x (set views seat a)
 set_follows seat x a views h follows = (
   h.0,
-  λ j u e. ⊎_elim (λ (y : (j ≡ seat) × (a ≡ u)). subst (λ (d : Option MarkState). Follows d x.mark) y.1 follows)
-      (λ (y : (j ≢ seat) × (get_elem? views j ≡ some u)). h.1 j u y.1) (at_set views seat j a u e),
+  λ n shown e. ⊎_elim (λ (y : (n ≡ seat) × (a ≡ shown)). subst (λ (d : Option MarkState). Follows d x.mark) y.1 follows)
+      (λ (y : (n ≢ seat) × (get_elem? views n ≡ some shown)). h.1 n shown y.1) (at_set views seat n a shown e),
 )
 
 pub forks : (seat : ℕ) (a : Option MarkState) → Forks Keeps seat a a a
 forks seat a x views h at =
     let following = set_follows seat x a views h (h.1 seat a at) in (
       h.0,
-      λ j u e. ⊎_elim (λ (y : get_elem? (set views seat a) j ≡ some u). following.1 j u y)
-          (λ (y : a ≡ u). subst (λ (d : Option MarkState). Follows d x.mark) y (h.1 seat a at))
-          (at_snoc (set views seat a) a u j e),
+      λ n shown e. ⊎_elim (λ (y : get_elem? (set views seat a) n ≡ some shown). following.1 n shown y)
+          (λ (y : a ≡ shown). subst (λ (d : Option MarkState). Follows d x.mark) y (h.1 seat a at))
+          (at_snoc (set views seat a) a shown n e),
     )
 
 pub merges : (seat : ℕ) (z : Option MarkState) (other : ℕ) (d : Option MarkState) → Merges Keeps seat z other d d None

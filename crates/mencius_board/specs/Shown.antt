@@ -9,11 +9,11 @@ use Rattle.mencius_board.specs.Marks.{MarkState, VersionState}
 -- what was seen is a prefix of this mark's list, of the same history. Who has not seen anything yet follows any
 abbrev pub Follows : Option MarkState → MarkState → Type 0
 Follows None m = Unit {0}
-Follows (Some v) m = (v.book ≡ m.book) × IsPrefix v.log m.log
+Follows (Some old) m = (old.book ≡ m.book) × IsPrefix old.log m.log
 
 abbrev pub book_of : Option MarkState → Option Book
 book_of None = None
-book_of (Some v) = Some v.book
+book_of (Some shown) = Some shown.book
 
 -- the value's list is all of its mark, and what each has seen is a prefix of it
 abbrev pub Keeps : VersionState → List (Option MarkState) → Type 0
@@ -22,4 +22,4 @@ Keeps x views = (x.mark.log ≡ x.list)
 
 -- the value y was seen. What had been seen before is a prefix of its list
 abbrev pub Shows : Option MarkState → VersionState → VersionState → Option MarkState → Type 0
-Shows v x y written = (y.mark.log ≡ y.list) × (written ≡ Some y.mark) × Follows v y.mark
+Shows old x y written = (y.mark.log ≡ y.list) × (written ≡ Some y.mark) × Follows old y.mark

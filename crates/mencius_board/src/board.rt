@@ -49,16 +49,16 @@ impl Model for Board {
 
     ghost Value = { BoardState };
 
-    ghost view = { λ b. record {
-      book = b.log.book;
-      cluster = b.cluster;
-      shown = b.writer.desk.shown.value.list;
-      pending = added (drop b.writer.behind b.writer.log.items);
-      places = b.places;
+    ghost view = { λ x. record {
+      book = x.log.book;
+      cluster = x.cluster;
+      shown = x.writer.desk.shown.value.list;
+      pending = added (drop x.writer.behind x.writer.log.items);
+      places = x.places;
     } };
 
-    ghost invariant = { λ b. IsSound b.cluster b.log b.opening (known b.writer.desk.place)
-        b.writer.desk.shown.value (drop b.writer.behind b.writer.log.items) b.handed };
+    ghost invariant = { λ x. IsSound x.cluster x.log x.opening (known x.writer.desk.place)
+        x.writer.desk.shown.value (drop x.writer.behind x.writer.log.items) x.handed };
 }
 
 impl Board {
@@ -73,7 +73,7 @@ impl Board {
         readers: u8,
     ) -> Result<Board, BoardFault>
         requires { (0 < readers) × (readers ≤ 16) }
-        ensures board { IfOk result (λ b. b ≡ new_board b.book cluster readers) }
+        ensures board { IfOk result (λ x. x ≡ new_board x.book cluster readers) }
         ensures err { IfErr result (λ f. f ≡ NoMemory) }
     {
         // What every cluster promises: the board's type keeps it from here on.

@@ -10,8 +10,8 @@ use std::alloc::Global;
 
 /// A copy of the commands of the longest history, in order.
 pub fn copy_longest(alloc: Global, cluster: &Cluster) -> Result<Vec<Command>, NoMemory>
-    ensures list { IfOk result (λ v. v.items ≡ longest cluster.now) }
-    ensures limit { IfOk result (λ v. length v.items < 2 ^ 32) }
+    ensures list { IfOk result (λ x. x.items ≡ longest cluster.now) }
+    ensures limit { IfOk result (λ x. length x.items < 2 ^ 32) }
 {
     // Called for their promises alone: what a server executed was submitted.
     laws::once();

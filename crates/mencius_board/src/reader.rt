@@ -64,7 +64,7 @@ impl Reader {
     pub fn lookup(&mut self, alloc: Global, key: &str) -> Result<Option<String>, BoardFault>
         ensures board { self.new.book ≡ self.old.book }
         ensures grows { OnOk result (IsPrefix self.old.log self.new.log) }
-        ensures text { IfOk result (λ t. option_map string_bytes t
+        ensures text { IfOk result (λ x. option_map string_bytes x
             ≡ value_at key.now self.new.log) }
         ensures err { OnErr result (self.new ≡ self.old) }
         ensures fault { IfErr result IsLookupFault }

@@ -43,15 +43,15 @@ impl Outcome<Version, Option<Mark>> for Sees {
 pub struct Notes;
 
 impl Split<Option<Mark>> for Notes {
-    ghost left = { λ v. v };
+    ghost left = { λ x. x };
 
-    ghost right = { λ v. v };
+    ghost right = { λ x. x };
 }
 
 impl Join<Option<Mark>> for Notes {
     ghost use Rattle.std.specs.Prelude.{None};
 
-    ghost both = { λ v w. w };
+    ghost both = { λ x y. y };
 
     ghost spent = { None };
 }
@@ -73,8 +73,8 @@ pub struct Found {
 /// writer is gone.
 pub fn read(home: Home, key: &str, room: String, least: u32) -> (Home, Result<Found, BoardFault>)
     requires { string_bytes room ≡ [] }
-    ensures book { (b : Book) → book_of (view home.place) ≡ Some b
-        → book_of (view result.0.place) ≡ Some b }
+    ensures book { (x : Book) → book_of (view home.place) ≡ Some x
+        → book_of (view result.0.place) ≡ Some x }
     ensures follows { IfOk result.1 (λ f. Follows (view home.place) f.mark) }
     ensures text { IfOk result.1 (λ f. option_map string_bytes f.text
         ≡ value_at key.now f.mark.log) }
@@ -102,7 +102,7 @@ pub fn read(home: Home, key: &str, room: String, least: u32) -> (Home, Result<Fo
 // A copy of the text, if there is one.
 fn copy_into(mut room: String, text: Option<&str>) -> Result<Option<String>, AllocError>
     requires { string_bytes room ≡ [] }
-    ensures { IfOk result (λ t. option_map string_bytes t ≡ option_copied text.entry) }
+    ensures { IfOk result (λ x. option_map string_bytes x ≡ option_copied text.entry) }
 {
     let Some(text) = text else {
         return Ok(None);
@@ -146,10 +146,10 @@ pub fn open_writer<R: Wait>(
 ) -> Result<Showing, BoardFault>
     requires some { (0 < readers) × (readers ≤ 16) }
     requires empty { opening.now.log ≡ [] }
-    ensures seen { IfOk result (λ w. book_of (view w.desk.place) ≡ Some opening.now.book) }
+    ensures seen { IfOk result (λ x. book_of (view x.desk.place) ≡ Some opening.now.book) }
     ensures shown { IfOk result
-        (λ w. w.desk.shown.value ≡ record { mark = opening.now; list = opening.now.log }) }
-    ensures pending { IfOk result (λ w. added (drop w.behind w.log.items) ≡ []) }
+        (λ x. x.desk.shown.value ≡ record { mark = opening.now; list = opening.now.log }) }
+    ensures pending { IfOk result (λ x. added (drop x.behind x.log.items) ≡ []) }
     ensures err { IfErr result (λ f. f ≡ BoardFault.NoMemory) }
 {
     let first = Version::new(alloc, opening.again());

@@ -150,7 +150,7 @@ struct ProgressOf {
 impl Promise<Result<Progress, BoardFault>> for ProgressOf {
     ghost use Rattle.mencius_board.specs.Running.{HasEnded};
 
-    ghost kept_by = { λ p r. HasEnded p.seed p.worker p.turns r };
+    ghost kept_by = { λ x r. HasEnded x.seed x.worker x.turns r };
 }
 
 // A worker's thread, if it could be started.
@@ -174,8 +174,8 @@ fn gather<R: Threads>(
 ) -> Vec<Ended>
     requires empty { vec_len ends ≡ 0 }
     requires room { vec_len running ≤ vec_capacity ends }
-    requires each { (k : ℕ) (d : _) → k < vec_len running
-        → Answers plan.now.seed plan.now.turns k (slice_index_or running.items k d) }
+    requires each { (n : ℕ) (d : _) → n < vec_len running
+        → Answers plan.now.seed plan.now.turns n (slice_index_or running.items n d) }
     ensures len { vec_len result ≡ vec_len running }
     ensures each { HaveEnded result.items plan.now (vec_len running) }
 {
@@ -195,8 +195,8 @@ fn start_all<'s, E, R: Threads + Wait + Sync + 's, G: Gate + Sync + 's>(
     plan: &'s Plan,
     gate: &'s G,
 ) -> Result<Vec<Ended>, NoMemory>
-    ensures len { IfOk result (λ v. vec_len v ≡ plan.now.workers) }
-    ensures each { IfOk result (λ v. HaveEnded v.items plan.now plan.now.workers) }
+    ensures len { IfOk result (λ x. vec_len x ≡ plan.now.workers) }
+    ensures each { IfOk result (λ x. HaveEnded x.items plan.now plan.now.workers) }
 {
     let many = usize::from(plan.workers());
     let ends = Vec::with_capacity(alloc, many)?;
@@ -221,7 +221,7 @@ fn settle<'p>(
 ) -> Result<Vec<Chooser<'p>>, BoardFault>
     requires empty { vec_len choosers ≡ 0 }
     requires room { vec_len ends ≤ vec_capacity choosers }
-    ensures { MatchResult result (λ v. settled plan.now ends.items ≡ Ok v.items)
+    ensures { MatchResult result (λ x. settled plan.now ends.items ≡ Ok x.items)
         (λ f. settled plan.now ends.items ≡ Err f) }
 {
     for end in ends {
@@ -246,8 +246,8 @@ pub fn run_workers<'p, R: Threads + Wait + Sync, G: Gate + Sync>(
     plan: &'p Plan,
     gate: &G,
 ) -> Result<Vec<Chooser<'p>>, BoardFault>
-    ensures len { IfOk result (λ v. vec_len v ≡ plan.now.workers) }
-    ensures each { IfOk result (λ v. HaveTurned v.items plan.now) }
+    ensures len { IfOk result (λ x. vec_len x ≡ plan.now.workers) }
+    ensures each { IfOk result (λ x. HaveTurned x.items plan.now) }
     ensures fault { IfErr result (IsRunFault plan.now.turns) }
 {
     let Ok(choosers) = Vec::with_capacity(alloc, usize::from(plan.workers())) else {
@@ -257,8 +257,8 @@ pub fn run_workers<'p, R: Threads + Wait + Sync, G: Gate + Sync>(
         thread::scope_env(),
         rt,
         |scope| -> Result<Vec<Ended>, NoMemory>
-            ensures { IfOk result (λ v. (vec_len v ≡ plan.entry.now.workers)
-                × HaveEnded v.items plan.entry.now plan.entry.now.workers) }
+            ensures { IfOk result (λ x. (vec_len x ≡ plan.entry.now.workers)
+                × HaveEnded x.items plan.entry.now plan.entry.now.workers) }
         { start_all(scope, rt, alloc, board, plan, gate) },
     ) else {
         return Err(BoardFault::NoMemory);

@@ -17,7 +17,7 @@ three_more : (t : ℕ) (g : Lcg)
 three_more t g =
     let n : ℕ = 3 * t in
     let up : 3 * (t + 1) ≡ suc (suc (suc n)) = omega arith in
-    sym (ap (λ (k : ℕ). advance 64 multiplier_64 k g) up
+    sym (ap (λ (m : ℕ). advance 64 multiplier_64 m g) up
     ∙ (advance_more (suc (suc n)) g
     ∙ (ap one_on (advance_more (suc n) g) ∙ ap (λ (h : Lcg). one_on (one_on h)) (advance_more n g))))
 

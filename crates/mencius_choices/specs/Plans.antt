@@ -25,9 +25,9 @@ abbrev pub AreInRange : ℕ → ℕ → ℕ → ℕ → Type 0
 AreInRange workers turns loss lists =
     (1 ≤ workers) × (workers ≤ most_workers) × (turns ≤ most_turns) × (loss ≤ greatest_loss) × (lists ≤ most_servers)
 
--- the numbers from a on that are below b, rising
+-- the numbers from one on that are below another, rising
 abbrev pub from_to : ℕ → ℕ → List ℕ
-from_to a b = range_with_len a (b - a)
+from_to first stop = range_with_len first (stop - first)
 
 -- how many commands the longest list has
 abbrev pub row_count : List (List Command) → ℕ
@@ -36,7 +36,7 @@ row_count lists = fold (λ n list. max n (length list)) 0 lists
 -- the command at a row of a server's list, with the server, where the list is one of the worker's and has so many
 abbrev pub own_command : PlanState → ℕ → ℕ → ServerId → Option (ServerId × Command)
 own_command plan worker row server =
-    if server % plan.workers == worker then option_map (λ c. (server, c))
+    if server % plan.workers == worker then option_map (λ command. (server, command))
     (option_and_then (λ list. slice_get list row) (slice_get plan.commands server))
     else None
 

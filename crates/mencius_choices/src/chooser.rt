@@ -28,9 +28,9 @@ impl Model for Progress {
 
     ghost Value = { ProgressState };
 
-    ghost view = { λ p. record {
-      drawing = record { worker = p.worker; generator = p.generator };
-      next = p.next;
+    ghost view = { λ x. record {
+      drawing = record { worker = x.worker; generator = x.generator };
+      next = x.next;
     } };
 }
 
@@ -50,7 +50,7 @@ impl<'a> Model for Chooser<'a> {
 
     ghost Value = { ChooserState };
 
-    ghost view = { λ c. chooser_at c.plan.now c.progress };
+    ghost view = { λ x. chooser_at x.plan.now x.progress };
 }
 
 impl<'a> Chooser<'a> {

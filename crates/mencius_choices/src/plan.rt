@@ -29,11 +29,11 @@ impl Model for Plan {
 
     ghost Value = { PlanState };
 
-    ghost view = { λ p. plan_of p.workers p.seed p.turns p.loss
-        (map (λ l. l.items) p.commands.items) };
+    ghost view = { λ x. plan_of x.workers x.seed x.turns x.loss
+        (map (λ l. l.items) x.commands.items) };
 
-    ghost invariant = { λ p. AreInRange p.workers p.turns p.loss (length p.commands.items)
-        × (p.rows ≡ row_count (map (λ l. l.items) p.commands.items)) };
+    ghost invariant = { λ x. AreInRange x.workers x.turns x.loss (length x.commands.items)
+        × (x.rows ≡ row_count (map (λ l. l.items) x.commands.items)) };
 }
 
 // Where a command stands: in the list of which server, and at which row of it.
@@ -54,7 +54,7 @@ impl Plan {
         commands: Vec<Vec<Command>>,
     ) -> Option<Plan>
         ensures valid { IsSome result ↔ AreInRange workers turns loss (vec_len commands) }
-        ensures plan { IfSome result (λ p. p
+        ensures plan { IfSome result (λ x. x
             ≡ plan_of workers seed turns loss (map (λ l. l.items) commands.items)) }
     {
         let is_in_range = workers >= 1
@@ -109,7 +109,7 @@ impl Plan {
 
     // The command at a place, where it is one of the worker's.
     pub(crate) fn own_command(&self, worker: u8, place: Place) -> Option<&Command>
-        ensures command { option_map (λ c. (place.server, c)) (option_copied result)
+        ensures command { option_map (λ x. (place.server, x)) (option_copied result)
             ≡ own_command self.now worker place.row place.server }
         ensures server { OnSome result (place.server < most_servers) }
         ensures row { OnSome result (place.row + 1 < 2 ^ 64) }

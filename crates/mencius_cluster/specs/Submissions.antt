@@ -36,7 +36,7 @@ AreSmall (s ∷ rows) = (s.command.id.number < 4294967296) × AreSmall rows
 
 -- the numbers rise
 abbrev pub IsRising : List ℕ → Type 0
-IsRising keys = (i j : ℕ) → i < j → j < length keys → get_or keys i 0 < get_or keys j 0
+IsRising keys = (n m : ℕ) → n < m → m < length keys → get_or keys n 0 < get_or keys m 0
 
 -- the identities as numbers, rising, each with its ticket; `ids` has them by ticket
 pub record IsIndex (ids keys : List ℕ) (tickets : List TicketNo) : Type 0 where

@@ -32,12 +32,13 @@ submission_of r = submitted_in r.1
 
 -- the event of a stored entry, among these commands
 abbrev pub event_of : List Command → Entry → Option Event
-event_of cs (Submit_entry server ticket) = option_map (λ c. Submit server c) (slice_get cs ticket)
-event_of cs (Deliver_entry message server) = Some (Deliver message server)
-event_of cs (Lose_entry message server) = Some (Lose message server)
-event_of cs (Suspect_entry server suspected) = Some (Suspect server suspected)
-event_of cs (Retry_entry server) = Some (Retry server)
-event_of cs (Execute_entry server) = Some (Execute server)
+event_of commands (Submit_entry server ticket) =
+    option_map (λ command. Submit server command) (slice_get commands ticket)
+event_of commands (Deliver_entry message server) = Some (Deliver message server)
+event_of commands (Lose_entry message server) = Some (Lose message server)
+event_of commands (Suspect_entry server suspected) = Some (Suspect server suspected)
+event_of commands (Retry_entry server) = Some (Retry server)
+event_of commands (Execute_entry server) = Some (Execute server)
 
 -- the events of the stored entries
 abbrev pub journal_of : List Row → List Entry → List Event

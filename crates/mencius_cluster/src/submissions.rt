@@ -163,9 +163,9 @@ fn find(keys: &[u64], tickets: &[u32], id: CommandId) -> Option<u32>
     requires same { length tickets.now ≡ length keys.now }
     requires rising { IsRising keys.now }
     ensures { MatchOption result
-        ((i : ℕ) → i < length keys.now → get_or keys.now i 0 ≢ key_of id)
-        (λ t. (i : ℕ) × (i < length keys.now) × (get_or keys.now i 0 ≡ key_of id)
-        × (get_or tickets.now i 0 ≡ t)) }
+        ((n : ℕ) → n < length keys.now → get_or keys.now n 0 ≢ key_of id)
+        (λ t. (n : ℕ) × (n < length keys.now) × (get_or keys.now n 0 ≡ key_of id)
+        × (get_or tickets.now n 0 ≡ t)) }
 {
     match keys.binary_search(&key_of(id)) {
         Ok(place) => Some(tickets[place]),

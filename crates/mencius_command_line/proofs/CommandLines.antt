@@ -36,9 +36,9 @@ pub task_found : {Z : Type 0} (s : Option (Box SubCommand Z)) (name : Text) (row
     → Some name ≡ option_map (λ task. (out-SubCommand (box_value task)).name.now) s
     → Some rows ≡ option_map (λ pair. pair.1) (subcommand_rows s) → subcommand_rows s ≡ Some (name, rows)
 task_found None name rows n r = absurd (cc)
-task_found (Some b) name rows n r =
-    let same : name ≡ (out-SubCommand (box_value b)).name.now = cc in
-    let found : rows ≡ rows_of (found_of (out-SubCommand (box_value b)).matches) = cc in
+task_found (Some found_command) name rows n r =
+    let same : name ≡ (out-SubCommand (box_value found_command)).name.now = cc in
+    let found : rows ≡ rows_of (found_of (out-SubCommand (box_value found_command)).matches) = cc in
     rw (same, found) refl
 
 -- ---- what is wrong
@@ -51,7 +51,7 @@ program_simple = refl
 kinds_first : (kinds next : Kinds) (e : Error) → HasKind kinds e → HasKind (or_else kinds next) e
 kinds_first [] next e (inl memory) = inl memory
 kinds_first [] next e (inr none) = absurd none
-kinds_first (k ∷ ks) next e h = h
+kinds_first (one ∷ others) next e h = h
 
 pub err_first : {T : Type 0} (kinds next : Kinds) (r : Result T Error) (e : Error) → IsErrAnd r (λ x. x ≡ e)
     → HasKind kinds e → FailsBy (or_else kinds next) r

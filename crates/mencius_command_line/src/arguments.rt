@@ -52,7 +52,7 @@ pub fn read_arguments(alloc: Global, arguments: &[Vec<u8>]) -> Result<Task, Erro
 
 // The program's name, and then the arguments.
 fn words_in(alloc: Global, arguments: &[Vec<u8>]) -> Result<Vec<String>, AllocError>
-    ensures { IfOk result (λ v. map string_bytes v.items ≡ line_of (lossy_of arguments.now)) }
+    ensures { IfOk result (λ x. map string_bytes x.items ≡ line_of (lossy_of arguments.now)) }
 {
     let mut words = Vec::new(alloc);
     words.push(String::from_str(alloc, NAME)?)?;

@@ -435,7 +435,7 @@ fn next_word<'a>(
 // The words behind the name as they are read: `clap` takes a KEY that begins with a hyphen only
 // behind `=`.
 fn words_read(alloc: Global, words: &[String]) -> Result<Vec<String>, AllocError>
-    ensures { IfOk result (λ v. map string_bytes v.items
+    ensures { IfOk result (λ x. map string_bytes x.items
         ≡ words_read (map string_bytes words.now)) }
 {
     let mut joined = Vec::new(alloc);
@@ -511,7 +511,7 @@ fn bad_key(task: &Task) -> Option<&str>
 
 // The task, unless its key is none.
 fn with_good_key(alloc: Global, command: &mut Command, task: Task) -> Result<Task, Error>
-    ensures task { IfOk result (λ t. asked_in t ≡ asked_in task) }
+    ensures task { IfOk result (λ x. asked_in x ≡ asked_in task) }
     ensures faults { FailsBy (key_faults (asked_in task)) result }
 {
     match bad_key(&task) {

@@ -24,11 +24,11 @@ on_first : (a : Bool) (r : Refusal) (o x : Option Refusal) → cond a (Some r) o
 on_first true r o x h each = absurd (cc)
 on_first false r o x h each = each h
 
-both_none : (cs ds : List (Bool × Refusal)) → first_cause cs ≡ None → first_cause ds ≡ None
-    → first_cause (cs ++ ds) ≡ None
+both_none : (causes ds : List (Bool × Refusal)) → first_cause causes ≡ None → first_cause ds ≡ None
+    → first_cause (causes ++ ds) ≡ None
 both_none [] ds h none = none
-both_none (c ∷ cs) ds h none =
-    on_first c.0 c.1 (first_cause cs) (first_cause (cs ++ ds)) h (λ n. both_none cs ds n none)
+both_none (cause ∷ causes) ds h none =
+    on_first cause.0 cause.1 (first_cause causes) (first_cause (causes ++ ds)) h (λ n. both_none causes ds n none)
 
 -- a server that heard nothing is at the longer trace too
 stays : LeavesOthers → (m : Membership) (w : Trace) (k p : ℕ) (s : ServerState) → IsAt w s → s.members ≡ m

@@ -20,9 +20,9 @@ pub(crate) const MOST_RETRIES: u32 = 1_000;
 /// `BadLimit` and leaves the rest. A call that was interrupted is made again, up to 1,000 times in
 /// all; any other error is `ReadFailed`.
 pub fn read_all<R: Source>(alloc: Global, source: &mut R) -> Result<Vec<u8>, AppFault>
-    ensures whole { IfOk result (λ v. IfSome (R.remaining source.old) (λ bytes. v.items ≡ bytes)) }
+    ensures whole { IfOk result (λ x. IfSome (R.remaining source.old) (λ bytes. x.items ≡ bytes)) }
     ensures end { OnOk result (IsAtEnd (R.remaining source.new)) }
-    ensures fits { IfOk result (λ v. vec_len v ≤ most_bytes) }
+    ensures fits { IfOk result (λ x. vec_len x ≤ most_bytes) }
 
     // Which fault, and when.
     ensures too_long { IsErrOf result AppFault.BadLimit

@@ -33,9 +33,9 @@ impl Model for Watched {
 
     ghost Value = { BoardState };
 
-    ghost view = { λ w. w.board };
+    ghost view = { λ x. x.board };
 
-    ghost invariant = { λ w. w.reader.book ≡ w.board.book };
+    ghost invariant = { λ x. x.reader.book ≡ x.board.book };
 }
 
 impl Watched {

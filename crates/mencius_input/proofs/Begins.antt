@@ -16,19 +16,19 @@ Begins Token.begin_object d = (ms : Members) × (d ≡ object ms)
 Begins Token.begin_array d = (ds : Items) × (d ≡ array ds)
 Begins (Token.string s) d = d ≡ string s
 Begins (Token.number s) d = (n : Num) × (d ≡ number n)
-Begins (Token.boolean b) d = d ≡ boolean b
+Begins (Token.boolean truth) d = d ≡ boolean truth
 Begins Token.null d = d ≡ null
-Begins t d = ⊥
+Begins symbol d = ⊥
 
 module _ (d : Data) (r : List Token) where
   abbrev value_or : Option (Data × List Token) → Data
   value_or None = d
-  value_or (Some p) = p.0
+  value_or (Some pair) = pair.0
 
   made : {X : Type 0} (make : X → Data) (o : Option (X × List Token)) → parse_map make o ≡ Some (d, r)
       → (x : X) × (d ≡ make x)
   made make None e = absurd (cc)
-  made make (Some p) e = (p.0, ap value_or (sym e))
+  made make (Some pair) e = (pair.0, ap value_or (sym e))
 
   same : (e : Data) (ts : List Token) (o : Option (Data × List Token)) → o ≡ Some (d, r) → o ≡ paired ts (Some e)
       → d ≡ e
@@ -62,8 +62,8 @@ module _ (d : Data) (r : List Token) where
   begins depth (Token.string s) ts e =
       same (string s) ts _ e (ap (converted of_json) (value_is depth (Token.string s ∷ ts)))
   begins depth (Token.number s) ts e = numbered ts (number_of s) (sym (next_number depth s ts) ∙ e)
-  begins depth (Token.boolean b) ts e =
-      same (boolean b) ts _ e (ap (converted of_json) (value_is depth (Token.boolean b ∷ ts)))
+  begins depth (Token.boolean truth) ts e =
+      same (boolean truth) ts _ e (ap (converted of_json) (value_is depth (Token.boolean truth ∷ ts)))
   begins depth Token.null ts e =
       same null ts _ e (ap (converted of_json) (value_is depth (Token.null ∷ ts)))
   begins depth y ts e = never _ e (ap (converted of_json) (value_is depth (y ∷ ts)))
@@ -73,7 +73,7 @@ no_text d Token.begin_object h e = ap as_str h.1
 no_text d Token.begin_array h e = ap as_str h.1
 no_text d (Token.string s) h e = absurd (cc)
 no_text d (Token.number s) h e = ap as_str h.1
-no_text d (Token.boolean b) h e = ap as_str h
+no_text d (Token.boolean truth) h e = ap as_str h
 no_text d Token.null h e = ap as_str h
 no_text d x h e = absurd h
 
@@ -82,7 +82,7 @@ no_number d Token.begin_object h e = ap as_number h.1
 no_number d Token.begin_array h e = ap as_number h.1
 no_number d (Token.string s) h e = ap as_number h
 no_number d (Token.number s) h e = absurd (cc)
-no_number d (Token.boolean b) h e = ap as_number h
+no_number d (Token.boolean truth) h e = ap as_number h
 no_number d Token.null h e = ap as_number h
 no_number d x h e = absurd h
 
@@ -91,7 +91,7 @@ no_array d Token.begin_object h e = ap as_array h.1
 no_array d Token.begin_array h e = absurd (cc)
 no_array d (Token.string s) h e = ap as_array h
 no_array d (Token.number s) h e = ap as_array h.1
-no_array d (Token.boolean b) h e = ap as_array h
+no_array d (Token.boolean truth) h e = ap as_array h
 no_array d Token.null h e = ap as_array h
 no_array d x h e = absurd h
 
@@ -100,17 +100,17 @@ no_object d Token.begin_object h e = absurd (cc)
 no_object d Token.begin_array h e = ap as_object h.1
 no_object d (Token.string s) h e = ap as_object h
 no_object d (Token.number s) h e = ap as_object h.1
-no_object d (Token.boolean b) h e = ap as_object h
+no_object d (Token.boolean truth) h e = ap as_object h
 no_object d Token.null h e = ap as_object h
 no_object d x h e = absurd h
 
 -- which token it was
 pub was_text : (x : Token) (s : List ℕ) → Some s ≡ text_of x → x ≡ Token.string s
-was_text (Token.string k) s e = ap (λ o. Token.string (unwrap_or o s)) (sym e)
+was_text (Token.string text) s e = ap (λ o. Token.string (unwrap_or o s)) (sym e)
 was_text x s e = absurd (cc)
 
 pub was_number : (x : Token) (s : List ℕ) → Some s ≡ number_text x → x ≡ Token.number s
-was_number (Token.number k) s e = ap (λ o. Token.number (unwrap_or o s)) (sym e)
+was_number (Token.number digits) s e = ap (λ o. Token.number (unwrap_or o s)) (sym e)
 was_number x s e = absurd (cc)
 
 pub was_array : (x : Token) → opens_array x ≡ true → x ≡ Token.begin_array

@@ -10,23 +10,23 @@ use Rattle.serde_json.specs.Read.{converted, of_items, of_json, of_members}
 -- ---- any conversion
 
 behind : {B C : Type 0} (step : B → C) (rest : List Token) (made : Option B)
-    → option_map (λ c. (c, rest)) (option_map step made)
-    ≡ parse_map step (option_map {U = B × List Token} (λ c. (c, rest)) made)
+    → option_map (λ whole. (whole, rest)) (option_map step made)
+    ≡ parse_map step (option_map {U = B × List Token} (λ whole. (whole, rest)) made)
 behind step rest None = refl
-behind step rest (Some b) = refl
+behind step rest (Some found) = refl
 
 module _ {A B C : Type 0} where
   -- a step before it
   converted_step : (f : B → Option C) (step : A → B) (parsed : Option (A × List Token))
       → converted f (parse_map step parsed) ≡ converted (λ a. f (step a)) parsed
   converted_step f step None = refl
-  converted_step f step (Some p) = refl
+  converted_step f step (Some pair) = refl
 
   -- a step after it
   step_converted : (f : A → Option B) (step : B → C) (parsed : Option (A × List Token))
       → converted (λ a. option_map step (f a)) parsed ≡ parse_map step (converted f parsed)
   step_converted f step None = refl
-  step_converted f step (Some p) = behind step p.1 (f p.0)
+  step_converted f step (Some pair) = behind step pair.1 (f pair.0)
 
 module _ {A B : Type 0} where
   -- another conversion that makes the same
@@ -55,18 +55,18 @@ module _ {A B : Type 0} where
       record { from = d.0; there = found.1; becomes = found.0 }
     where
       at : (z : A × List Token) (made : Option B)
-          → option_map {U = B × List Token} (λ c. (c, z.1)) made ≡ Some (x, rest)
+          → option_map {U = B × List Token} (λ whole. (whole, z.1)) made ≡ Some (x, rest)
           → (made ≡ Some x) × (Some z ≡ Some (z.0, rest))
       at z None e = absurd (cc)
-      at z (Some c) e = (ap (option_map (λ y. y.0)) e, ap (option_map (λ y. (z.0, y.1))) e)
+      at z (Some whole) e = (ap (option_map (λ y. y.0)) e, ap (option_map (λ y. (z.0, y.1))) e)
 
   -- what was parsed and could not be converted
   unmade : (f : A → Option B) (d : A × List Token) → converted f (Some d) ≡ None → f d.0 ≡ None
   unmade f d e = bare (f d.0) e
     where
-      bare : (made : Option B) → option_map {U = B × List Token} (λ c. (c, d.1)) made ≡ None → made ≡ None
+      bare : (made : Option B) → option_map {U = B × List Token} (λ whole. (whole, d.1)) made ≡ None → made ≡ None
       bare None e = refl
-      bare (Some c) e = absurd (cc)
+      bare (Some whole) e = absurd (cc)
 
 -- ---- lists and objects
 
@@ -86,9 +86,9 @@ stopped : {X Y : Type 0} (put_before : json.Json → X → X) (f : X → Option 
     → (more : Parse X) (part : Option (json.Json × List Token)) → converted of_json part ≡ None
     → converted f (option_and_then (λ pair. parse_map (put_before pair.0) (more pair.1)) part) ≡ None
 stopped put_before f none more None e = refl
-stopped put_before f none more (Some q) e =
-    converted_step f (put_before q.0) (more q.1)
-    ∙ no_conversion (λ x. f (put_before q.0 x)) (none q.0 (unmade of_json q e)) (more q.1)
+stopped put_before f none more (Some made) e =
+    converted_step f (put_before made.0) (more made.1)
+    ∙ no_conversion (λ x. f (put_before made.0 x)) (none made.0 (unmade of_json made e)) (more made.1)
 
 module _ (value : Parse json.Json) (turns : ℕ) where
   -- one item more
@@ -144,7 +144,7 @@ unfolding items
 bad_item value zero left going e = refl
 bad_item value (suc n) left going e =
     ap (λ end. converted of_items (items_step value (items value n) left end)) going
-    ∙ stopped json.item of_items (λ j none js. rw none) (items value n) (value left) e
+    ∙ stopped json.item of_items (λ left_over none js. rw none) (items value n) (value left) e
 
 pub bad_member : (value : Parse json.Json) (found : Members) (turns : ℕ) (name : List ℕ) (left behind : List Token)
     → read_key left ≡ Some (Some name, behind) → converted of_json (value behind) ≡ None
@@ -152,5 +152,5 @@ pub bad_member : (value : Parse json.Json) (found : Members) (turns : ℕ) (name
 unfolding members
 bad_member value found zero name left behind key e = refl
 bad_member value found (suc n) name left behind key e =
-    rw key (stopped (json.member name) (λ ms. of_members ms found) (λ j none ms. rw none) (members value n)
+    rw key (stopped (json.member name) (λ ms. of_members ms found) (λ left_over none ms. rw none) (members value n)
     (value behind) e)

@@ -18,32 +18,33 @@ use Rattle.mencius_input.proofs.Numbers.{number_digits}
 -- ---- a cut
 
 -- where a byte stands first, if anywhere
-pub at_place : (test : ℕ → Bool) (text : List ℕ) (i : ℕ) → position test text ≡ Some i
-    → (i ≡ position_or_len test text) × (position_or_len test text < length text)
-at_place test text i e = by_test (ltb (position_or_len test text) (length text)) refl e
+pub at_place : (test : ℕ → Bool) (text : List ℕ) (n : ℕ) → position test text ≡ Some n
+    → (n ≡ position_or_len test text) × (position_or_len test text < length text)
+at_place test text n e = by_test (ltb (position_or_len test text) (length text)) refl e
   where
     by_test : (a : Bool) → ltb (position_or_len test text) (length text) ≡ a
-        → cond a (Some (position_or_len test text)) None ≡ Some i
-        → (i ≡ position_or_len test text) × (position_or_len test text < length text)
+        → cond a (Some (position_or_len test text)) None ≡ Some n
+        → (n ≡ position_or_len test text) × (position_or_len test text < length text)
     by_test true less is = (ap (λ (o : Option ℕ). unwrap_or o 0) (sym is), ltb-true _ _ less)
     by_test false less is = absurd (cc)
 
-pub found_byte : (c : ℕ) (text : List ℕ) (i : ℕ) → position (λ byte. byte == c) text ≡ Some i
-    → (i < length text) × (get_or text i 0 ≡ c)
-found_byte c text i e = let found = position-Some (λ byte. byte == c) text i 0 e in (found.0, eqb-true _ _ found.1)
+pub found_byte : (mark : ℕ) (text : List ℕ) (n : ℕ) → position (λ byte. byte == mark) text ≡ Some n
+    → (n < length text) × (get_or text n 0 ≡ mark)
+found_byte mark text n e =
+    let found = position-Some (λ byte. byte == mark) text n 0 e in (found.0, eqb-true _ _ found.1)
 
 -- the first part, and the parts of what follows
-pub found_parts : (c : ℕ) (text : List ℕ) (i : ℕ) → position (λ byte. byte == c) text ≡ Some i
-    → parts c text ≡ take i text ∷ parts c (drop (i + 1) text)
-found_parts c text i e =
-    let found = at_place (λ byte. byte == c) text i e in
-    rw found.0 (slice_split_first (λ byte. byte == c) text 0 found.1)
+pub found_parts : (mark : ℕ) (text : List ℕ) (n : ℕ) → position (λ byte. byte == mark) text ≡ Some n
+    → parts mark text ≡ take n text ∷ parts mark (drop (n + 1) text)
+found_parts mark text n e =
+    let found = at_place (λ byte. byte == mark) text n e in
+    rw found.0 (slice_split_first (λ byte. byte == mark) text 0 found.1)
 
-uncut : (test : ℕ → Bool) (text : List ℕ) → ((i : ℕ) → i < length text → test (get_or text i 0) ≡ false)
+uncut : (test : ℕ → Bool) (text : List ℕ) → ((n : ℕ) → n < length text → test (get_or text n 0) ≡ false)
     → slice_split test text ≡ text ∷ []
 uncut test [] h = refl
-uncut test (b ∷ bs) h = slice_split-cons_no test b bs (h 0 (omega arith))
-    ∙ ap (onto_first b) (uncut test bs (λ i l. h (suc i) (omega arith)))
+uncut test (byte ∷ bytes) h = slice_split-cons_no test byte bytes (h 0 (omega arith))
+    ∙ ap (onto_first byte) (uncut test bytes (λ n l. h (suc n) (omega arith)))
 
 -- the byte stands nowhere
 pub no_place : (test : ℕ → Bool) (text : List ℕ) → position test text ≡ None → length text ≤ position_or_len test text
@@ -55,69 +56,79 @@ no_place test text e = by_test (ltb (position_or_len test text) (length text)) r
     by_test false past is = ltb-false _ _ past
 
 -- the first byte that passes stands here, since none before it does
-pub first_place : (test : ℕ → Bool) (text : List ℕ) (i : ℕ) → i < length text
-    → ((k : ℕ) → k < i → test (get_or text k 0) ≡ false) → test (get_or text i 0) ≡ true
-    → Some i ≡ position test text
-first_place test text i less before here =
-    let at : position_or_len test text ≡ i = position_or_len_is test text i 0 (omega arith) before (λ _. here) in
-    rw (at, lt-ltb i (length text) less) refl
+pub first_place : (test : ℕ → Bool) (text : List ℕ) (n : ℕ) → n < length text
+    → ((m : ℕ) → m < n → test (get_or text m 0) ≡ false) → test (get_or text n 0) ≡ true
+    → Some n ≡ position test text
+first_place test text n less before here =
+    let at : position_or_len test text ≡ n = position_or_len_is test text n 0 (omega arith) before (λ _. here) in
+    rw (at, lt-ltb n (length text) less) refl
 
 -- no byte passes
-pub nowhere : (test : ℕ → Bool) (text : List ℕ) (i : ℕ) → i ≤ length text → length text ≤ i
-    → ((k : ℕ) → k < i → test (get_or text k 0) ≡ false) → None ≡ position test text
-nowhere test text i within past before =
+pub nowhere : (test : ℕ → Bool) (text : List ℕ) (n : ℕ) → n ≤ length text → length text ≤ n
+    → ((m : ℕ) → m < n → test (get_or text m 0) ≡ false) → None ≡ position test text
+nowhere test text n within past before =
     let at : position_or_len test text ≡ length text =
-    position_or_len_is test text i 0 within before (λ less. absurd (omega arith)) ∙ omega arith in
+    position_or_len_is test text n 0 within before (λ less. absurd (omega arith)) ∙ omega arith in
     rw (at, le-ltb (length text) (length text) (omega arith)) refl
 
 -- the text is one part
-pub lacking_parts : (c : ℕ) (text : List ℕ) → position (λ byte. byte == c) text ≡ None → parts c text ≡ text ∷ []
-lacking_parts c text e =
-    let far = no_place (λ byte. byte == c) text e in
-    uncut (λ byte. byte == c) text (λ i l. fails_before_first (λ byte. byte == c) text i 0 (omega arith))
+pub lacking_parts : (mark : ℕ) (text : List ℕ) → position (λ byte. byte == mark) text ≡ None
+    → parts mark text ≡ text ∷ []
+lacking_parts mark text e =
+    let far = no_place (λ byte. byte == mark) text e in
+    uncut (λ byte. byte == mark) text (λ n l. fails_before_first (λ byte. byte == mark) text n 0 (omega arith))
 
 -- ---- a word that is all the rest
 
-first_part : (c : ℕ) (text : List ℕ) → (xs : List ℕ) × (ps : List (List ℕ)) × (parts c text ≡ xs ∷ ps)
-first_part c [] = ([], [], refl)
-first_part c (b ∷ bs) = by_test (b == c) (first_part c bs)
+first_part : (mark : ℕ) (text : List ℕ) → (xs : List ℕ) × (ps : List (List ℕ)) × (parts mark text ≡ xs ∷ ps)
+first_part mark [] = ([], [], refl)
+first_part mark (byte ∷ bytes) = by_test (byte == mark) (first_part mark bytes)
   where
-    by_test : (a : Bool) → (xs : List ℕ) × (ps : List (List ℕ)) × (parts c bs ≡ xs ∷ ps)
-        → (xs : List ℕ) × (ps : List (List ℕ)) × (cond a ([] ∷ parts c bs) (onto_first b (parts c bs)) ≡ xs ∷ ps)
-    by_test true same = ([], parts c bs, refl)
-    by_test false same = (b ∷ same.0, same.1, ap (onto_first b) same.2)
+    by_test : (a : Bool) → (xs : List ℕ) × (ps : List (List ℕ)) × (parts mark bytes ≡ xs ∷ ps)
+        → (xs : List ℕ) × (ps : List (List ℕ))
+        × (cond a ([] ∷ parts mark bytes) (onto_first byte (parts mark bytes)) ≡ xs ∷ ps)
+    by_test true same = ([], parts mark bytes, refl)
+    by_test false same = (byte ∷ same.0, same.1, ap (onto_first byte) same.2)
 
 -- there are two parts at least, and a byte that fails the test
 abbrev HasMore : (ℕ → Bool) → List ℕ → List (List ℕ) → Type 0
 HasMore test text ps =
     (x : List ℕ) × (y : List ℕ) × (ys : List (List ℕ)) × (ps ≡ x ∷ y ∷ ys) × (list_all test text ≡ false)
 
-one_or_more : (test : ℕ → Bool) (c : ℕ) → test c ≡ false → (text : List ℕ)
-    → (parts c text ≡ text ∷ []) ⊎ HasMore test text (parts c text)
-one_or_more test c lacks [] = inl refl
-one_or_more test c lacks (b ∷ bs) = by_test (b == c) refl (one_or_more test c lacks bs) (first_part c bs)
+one_or_more : (test : ℕ → Bool) (mark : ℕ) → test mark ≡ false → (text : List ℕ)
+    → (parts mark text ≡ text ∷ []) ⊎ HasMore test text (parts mark text)
+one_or_more test mark lacks [] = inl refl
+one_or_more test mark lacks (byte ∷ bytes) =
+    by_test (byte == mark) refl (one_or_more test mark lacks bytes) (first_part mark bytes)
   where
-    by_test : (a : Bool) → (b == c) ≡ a → (parts c bs ≡ bs ∷ []) ⊎ HasMore test bs (parts c bs)
-        → (xs : List ℕ) × (ps : List (List ℕ)) × (parts c bs ≡ xs ∷ ps)
-        → (cond a ([] ∷ parts c bs) (onto_first b (parts c bs)) ≡ (b ∷ bs) ∷ [])
-        ⊎ HasMore test (b ∷ bs) (cond a ([] ∷ parts c bs) (onto_first b (parts c bs)))
+    by_test : (a : Bool) → (byte == mark) ≡ a → (parts mark bytes ≡ bytes ∷ []) ⊎ HasMore test bytes (parts mark bytes)
+        → (xs : List ℕ) × (ps : List (List ℕ)) × (parts mark bytes ≡ xs ∷ ps)
+        → (cond a ([] ∷ parts mark bytes) (onto_first byte (parts mark bytes)) ≡ (byte ∷ bytes) ∷ [])
+        ⊎ HasMore test (byte ∷ bytes) (cond a ([] ∷ parts mark bytes) (onto_first byte (parts mark bytes)))
     by_test true is rest same =
         inr (
           [],
           same.0,
           same.1,
           ap (λ ps. [] ∷ ps) same.2,
-          and_left (test b) (list_all test bs) (ap test (eqb-true b c is) ∙ lacks),
+          and_left (test byte) (list_all test bytes) (ap test (eqb-true byte mark is) ∙ lacks),
         )
-    by_test false is (inl one) same = inl (ap (onto_first b) one)
+    by_test false is (inl one) same = inl (ap (onto_first byte) one)
     by_test false is (inr more) same =
-        inr (b ∷ more.0, more.1, more.2, ap (onto_first b) more.3, and_right (test b) (list_all test bs) more.4)
+        inr (
+          byte ∷ more.0,
+          more.1,
+          more.2,
+          ap (onto_first byte) more.3,
+          and_right (test byte) (list_all test bytes) more.4,
+        )
 
 -- a reader that takes no byte at which the text is cut reads the whole rest
 only_rest : {X : Type 0} (test : ℕ → Bool) (read : List ℕ → Option X)
-    → ((word : List ℕ) → list_all test word ≡ false → read word ≡ None) → (c : ℕ) → test c ≡ false → (text : List ℕ)
-    → only read (parts c text) ≡ read text
-only_rest test read none c lacks text = elim (one_or_more test c lacks text) [
+    → ((word : List ℕ) → list_all test word ≡ false → read word ≡ None) → (mark : ℕ) → test mark ≡ false
+    → (text : List ℕ)
+    → only read (parts mark text) ≡ read text
+only_rest test read none mark lacks text = elim (one_or_more test mark lacks text) [
   | inl one ↦ ap (only read) one
   | inr more ↦ ap (only read) more.3 ∙ sym (none text more.4)
 ]
@@ -133,7 +144,8 @@ name_none : (word : List ℕ) → list_all is_name_byte word ≡ false → name_
 unfolding name_of is_name
 name_none word lacks = rw lacks refl
 
-pub only_number : (c : ℕ) → is_ascii_digit c ≡ false → (text : List ℕ) → only number_of (parts c text) ≡ number_of text
+pub only_number : (mark : ℕ) → is_ascii_digit mark ≡ false → (text : List ℕ)
+    → only number_of (parts mark text) ≡ number_of text
 only_number = only_rest is_ascii_digit number_of number_none
 
 pub only_name : (text : List ℕ) → only name_of (parts 32 text) ≡ name_of text
@@ -158,7 +170,7 @@ pub text_behind : (word text : List ℕ) → text ≡ word ++ drop (length word)
 text_behind word text starts less space =
     starts
     ∙ ap (λ (l : List ℕ). word ++ l)
-    (drop_more text (length word) 0 less ∙ ap (λ (b : ℕ). b ∷ drop (length word + 1) text) space)
+    (drop_more text (length word) 0 less ∙ ap (λ (byte : ℕ). byte ∷ drop (length word + 1) text) space)
 
 pub word_below : (word rest text : List ℕ) → text ≡ word ++ 32 ∷ rest → length word < length text
 word_below word rest text e = rw (e, length-append word (32 ∷ rest)) (omega arith)
@@ -167,12 +179,12 @@ pub space_behind : (word rest text : List ℕ) → text ≡ word ++ 32 ∷ rest 
 space_behind word rest text e = rw e (get_or-append_seam word 32 rest 0)
 
 -- what a text does not begin with is not its first word
-pub not_first : (word text : List ℕ) (i : ℕ) → position (λ byte. byte == 32) text ≡ Some i
-    → ((rest : List ℕ) → text ≡ word ++ 32 ∷ rest → ⊥) → take i text ≡ word → ⊥
-not_first word text i e none is =
-    let found = found_byte 32 text i e in
-    none (drop (i + 1) text)
-    (sym (take-append-drop i text)
-    ∙ ap (λ (l : List ℕ). l ++ drop i text) is
+pub not_first : (word text : List ℕ) (n : ℕ) → position (λ byte. byte == 32) text ≡ Some n
+    → ((rest : List ℕ) → text ≡ word ++ 32 ∷ rest → ⊥) → take n text ≡ word → ⊥
+not_first word text n e none is =
+    let found = found_byte 32 text n e in
+    none (drop (n + 1) text)
+    (sym (take-append-drop n text)
+    ∙ ap (λ (l : List ℕ). l ++ drop n text) is
     ∙ ap (λ (l : List ℕ). word ++ l)
-    (drop_more text i 0 found.0 ∙ ap (λ (b : ℕ). b ∷ drop (i + 1) text) found.1))
+    (drop_more text n 0 found.0 ∙ ap (λ (first_byte : ℕ). first_byte ∷ drop (n + 1) text) found.1))

@@ -12,7 +12,7 @@ nothing_read : read [] ≡ None
 nothing_read =
     ap (λ ts. option_and_then of_json (option_and_then (λ pair. if_last pair.0 pair.1) (value max_depth ts)))
     (at_end Fresh refl)
-    ∙ ap (λ v. option_and_then of_json (option_and_then (λ pair. if_last pair.0 pair.1) v)) (value_is max_depth [])
+    ∙ ap (λ x. option_and_then of_json (option_and_then (λ pair. if_last pair.0 pair.1) x)) (value_is max_depth [])
 
 pub no_json : json_of [] ≡ None
 no_json = utf8_no [] (λ text. nothing_read)

@@ -41,8 +41,8 @@ is_named name n e =
     (by_tests (bytes_eq name (codes "version")) (bytes_eq name (codes "servers")) (bytes_eq name (codes "events")) refl
     refl refl)
   where
-    by_tests : (v s e : Bool) → bytes_eq name (codes "version") ≡ v → bytes_eq name (codes "servers") ≡ s
-        → bytes_eq name (codes "events") ≡ e → IsNamed name (cond v Version (cond s Servers (cond e Events Other)))
+    by_tests : (a s e : Bool) → bytes_eq name (codes "version") ≡ a → bytes_eq name (codes "servers") ≡ s
+        → bytes_eq name (codes "events") ≡ e → IsNamed name (cond a Version (cond s Servers (cond e Events Other)))
     by_tests true s e same equal r = same_name name (codes "version") same
     by_tests false true e same equal r = same_name name (codes "servers") equal
     by_tests false false true same equal r = same_name name (codes "events") r
@@ -107,11 +107,11 @@ no_fields = record {
 
 abbrev bound : Bool → Option ℕ → Option ℕ → Option Items → Option Written
 bound three version servers items = do
-  v ← version
+  version ← version
   s ← servers
   ds ← items
   es ← events_of ds
-  if three then Some (record { version = v; servers = s; events = es }) else None
+  if three then Some (record { version = version; servers = s; events = es }) else None
 
 written_bound : (ms : Members) → written_of (object ms)
     ≡ bound (members_len ms == 3) (option_and_then whole_in (get_member (codes "version") ms))
@@ -122,21 +122,21 @@ written_bound ms = rw (← whole_field (codes "version") ms, ← whole_field (co
 
 no_servers : (ov : Option ℕ) (x : Option (Result (List Event) AppFault)) → said (Some ov) None x ≡ Err BadShape
 no_servers None x = refl
-no_servers (Some v) x = refl
+no_servers (Some version) x = refl
 
 no_events : (ov os : Option ℕ) → said (Some ov) (Some os) None ≡ Err BadShape
 no_events None os = refl
-no_events (Some v) None = refl
-no_events (Some v) (Some s) = refl
+no_events (Some version) None = refl
+no_events (Some version) (Some s) = refl
 
 without_servers : (a : Bool) (ov : Option ℕ) (oi : Option Items) → bound a ov None oi ≡ None
 without_servers a None oi = refl
-without_servers a (Some v) oi = refl
+without_servers a (Some version) oi = refl
 
 without_events : (a : Bool) (ov os : Option ℕ) → bound a ov os None ≡ None
 without_events a None os = refl
-without_events a (Some v) None = refl
-without_events a (Some v) (Some s) = refl
+without_events a (Some version) None = refl
+without_events a (Some version) (Some s) = refl
 
 unsaid : (o : Option (List Event)) → option_and_then {U = Written} (λ es. None) o ≡ None
 unsaid None = refl
@@ -144,9 +144,9 @@ unsaid (Some es) = refl
 
 with_more : (ov os : Option ℕ) (oi : Option Items) → bound false ov os oi ≡ None
 with_more None os oi = refl
-with_more (Some v) None oi = refl
-with_more (Some v) (Some s) None = refl
-with_more (Some v) (Some s) (Some ds) = unsaid (events_of ds)
+with_more (Some version) None oi = refl
+with_more (Some version) (Some s) None = refl
+with_more (Some version) (Some s) (Some ds) = unsaid (events_of ds)
 
 all_hold : {X : Type 0} (x y : X) (a d : Bool) → cond (a && d) x y ≡ cond (a && d && true) x y
 all_hold x y true true = refl
@@ -158,39 +158,40 @@ one_fails x y true true = refl
 one_fails x y true false = refl
 one_fails x y false d = refl
 
-by_list : (v s : ℕ) (es : List Event) (a d : Bool) → a ≡ (v == 1) → d ≡ (nat_le 1 s && nat_le s most_servers)
+by_list : (version s : ℕ) (es : List Event) (a d : Bool) → a ≡ (version == 1)
+    → d ≡ (nat_le 1 s && nat_le s most_servers)
     → (l : Bool)
-    → fitted_events v s (cond l (Ok es) (Err BadLimit))
-    ≡ cond (a && d && l) (Ok (record { version = v; servers = s; events = es })) (Err BadLimit)
-by_list v s es a d e same true = rw (← e, ← same) (all_hold _ _ a d)
-by_list v s es a d e same false = one_fails _ _ a d
+    → fitted_events version s (cond l (Ok es) (Err BadLimit))
+    ≡ cond (a && d && l) (Ok (record { version = version; servers = s; events = es })) (Err BadLimit)
+by_list version s es a d e same true = rw (← e, ← same) (all_hold _ _ a d)
+by_list version s es a d e same false = one_fails _ _ a d
 
-with_events : (v s : ℕ) (o : Option (List Event))
-    → said (Some (Some v)) (Some (Some s)) (Some (judged (list_all event_within) o))
-    ≡ judged within (option_and_then (λ es. Some (record { version = v; servers = s; events = es })) o)
-with_events v s None = refl
-with_events v s (Some es) =
-    by_list v s es (v == 1) (nat_le 1 s && nat_le s most_servers) refl refl (list_all event_within es)
+with_events : (version s : ℕ) (o : Option (List Event))
+    → said (Some (Some version)) (Some (Some s)) (Some (judged (list_all event_within) o))
+    ≡ judged within (option_and_then (λ es. Some (record { version = version; servers = s; events = es })) o)
+with_events version s None = refl
+with_events version s (Some es) =
+    by_list version s es (version == 1) (nat_le 1 s && nat_le s most_servers) refl refl (list_all event_within es)
 
 all_three : (ov os : Option ℕ) (oi : Option Items)
     → said (Some ov) (Some os) (Some (judged (list_all event_within) (option_and_then events_of oi)))
     ≡ judged within (bound true ov os oi)
 all_three None os oi = refl
-all_three (Some v) None oi = refl
-all_three (Some v) (Some s) None = refl
-all_three (Some v) (Some s) (Some ds) = with_events v s (events_of ds)
+all_three (Some version) None oi = refl
+all_three (Some version) (Some s) None = refl
+all_three (Some version) (Some s) (Some ds) = with_events version s (events_of ds)
 
-by_parts : (has_other three : Bool) (v s e : Option Data)
-    → ((dv ds de : Data) → v ≡ Some dv → s ≡ Some ds → e ≡ Some de → three ≡ not has_other)
-    → all_said has_other (said (option_map whole_in v) (option_map whole_in s) (option_map events_judged e))
+by_parts : (has_other three : Bool) (x s e : Option Data)
+    → ((dv ds de : Data) → x ≡ Some dv → s ≡ Some ds → e ≡ Some de → three ≡ not has_other)
+    → all_said has_other (said (option_map whole_in x) (option_map whole_in s) (option_map events_judged e))
     ≡ judged within
-    (bound three (option_and_then whole_in v) (option_and_then whole_in s) (option_and_then as_array e))
-by_parts b three None s e h = no_shape b
-by_parts b three (Some dv) None e h =
-    ap (all_said b) (no_servers (whole_in dv) (option_map events_judged e)) ∙ no_shape b
+    (bound three (option_and_then whole_in x) (option_and_then whole_in s) (option_and_then as_array e))
+by_parts other three None s e h = no_shape other
+by_parts other three (Some dv) None e h =
+    ap (all_said other) (no_servers (whole_in dv) (option_map events_judged e)) ∙ no_shape other
     ∙ sym (ap (judged within) (without_servers three (whole_in dv) (option_and_then as_array e)))
-by_parts b three (Some dv) (Some ds) None h =
-    ap (all_said b) (no_events (whole_in dv) (whole_in ds)) ∙ no_shape b
+by_parts other three (Some dv) (Some ds) None h =
+    ap (all_said other) (no_events (whole_in dv) (whole_in ds)) ∙ no_shape other
     ∙ sym (ap (judged within) (without_events three (whole_in dv) (whole_in ds)))
 by_parts true three (Some dv) (Some ds) (Some de) h =
     sym (ap (λ told. judged within (bound told (whole_in dv) (whole_in ds) (as_array de))) (h dv ds de refl refl refl)
@@ -206,12 +207,12 @@ pub fields_say : (f : code.Fields) (ms : Members) → AreFields f ms
     → all_said f.has_other (said f.version f.servers f.events)
     ≡ judged within (written_of (object ms))
 fields_say f ms h =
-    ap₂ (λ v s. all_said f.has_other (said v s f.events)) h.version h.servers
+    ap₂ (λ x s. all_said f.has_other (said x s f.events)) h.version h.servers
     ∙ ap (λ e. all_said f.has_other (said (option_map whole_in (get_member (codes "version") ms))
     (option_map whole_in (get_member (codes "servers") ms)) e)) h.events
     ∙ by_parts f.has_other (members_len ms == 3) (get_member (codes "version") ms) (get_member (codes "servers") ms)
     (get_member (codes "events") ms)
-    (λ dv ds de v s e. named_count three_names f.has_other ms ordered h.named ((de, e), ((ds, s), ((dv, v), tt))))
+    (λ dv ds de x s e. named_count three_names f.has_other ms ordered h.named ((de, e), ((ds, s), ((dv, x), tt))))
     ∙ ap (judged within) (sym (written_bound ms))
 
 -- what is no object is no scenario

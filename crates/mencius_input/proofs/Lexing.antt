@@ -8,80 +8,81 @@ use Rattle.mencius_input.specs.Tokens.{first, is_delimiter, is_plain}
 
 -- ---- the first byte
 
-pub begins_by : (t : List ℕ) (c : ℕ) → first t ≡ c → 0 < c → t ≡ c ∷ drop 1 t
-begins_by [] c e h = absurd (omega arith)
-begins_by (x ∷ xs) c e h = ap (λ (b : ℕ). b ∷ xs) e
+pub begins_by : (text : List ℕ) (mark : ℕ) → first text ≡ mark → 0 < mark → text ≡ mark ∷ drop 1 text
+begins_by [] mark e h = absurd (omega arith)
+begins_by (x ∷ xs) mark e h = ap (λ (byte : ℕ). byte ∷ xs) e
 
-pub some_first : (t : List ℕ) → 0 < length t → t ≡ first t ∷ drop 1 t
+pub some_first : (text : List ℕ) → 0 < length text → text ≡ first text ∷ drop 1 text
 some_first [] h = absurd (omega arith)
 some_first (x ∷ xs) h = refl
 
-pub length_first : (t : List ℕ) → 0 < first t → 0 < length t
+pub length_first : (text : List ℕ) → 0 < first text → 0 < length text
 length_first [] h = absurd (omega arith)
 length_first (x ∷ xs) h = omega arith
 
-pub plain-drop : (t : List ℕ) (i : ℕ) → is_plain t ≡ true → is_plain (drop i t) ≡ true
-plain-drop t zero h = h
-plain-drop [] (suc i) h = refl
-plain-drop (x ∷ xs) (suc i) h = plain-drop xs i (and_parts _ _ h).1
+pub plain-drop : (text : List ℕ) (n : ℕ) → is_plain text ≡ true → is_plain (drop n text) ≡ true
+plain-drop text zero h = h
+plain-drop [] (suc n) h = refl
+plain-drop (x ∷ xs) (suc n) h = plain-drop xs n (and_parts _ _ h).1
 
-pub eqb_false : (x c : ℕ) → (x ≡ c → ⊥) → (x == c) ≡ false
-eqb_false x c none = by_test (x == c) refl
+pub eqb_false : (x y : ℕ) → (x ≡ y → ⊥) → (x == y) ≡ false
+eqb_false x y none = by_test (x == y) refl
   where
-    by_test : (t : Bool) → (x == c) ≡ t → (x == c) ≡ false
-    by_test true is = absurd (none (eqb-true x c is))
+    by_test : (a : Bool) → (x == y) ≡ a → (x == y) ≡ false
+    by_test true is = absurd (none (eqb-true x y is))
     by_test false is = is
 
-pub not_true : (b : Bool) → not b ≡ true → b ≡ false
+pub not_true : (a : Bool) → not a ≡ true → a ≡ false
 not_true true h = absurd (cc)
 not_true false h = refl
 
-pub neither : (a b : Bool) → (a || b) ≡ false → (a ≡ false) × (b ≡ false)
-neither true b h = absurd (cc)
+pub neither : (l r : Bool) → (l || r) ≡ false → (l ≡ false) × (r ≡ false)
+neither true r h = absurd (cc)
 neither false true h = absurd (cc)
 neither false false h = (refl, refl)
 
 -- ---- blanks
 
-pub is_one_blank : (P : ℕ → Type 0) → P 32 → P 9 → P 10 → P 13 → (c : ℕ) → is_space c ≡ true → P c
-is_one_blank P a holds d e c h = elim (or_cases _ _ h) [
-  | inr last ↦ subst P (sym (eqb-true c 13 last)) e
+pub is_one_blank : (P : ℕ → Type 0) → P 32 → P 9 → P 10 → P 13 → (byte : ℕ) → is_space byte ≡ true → P byte
+is_one_blank P a holds d e byte h = elim (or_cases _ _ h) [
+  | inr last ↦ subst P (sym (eqb-true byte 13 last)) e
   | inl more ↦ elim (or_cases _ _ more) [
-    | inr last ↦ subst P (sym (eqb-true c 10 last)) d
+    | inr last ↦ subst P (sym (eqb-true byte 10 last)) d
     | inl two ↦ elim (or_cases _ _ two) [
-      | inr last ↦ subst P (sym (eqb-true c 9 last)) holds
-      | inl one ↦ subst P (sym (eqb-true c 32 one)) a
+      | inr last ↦ subst P (sym (eqb-true byte 9 last)) holds
+      | inl one ↦ subst P (sym (eqb-true byte 32 one)) a
     ]
   ]
 ]
 
-pub blank_bounds : (c : ℕ) → is_space c ≡ true → (0 < c) × (c < 128)
+pub blank_bounds : (byte : ℕ) → is_space byte ≡ true → (0 < byte) × (byte < 128)
 blank_bounds =
-    is_one_blank (λ (c : ℕ). (0 < c) × (c < 128)) (omega arith, omega arith) (omega arith, omega arith)
+    is_one_blank (λ (byte : ℕ). (0 < byte) × (byte < 128)) (omega arith, omega arith) (omega arith, omega arith)
     (omega arith, omega arith) (omega arith, omega arith)
 
-pub blank_passed : (c : ℕ) (xs : List ℕ) → is_space c ≡ true → lex between (c ∷ xs) ≡ lex between xs
+pub blank_passed : (mark : ℕ) (xs : List ℕ) → is_space mark ≡ true → lex between (mark ∷ xs) ≡ lex between xs
 unfolding lex
-blank_passed c xs = is_one_blank (λ byte. lex between (byte ∷ xs) ≡ lex between xs) refl refl refl refl c
+blank_passed mark xs = is_one_blank (λ byte. lex between (byte ∷ xs) ≡ lex between xs) refl refl refl refl mark
 
 -- ---- the class of a byte, by the four tests that decide it
 
 abbrev pub class_by : Bool → Bool → Bool → Bool → Class
-class_by q b o s = cond q quote (cond b backslash (cond o operator (cond s space other)))
+class_by mark slash o s = cond mark quote (cond slash backslash (cond o operator (cond s space other)))
 
 -- an operator's lexeme, by the tests that tell the six apart
 abbrev pub operator_by : Bool → Bool → Bool → Bool → Bool → Lexeme
-operator_by a b c d f =
-    cond a (token begin_object)
-    (cond b (token end_object) (cond c (token begin_array) (cond d (token end_array) (cond f comma colon))))
+operator_by opens closes starts ends parts =
+    cond opens (token begin_object)
+    (cond closes (token end_object)
+    (cond starts (token begin_array) (cond ends (token end_array) (cond parts comma colon))))
 
-string_byte : (q b o s : Bool) (x : ℕ) (xs : List ℕ) (k : Mode → List Lexeme) → q ≡ false → b ≡ false
-    → lex_byte in_string (class_by q b o s) x xs k ≡ k in_string
-string_byte true b o s x xs k e fails = absurd (cc)
-string_byte false true o s x xs k e fails = absurd (cc)
-string_byte false false true s x xs k e fails = refl
-string_byte false false false true x xs k e fails = refl
-string_byte false false false false x xs k e fails = refl
+string_byte : (mark slash o s : Bool) (x : ℕ) (xs : List ℕ) (onward : Mode → List Lexeme) → mark ≡ false → slash ≡ false
+    → lex_byte in_string (class_by mark slash o s) x xs onward ≡ onward in_string
+string_byte true slash o s x xs onward e fails = absurd (cc)
+string_byte false true o s x xs onward e fails = absurd (cc)
+string_byte false false true s x xs onward e fails = refl
+string_byte false false false true x xs onward e fails = refl
+string_byte false false false false x xs onward e fails = refl
 
 -- within a string
 pub string_passes : (x : ℕ) (xs : List ℕ) → (x == 34) ≡ false → (x == 92) ≡ false
@@ -89,13 +90,13 @@ pub string_passes : (x : ℕ) (xs : List ℕ) → (x == 34) ≡ false → (x == 
 unfolding lex
 string_passes x xs e fails = string_byte (x == 34) (x == 92) (is_operator x) (is_space x) x xs (λ n. lex n xs) e fails
 
-word_byte : (q b o s : Bool) (x : ℕ) (xs : List ℕ) (k : Mode → List Lexeme) → o ≡ false → s ≡ false
-    → lex_byte in_word (class_by q b o s) x xs k ≡ k in_word
-word_byte true b o s x xs k e fails = refl
-word_byte false true o s x xs k e fails = refl
-word_byte false false true s x xs k e fails = absurd (cc)
-word_byte false false false true x xs k e fails = absurd (cc)
-word_byte false false false false x xs k e fails = refl
+word_byte : (mark slash o s : Bool) (x : ℕ) (xs : List ℕ) (onward : Mode → List Lexeme) → o ≡ false → s ≡ false
+    → lex_byte in_word (class_by mark slash o s) x xs onward ≡ onward in_word
+word_byte true slash o s x xs onward e fails = refl
+word_byte false true o s x xs onward e fails = refl
+word_byte false false true s x xs onward e fails = absurd (cc)
+word_byte false false false true x xs onward e fails = absurd (cc)
+word_byte false false false false x xs onward e fails = refl
 
 -- within a word
 pub word_passes : (x : ℕ) (xs : List ℕ) → is_delimiter x ≡ false → lex in_word (x ∷ xs) ≡ lex in_word xs
@@ -104,13 +105,14 @@ word_passes x xs e =
     let n = neither (is_operator x) (is_space x) e in
     word_byte (x == 34) (x == 92) (is_operator x) (is_space x) x xs (λ n. lex n xs) n.0 n.1
 
-ending_byte : (q b o s : Bool) (x : ℕ) (xs : List ℕ) (k : Mode → List Lexeme) → (o || s) ≡ true → q ≡ false → b ≡ false
-    → lex_byte in_word (class_by q b o s) x xs k ≡ lex_byte between (class_by q b o s) x xs k
-ending_byte true b o s x xs k e fails lacks = absurd (cc)
-ending_byte false true o s x xs k e fails lacks = absurd (cc)
-ending_byte false false true s x xs k e fails lacks = refl
-ending_byte false false false true x xs k e fails lacks = refl
-ending_byte false false false false x xs k e fails lacks = absurd (cc)
+ending_byte : (mark slash o s : Bool) (x : ℕ) (xs : List ℕ) (onward : Mode → List Lexeme) → (o || s) ≡ true
+    → mark ≡ false → slash ≡ false
+    → lex_byte in_word (class_by mark slash o s) x xs onward ≡ lex_byte between (class_by mark slash o s) x xs onward
+ending_byte true slash o s x xs onward e fails lacks = absurd (cc)
+ending_byte false true o s x xs onward e fails lacks = absurd (cc)
+ending_byte false false true s x xs onward e fails lacks = refl
+ending_byte false false false true x xs onward e fails lacks = refl
+ending_byte false false false false x xs onward e fails lacks = absurd (cc)
 
 -- where a word ends, what follows is read as if none had been there
 pub word_ends : (x : ℕ) (xs : List ℕ) → is_delimiter x ≡ true → x ≢ 34 → x ≢ 92

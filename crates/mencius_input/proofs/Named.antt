@@ -36,12 +36,12 @@ is_greater Greater = true
 
 -- a name that comes before another, by both comparisons
 abbrev is_before : List ℕ → List ℕ → Bool
-is_before k l = is_less (slice_cmp nat_cmp k l) && is_greater (slice_cmp nat_cmp l k)
+is_before name l = is_less (slice_cmp nat_cmp name l) && is_greater (slice_cmp nat_cmp l name)
 
 -- names in order, each once
 abbrev pub are_ordered : List (List ℕ) → Bool
 are_ordered [] = true
-are_ordered (k ∷ ks) = list_all (is_before k) ks && are_ordered ks
+are_ordered (name ∷ names) = list_all (is_before name) names && are_ordered names
 
 compared : (o x : Ordering) → (is_less o && is_greater x) ≡ true → (o ≡ Less) × (x ≡ Greater)
 compared Less Less e = absurd (cc)
@@ -83,9 +83,10 @@ put_before key d (l ∷ ls) found e =
         → (o : Option Data)
         → put key d (field l o (these ls found)) ≡ member key d (field l o (these ls found))
     by_value less later None = later
-    by_value less later (Some v) =
+    by_value less later (Some value) =
         let rest = these ls found in
-        ap (λ o. match_ordering o (member key d (member l v rest)) (member l d rest) (member l v (put key d rest))) less
+        ap (λ o. match_ordering o (member key d (member l value rest)) (member l d rest)
+        (member l value (put key d rest))) less
 
 -- what was found is the same but at one name
 abbrev SameBut : List ℕ → (List ℕ → Option Data) → (List ℕ → Option Data) → Type 0
@@ -116,34 +117,36 @@ put_here name d ks found next e is same =
 
     by_value : (o : Option Data) → put name d (field name o (these ks found)) ≡ member name d (these ks found)
     by_value None = put_before name d ks found e
-    by_value (Some v) = by_order (slice_cmp nat_cmp name name) _ _ _ itself
+    by_value (Some value) = by_order (slice_cmp nat_cmp name name) _ _ _ itself
 
 put_these : (name : List ℕ) (d : Data) (names : List (List ℕ)) (found next : List ℕ → Option Data)
     → are_ordered names ≡ true → is_one_of name names ≡ true → next name ≡ Some d → SameBut name found next
     → put name d (these names found) ≡ these names next
 put_these name d [] found next e one is same = absurd (true≢false (sym one))
-put_these name d (k ∷ ks) found next e one is same =
-    let parts = and_parts (list_all (is_before k) ks) (are_ordered ks) e in
-    by_test parts.0 (λ later. put_these name d ks found next parts.1 later is same) (bytes_eq name k) refl
+put_these name d (first_name ∷ ks) found next e one is same =
+    let parts = and_parts (list_all (is_before first_name) ks) (are_ordered ks) e in
+    by_test parts.0 (λ later. put_these name d ks found next parts.1 later is same) (bytes_eq name first_name) refl
   where
-    further : (o : Option Data) → slice_cmp nat_cmp name k ≡ Greater
-        → put name d (field k o (these ks found)) ≡ field k o (put name d (these ks found))
+    further : (o : Option Data) → slice_cmp nat_cmp name first_name ≡ Greater
+        → put name d (field first_name o (these ks found)) ≡ field first_name o (put name d (these ks found))
     further None h = refl
-    further (Some v) h =
+    further (Some value) h =
         let rest = these ks found in
-        ap (λ o. match_ordering o (member name d (member k v rest)) (member k d rest) (member k v (put name d rest))) h
+        ap (λ o. match_ordering o (member name d (member first_name value rest)) (member first_name d rest)
+        (member first_name value (put name d rest))) h
 
-    by_test : list_all (is_before k) ks ≡ true
+    by_test : list_all (is_before first_name) ks ≡ true
         → (is_one_of name ks ≡ true → put name d (these ks found) ≡ these ks next)
-        → (a : Bool) → bytes_eq name k ≡ a → put name d (these (k ∷ ks) found) ≡ these (k ∷ ks) next
+        → (a : Bool) → bytes_eq name first_name ≡ a
+        → put name d (these (first_name ∷ ks) found) ≡ these (first_name ∷ ks) next
     by_test first behind true h =
-        let n = same_name name k h in
-        ap (λ x. put x d (these (k ∷ ks) found)) n
-        ∙ put_here k d ks found next first (ap next (sym n) ∙ is) (λ l apart. same l (λ x. apart (x ∙ n)))
+        let n = same_name name first_name h in
+        ap (λ x. put x d (these (first_name ∷ ks) found)) n
+        ∙ put_here first_name d ks found next first (ap next (sym n) ∙ is) (λ l apart. same l (λ x. apart (x ∙ n)))
     by_test first behind false h =
         let later = sym (ap (λ a. a || is_one_of name ks) h) ∙ one in
-        further (found k) (behind_first k name ks first later)
-        ∙ ap₂ (field k) (sym (same k (λ x. other_name name k h (sym x)))) (behind later)
+        further (found first_name) (behind_first first_name name ks first later)
+        ∙ ap₂ (field first_name) (sym (same first_name (λ x. other_name name first_name h (sym x)))) (behind later)
 
 pub no_names : (names : List (List ℕ)) → AreNamed names false no_members
 no_names names = record {
@@ -153,7 +156,7 @@ no_names names = record {
   where
     none : (ks : List (List ℕ)) → no_members ≡ these ks (λ name. get_member name no_members)
     none [] = refl
-    none (k ∷ ks) = none ks
+    none (one ∷ others) = none others
 
 module _ (names : List (List ℕ)) (name : List ℕ) (d : Data) (ms : Members) where
   pub one_named : are_ordered names ≡ true → (has_other : Bool) → AreNamed names has_other ms
@@ -199,8 +202,8 @@ newest_says {X} says name d ms key new old is h = by_test (bytes_eq name key) re
 
 -- the fields without those of a name
 abbrev without : List ℕ → Members → Members
-without k no_members = no_members
-without k (member l e ms) = cond (bytes_eq k l) (without k ms) (member l e (without k ms))
+without name no_members = no_members
+without name (member l e ms) = cond (bytes_eq name l) (without name ms) (member l e (without name ms))
 
 get_first : (key l : List ℕ) (e : Data) (ms : Members)
     → get_member key (member l e ms) ≡ cond (bytes_eq key l) (Some e) (get_member key ms)
@@ -252,12 +255,12 @@ shorter key d (member l e ms) there = by_test (shorter key d ms) (bytes_eq key l
 -- each of these names is found
 abbrev pub AllFound : List (List ℕ) → (List ℕ → Option Data) → Type 0
 AllFound [] found = Unit {0}
-AllFound (k ∷ ks) found = ((d : Data) × (found k ≡ Some d)) × AllFound ks found
+AllFound (name ∷ names) found = ((d : Data) × (found name ≡ Some d)) × AllFound names found
 
 -- no name twice
 abbrev AreApart : List (List ℕ) → Type 0
 AreApart [] = Unit {0}
-AreApart (k ∷ ks) = (is_one_of k ks ≡ false) × AreApart ks
+AreApart (name ∷ names) = (is_one_of name names ≡ false) × AreApart names
 
 flipped : (key ys : List ℕ) → bytes_eq key ys ≡ false → bytes_eq ys key ≡ false
 flipped key ys e = by_test (bytes_eq ys key) refl
@@ -276,12 +279,12 @@ found_still key (l ∷ ls) ms apart there =
     )
 
 -- there are at least as many fields as names that are found
-room : (ks : List (List ℕ)) (ms : Members) → AreApart ks → AllFound ks (λ n. get_member n ms)
-    → length ks ≤ members_len ms
+room : (names : List (List ℕ)) (ms : Members) → AreApart names → AllFound names (λ n. get_member n ms)
+    → length names ≤ members_len ms
 room [] ms apart there = omega arith
-room (k ∷ ks) ms apart there =
-    let others = room ks (without k ms) apart.1 (found_still k ks ms apart.0 there.1) in
-    let one = shorter k there.0.0 ms there.0.1 in
+room (name ∷ names) ms apart there =
+    let others = room names (without name ms) apart.1 (found_still name names ms apart.0 there.1) in
+    let one = shorter name there.0.0 ms there.0.1 in
     omega (arith, others, one)
 
 none_first : (key : List ℕ) (ks : List (List ℕ)) → list_all (is_before key) ks ≡ true → is_one_of key ks ≡ false
@@ -290,17 +293,17 @@ none_first key (l ∷ ls) e =
     let parts = and_parts (is_before key l) (list_all (is_before key) ls) e in
     ap (λ bit. bit || is_one_of key ls) (before_apart key l parts.0) ∙ none_first key ls parts.1
 
-ordered_apart : (ks : List (List ℕ)) → are_ordered ks ≡ true → AreApart ks
+ordered_apart : (names : List (List ℕ)) → are_ordered names ≡ true → AreApart names
 ordered_apart [] e = tt
-ordered_apart (k ∷ ks) e =
-    let parts = and_parts (list_all (is_before k) ks) (are_ordered ks) e in
-    (none_first k ks parts.0, ordered_apart ks parts.1)
+ordered_apart (name ∷ names) e =
+    let parts = and_parts (list_all (is_before name) names) (are_ordered names) e in
+    (none_first name names parts.0, ordered_apart names parts.1)
 
-these_many : (ks : List (List ℕ)) (found : List ℕ → Option Data) → AllFound ks found
-    → members_len (these ks found) ≡ length ks
+these_many : (names : List (List ℕ)) (found : List ℕ → Option Data) → AllFound names found
+    → members_len (these names found) ≡ length names
 these_many [] found there = refl
-these_many (k ∷ ks) found there =
-    ap (λ o. members_len (field k o (these ks found))) there.0.1 ∙ ap suc (these_many ks found there.1)
+these_many (name ∷ names) found there =
+    ap (λ o. members_len (field name o (these names found))) there.0.1 ∙ ap suc (these_many names found there.1)
 
 -- where all of these names are found, there are as many fields only if there is no other
 pub named_count : (names : List (List ℕ)) (has_other : Bool) (ms : Members) → are_ordered names ≡ true

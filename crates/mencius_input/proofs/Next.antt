@@ -54,11 +54,11 @@ pushed (e ∷ ds) d rest = ap (item e) (pushed ds d rest)
 one_more : (ds : List Data) (d : Data) (r : Option (Items × List Token))
     → parse_map (items_then ds) (parse_map (item d) r) ≡ parse_map (items_then (ds ++ d ∷ [])) r
 one_more ds d None = refl
-one_more ds d (Some p) = ap (λ es. Some (es, p.1)) (pushed ds d p.0)
+one_more ds d (Some pair) = ap (λ es. Some (es, pair.1)) (pushed ds d pair.0)
 
 nothing_yet : (r : Option (Items × List Token)) → r ≡ parse_map (items_then []) r
 nothing_yet None = refl
-nothing_yet (Some p) = refl
+nothing_yet (Some pair) = refl
 
 -- of the items behind a bracket these were read, and then come those of `left`
 pub record ItemsSoFar (depth : ℕ) (whole left : List Token) (read : List Data) : Type 0 where
@@ -204,32 +204,32 @@ module _ (depth : ℕ) (s : List ℕ) (ts : List Token) where
 
 -- ---- the same, of the token as the code has it
 
-pub next_plain : (depth : ℕ) (t : code.Token) (ts : List Token)
-    → ((x : Bor (List ℕ)) × (t ≡ String x)) ⊎ ((x : Bool) × (t ≡ BoolT x)) ⊎ (t ≡ Null)
-    → (d : Data) × (next_value depth (token_of t ∷ ts) ≡ Some (d, ts))
-next_plain depth t ts (inl (x, e)) =
+pub next_plain : (depth : ℕ) (symbol : code.Token) (ts : List Token)
+    → ((x : Bor (List ℕ)) × (symbol ≡ String x)) ⊎ ((x : Bool) × (symbol ≡ BoolT x)) ⊎ (symbol ≡ Null)
+    → (d : Data) × (next_value depth (token_of symbol ∷ ts) ≡ Some (d, ts))
+next_plain depth symbol ts (inl (x, e)) =
     (string x.now, ap (λ kind. next_value depth (token_of kind ∷ ts)) e ∙ next_string depth x.now ts)
-next_plain depth t ts (inr (inl (x, e))) = (
+next_plain depth symbol ts (inr (inl (x, e))) = (
   boolean x,
   ap (λ kind. next_value depth (token_of kind ∷ ts)) e
       ∙ ap (converted of_json) (value_is depth (Token.boolean x ∷ ts)),
 )
-next_plain depth t ts (inr (inr e)) = (
+next_plain depth symbol ts (inr (inr e)) = (
   null,
   ap (λ kind. next_value depth (token_of kind ∷ ts)) e ∙ ap (converted of_json) (value_is depth (Token.null ∷ ts)),
 )
 
-pub next_unfit : (depth : ℕ) (t : code.Token) (ts : List Token)
-    → (t ≡ EndObject) ⊎ (t ≡ EndArray) ⊎ ((x : Bor (List ℕ)) × (t ≡ Key x)) ⊎ (t ≡ Bad)
-    → next_value depth (token_of t ∷ ts) ≡ None
-next_unfit depth t ts (inl e) =
+pub next_unfit : (depth : ℕ) (symbol : code.Token) (ts : List Token)
+    → (symbol ≡ EndObject) ⊎ (symbol ≡ EndArray) ⊎ ((x : Bor (List ℕ)) × (symbol ≡ Key x)) ⊎ (symbol ≡ Bad)
+    → next_value depth (token_of symbol ∷ ts) ≡ None
+next_unfit depth symbol ts (inl e) =
     ap (λ kind. next_value depth (token_of kind ∷ ts)) e
     ∙ ap (converted of_json) (value_is depth (Token.end_object ∷ ts))
-next_unfit depth t ts (inr (inl e)) =
+next_unfit depth symbol ts (inr (inl e)) =
     ap (λ kind. next_value depth (token_of kind ∷ ts)) e
     ∙ ap (converted of_json) (value_is depth (Token.end_array ∷ ts))
-next_unfit depth t ts (inr (inr (inl (x, e)))) =
+next_unfit depth symbol ts (inr (inr (inl (x, e)))) =
     ap (λ kind. next_value depth (token_of kind ∷ ts)) e
     ∙ ap (converted of_json) (value_is depth (Token.key x.now ∷ ts))
-next_unfit depth t ts (inr (inr (inr e))) =
+next_unfit depth symbol ts (inr (inr (inr e))) =
     ap (λ kind. next_value depth (token_of kind ∷ ts)) e ∙ ap (converted of_json) (value_is depth (Token.bad ∷ ts))

@@ -19,9 +19,9 @@ pub said_err : {X : Type 0} (r : Result X AppFault) (fault : AppFault) → resul
 said_err (Ok x) fault e = absurd (cc)
 said_err (Err f) fault e = ap (λ o. Err (unwrap_or o f)) e
 
-pub item_there : (vs : List Value) (i : ℕ) (item : Value) → item ≡ get_or vs i item → i < length vs
-    → get_item i (items_view vs) ≡ Some (view item)
-item_there vs i item is less = sym (get_item_within vs i item less) ∙ ap (λ v. Some (view v)) (sym is)
+pub item_there : (values : List Value) (n : ℕ) (item : Value) → item ≡ get_or values n item → n < length values
+    → get_item n (items_view values) ≡ Some (view item)
+item_there values n item is less = sym (get_item_within values n item less) ∙ ap (λ value. Some (view value)) (sym is)
 
 same_item : (d e : Data) → ◌≡◌ {A = Option Data} (Some d) (Some e) → d ≡ e
 same_item d e h = ap (λ o. unwrap_or o d) h
@@ -29,11 +29,11 @@ same_item d e h = ap (λ o. unwrap_or o d) h
 -- one more item, which has not the fault
 pub none_further : (fault : AppFault) (items : Items) (index : ℕ) (d : Data) → get_item index items ≡ Some d
     → (item_said d ≡ Err fault → ⊥) → NoneBefore fault items index → NoneBefore fault items (index + 1)
-none_further fault items index d there fine before k earlier less is fails =
-    elim (cases_Bool (nat_lt k index)) [
-      | inl e ↦ let below : k < index = grind (arith, nat_tests) in before k earlier below is fails
+none_further fault items index d there fine before other earlier less is fails =
+    elim (cases_Bool (nat_lt other index)) [
+      | inl e ↦ let below : other < index = grind (arith, nat_tests) in before other earlier below is fails
       | inr e ↦
-          let at : k ≡ index = grind (arith, nat_tests) in
+          let at : other ≡ index = grind (arith, nat_tests) in
           let same : d ≡ earlier = same_item d earlier (sym there ∙ ap (λ n. get_item n items) (sym at) ∙ is) in
           fine (ap item_said same ∙ fails)
     ]

@@ -64,7 +64,7 @@ no_plan_fields = record {
 module _ (f : code.Fields) (ms : Members) (d : Data) (h : AreFields f ms) where
   pub commands_set : (name : List ℕ) (lists : Result (Vec (Vec Command Global) Global) AppFault)
       → bytes_eq name (codes "commands") ≡ true
-      → seen (λ (v : Vec (Vec Command Global) Global). map (λ l. l.items) v.items) lists
+      → seen (λ (x : Vec (Vec Command Global) Global). map (λ l. l.items) x.items) lists
       ≡ judged lists_within (lists_of d)
       → AreFields (record f { commands = Some lists }) (put name d ms)
   commands_set name lists same is = rw (same_name name (codes "commands") same) record {
@@ -138,24 +138,24 @@ IsThere o = (x : ℕ) × (o ≡ Some x)
 
 abbrev six : Option ℕ → Option ℕ → Option ℕ → Option ℕ → Option ℕ → Option ℕ → Option Numbers
 six version servers workers seed turns loss = do
-  v ← version
+  version ← version
   s ← servers
-  w ← workers
+  workers ← workers
   g ← seed
-  t ← turns
+  turns ← turns
   l ← loss
-  Some (record { version = v; servers = s; workers = w; seed = g; turns = t; loss = l })
+  Some (record { version = version; servers = s; workers = workers; seed = g; turns = turns; loss = l })
 
-all_there : (v s o g r l : Option ℕ) (n : Numbers) → six v s o g r l ≡ Some n
-    → IsThere v × IsThere s × IsThere o × IsThere g × IsThere r × IsThere l
+all_there : (version s o g r l : Option ℕ) (n : Numbers) → six version s o g r l ≡ Some n
+    → IsThere version × IsThere s × IsThere o × IsThere g × IsThere r × IsThere l
 all_there None s o g r l n e = absurd (cc)
-all_there (Some v) None o g r l n e = absurd (cc)
-all_there (Some v) (Some s) None g r l n e = absurd (cc)
-all_there (Some v) (Some s) (Some o) None r l n e = absurd (cc)
-all_there (Some v) (Some s) (Some o) (Some g) None l n e = absurd (cc)
-all_there (Some v) (Some s) (Some o) (Some g) (Some r) None n e = absurd (cc)
-all_there (Some v) (Some s) (Some o) (Some g) (Some r) (Some l) n e =
-    ((v, refl), (s, refl), (o, refl), (g, refl), (r, refl), (l, refl))
+all_there (Some version) None o g r l n e = absurd (cc)
+all_there (Some version) (Some s) None g r l n e = absurd (cc)
+all_there (Some version) (Some s) (Some o) None r l n e = absurd (cc)
+all_there (Some version) (Some s) (Some o) (Some g) None l n e = absurd (cc)
+all_there (Some version) (Some s) (Some o) (Some g) (Some r) None n e = absurd (cc)
+all_there (Some version) (Some s) (Some o) (Some g) (Some r) (Some l) n e =
+    ((version, refl), (s, refl), (o, refl), (g, refl), (r, refl), (l, refl))
 
 all_found : (ms : Members) (n : Numbers) (d : Data) → numbers_of (object ms) ≡ Some n
     → get_member (codes "commands") ms ≡ Some d → AllFound plan_names (λ key. get_member key ms)
@@ -239,8 +239,8 @@ by_parts : (has_other seven : Bool) (numbers : Option Numbers) (commands : Optio
     → ((n : Numbers) (d : Data) → numbers ≡ Some n → commands ≡ Some d → seven ≡ not has_other)
     → all_said has_other (plan_said numbers (option_map lists_judged commands))
     ≡ judged plan_within (bound seven numbers commands)
-by_parts b seven None commands h = no_shape b
-by_parts b seven (Some n) None h = no_shape b
+by_parts other seven None commands h = no_shape other
+by_parts other seven (Some n) None h = no_shape other
 by_parts true seven (Some n) (Some d) h =
     sym (ap (λ s. judged plan_within (bound s (Some n) (Some d))) (h n d refl refl)
     ∙ ap (judged plan_within) (with_more n (as_array d)))
@@ -251,12 +251,12 @@ by_parts false seven (Some n) (Some d) h =
 -- the answer
 pub plan_fields_say : (f : code.Fields) (ms : Members) → AreFields f ms
     → all_said f.wholes.has_other (plan_said (numbers_in f.wholes)
-    (option_map (seen (λ (v : Vec (Vec Command Global) Global). map (λ l. l.items) v.items)) f.commands))
+    (option_map (seen (λ (lists : Vec (Vec Command Global) Global). map (λ l. l.items) lists.items)) f.commands))
     ≡ judged plan_within (plan_of (object ms))
 plan_fields_say f ms h =
-    ap₂ (λ n c. all_said f.wholes.has_other (plan_said n c)) (numbers_said f ms h) h.commands
+    ap₂ (λ n x. all_said f.wholes.has_other (plan_said n x)) (numbers_said f ms h) h.commands
     ∙ by_parts f.wholes.has_other (members_len ms == 7) (numbers_of (object ms)) (get_member (codes "commands") ms)
-    (λ n d e c. named_count plan_names f.wholes.has_other ms ordered h.named (all_found ms n d e c))
+    (λ n d e x. named_count plan_names f.wholes.has_other ms ordered h.named (all_found ms n d e x))
     ∙ ap (judged plan_within) (sym (plan_bound ms))
 
 -- what is no object is no scenario of a run

@@ -16,28 +16,28 @@ use Rattle.mencius_input.proofs.Spelled.{is_one_delimiter, no_number, number_wor
 
 -- ---- where it ends
 
-pub record Parted (t : List ℕ) (n : ℕ) : Type 0 where
-  pub within : n ≤ length t
-  pub spelled : is_spelled (take n t) ≡ true
-  pub ends : ends_word (drop n t) ≡ true
-  pub rest : lex in_word t ≡ lex between (drop n t)
+pub record Parted (text : List ℕ) (n : ℕ) : Type 0 where
+  pub within : n ≤ length text
+  pub spelled : is_spelled (take n text) ≡ true
+  pub ends : ends_word (drop n text) ≡ true
+  pub rest : lex in_word text ≡ lex between (drop n text)
 
-no_quote : (c : ℕ) → is_delimiter c ≡ true → (c ≡ 34 → ⊥) × (c ≡ 92 → ⊥)
-no_quote c h = (
-  λ e. (let same : is_delimiter c ≡ false = ap is_delimiter e in cc),
-  λ e. (let same : is_delimiter c ≡ false = ap is_delimiter e in cc),
+no_quote : (byte : ℕ) → is_delimiter byte ≡ true → (byte ≡ 34 → ⊥) × (byte ≡ 92 → ⊥)
+no_quote byte h = (
+  λ e. (let same : is_delimiter byte ≡ false = ap is_delimiter e in cc),
+  λ e. (let same : is_delimiter byte ≡ false = ap is_delimiter e in cc),
 )
 
-both : (a b : Bool) → a ≡ true → b ≡ true → (a && b) ≡ true
-both true b e holds = holds
-both false b e holds = absurd (cc)
+both : (a d : Bool) → a ≡ true → d ≡ true → (a && d) ≡ true
+both true d e holds = holds
+both false d e holds = absurd (cc)
 
-pub parted : (t : List ℕ) → Parted t (position_or_len is_delimiter t)
+pub parted : (text : List ℕ) → Parted text (position_or_len is_delimiter text)
 unfolding lex
 parted [] = record { within = omega arith; spelled = refl; ends = refl; rest = refl }
 parted (x ∷ xs) = by_test (is_delimiter x) refl (position_or_len is_delimiter xs) (parted xs)
   where
-    by_test : (b : Bool) → is_delimiter x ≡ b → (n : ℕ) → Parted xs n → Parted (x ∷ xs) (cond (not b) (1 + n) 0)
+    by_test : (a : Bool) → is_delimiter x ≡ a → (n : ℕ) → Parted xs n → Parted (x ∷ xs) (cond (not a) (1 + n) 0)
     by_test true e n more = record {
       within = omega arith;
       spelled = refl;
@@ -55,24 +55,25 @@ parted (x ∷ xs) = by_test (is_delimiter x) refl (position_or_len is_delimiter 
         })
 
 -- a text may be cut where a word ends
-pub cut_there : (t : List ℕ) (n : ℕ) → Parted t n → IsCharBoundary t n
-cut_there t n parted = elim (cases_lt n (length t)) [
+pub cut_there : (text : List ℕ) (n : ℕ) → Parted text n → IsCharBoundary text n
+cut_there text n parted = elim (cases_lt n (length text)) [
   | inl less ↦
-      let is : is_delimiter (get_or t n 0) ≡ true = ap ends_word (sym (drop_more t n 0 less)) ∙ parted.ends in
-      IsCharBoundary-before_ascii t n less (low (get_or t n 0) is)
+      let is : is_delimiter (get_or text n 0) ≡ true = ap ends_word (sym (drop_more text n 0 less)) ∙ parted.ends in
+      IsCharBoundary-before_ascii text n less (low (get_or text n 0) is)
   | inr past ↦
       let le = parted.within in
-      let last : length t ≡ n = omega arith in
-      subst (IsCharBoundary t) last (IsCharBoundary-end t)
+      let last : length text ≡ n = omega arith in
+      subst (IsCharBoundary text) last (IsCharBoundary-end text)
 ]
   where
-    low : (c : ℕ) → is_delimiter c ≡ true → c < 128
+    low : (byte : ℕ) → is_delimiter byte ≡ true → byte < 128
     low =
-        is_one_delimiter (λ (c : ℕ). c < 128) (omega arith) (omega arith) (omega arith) (omega arith) (omega arith)
+        is_one_delimiter (λ (byte : ℕ). byte < 128) (omega arith) (omega arith) (omega arith) (omega arith)
+        (omega arith)
         (omega arith) (omega arith) (omega arith) (omega arith) (omega arith)
 
-no_delimiter : (q b o s : Bool) → class_by q b o s ≡ other → (o || s) ≡ false
-no_delimiter true b o s e = absurd (cc)
+no_delimiter : (mark slash o s : Bool) → class_by mark slash o s ≡ other → (o || s) ≡ false
+no_delimiter true slash o s e = absurd (cc)
 no_delimiter false true o s e = absurd (cc)
 no_delimiter false false true s e = absurd (cc)
 no_delimiter false false false true e = absurd (cc)
@@ -84,37 +85,40 @@ first_word : (x : ℕ) (xs : List ℕ) → class x ≡ other → lex between (x 
 unfolding lex
 first_word x xs e = ap (λ kind. lex_byte between kind x xs (λ n. lex n xs)) e
 
-at_word : (t : List ℕ) → class (first t) ≡ other → 0 < length t
-    → lex between t ≡ token (word t) ∷ lex between (drop (position_or_len is_delimiter t) t)
+at_word : (text : List ℕ) → class (first text) ≡ other → 0 < length text
+    → lex between text ≡ token (word text) ∷ lex between (drop (position_or_len is_delimiter text) text)
 at_word [] e some = absurd (omega arith)
 at_word (x ∷ xs) e some =
     let inside = no_delimiter (x == 34) (x == 92) (is_operator x) (is_space x) e in
     first_word x xs e
     ∙ ap (λ ls. token (word (x ∷ xs)) ∷ ls) (sym (word_passes x xs inside) ∙ (parted (x ∷ xs)).rest)
 
-pub word_read : (p : Place) (t : List ℕ) (k : Token) → may_begin p ≡ true → class (first t) ≡ other → 0 < length t
-    → word t ≡ k → is_word k ≡ true
-    → punctuate p (lex between t) ≡ k ∷ punctuate after_value (lex between (drop (position_or_len is_delimiter t) t))
-word_read p t k may e some is good =
-    let rest = lex between (drop (position_or_len is_delimiter t) t) in
-    ap (punctuate p) (at_word t e some ∙ ap (λ w. token w ∷ rest) is) ∙ as_word p k rest may good
+pub word_read : (place : Place) (text : List ℕ) (symbol : Token) → may_begin place ≡ true → class (first text) ≡ other
+    → 0 < length text
+    → word text ≡ symbol → is_word symbol ≡ true
+    → punctuate place (lex between text)
+    ≡ symbol ∷ punctuate after_value (lex between (drop (position_or_len is_delimiter text) text))
+word_read place text symbol may e some is good =
+    let rest = lex between (drop (position_or_len is_delimiter text) text) in
+    ap (punctuate place) (at_word text e some ∙ ap (λ read. token read ∷ rest) is) ∙ as_word place symbol rest may good
 
-pub no_word_read : (p : Place) (t : List ℕ) → class (first t) ≡ other → 0 < length t → word t ≡ bad
-    → punctuate p (lex between t) ≡ bad ∷ []
-no_word_read p t e some is =
-    let rest = lex between (drop (position_or_len is_delimiter t) t) in
-    ap (punctuate p) (at_word t e some ∙ ap (λ w. token w ∷ rest) is) ∙ bad_token p rest
+pub no_word_read : (place : Place) (text : List ℕ) → class (first text) ≡ other → 0 < length text → word text ≡ bad
+    → punctuate place (lex between text) ≡ bad ∷ []
+no_word_read place text e some is =
+    let rest = lex between (drop (position_or_len is_delimiter text) text) in
+    ap (punctuate place) (at_word text e some ∙ ap (λ read. token read ∷ rest) is) ∙ bad_token place rest
 
 -- ---- the three names
 
-same_word : (name w rest : List ℕ) → is_spelled name ≡ true → is_spelled w ≡ true → ends_word rest ≡ true
-    → (starts_with nat_eq (w ++ rest) name && ends_word (drop (length name) (w ++ rest))) ≡ true → w ≡ name
+same_word : (name spelling rest : List ℕ) → is_spelled name ≡ true → is_spelled spelling ≡ true → ends_word rest ≡ true
+    → (starts_with nat_eq (spelling ++ rest) name && ends_word (drop (length name) (spelling ++ rest))) ≡ true
+    → spelling ≡ name
 same_word [] [] rest h holds ends is = refl
 same_word [] (x ∷ xs) rest h agrees ends is =
     let no = and_parts (not (is_delimiter x)) (is_spelled xs) agrees in
     absurd (clash (is_delimiter x) no.0 is)
   where
-    clash : (b : Bool) → not b ≡ true → (true && b) ≡ true → ⊥
+    clash : (a : Bool) → not a ≡ true → (true && a) ≡ true → ⊥
     clash true e holds = cc
     clash false e holds = cc
 same_word (n ∷ ns) [] [] h holds ends is = absurd (cc)
@@ -123,23 +127,25 @@ same_word (n ∷ ns) [] (y ∷ ys) h agrees ends is =
     let spelled = and_parts (not (is_delimiter n)) (is_spelled ns) h in
     absurd (clash (is_delimiter n) spelled.0 (ap is_delimiter (eqb-true n y first_same.0) ∙ ends))
   where
-    clash : (b : Bool) → not b ≡ true → b ≡ true → ⊥
+    clash : (a : Bool) → not a ≡ true → a ≡ true → ⊥
     clash true e holds = cc
     clash false e holds = cc
 same_word (n ∷ ns) (x ∷ xs) rest h holds ends is =
     let outer = and_parts _ _ is in
     let inner = and_parts _ _ outer.0 in
     let more = same_word ns xs rest (and_parts _ _ h).1 (and_parts _ _ holds).1 ends (both _ _ inner.1 outer.1) in
-    ap (λ (b : ℕ). b ∷ xs) (sym (eqb-true n x inner.0)) ∙ ap (λ (l : List ℕ). n ∷ l) more
+    ap (λ (a : ℕ). a ∷ xs) (sym (eqb-true n x inner.0)) ∙ ap (λ (l : List ℕ). n ∷ l) more
 
-no_literal : (name w rest : List ℕ) (k : Token) → is_spelled name ≡ true → is_spelled w ≡ true → ends_word rest ≡ true
-    → (w ≡ name → ⊥) → literal name k (w ++ rest) ≡ bad
-no_literal name w rest k h spelled ends none = by_test _ refl
+no_literal : (name spelling rest : List ℕ) (symbol : Token) → is_spelled name ≡ true → is_spelled spelling ≡ true
+    → ends_word rest ≡ true
+    → (spelling ≡ name → ⊥) → literal name symbol (spelling ++ rest) ≡ bad
+no_literal name spelling rest symbol h spelled ends none = by_test _ refl
   where
-    by_test : (b : Bool) → (starts_with nat_eq (w ++ rest) name && ends_word (drop (length name) (w ++ rest))) ≡ b
-        → literal name k (w ++ rest) ≡ bad
-    by_test true is = absurd (none (same_word name w rest h spelled ends is))
-    by_test false is = ap (λ bit. cond bit k bad) is
+    by_test : (a : Bool)
+        → (starts_with nat_eq (spelling ++ rest) name && ends_word (drop (length name) (spelling ++ rest))) ≡ a
+        → literal name symbol (spelling ++ rest) ≡ bad
+    by_test true is = absurd (none (same_word name spelling rest h spelled ends is))
+    by_test false is = ap (λ bit. cond bit symbol bad) is
 
 pub true_word : (rest : List ℕ) → ends_word rest ≡ true → word (true_text ++ rest) ≡ boolean true
 unfolding word
@@ -155,18 +161,19 @@ null_word rest ends = ap (λ bit. cond bit null bad) ends
 
 -- ---- numbers, and what is no word
 
-no_letter : (x c : ℕ) (xs : List ℕ) → after_number (x ∷ xs) ≡ Some [] → after_number (c ∷ xs) ≡ None → (x == c) ≡ false
-no_letter x c xs e none = eqb_false x c (λ is. (let same = ap (λ (b : ℕ). after_number (b ∷ xs)) is in cc))
+no_letter : (x y : ℕ) (xs : List ℕ) → after_number (x ∷ xs) ≡ Some [] → after_number (y ∷ xs) ≡ None → (x == y) ≡ false
+no_letter x y xs e none = eqb_false x y (λ is. (let same = ap (λ (byte : ℕ). after_number (byte ∷ xs)) is in cc))
 
-fourth : {A : Type 0} (a b c : Bool) (w x y z : A) → a ≡ false → b ≡ false → c ≡ false
-    → cond a w (cond b x (cond c y z)) ≡ z
-fourth true b c w x y z e fails lacks = absurd (cc)
-fourth false true c w x y z e fails lacks = absurd (cc)
-fourth false false true w x y z e fails lacks = absurd (cc)
-fourth false false false w x y z e fails lacks = refl
+fourth : {A : Type 0} (one two three : Bool) (x y z last : A) → one ≡ false → two ≡ false → three ≡ false
+    → cond one x (cond two y (cond three z last)) ≡ last
+fourth true two three x y z last e fails lacks = absurd (cc)
+fourth false true three x y z last e fails lacks = absurd (cc)
+fourth false false true x y z last e fails lacks = absurd (cc)
+fourth false false false x y z last e fails lacks = refl
 
-pub numbered : (w rest : List ℕ) → is_spelled w ≡ true → ends_word rest ≡ true → after_number w ≡ Some []
-    → word (w ++ rest) ≡ number w
+pub numbered : (spelling rest : List ℕ) → is_spelled spelling ≡ true → ends_word rest ≡ true
+    → after_number spelling ≡ Some []
+    → word (spelling ++ rest) ≡ number spelling
 unfolding word after_number
 numbered [] rest h ends e = absurd (cc)
 numbered (x ∷ xs) rest h ends e =
@@ -174,18 +181,20 @@ numbered (x ∷ xs) rest h ends e =
     (no_letter x 110 xs e refl)
     ∙ number_word rest ends (x ∷ xs) h e
 
-all_bad : (a b c : Bool) (w x y z : Token) → w ≡ bad → x ≡ bad → y ≡ bad → z ≡ bad
-    → cond a w (cond b x (cond c y z)) ≡ bad
-all_bad true b c w x y z e same equal h = e
-all_bad false true c w x y z e same equal h = same
-all_bad false false true w x y z e same equal h = equal
-all_bad false false false w x y z e same equal h = h
+all_bad : (one two three : Bool) (x y z last : Token) → x ≡ bad → y ≡ bad → z ≡ bad → last ≡ bad
+    → cond one x (cond two y (cond three z last)) ≡ bad
+all_bad true two three x y z last e same equal h = e
+all_bad false true three x y z last e same equal h = same
+all_bad false false true x y z last e same equal h = equal
+all_bad false false false x y z last e same equal h = h
 
-pub no_word : (w rest : List ℕ) → is_spelled w ≡ true → ends_word rest ≡ true → (w ≡ true_text → ⊥)
-    → (w ≡ false_text → ⊥) → (w ≡ null_text → ⊥) → (after_number w ≡ Some [] → ⊥) → word (w ++ rest) ≡ bad
+pub no_word : (spelling rest : List ℕ) → is_spelled spelling ≡ true → ends_word rest ≡ true → (spelling ≡ true_text → ⊥)
+    → (spelling ≡ false_text → ⊥) → (spelling ≡ null_text → ⊥) → (after_number spelling ≡ Some [] → ⊥)
+    → word (spelling ++ rest) ≡ bad
 unfolding word
-no_word w rest h ends unlike apart n lacks =
-    all_bad (head (w ++ rest) == 116) (head (w ++ rest) == 102) (head (w ++ rest) == 110) _ _ _ _
-    (no_literal true_text w rest (boolean true) refl h ends unlike)
-    (no_literal false_text w rest (boolean false) refl h ends apart) (no_literal null_text w rest null refl h ends n)
-    (no_number rest ends w h lacks)
+no_word spelling rest h ends unlike apart n lacks =
+    all_bad (head (spelling ++ rest) == 116) (head (spelling ++ rest) == 102) (head (spelling ++ rest) == 110) _ _ _ _
+    (no_literal true_text spelling rest (boolean true) refl h ends unlike)
+    (no_literal false_text spelling rest (boolean false) refl h ends apart)
+    (no_literal null_text spelling rest null refl h ends n)
+    (no_number rest ends spelling h lacks)

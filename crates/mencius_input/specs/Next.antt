@@ -38,19 +38,19 @@ EntersObject depth old new false = (d : Data) × (next_value depth old ≡ Some 
 
 abbrev pub text_of : Token → Option (List ℕ)
 text_of (token.string s) = Some s
-text_of t = None
+text_of _ = None
 
 abbrev pub number_text : Token → Option (List ℕ)
 number_text (token.number s) = Some s
-number_text t = None
+number_text _ = None
 
 abbrev pub opens_array : Token → Bool
 opens_array token.begin_array = true
-opens_array t = false
+opens_array _ = false
 
 abbrev pub opens_object : Token → Bool
 opens_object token.begin_object = true
-opens_object t = false
+opens_object _ = false
 
 -- the whole number that a value is
 abbrev pub whole_in : Data → Option ℕ

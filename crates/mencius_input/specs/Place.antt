@@ -30,7 +30,7 @@ item_said d = judged event_within (said_by event_of d)
 -- no item before this index has the fault
 abbrev pub NoneBefore : AppFault → Items → ℕ → Type 0
 NoneBefore fault items index =
-    (k : ℕ) (earlier : Data) → k < index → get_item k items ≡ Some earlier → item_said earlier ≢ Err fault
+    (n : ℕ) (earlier : Data) → n < index → get_item n items ≡ Some earlier → item_said earlier ≢ Err fault
 
 -- the item at the index is the first that has the fault, and this is its text
 pub record IsFirst (fault : AppFault) (items : Items) (index : ℕ) (text : Option (List ℕ)) : Type 0 where
@@ -42,7 +42,7 @@ pub record IsFirst (fault : AppFault) (items : Items) (index : ℕ) (text : Opti
 
 -- the value of a field has the fault
 abbrev pub FieldFails : AppFault → Field → Data → Type 0
-FieldFails fault Version d = judged (λ v. v == 1) (whole_in d) ≡ Err fault
+FieldFails fault Version d = judged (λ version. version == 1) (whole_in d) ≡ Err fault
 FieldFails fault Servers d = judged (λ s. nat_le 1 s && nat_le s most_servers) (whole_in d) ≡ Err fault
 FieldFails fault Events d = (fault ≡ BadShape) × (as_array d ≡ None)
 

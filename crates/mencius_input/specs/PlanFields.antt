@@ -55,7 +55,7 @@ pub record AreFields (f : code.Fields) (ms : Members) : Type 0 where
   pub turns : Says whole_in (codes "turns") f.wholes.turns ms
   pub loss : Says whole_in (codes "loss") f.wholes.loss ms
   pub commands : Says (λ d. judged lists_within (lists_of d)) (codes "commands")
-      (option_map (seen (λ v. map (λ l. l.items) v.items)) f.commands) ms
+      (option_map (seen (λ list. map (λ l. l.items) list.items)) f.commands) ms
 
 -- a field that is there, and is a whole number
 abbrev pub there : Option (Option ℕ) → Option ℕ

@@ -12,4 +12,4 @@ Takes ts step = Yields ts step.token (tokens_at step.place step.rest.now)
 
 -- the same wherever a value may begin
 abbrev pub Begins : List ℕ → Step → Type 0
-Begins text step = (p : Place) → may_begin p ≡ true → Takes (punctuate p (lex between text)) step
+Begins text step = (place : Place) → may_begin place ≡ true → Takes (punctuate place (lex between text)) step

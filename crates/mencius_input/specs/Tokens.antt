@@ -49,11 +49,11 @@ first text = get_or text 0 0
 
 -- the text of a string ends here: at its quote, or at a byte that may not stand in it
 abbrev pub is_stop : ℕ → Bool
-is_stop b = (b == 34) || nat_lt b 32
+is_stop byte = (byte == 34) || nat_lt byte 32
 
 -- a word has ended here
 abbrev pub is_delimiter : ℕ → Bool
-is_delimiter b = is_operator b || is_space b
+is_delimiter byte = is_operator byte || is_space byte
 
 -- what a word can be
 abbrev pub is_word : Token → Bool
@@ -64,10 +64,10 @@ is_word end_array = false
 is_word (key s) = false
 is_word (string s) = false
 is_word (number s) = true
-is_word (boolean b) = true
+is_word (boolean truth) = true
 is_word null = true
 is_word bad = false
 
 -- no byte ends a word
 abbrev pub is_spelled : List ℕ → Bool
-is_spelled w = list_all (λ byte. not (is_delimiter byte)) w
+is_spelled text = list_all (λ byte. not (is_delimiter byte)) text

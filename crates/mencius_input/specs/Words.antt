@@ -7,7 +7,7 @@ use Rattle.mencius_base.specs.Command.{is_name}
 
 -- what stands between the bytes c
 abbrev pub parts : ℕ → List ℕ → List (List ℕ)
-parts c text = slice_split (λ byte. byte == c) text
+parts mark text = slice_split (λ byte. byte == mark) text
 
 -- the words, with one space between each and the next
 abbrev pub words : List ℕ → List (List ℕ)
@@ -16,7 +16,8 @@ words text = parts 32 text
 -- `0`, or a digit 1 to 9 and then digits
 abbrev pub is_number : List ℕ → Bool
 is_number [] = false
-is_number (b ∷ bs) = if b == 48 then length bs == 0 else is_ascii_digit b && list_all is_ascii_digit bs
+is_number (byte ∷ bytes) =
+    if byte == 48 then length bytes == 0 else is_ascii_digit byte && list_all is_ascii_digit bytes
 
 unfoldable pub number_of : List ℕ → Option ℕ
 number_of word = if is_number word then Some (digits_value 10 word) else None

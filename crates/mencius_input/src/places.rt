@@ -73,7 +73,7 @@ fn fault_of_item(alloc: Global, item: &Value) -> Result<Option<AppFault>, NoMemo
 
 // Whether an item of the events has the fault.
 fn has_fault(alloc: Global, item: &Value, fault: AppFault) -> Result<bool, NoMemory>
-    ensures { IfOk result (λ b. MatchBool b (item_said (view item.now) ≡ Err fault)
+    ensures { IfOk result (λ x. MatchBool x (item_said (view item.now) ≡ Err fault)
         (item_said (view item.now) ≢ Err fault)) }
 {
     match fault_of_item(alloc, item)? {
@@ -103,8 +103,8 @@ fn first_event(
     items: &[Value],
     fault: AppFault,
 ) -> Result<Option<(usize, Option<String>)>, NoMemory>
-    ensures { IfOk result (λ o. IfSome o (λ p.
-        IsFirst fault (items_view items.now) p.0 (option_map string_bytes p.1))) }
+    ensures { IfOk result (λ o. IfSome o (λ x.
+        IsFirst fault (items_view items.now) x.0 (option_map string_bytes x.1))) }
 {
     for (index, item) in items.iter().enumerate() {
         if has_fault(alloc, item, fault)? {
@@ -117,7 +117,7 @@ fn first_event(
 
 // The value of a field, where the fault that it has is the one that is looked for.
 fn amiss(field: Field, found: AppFault, fault: AppFault) -> Option<Place>
-    ensures { IfSome result (λ p. (p ≡ Place.Value field) × (found ≡ fault)) }
+    ensures { IfSome result (λ x. (x ≡ Place.Value field) × (found ≡ fault)) }
 {
     if found == fault {
         Some(Place::Value { field })
@@ -132,7 +132,7 @@ fn place_in_events(
     scenario: &Value,
     fault: AppFault,
 ) -> Result<Option<Place>, NoMemory>
-    ensures { IfOk result (λ o. IfSome o (λ p. IsAt fault (view scenario.now) p)) }
+    ensures { IfOk result (λ o. IfSome o (λ x. IsAt fault (view scenario.now) x)) }
 {
     let Some(events) = scenario.get("events") else {
         return Ok(None);
@@ -148,7 +148,7 @@ fn place_in_events(
 
 // The place in the field of the version.
 fn place_in_version(scenario: &Value, fault: AppFault) -> Option<Place>
-    ensures { IfSome result (λ p. IsAt fault (view scenario.now) p) }
+    ensures { IfSome result (λ x. IsAt fault (view scenario.now) x) }
 {
     let value = scenario.get("version")?;
     match value.as_u64() {
@@ -164,7 +164,7 @@ fn place_in_version(scenario: &Value, fault: AppFault) -> Option<Place>
 
 // The place in the field of the servers.
 fn place_in_servers(scenario: &Value, fault: AppFault) -> Option<Place>
-    ensures { IfSome result (λ p. IsAt fault (view scenario.now) p) }
+    ensures { IfSome result (λ x. IsAt fault (view scenario.now) x) }
 {
     let value = scenario.get("servers")?;
     match value.as_u64() {
@@ -186,7 +186,7 @@ fn place_of_unknown(
     fault: AppFault,
 ) -> Result<Option<Place>, NoMemory>
     requires { named name.now ≡ Other }
-    ensures { IfOk result (λ o. IfSome o (λ p. IsAt fault (view scenario.now) p)) }
+    ensures { IfOk result (λ o. IfSome o (λ x. IsAt fault (view scenario.now) x)) }
 {
     if fault != AppFault::BadShape {
         return Ok(None);
@@ -230,7 +230,7 @@ fn place_named(
 ) -> Result<Option<Place>, NoMemory>
     requires { ArePlaces fault (view scenario.now) places.old }
     ensures kept { ArePlaces fault (view scenario.now) places.new }
-    ensures found { IfOk result (λ o. IfSome o (λ p. IsAt fault (view scenario.now) p)) }
+    ensures found { IfOk result (λ o. IfSome o (λ x. IsAt fault (view scenario.now) x)) }
 {
     match named(name) {
         Name::Version => Ok(places.version.take()),
@@ -249,7 +249,7 @@ fn first_named(
     fault: AppFault,
 ) -> Result<Option<Place>, NoMemory>
     requires { ArePlaces fault (view scenario.now) places.old }
-    ensures { IfOk result (λ o. IfSome o (λ p. IsAt fault (view scenario.now) p)) }
+    ensures { IfOk result (λ o. IfSome o (λ x. IsAt fault (view scenario.now) x)) }
 {
     'fields: while let Ok(Some(name)) = next_name(reader) {
         let place = place_named(alloc, places, scenario, name, fault)?;
@@ -270,7 +270,7 @@ fn first_in_fields(
     scenario: &Value,
     fault: AppFault,
 ) -> Result<Option<Place>, NoMemory>
-    ensures { IfOk result (λ o. IfSome o (λ p. IsAt fault (view scenario.now) p)) }
+    ensures { IfOk result (λ o. IfSome o (λ x. IsAt fault (view scenario.now) x)) }
 {
     let mut places = places_in(alloc, scenario, fault)?;
     let mut scratch = Scratch::new(alloc);
@@ -281,7 +281,7 @@ fn first_in_fields(
 
 // What the value lacks as a whole: that it is an object, or the first field that is not there.
 fn first_lack(scenario: &Value, fault: AppFault) -> Option<Place>
-    ensures { IfSome result (λ p. IsAt fault (view scenario.now) p) }
+    ensures { IfSome result (λ x. IsAt fault (view scenario.now) x) }
 {
     if fault != AppFault::BadShape {
         return None;
@@ -304,7 +304,7 @@ fn place_in(
     scenario: Value,
     fault: AppFault,
 ) -> Result<Option<Place>, NoMemory>
-    ensures { IfOk result (λ o. IfSome o (λ p. IsAt fault (view scenario) p)) }
+    ensures { IfOk result (λ o. IfSome o (λ x. IsAt fault (view scenario) x)) }
 {
     match first_in_fields(alloc, text, &scenario, fault)? {
         Some(place) => Ok(Some(place)),
@@ -320,8 +320,8 @@ fn place_in(
 ///
 /// `NoMemory` where memory ran out.
 pub fn place_of(alloc: Global, bytes: &[u8], fault: AppFault) -> Result<Option<Place>, NoMemory>
-    ensures { IfOk result (λ o. IfSome o (λ p.
-        (d : Data) × (json_of bytes.now ≡ Some d) × IsAt fault d p)) }
+    ensures { IfOk result (λ o. IfSome o (λ x.
+        (d : Data) × (json_of bytes.now ≡ Some d) × IsAt fault d x)) }
 {
     let Ok(text) = std::str::from_utf8(bytes) else {
         return Ok(None);

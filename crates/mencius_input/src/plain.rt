@@ -107,7 +107,7 @@ fn stops_among(bytes: u8x16) -> u64
 // Where the text of a string ends, which it does not before a place.
 fn stop_from(bytes: &[u8], place: usize) -> Option<usize>
     requires within { place ≤ length bytes.now }
-    requires before { (k : ℕ) → k < place → is_stop (get_or bytes.now k 0) ≡ false }
+    requires before { (n : ℕ) → n < place → is_stop (get_or bytes.now n 0) ≡ false }
     ensures { result ≡ position is_stop bytes.now }
 {
     let mut place = place;
@@ -143,9 +143,9 @@ fn stop_in(inside: &str) -> Option<usize>
 fn closed(inside: &str) -> Option<(&str, &str)>
     requires { is_plain inside.now ≡ true }
     ensures value { MatchOption result (content plain inside.now ≡ None)
-        (λ p. (content plain inside.now ≡ Some p.0.now)
-        × (lex in_string inside.now ≡ lex between p.1.now)) }
-    ensures plain { IfSome result (λ p. is_plain p.1.now ≡ true) }
+        (λ x. (content plain inside.now ≡ Some x.0.now)
+        × (lex in_string inside.now ≡ lex between x.1.now)) }
+    ensures plain { IfSome result (λ x. is_plain x.1.now ≡ true) }
 {
     let Some(end) = stop_in(inside) else {
         return None;
@@ -230,8 +230,8 @@ fn word_token(word: &str) -> Option<Token<'_>>
     requires { is_spelled word.now ≡ true }
     ensures { MatchOption result
         ((rest : List ℕ) → ends_word rest ≡ true → spec.word (word.now ++ rest) ≡ bad)
-        (λ t. ((rest : List ℕ) → ends_word rest ≡ true
-        → spec.word (word.now ++ rest) ≡ token_of t) × (is_word (token_of t) ≡ true)) }
+        (λ x. ((rest : List ℕ) → ends_word rest ≡ true
+        → spec.word (word.now ++ rest) ≡ token_of x) × (is_word (token_of x) ≡ true)) }
 {
     match word {
         "true" => Some(Token::Bool(true)),
@@ -427,9 +427,9 @@ impl<'a> Model for Plain<'a> {
 
     ghost coded = { tokens_code };
 
-    ghost view = { λ p. tokens_at p.place p.rest.now };
+    ghost view = { λ x. tokens_at x.place x.rest.now };
 
-    ghost invariant = { λ p. IsLeft p.rest.now };
+    ghost invariant = { λ x. IsLeft x.rest.now };
 }
 
 impl<'a> Plain<'a> {

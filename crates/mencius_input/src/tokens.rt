@@ -35,7 +35,7 @@ impl<'a> Model for Tokens<'a> {
 
     ghost coded = { tokens_code };
 
-    ghost view = { λ t. left_in t.source };
+    ghost view = { λ x. left_in x.source };
 }
 
 // Whether no byte is a backslash. Each byte is looked at, many at once: to stop at the first
@@ -79,7 +79,7 @@ impl<'a> Tokens<'a> {
     #[inline(always)]
     pub(crate) fn next(&mut self) -> Option<Token<'a>>
         ensures { MatchOption result ((self.old ≡ []) × (self.new ≡ []))
-            (λ t. self.old ≡ token_of t ∷ self.new) }
+            (λ x. self.old ≡ token_of x ∷ self.new) }
     {
         match &mut self.source {
             Source::Plain(plain) => plain.next(),
@@ -91,7 +91,7 @@ impl<'a> Tokens<'a> {
     #[inline(always)]
     pub(crate) fn next_key(&mut self) -> Result<Option<&'a str>, Invalid>
         ensures { MatchResult result
-            (λ k. read_key self.old ≡ Some (option_map (λ s. s.now) k, self.new))
+            (λ x. read_key self.old ≡ Some (option_map (λ s. s.now) x, self.new))
             (λ _. read_key self.old ≡ None) }
     {
         match self.next() {

@@ -98,7 +98,7 @@ pub(crate) fn whole_number(text: &str) -> Option<Option<u64>>
 /// The name of an object's next field, or None at its closing brace.
 pub(crate) fn next_name<'a>(reader: &mut Tokens<'a>) -> Result<Option<&'a str>, AppFault>
     ensures { MatchResult result
-        (λ k. read_key reader.old ≡ Some (option_map (λ s. s.now) k, reader.new))
+        (λ x. read_key reader.old ≡ Some (option_map (λ s. s.now) x, reader.new))
         (λ f. (f ≡ AppFault.NotJson) × (read_key reader.old ≡ None)) }
 {
     match reader.next_key() {
@@ -184,8 +184,8 @@ fn pass_members(reader: &mut Tokens<'_>, depth: usize) -> Result<(), AppFault>
 
 /// The whole number that the next value is, where it is one.
 pub(crate) fn next_whole(reader: &mut Tokens<'_>, depth: usize) -> Result<Option<u64>, AppFault>
-    ensures ok { IfOk result (λ w. (d : Data) × (next_value depth reader.old ≡ Some (d, reader.new))
-        × (w ≡ whole_in d)) }
+    ensures ok { IfOk result (λ x. (d : Data) × (next_value depth reader.old ≡ Some (d, reader.new))
+        × (x ≡ whole_in d)) }
     ensures shorter { OnOk result (length reader.new < length reader.old) }
     ensures err { IfErr result (λ f. StopsBy (next_value depth reader.old) f) }
 {
@@ -209,8 +209,8 @@ pub(crate) fn next_text<'a>(
     reader: &mut Tokens<'a>,
     depth: usize,
 ) -> Result<Option<&'a str>, AppFault>
-    ensures ok { IfOk result (λ t. (d : Data) × (next_value depth reader.old ≡ Some (d, reader.new))
-        × (option_map (λ s. s.now) t ≡ as_str d)) }
+    ensures ok { IfOk result (λ x. (d : Data) × (next_value depth reader.old ≡ Some (d, reader.new))
+        × (option_map (λ s. s.now) x ≡ as_str d)) }
     ensures shorter { OnOk result (length reader.new < length reader.old) }
     ensures err { IfErr result (λ f. StopsBy (next_value depth reader.old) f) }
 {

@@ -10,7 +10,7 @@ use mencius_ends::AppFault;
 pub(crate) fn cut(text: &str, at: u8) -> Result<(&str, &str), AppFault>
     requires { at < 128 }
     ensures { MatchResult result
-        (λ p. parts at text.now ≡ p.0.now ∷ parts at p.1.now)
+        (λ x. parts at text.now ≡ x.0.now ∷ parts at x.1.now)
         (λ f. (f ≡ AppFault.BadShape) × (parts at text.now ≡ text.now ∷ [])) }
 {
     match first_of(text, at) {
@@ -34,7 +34,7 @@ pub(crate) fn behind<'a>(text: &'a str, word: &str) -> Option<&'a str>
 
 // Where a byte stands first.
 fn first_of(text: &str, wanted: u8) -> Option<usize>
-    ensures { result ≡ position (λ b. b == wanted) text.now }
+    ensures { result ≡ position (λ x. x == wanted) text.now }
 {
     text.as_bytes().iter().position(|b| *b == wanted)
 }

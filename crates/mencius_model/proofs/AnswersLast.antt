@@ -15,8 +15,8 @@ use Rattle.mencius_model.proofs.Lists.{IsIn, in_append, in_append_left, in_appen
 
 pub greatest_ge : (f : Line → ℕ) (l : Line) (w : Trace) → IsIn l w → f l ≤ greatest f w
 greatest_ge f l [] h = absurd h
-greatest_ge f l (k ∷ w) (inl e) = let so = ap f e in omega (arith, so)
-greatest_ge f l (k ∷ w) (inr h) = omega (arith, greatest_ge f l w h)
+greatest_ge f l (x ∷ w) (inl e) = let so = ap f e in omega (arith, so)
+greatest_ge f l (x ∷ w) (inr h) = omega (arith, greatest_ge f l w h)
 
 pub earlier_cases : {A : Type 0} (x y : Option A) (a : A) → earlier x y ≡ Some a → (x ≡ Some a) ⊎ (y ≡ Some a)
 earlier_cases None y a h = inr h
@@ -63,7 +63,7 @@ message_line x (Lost k p) h = absurd h
 message_line x (Suspected p q) h = absurd h
 message_line x (Retried p) h = absurd h
 message_line x (Executed p) h = absurd h
-message_line x (Learned p i v) h = absurd h
+message_line x (Learned p i z) h = absurd h
 
 pub sent_in : (x : Message) (w : Trace) → IsIn x (sent w) → IsIn (Sent x) w
 sent_in x [] h = h

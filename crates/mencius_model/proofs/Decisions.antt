@@ -97,23 +97,23 @@ pub record AreDecided (m : Membership) (w : Trace) : Type 0 where
   pub messages : (p : ServerId) (i : Inst) (z : Value) → IsIn (Sent (Learn p i z)) w → IsDecided m w i z
 
 pub all_decided : (m : Membership) (w : Trace) → IsGrown m w → AreDecided m w
-all_decided m [] grown = record { lines = λ p i v h. absurd h; messages = λ p i v h. absurd h }
+all_decided m [] grown = record { lines = λ p i x h. absurd h; messages = λ p i x h. absurd h }
 all_decided m (l ∷ w) grown =
     let before = all_decided m w grown.0 in
     record {
       lines =
-          λ p i v h. elim h [
+          λ p i x h. elim h [
             | inl e ↦
-                let may : MayLearn m w i v = rw (← e) at grown.1 in
-                decided_more m l w i v (elim may [ inl d ↦ d | inr there ↦ before.messages there.0 i v there.1 ])
-            | inr there ↦ decided_more m l w i v (before.lines p i v there)
+                let may : MayLearn m w i x = rw (← e) at grown.1 in
+                decided_more m l w i x (elim may [ inl d ↦ d | inr there ↦ before.messages there.0 i x there.1 ])
+            | inr there ↦ decided_more m l w i x (before.lines p i x there)
           ];
       messages =
-          λ p i v h. elim h [
+          λ p i x h. elim h [
             | inl e ↦
-                let may : IsIn (Learned p i v) w = rw (← e) at grown.1 in
-                decided_more m l w i v (before.lines p i v may)
-            | inr there ↦ decided_more m l w i v (before.messages p i v there)
+                let may : IsIn (Learned p i x) w = rw (← e) at grown.1 in
+                decided_more m l w i x (before.lines p i x may)
+            | inr there ↦ decided_more m l w i x (before.messages p i x there)
           ];
     }
 

@@ -167,7 +167,7 @@ if_none false r o h = (refl, h)
 
 none_is : (o : Option Value) → is_none o ≡ true → o ≡ None
 none_is None h = refl
-none_is (Some v) h = absurd (cc)
+none_is (Some x) h = absurd (cc)
 
 some_is : (o : Option Value) → is_none o ≡ false → (z : Value) × (o ≡ Some z)
 some_is None h = absurd (cc)
@@ -272,7 +272,7 @@ module _ (m : Membership) (w : Trace) (g : IsGrown m w) (k p : ℕ) where
 
   prepare_lines : (q i b : ℕ) → IsIn (Sent (Prepare q i b)) w → (o : Option Value) → learned w p i ≡ o
       → AllMay m (Heard k p ∷ w) (answer_lines p q i b (acceptor_answer (promised w p i) (vote w p i) b o))
-  prepare_lines q i b h (Some v) e = (inr (learned_in w p i v e), tt)
+  prepare_lines q i b h (Some x) e = (inr (learned_in w p i x e), tt)
   prepare_lines q i b h None e =
       elim (cases_Bool (ltb (promised w p i) b)) [
         | inl lt ↦ rw lt (
@@ -395,11 +395,11 @@ module _ (m : Membership) (w : Trace) (g : IsGrown m w) (k p : ℕ) where
 -- no cause holds
 abbrev pub NoneHolds : List (Bool × Refusal) → Type 0
 NoneHolds [] = Unit {0}
-NoneHolds (c ∷ cs) = (c.0 ≡ false) × NoneHolds cs
+NoneHolds (cause ∷ others) = (cause.0 ≡ false) × NoneHolds others
 
-pub none_holds : (cs : List (Bool × Refusal)) → first_cause cs ≡ None → NoneHolds cs
+pub none_holds : (others : List (Bool × Refusal)) → first_cause others ≡ None → NoneHolds others
 none_holds [] h = tt
-none_holds (c ∷ cs) h = let r = if_none c.0 c.1 (first_cause cs) h in (r.0, none_holds cs r.1)
+none_holds (cause ∷ others) h = let r = if_none cause.0 cause.1 (first_cause others) h in (r.0, none_holds others r.1)
 
 step_ok : (w v : Trace) (o : Option Refusal) → step_or w o ≡ Ok v → (o ≡ None) × (w ≡ v)
 step_ok w v None h = (refl, cc)

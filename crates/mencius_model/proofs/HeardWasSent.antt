@@ -10,12 +10,12 @@ use Rattle.mencius_model.proofs.Lists.{IsIn, in_append, any_in, get_in}
 use Rattle.mencius_model.proofs.LineRights.{Reaches, HasPromised}
 use Rattle.mencius_model.proofs.AnswersLast.{sent_in, acceptance_message, in_acceptance, same_two}
 
-in_get : (x : Message) (xs : List Message) (k : ℕ) → IsIn x (option_to_list (slice_get xs k)) → IsIn x xs
-in_get x xs k h = go x xs (slice_get xs k) refl h where
-  go : (x : Message) (xs : List Message) (o : Option Message) → slice_get xs k ≡ o → IsIn x (option_to_list o)
+in_get : (x : Message) (xs : List Message) (n : ℕ) → IsIn x (option_to_list (slice_get xs n)) → IsIn x xs
+in_get x xs n h = go x xs (slice_get xs n) refl h where
+  go : (x : Message) (xs : List Message) (o : Option Message) → slice_get xs n ≡ o → IsIn x (option_to_list o)
       → IsIn x xs
   go x xs None e h = absurd h
-  go x xs (Some y) e (inl s) = rw s (get_in xs k y e)
+  go x xs (Some y) e (inl s) = rw s (get_in xs n y e)
   go x xs (Some y) e (inr s) = absurd s
 
 pub heard_in : (w : Trace) (p : ℕ) (x : Message) → IsIn x (heard w p) → IsIn (Sent x) w
@@ -54,9 +54,9 @@ accepters_accepted w p i b q h =
 
 higher_left : (y : Vote) (o : Option Vote) → (x : Vote) × (higher_vote (Some y) o ≡ Some x) × (y.ballot ≤ x.ballot)
 higher_left y None = (y, refl, omega arith)
-higher_left y (Some v) =
-    elim (cases_Bool (ltb y.ballot v.ballot)) [
-      | inl e ↦ (v, rw e, omega (arith, ltb-true y.ballot v.ballot e))
+higher_left y (Some z) =
+    elim (cases_Bool (ltb y.ballot z.ballot)) [
+      | inl e ↦ (z, rw e, omega (arith, ltb-true y.ballot z.ballot e))
       | inr e ↦ (y, rw e, omega arith)
     ]
 
@@ -71,8 +71,8 @@ higher_right (Some u) z =
 higher_cases : (o r : Option Vote) (x : Vote) → higher_vote o r ≡ Some x → (o ≡ Some x) ⊎ (r ≡ Some x)
 higher_cases None r x h = inr h
 higher_cases (Some u) None x h = inl h
-higher_cases (Some u) (Some v) x h =
-    elim (cases_Bool (ltb u.ballot v.ballot)) [
+higher_cases (Some u) (Some y) x h =
+    elim (cases_Bool (ltb u.ballot y.ballot)) [
       | inl e ↦ inr (rw e at h)
       | inr e ↦ inl (rw e at h)
     ]

@@ -69,27 +69,27 @@ tickets_same f g (suc n) h =
     rw (tickets_more f n, tickets_more g n, tickets_same f g n (λ i lt. h i (omega arith)), last)
 
 -- who executes fewer instances has a prefix
-pub tickets_prefix : (f : ℕ → Option Value) (n k : ℕ) → n ≤ k → IsPrefix (tickets f n) (tickets f k)
+pub tickets_prefix : (f : ℕ → Option Value) (n m : ℕ) → n ≤ m → IsPrefix (tickets f n) (tickets f m)
 unfolding below
 tickets_prefix f n zero le = let e : n ≡ 0 = omega arith in rw e ([], refl)
-tickets_prefix f n (suc k) le =
-    elim (cases_lt n (suc k)) [
+tickets_prefix f n (suc m) le =
+    elim (cases_lt n (suc m)) [
       | inl lt ↦
-          let r = tickets_prefix f n k (omega arith) in
-          let tail = filter_map (λ i. ticket_of (f i)) (k ∷ []) in (
+          let r = tickets_prefix f n m (omega arith) in
+          let tail = filter_map (λ i. ticket_of (f i)) (m ∷ []) in (
             r.0 ++ tail,
-            sym (append_assoc (tickets f n) r.0 tail) ∙ (ap (λ xs. xs ++ tail) r.1 ∙ sym (tickets_more f k)),
+            sym (append_assoc (tickets f n) r.0 tail) ∙ (ap (λ xs. xs ++ tail) r.1 ∙ sym (tickets_more f m)),
           )
-      | inr ge ↦ let e : n ≡ suc k = omega (arith, ge, le) in rw e ([], append-nil (tickets f (suc k)))
+      | inr ge ↦ let e : n ≡ suc m = omega (arith, ge, le) in rw e ([], append-nil (tickets f (suc m)))
     ]
 
 -- who agree where both learned have comparable lists
-comparable : (f g : ℕ → Option Value) (n k : ℕ) → ((i : ℕ) → i < n → i < k → f i ≡ g i)
-    → IsComparable (tickets f n) (tickets g k)
-comparable f g n k h =
-    elim (cases_lt n k) [
-      | inl lt ↦ inl (rw (tickets_same f g n (λ i a. h i a (omega arith))) (tickets_prefix g n k (omega arith)))
-      | inr ge ↦ inr (rw (sym (tickets_same f g k (λ i a. h i (omega arith) a))) (tickets_prefix f k n ge))
+comparable : (f g : ℕ → Option Value) (n m : ℕ) → ((i : ℕ) → i < n → i < m → f i ≡ g i)
+    → IsComparable (tickets f n) (tickets g m)
+comparable f g n m h =
+    elim (cases_lt n m) [
+      | inl lt ↦ inl (rw (tickets_same f g n (λ i a. h i a (omega arith))) (tickets_prefix g n m (omega arith)))
+      | inr ge ↦ inr (rw (sym (tickets_same f g m (λ i a. h i (omega arith) a))) (tickets_prefix f m n ge))
     ]
 
 -- a ticket in the list was learned at some instance
@@ -110,18 +110,18 @@ in_tickets f (suc n) t h =
 
 -- no number stands at two places
 abbrev pub IsOnce : List ℕ → Type 0
-IsOnce xs = (j k t : ℕ) → slice_get xs j ≡ Some t → slice_get xs k ≡ Some t → j ≡ k
+IsOnce xs = (n m t : ℕ) → slice_get xs n ≡ Some t → slice_get xs m ≡ Some t → n ≡ m
 
 -- an item that is new at the end leaves each at one place
 once_push : (xs : List ℕ) (x : ℕ) → IsOnce xs → (IsIn x xs → ⊥) → IsOnce (xs ++ x ∷ [])
-once_push xs x h new j k t a b =
-    elim (get_push xs x t j a) [
-      | inl left ↦ elim (get_push xs x t k b) [
-        | inl d ↦ h j k t left d
-        | inr d ↦ absurd (new (rw d.1 (get_in xs j t left)))
+once_push xs x h new n m t e z =
+    elim (get_push xs x t n e) [
+      | inl left ↦ elim (get_push xs x t m z) [
+        | inl d ↦ h n m t left d
+        | inr d ↦ absurd (new (rw d.1 (get_in xs n t left)))
       ]
-      | inr right ↦ elim (get_push xs x t k b) [
-        | inl d ↦ absurd (new (rw right.1 (get_in xs k t d)))
+      | inr right ↦ elim (get_push xs x t m z) [
+        | inl d ↦ absurd (new (rw right.1 (get_in xs m t d)))
         | inr d ↦ right.0 ∙ sym d.0
       ]
     ]
@@ -133,10 +133,10 @@ once_more xs (Some Noop) h new = rw append-nil h
 once_more xs (Some (Ticket t)) h new = once_push xs t h (new t refl)
 
 -- where no ticket is learned at two instances, none stands twice
-tickets_once : (f : ℕ → Option Value) (n : ℕ) → ((i j t : ℕ) → f i ≡ Some (Ticket t) → f j ≡ Some (Ticket t) → i ≡ j)
+tickets_once : (f : ℕ → Option Value) (n : ℕ) → ((i o t : ℕ) → f i ≡ Some (Ticket t) → f o ≡ Some (Ticket t) → i ≡ o)
     → IsOnce (tickets f n)
 unfolding below
-tickets_once f zero h = λ j k t a b. absurd (cc)
+tickets_once f zero h = λ o m t a z. absurd (cc)
 tickets_once f (suc n) h =
     rw (tickets_more f n)
     (once_more (tickets f n) (f n) (tickets_once f n h)
@@ -197,8 +197,8 @@ module _ (m : Membership) (few : 1 ≤ m.count) (w : Trace) (g : IsGrown m w) wh
   pub history_once : (p : ℕ) → IsOnce (executed w p)
   history_once p =
       tickets_once (learned w p) (done w p)
-      (λ i j t h k. decided_once m w few g i j t (learned_decided m w g p i (Ticket t) h)
-      (learned_decided m w g p j (Ticket t) k))
+      (λ i j t h told. decided_once m w few g i j t (learned_decided m w g p i (Ticket t) h)
+      (learned_decided m w g p j (Ticket t) told))
 
 -- what is submitted after a history was executed stands behind all of it
 pub order : (m : Membership) → 1 ≤ m.count → (w end : Trace) → IsPast w end → IsGrown m end

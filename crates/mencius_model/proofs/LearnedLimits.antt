@@ -25,7 +25,7 @@ use Rattle.mencius_model.proofs.MessageLimits.{IsSmall, sent_small}
 use Rattle.mencius_base.specs.Limits.{instance_count, most_servers}
 
 abbrev IsLow : Line → Type 0
-IsLow (Learned p i v) = i < instance_count
+IsLow (Learned p i x) = i < instance_count
 IsLow _ = Unit {0}
 
 abbrev AreLow : List Line → Type 0
@@ -66,16 +66,16 @@ low_prepared m w p (i ∷ is) = (tt, low_prepared m w p is)
 
 low_answer : (p q i b : ℕ) (answer : Answer) → AreLow (answer_lines p q i b answer)
 low_answer p q i b (Promised vote) = (tt, tt)
-low_answer p q i b (Known v) = (tt, tt)
+low_answer p q i b (Known x) = (tt, tt)
 low_answer p q i b Silent = tt
 
 low_proposal : (p i b : ℕ) (o : Option Value) → AreLow (proposal_lines p i b o)
 low_proposal p i b None = tt
-low_proposal p i b (Some v) = (tt, tt)
+low_proposal p i b (Some x) = (tt, tt)
 
 low_decision : (p i : ℕ) → i < instance_count → (o : Option Value) → AreLow (decision_lines p i o)
 low_decision p i h None = tt
-low_decision p i h (Some v) = (h, (tt, tt))
+low_decision p i h (Some x) = (h, (tt, tt))
 
 low_message : (m : Membership) (w v : Trace) (p : ℕ) (x : Message) → IsSmall m x → AreLow (on_message m w v p x)
 low_message m w v p (Suggest q i t) h = low_two _ _ (ltb (front m w p) i) (leb (promised w p i) 0)

@@ -84,12 +84,12 @@ MaySend m w (Suggest p i t) = MaySuggest m w p i t
 MaySend m w (Skip p first stop) = front m w p ≤ first
 MaySend m w (Accepted p to i b) = MayAccept w p to i b
 MaySend m w (Prepare p i b) = MayPrepare m p i b
-MaySend m w (Promise p to i b v) = MayPromise w p to i b v
-MaySend m w (Propose p i b v) = MayPropose m w p i b v
-MaySend m w (Learn p i v) = IsIn (Learned p i v) w
+MaySend m w (Promise p to i b x) = MayPromise w p to i b x
+MaySend m w (Propose p i b x) = MayPropose m w p i b x
+MaySend m w (Learn p i x) = IsIn (Learned p i x) w
 
 abbrev pub MayLearn : Membership → Trace → Inst → Value → Type 0
-MayLearn m w i v = IsDecided m w i v ⊎ ((p : ServerId) × IsIn (Sent (Learn p i v)) w)
+MayLearn m w i x = IsDecided m w i x ⊎ ((p : ServerId) × IsIn (Sent (Learn p i x)) w)
 
 abbrev pub May : Membership → Trace → Line → Type 0
 May m w (Submitted command p) =
@@ -121,7 +121,7 @@ past_grown m w v h grown = grown_past m h.since w (rw h.is at grown)
 
 pub in_past : (l : Line) (ls : List Line) (w : Trace) → IsIn l w → IsIn l (ls ++ w)
 in_past l [] w h = h
-in_past l (k ∷ ls) w h = inr (in_past l ls w h)
+in_past l (x ∷ ls) w h = inr (in_past l ls w h)
 
 -- the line between what came before it and after it
 pub right_at : (m : Membership) (newer : List Line) (l : Line) (older : Trace) → IsGrown m (newer ++ l ∷ older)

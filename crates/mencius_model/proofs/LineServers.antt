@@ -67,15 +67,15 @@ by_two p i n q j false false = tt
 
 by_decision : (p i : ℕ) (o : Option Value) → AreBy p (decision_lines p i o)
 by_decision p i None = tt
-by_decision p i (Some v) = (refl, (refl, tt))
+by_decision p i (Some x) = (refl, (refl, tt))
 
 by_proposal : (p i b : ℕ) (o : Option Value) → AreBy p (proposal_lines p i b o)
 by_proposal p i b None = tt
-by_proposal p i b (Some v) = (refl, tt)
+by_proposal p i b (Some x) = (refl, tt)
 
 by_answer : (p q i b : ℕ) (answer : Answer) → AreBy p (answer_lines p q i b answer)
 by_answer p q i b (Promised vote) = (refl, tt)
-by_answer p q i b (Known v) = (refl, tt)
+by_answer p q i b (Known x) = (refl, tt)
 by_answer p q i b Silent = tt
 
 by_message : (m : Membership) (w v : Trace) (p : ℕ) (x : Message) → AreBy p (on_message m w v p x)

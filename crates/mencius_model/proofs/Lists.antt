@@ -48,10 +48,10 @@ pub none_in : {A : Type 0} (test : A → Bool) (x : A) (xs : List A) → list_an
     → test x ≡ true → ⊥
 none_in test x xs h inside e = let holds : list_any test xs ≡ true = in_any test x xs inside e in cc
 
-pub get_in : {A : Type 0} (xs : List A) (k : ℕ) (x : A) → slice_get xs k ≡ Some x → IsIn x xs
-get_in [] k x h = absurd (cc)
+pub get_in : {A : Type 0} (xs : List A) (n : ℕ) (x : A) → slice_get xs n ≡ Some x → IsIn x xs
+get_in [] n x h = absurd (cc)
 get_in (y ∷ xs) zero x h = inl (cc)
-get_in (y ∷ xs) (suc k) x h = inr (get_in xs k x h)
+get_in (y ∷ xs) (suc n) x h = inr (get_in xs n x h)
 
 one_more : (a d : Bool) → cond a 1 0 + cond d 1 0 ≤ 1 + cond (a && d) 1 0
 one_more true true = omega arith

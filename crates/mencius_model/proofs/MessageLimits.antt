@@ -97,23 +97,23 @@ module _ (m : Membership) (few : m.count ≤ most_servers) (w : Trace) (k p : �
 
   small_answer : (q i b : ℕ) → i < instance_count → 0 < b → (answer : Answer) → AreSmall m (answer_lines p q i b answer)
   small_answer q i b small pos (Promised vote) = ((member, small, pos), tt)
-  small_answer q i b small pos (Known v) = ((member, small), tt)
+  small_answer q i b small pos (Known y) = ((member, small), tt)
   small_answer q i b small pos Silent = tt
 
   small_proposal : (i b : ℕ) → i < instance_count → 0 < b → (o : Option Value) → AreSmall m (proposal_lines p i b o)
   small_proposal i b small pos None = tt
-  small_proposal i b small pos (Some v) = ((member, small, pos), tt)
+  small_proposal i b small pos (Some y) = ((member, small, pos), tt)
 
   small_decision : (i : ℕ) → i < instance_count → (o : Option Value) → AreSmall m (decision_lines p i o)
   small_decision i small None = tt
-  small_decision i small (Some v) = (tt, ((member, small), tt))
+  small_decision i small (Some y) = (tt, ((member, small), tt))
 
   small_message : (x : Message) → IsSmall m x → AreSmall m (on_message m w (Heard k p ∷ w) p x)
   small_message (Suggest q i t) h = small_suggest q i h.1 (ltb (front m w p) i) (leb (promised w p i) 0) refl
   small_message (Skip q first stop) h = small_noops m p (filter (is_given_up m w p q first stop) instances)
   small_message (Prepare q i b) h =
       small_answer q i b h.1 h.2 (acceptor_answer (promised w p i) (vote w p i) b (learned w p i))
-  small_message (Promise q to i b v) h =
+  small_message (Promise q to i b y) h =
       small_proposal i b h.1 h.2 (proposal_at m w (Heard k p ∷ w) p i b)
   small_message (Propose q i b x) h = one_if (IsSmallLine m) _ (leb (promised w p i) b) (member, h.1)
   small_message (Accepted q to i b) h = small_decision i h.1 (decision_at m w (Heard k p ∷ w) p i b)

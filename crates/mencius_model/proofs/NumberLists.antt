@@ -15,41 +15,41 @@ pub length-map-below : {X : Type 0} (f : ℕ → X) (n : ℕ) → length (map f 
 unfolding below
 length-map-below f n = length-map-range_with_len f 0 n
 
-pub get_or-map-below : {X : Type 0} (f : ℕ → X) (n i : ℕ) (d : X) → i < n → get_or (map f (below n)) i d ≡ f i
+pub get_or-map-below : {X : Type 0} (f : ℕ → X) (n m : ℕ) (d : X) → m < n → get_or (map f (below n)) m d ≡ f m
 unfolding below
-get_or-map-below f n i d h = get_or-map-range_with_len f 0 n i i d h (omega arith)
+get_or-map-below f n m d h = get_or-map-range_with_len f 0 n m m d h (omega arith)
 
 -- a list that is f at each place is the list of f
 pub map-below_by : {X : Type 0} (f : ℕ → X) (xs : List X) (n : ℕ) (d : X) → length xs ≡ n
-    → ((k : ℕ) → k < n → get_or xs k d ≡ f k) → xs ≡ map f (below n)
+    → ((m : ℕ) → m < n → get_or xs m d ≡ f m) → xs ≡ map f (below n)
 unfolding below
 map-below_by f xs n d h e = fill_by_all f xs n d h e
 
-pub map-below_same : {X : Type 0} (f g : ℕ → X) (n : ℕ) (d : X) → ((k : ℕ) → k < n → f k ≡ g k)
+pub map-below_same : {X : Type 0} (f g : ℕ → X) (n : ℕ) (d : X) → ((m : ℕ) → m < n → f m ≡ g m)
     → map f (below n) ≡ map g (below n)
 map-below_same f g n d e =
-    map-below_by g (map f (below n)) n d (length-map-below f n) (λ k h. get_or-map-below f n k d h ∙ e k h)
+    map-below_by g (map f (below n)) n d (length-map-below f n) (λ m h. get_or-map-below f n m d h ∙ e m h)
 
 -- a write at one place
-pub map-below_set : {X : Type 0} (f g : ℕ → X) (n i : ℕ) (x d : X) → g i ≡ x
-    → ((k : ℕ) → k < n → (k ≡ i → ⊥) → f k ≡ g k) → set (map f (below n)) i x ≡ map g (below n)
-map-below_set f g n i x d here there =
-    map-below_by g (set (map f (below n)) i x) n d (length-set _ _ _ ∙ length-map-below f n)
-    (λ k h. ⊎_elim
-    (λ (e : k ≡ i). let within : i < length (map f (below n)) = rw (length-map-below f n) (omega arith) in
-    get_or-set_at (map f (below n)) i k x d e within ∙ sym here ∙ ap g (sym e))
-    (λ (ne : k ≡ i → ⊥). get_or-set_other (map f (below n)) i k x d ne ∙ get_or-map-below f n k d h ∙ there k h ne)
-    (cases_eq k i))
+pub map-below_set : {X : Type 0} (f g : ℕ → X) (n m : ℕ) (x d : X) → g m ≡ x
+    → ((z : ℕ) → z < n → (z ≡ m → ⊥) → f z ≡ g z) → set (map f (below n)) m x ≡ map g (below n)
+map-below_set f g n m x d here there =
+    map-below_by g (set (map f (below n)) m x) n d (length-set _ _ _ ∙ length-map-below f n)
+    (λ z h. ⊎_elim
+    (λ (e : z ≡ m). let within : m < length (map f (below n)) = rw (length-map-below f n) (omega arith) in
+    get_or-set_at (map f (below n)) m z x d e within ∙ sym here ∙ ap g (sym e))
+    (λ (ne : z ≡ m → ⊥). get_or-set_other (map f (below n)) m z x d ne ∙ get_or-map-below f n z d h ∙ there z h ne)
+    (cases_eq z m))
 
 -- one value everywhere
-pub map-below_constant : {X : Type 0} (f : ℕ → X) (n : ℕ) (y : X) → ((k : ℕ) → k < n → f k ≡ y)
+pub map-below_constant : {X : Type 0} (f : ℕ → X) (n : ℕ) (y : X) → ((m : ℕ) → m < n → f m ≡ y)
     → replicate n y ≡ map f (below n)
 map-below_constant f n y e =
-    map-below_by f (replicate n y) n y (length-replicate n y) (λ k h. get_or-replicate n k y y h ∙ sym (e k h))
+    map-below_by f (replicate n y) n y (length-replicate n y) (λ m h. get_or-replicate n m y y h ∙ sym (e m h))
 
 -- a count over a list of tests
 counts_alike : (f : ℕ → Bool) (n : ℕ) (xs : List ℕ)
-    → fold (λ (k : ℕ) (a : Bool). k + cond a 1 0) n (map f xs) ≡ fold (λ (k : ℕ) (x : ℕ). k + cond (f x) 1 0) n xs
+    → fold (λ (m : ℕ) (a : Bool). m + cond a 1 0) n (map f xs) ≡ fold (λ (m : ℕ) (x : ℕ). m + cond (f x) 1 0) n xs
 counts_alike f n [] = refl
 counts_alike f n (x ∷ xs) = counts_alike f (n + cond (f x) 1 0) xs
 
@@ -68,7 +68,7 @@ pub get_or-map-instances : {X : Type 0} (f : ℕ → X) (i : ℕ) (d : X) → i 
 get_or-map-instances f i d h = rw instances-below (get_or-map-below f instance_count i d h)
 
 pub map-instances_set : {X : Type 0} (f g : ℕ → X) (i : ℕ) (x d : X) → g i ≡ x
-    → ((k : ℕ) → k < instance_count → (k ≡ i → ⊥) → f k ≡ g k) → set (map f instances) i x ≡ map g instances
+    → ((m : ℕ) → m < instance_count → (m ≡ i → ⊥) → f m ≡ g m) → set (map f instances) i x ≡ map g instances
 map-instances_set f g i x d here there = rw instances-below (map-below_set f g instance_count i x d here there)
 
 pub below-more : (n : ℕ) → below (n + 1) ≡ below n ++ n ∷ []
@@ -85,18 +85,18 @@ below-more n =
 pub count_by-below_more : (test : ℕ → Bool) (n : ℕ)
     → count_by test (below (n + 1)) ≡ count_by test (below n) + cond (test n) 1 0
 count_by-below_more test n =
-    ap (count_by test) (below-more n) ∙ fold-append (λ (k : ℕ) (x : ℕ). k + cond (test x) 1 0) 0 (below n) (n ∷ [])
+    ap (count_by test) (below-more n) ∙ fold-append (λ (m : ℕ) (x : ℕ). m + cond (test x) 1 0) 0 (below n) (n ∷ [])
 
 -- a count goes no further than the last that passes
-pub count_by-below_none : (test : ℕ → Bool) (n k : ℕ) → ((j : ℕ) → n ≤ j → j < n + k → test j ≡ false)
-    → count_by test (below (n + k)) ≡ count_by test (below n)
+pub count_by-below_none : (test : ℕ → Bool) (n m : ℕ) → ((j : ℕ) → n ≤ j → j < n + m → test j ≡ false)
+    → count_by test (below (n + m)) ≡ count_by test (below n)
 count_by-below_none test n zero e = ap (λ (j : ℕ). count_by test (below j)) (add-zero n)
-count_by-below_none test n (suc k) e =
-    let next : n + suc k ≡ n + k + 1 = omega arith in
-    let past : n ≤ n + k = omega arith in
-    ap (λ (j : ℕ). count_by test (below j)) next ∙ count_by-below_more test (n + k)
-    ∙ rw (e (n + k) past (omega arith), add-zero (count_by test (below (n + k))))
-    (count_by-below_none test n k (λ j low high. e j low (omega arith)))
+count_by-below_none test n (suc m) e =
+    let next : n + suc m ≡ n + m + 1 = omega arith in
+    let past : n ≤ n + m = omega arith in
+    ap (λ (j : ℕ). count_by test (below j)) next ∙ count_by-below_more test (n + m)
+    ∙ rw (e (n + m) past (omega arith), add-zero (count_by test (below (n + m))))
+    (count_by-below_none test n m (λ j low high. e j low (omega arith)))
 
 pub count_by-below_zero : (test : ℕ → Bool) → count_by test (below 0) ≡ 0
 unfolding below
@@ -144,28 +144,28 @@ unfolding below instances
 find-instances_same f g e = find-range_same f g 0 instance_count e
 
 -- what is found passes, and is an instance
-pub record IsFound (test : ℕ → Bool) (n k : ℕ) : Type 0 where
-  pub passes : test k ≡ true
-  pub small : k < n
+pub record IsFound (test : ℕ → Bool) (n m : ℕ) : Type 0 where
+  pub passes : test m ≡ true
+  pub small : m < n
 
-found_at : (test : ℕ → Bool) (a n k : ℕ) (d : Bool) → test a ≡ d
-    → cond d (Some a) (find test (range_with_len (a + 1) n)) ≡ Some k
-    → (find test (range_with_len (a + 1) n) ≡ Some k → IsFound test (a + 1 + n) k) → IsFound test (a + suc n) k
-found_at test a n k true here e rest =
-    let same : a ≡ k = cc in record { passes = rw (← same) here; small = omega arith }
-found_at test a n k false missed e rest =
+found_at : (test : ℕ → Bool) (a n m : ℕ) (d : Bool) → test a ≡ d
+    → cond d (Some a) (find test (range_with_len (a + 1) n)) ≡ Some m
+    → (find test (range_with_len (a + 1) n) ≡ Some m → IsFound test (a + 1 + n) m) → IsFound test (a + suc n) m
+found_at test a n m true here e rest =
+    let same : a ≡ m = cc in record { passes = rw (← same) here; small = omega arith }
+found_at test a n m false missed e rest =
     let further = rest e in
-    record { passes = further.passes; small = let low : k < a + 1 + n = further.small in omega arith }
+    record { passes = further.passes; small = let low : m < a + 1 + n = further.small in omega arith }
 
-find-range_found : (test : ℕ → Bool) (a n k : ℕ) → find test (range_with_len a n) ≡ Some k → IsFound test (a + n) k
-find-range_found test a zero k e = absurd (cc)
-find-range_found test a (suc n) k e = found_at test a n k (test a) refl e (find-range_found test (a + 1) n k)
+find-range_found : (test : ℕ → Bool) (a n m : ℕ) → find test (range_with_len a n) ≡ Some m → IsFound test (a + n) m
+find-range_found test a zero m e = absurd (cc)
+find-range_found test a (suc n) m e = found_at test a n m (test a) refl e (find-range_found test (a + 1) n m)
 
-pub find-instances_found : (test : ℕ → Bool) (k : ℕ) → find test instances ≡ Some k → IsFound test instance_count k
+pub find-instances_found : (test : ℕ → Bool) (m : ℕ) → find test instances ≡ Some m → IsFound test instance_count m
 unfolding below instances
-find-instances_found test k e = find-range_found test 0 instance_count k e
+find-instances_found test m e = find-range_found test 0 instance_count m e
 
-pub map-instances_same : {X : Type 0} (f g : ℕ → X) (d : X) → ((k : ℕ) → k < instance_count → f k ≡ g k)
+pub map-instances_same : {X : Type 0} (f g : ℕ → X) (d : X) → ((m : ℕ) → m < instance_count → f m ≡ g m)
     → map f instances ≡ map g instances
 map-instances_same f g d e = rw instances-below (map-below_same f g instance_count d e)
 
@@ -306,14 +306,14 @@ pub filter-below_more : (test : ℕ → Bool) (n : ℕ)
     → filter test (below (n + 1)) ≡ filter test (below n) ++ cond (test n) (n ∷ []) []
 filter-below_more test n = ap (filter test) (below-more n) ∙ filter-append test (below n) (n ∷ [])
 
-pub filter-below_none : (test : ℕ → Bool) (n k : ℕ) → ((j : ℕ) → n ≤ j → j < n + k → test j ≡ false)
-    → filter test (below (n + k)) ≡ filter test (below n)
+pub filter-below_none : (test : ℕ → Bool) (n m : ℕ) → ((j : ℕ) → n ≤ j → j < n + m → test j ≡ false)
+    → filter test (below (n + m)) ≡ filter test (below n)
 filter-below_none test n zero e = ap (λ (j : ℕ). filter test (below j)) (add-zero n)
-filter-below_none test n (suc k) e =
-    let next : n + suc k ≡ n + k + 1 = omega arith in
-    let past : n ≤ n + k = omega arith in
-    ap (λ (j : ℕ). filter test (below j)) next ∙ filter-below_more test (n + k)
-    ∙ rw (e (n + k) past (omega arith), append-nil) (filter-below_none test n k (λ j low high. e j low (omega arith)))
+filter-below_none test n (suc m) e =
+    let next : n + suc m ≡ n + m + 1 = omega arith in
+    let past : n ≤ n + m = omega arith in
+    ap (λ (j : ℕ). filter test (below j)) next ∙ filter-below_more test (n + m)
+    ∙ rw (e (n + m) past (omega arith), append-nil) (filter-below_none test n m (λ j low high. e j low (omega arith)))
 
 pub count_by-below_le : (test : ℕ → Bool) (a b : ℕ) → a ≤ b → count_by test (below a) ≤ count_by test (below b)
 count_by-below_le test a zero h = let e : a ≡ 0 = omega arith in rw e (omega arith)

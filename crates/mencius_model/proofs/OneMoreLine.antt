@@ -43,15 +43,15 @@ IsAtMost-cond : (a : Bool) (b : ℕ) → IsAtMost (cond a (Some b) None) (cond a
 IsAtMost-cond true b = omega arith
 IsAtMost-cond false b = tt
 
-IsAtMost-greater : (x y : Option ℕ) (n k : ℕ) → IsAtMost x n → IsAtMost y k → IsAtMost (greater x y) (max n k)
-IsAtMost-greater None None n k bounded also = tt
-IsAtMost-greater None (Some b) n k bounded also = omega arith
-IsAtMost-greater (Some a) None n k bounded also = omega arith
-IsAtMost-greater (Some a) (Some b) n k bounded also = either (ltb a b) a b n k bounded also
+IsAtMost-greater : (x y : Option ℕ) (n m : ℕ) → IsAtMost x n → IsAtMost y m → IsAtMost (greater x y) (max n m)
+IsAtMost-greater None None n m bounded also = tt
+IsAtMost-greater None (Some b) n m bounded also = omega arith
+IsAtMost-greater (Some a) None n m bounded also = omega arith
+IsAtMost-greater (Some a) (Some b) n m bounded also = either (ltb a b) a b n m bounded also
   where
-    either : (d : Bool) (a b n k : ℕ) → a ≤ n → b ≤ k → IsAtMost (cond d (Some b) (Some a)) (max n k)
-    either true a b n k below within = omega arith
-    either false a b n k below within = omega arith
+    either : (d : Bool) (a b n m : ℕ) → a ≤ n → b ≤ m → IsAtMost (cond d (Some b) (Some a)) (max n m)
+    either true a b n m below within = omega arith
+    either false a b n m below within = omega arith
 
 accepted_by-small : (p i : ℕ) (l : Line) → IsAtMost (accepted_by p i l) (promised_by p i l)
 accepted_by-small p i (Sent (Accepted from to inst ballot)) = IsAtMost-cond (eqb from p && eqb inst i) ballot

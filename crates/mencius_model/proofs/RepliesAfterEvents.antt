@@ -23,7 +23,7 @@ use Rattle.mencius_model.proofs.ClusterFacts.{IsTold}
 
 -- a table whose rows stay the same
 pub row_kept : {X : Type 0} (f g : ℕ → X) (n : ℕ) (xs : List X) → xs ≡ map f (below n)
-    → ((k : ℕ) → k < n → f k ≡ g k) → xs ≡ map g (below n)
+    → ((m : ℕ) → m < n → f m ≡ g m) → xs ≡ map g (below n)
 row_kept f g n xs h same = h ∙ map-below_same f g n (f 0) same
 
 -- there is no number below 0
@@ -32,21 +32,21 @@ unfolding below
 below-zero = refl
 
 -- two functions that agree below n give the same there
-pub filter_map-below_same : {X : Type 0} (f g : ℕ → Option X) (n : ℕ) → ((k : ℕ) → k < n → f k ≡ g k)
+pub filter_map-below_same : {X : Type 0} (f g : ℕ → Option X) (n : ℕ) → ((m : ℕ) → m < n → f m ≡ g m)
     → filter_map f (below n) ≡ filter_map g (below n)
 filter_map-below_same f g zero same = ap (filter_map f) below-zero ∙ sym (ap (filter_map g) below-zero)
 filter_map-below_same {X} f g (suc n) same =
     let more : below (suc n) ≡ below n ++ n ∷ [] = (let s : suc n ≡ n + 1 = omega arith in ap below s) ∙ below-more n in
     ap (filter_map f) more ∙ filter_map-append f (below n) (n ∷ [])
-    ∙ ap (λ xs. xs ++ cons_option (f n) []) (filter_map-below_same f g n (λ k h. same k (omega arith)))
+    ∙ ap (λ xs. xs ++ cons_option (f n) []) (filter_map-below_same f g n (λ m h. same m (omega arith)))
     ∙ ap (λ (o : Option X). filter_map g (below n) ++ cons_option o []) (same n (omega arith))
     ∙ sym (ap (filter_map g) more ∙ filter_map-append g (below n) (n ∷ []))
 
 -- what stands in the first part stands in the whole
-pub slice_get-append : {X : Type 0} (xs ys : List X) (k : ℕ) → k < length xs → slice_get (xs ++ ys) k ≡ slice_get xs k
-slice_get-append [] ys k h = absurd (omega arith)
+pub slice_get-append : {X : Type 0} (xs ys : List X) (n : ℕ) → n < length xs → slice_get (xs ++ ys) n ≡ slice_get xs n
+slice_get-append [] ys n h = absurd (omega arith)
 slice_get-append (x ∷ xs) ys zero h = refl
-slice_get-append (x ∷ xs) ys (suc k) h = slice_get-append xs ys k (omega arith)
+slice_get-append (x ∷ xs) ys (suc n) h = slice_get-append xs ys n (omega arith)
 
 -- ---- tickets of commands that are there
 
@@ -64,10 +64,10 @@ below_all : (n : ℕ) (f : ℕ → Option ℕ) (xs : List ℕ) → ((i t : ℕ) 
 below_all n f [] h = tt
 below_all n f (x ∷ xs) h = below_put n (f x) (filter_map f xs) (h x) (below_all n f xs h)
 
-below_take : (n k : ℕ) (ts : List ℕ) → AreBelow n ts → AreBelow n (take k ts)
+below_take : (n m : ℕ) (ts : List ℕ) → AreBelow n ts → AreBelow n (take m ts)
 below_take n zero ts h = tt
-below_take n (suc k) [] h = tt
-below_take n (suc k) (t ∷ ts) h = (h.0, below_take n k ts h.1)
+below_take n (suc m) [] h = tt
+below_take n (suc m) (t ∷ ts) h = (h.0, below_take n m ts h.1)
 
 ticket_told : (o : Option Value) (t : ℕ) → ticket_of o ≡ Some t → o ≡ Some (Ticket t)
 ticket_told None t h = absurd (cc)
@@ -119,10 +119,10 @@ reply_from_kept : (m : Membership) (w : Trace) (e : Event) (command : Command) (
     → is_done home (head e) ≡ 0
     → reply_from (with_event m w e) command home o ≡ reply_from w command home o
 reply_from_kept m w e command home None told none = refl
-reply_from_kept m w e command home (Some k) told none =
-    ap (λ h. Reply_of (commands_of (with_event m w e) (take k h)) command) (history_kept m w e home told none)
+reply_from_kept m w e command home (Some n) told none =
+    ap (λ h. Reply_of (commands_of (with_event m w e) (take n h)) command) (history_kept m w e home told none)
     ∙ ap (λ cs. Reply_of cs command)
-    (commands_kept m w e (take k (executed w home)) (below_take _ k _ (history-below m w home told)))
+    (commands_kept m w e (take n (executed w home)) (below_take _ n _ (history-below m w home told)))
 
 -- the reply of a command whose home executes nothing
 pub reply_kept : (m : Membership) (w : Trace) (e : Event) (t : ℕ) (command : Command) (home : ℕ) → IsTold m w

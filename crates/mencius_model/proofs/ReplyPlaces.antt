@@ -17,51 +17,51 @@ use Rattle.mencius_model.proofs.Tickets.{identity_once, Submission}
 
 -- ---- the first place
 
--- k is the first place of an item that passes
-pub record IsPlace (A : Type 0) (test : A → Bool) (xs : List A) (k : ℕ) : Type 0 where
+-- m is the first place of an item that passes
+pub record IsPlace (A : Type 0) (test : A → Bool) (xs : List A) (m : ℕ) : Type 0 where
   pub item : A
-  pub there : slice_get xs k ≡ Some item
+  pub there : slice_get xs m ≡ Some item
   pub passes : test item ≡ true
-  pub first : (j : ℕ) (x : A) → slice_get xs j ≡ Some x → test x ≡ true → k ≤ j
+  pub first : (n : ℕ) (x : A) → slice_get xs n ≡ Some x → test x ≡ true → m ≤ n
 
 -- a place after the first
-mapped : (o : Option ℕ) (k : ℕ) → option_map suc o ≡ Some k → (j : ℕ) × (o ≡ Some j) × (k ≡ suc j)
-mapped None k h = absurd (cc)
-mapped (Some j) k h = (j, refl, cc)
+mapped : (o : Option ℕ) (n : ℕ) → option_map suc o ≡ Some n → (m : ℕ) × (o ≡ Some m) × (n ≡ suc m)
+mapped None n h = absurd (cc)
+mapped (Some m) n h = (m, refl, cc)
 
-later_place : {A : Type 0} (test : A → Bool) (x : A) (xs : List A) (i : ℕ) → test x ≡ false
-    → ((j : ℕ) (y : A) → slice_get xs j ≡ Some y → test y ≡ true → i ≤ j)
-    → (j : ℕ) (y : A) → slice_get (x ∷ xs) j ≡ Some y → test y ≡ true → suc i ≤ j
-later_place test x xs i miss each zero y a holds = let s : x ≡ y = cc in absurd (let turned = rw s at miss in cc)
-later_place test x xs i miss each (suc j) y a holds = omega (arith, each j y a holds)
+later_place : {A : Type 0} (test : A → Bool) (x : A) (xs : List A) (from : ℕ) → test x ≡ false
+    → ((n : ℕ) (y : A) → slice_get xs n ≡ Some y → test y ≡ true → from ≤ n)
+    → (n : ℕ) (y : A) → slice_get (x ∷ xs) n ≡ Some y → test y ≡ true → suc from ≤ n
+later_place test x xs from miss each zero y a holds = let s : x ≡ y = cc in absurd (let turned = rw s at miss in cc)
+later_place test x xs from miss each (suc n) y a holds = omega (arith, each n y a holds)
 
-place_next : {A : Type 0} (test : A → Bool) (x : A) (xs : List A) (i k : ℕ) → k ≡ suc i → test x ≡ false
-    → IsPlace A test xs i
-    → IsPlace A test (x ∷ xs) k
-place_next test x xs i k e miss s =
+place_next : {A : Type 0} (test : A → Bool) (x : A) (xs : List A) (place o : ℕ) → o ≡ suc place → test x ≡ false
+    → IsPlace A test xs place
+    → IsPlace A test (x ∷ xs) o
+place_next test x xs place o e miss s =
     rw e (record {
       item = s.item;
       there = s.there;
       passes = s.passes;
-      first = λ j y a b. later_place test x xs i miss s.first j y a b;
+      first = λ n y a z. later_place test x xs place miss s.first n y a z;
     })
 
 -- `place_of` answers the first place of an item that passes
-place_is : {A : Type 0} (test : A → Bool) (xs : List A) (k : ℕ) → place_of test xs ≡ Some k → IsPlace A test xs k
-place_is test [] k h = absurd (cc)
-place_is test (x ∷ xs) k h =
+place_is : {A : Type 0} (test : A → Bool) (xs : List A) (m : ℕ) → place_of test xs ≡ Some m → IsPlace A test xs m
+place_is test [] m h = absurd (cc)
+place_is test (x ∷ xs) m h =
     elim (cases_Bool (test x)) [
       | inl e ↦
-          let z : 0 ≡ k = (let s = rw e at h in cc) in
-          rw (← z) (record { item = x; there = refl; passes = e; first = λ j y a b. omega arith })
+          let z : 0 ≡ m = (let s = rw e at h in cc) in
+          rw (← z) (record { item = x; there = refl; passes = e; first = λ n y a holds. omega arith })
       | inr e ↦
-          let r = mapped (place_of test xs) k (rw e at h) in
-          place_next test x xs r.0 k r.2 e (place_is test xs r.0 r.1)
+          let r = mapped (place_of test xs) m (rw e at h) in
+          place_next test x xs r.0 m r.2 e (place_is test xs r.0 r.1)
     ]
 
 mapped_none : (o : Option ℕ) → option_map suc o ≡ None → o ≡ None
 mapped_none None h = refl
-mapped_none (Some k) h = absurd (cc)
+mapped_none (Some n) h = absurd (cc)
 
 -- and none exactly where no item passes
 no_place : {A : Type 0} (test : A → Bool) (xs : List A) → place_of test xs ≡ None → list_any test xs ≡ false
@@ -127,25 +127,25 @@ module _ (m : Membership) (few : 1 ≤ m.count) (w : Trace) (g : IsGrown m w) (i
       → is_same_id x.0.id id ≡ true
       → place_of (is_ticket t) (executed w x.1) ≡ o → reply_from w x.0 x.1 o ≡ Is r → IsReply w id r
   given_at t x None r a s e h = absurd (cc)
-  given_at t x (Some k) r a s e h =
-      let placed = place_is (is_ticket t) (executed w x.1) k e in
+  given_at t x (Some n) r a s e h =
+      let placed = place_is (is_ticket t) (executed w x.1) n e in
       let same = eqb-true placed.item t placed.passes in
       record {
         ticket = t;
         command = x.0;
         home = x.1;
-        place = k;
+        place = n;
         given = a;
         same = s;
         there = placed.there ∙ ap Some same;
-        first = λ j d. placed.first j t d (eq-eqb t t refl);
+        first = λ other d. placed.first other t d (eq-eqb t t refl);
         is = cc;
       }
 
   pending_at : (t : ℕ) (x : Submission) (o : Option ℕ) → slice_get (submitted w) t ≡ Some x
       → is_same_id x.0.id id ≡ true
       → place_of (is_ticket t) (executed w x.1) ≡ o → reply_from w x.0 x.1 o ≡ NotYet → IsPending w id
-  pending_at t x (Some k) a s e h = absurd (cc)
+  pending_at t x (Some n) a s e h = absurd (cc)
   pending_at t x None a s e h =
       record {
         ticket = t;
@@ -153,8 +153,8 @@ module _ (m : Membership) (few : 1 ≤ m.count) (w : Trace) (g : IsGrown m w) (i
         home = x.1;
         given = a;
         same = s;
-        absent = λ k there. none_in (is_ticket t) t (executed w x.1) (no_place (is_ticket t) (executed w x.1) e)
-            (get_in (executed w x.1) k t there) (eq-eqb t t refl);
+        absent = λ n there. none_in (is_ticket t) t (executed w x.1) (no_place (is_ticket t) (executed w x.1) e)
+            (get_in (executed w x.1) n t there) (eq-eqb t t refl);
       }
 
   given_for : (o : Option ℕ) (r : Option (List ℕ)) → place_of is_id (submitted w) ≡ o

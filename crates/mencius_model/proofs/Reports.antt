@@ -28,9 +28,9 @@ contains_cases y x xs has =
 
 -- the first vote stands when the second is reported
 abbrev pub Stands : Option Vote → Option Vote → Type 0
-Stands v None = Unit {0}
+Stands x None = Unit {0}
 Stands None (Some u) = ⊥
-Stands (Some v) (Some u) = u.ballot ≤ v.ballot
+Stands (Some x) (Some u) = u.ballot ≤ x.ballot
 
 pub higher_vote-stands : (o r : Option Vote) → Stands o r → higher_vote o r ≡ o
 higher_vote-stands None None stands = refl
@@ -127,7 +127,7 @@ promise_reported i b (Propose from inst ballot value) z e = absurd (cc)
 promise_reported i b (Learn from inst value) z e = absurd (cc)
 
 abbrev IsReported : List Message → Inst → BallotNo → Vote → Type 0
-IsReported hs i b v = (from : ServerId) × (to : ServerId) × Contains hs (Promise from to i b (Some v))
+IsReported hs i b x = (from : ServerId) × (to : ServerId) × Contains hs (Promise from to i b (Some x))
 
 fold_heard : (i b : ℕ) (z : Vote) (hs : List Message) (o : Option Vote)
     → fold higher_vote o (map (vote_reported i b) hs) ≡ Some z

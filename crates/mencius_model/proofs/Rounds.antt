@@ -52,16 +52,16 @@ low_again m w p (Some t) = low_suggestion m p t (free_instance m w p)
 
 low_answer : (m : Membership) (p q i b : ℕ) (answer : Answer) → AreLowBallots m (answer_lines p q i b answer)
 low_answer m p q i b (Promised vote) = (tt, tt)
-low_answer m p q i b (Known v) = (tt, tt)
+low_answer m p q i b (Known x) = (tt, tt)
 low_answer m p q i b Silent = tt
 
 low_proposal : (m : Membership) (p i b : ℕ) (o : Option Value) → AreLowBallots m (proposal_lines p i b o)
 low_proposal m p i b None = tt
-low_proposal m p i b (Some v) = (tt, tt)
+low_proposal m p i b (Some x) = (tt, tt)
 
 low_decision : (m : Membership) (p i : ℕ) (o : Option Value) → AreLowBallots m (decision_lines p i o)
 low_decision m p i None = tt
-low_decision m p i (Some v) = (tt, (tt, tt))
+low_decision m p i (Some x) = (tt, (tt, tt))
 
 low_message : (m : Membership) (w v : Trace) (p : ℕ) (x : Message) → AreLowBallots m (on_message m w v p x)
 low_message m w v p (Suggest q i t) = low_two m p q _ i _ (ltb (front m w p) i) (leb (promised w p i) 0)

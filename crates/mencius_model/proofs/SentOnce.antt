@@ -65,7 +65,7 @@ module _ (m : Membership) (test : Message → Bool) (first : (w : Trace) (x : Me
   once (Suspected p q ∷ w) grown = same_sent (sent w) (once w grown.0)
   once (Retried p ∷ w) grown = same_sent (sent w) (once w grown.0)
   once (Executed p ∷ w) grown = same_sent (sent w) (once w grown.0)
-  once (Learned p i v ∷ w) grown = same_sent (sent w) (once w grown.0)
+  once (Learned p i z ∷ w) grown = same_sent (sent w) (once w grown.0)
 
 suggestion_first : (m : Membership) (i : ℕ) → 1 ≤ m.count → (w : Trace) (x : Message) → IsGrown m (Sent x ∷ w)
     → is_suggestion_at i x ≡ true → (y : Message) → IsIn (Sent y) w
@@ -83,8 +83,8 @@ suggestion_first m i some w _ grown e y h holds = cc
 
 proposal_first : (m : Membership) (i b : ℕ) → (w : Trace) (x : Message) → IsGrown m (Sent x ∷ w)
     → is_proposal_at i b x ≡ true → (y : Message) → IsIn (Sent y) w → is_proposal_at i b y ≡ true → ⊥
-proposal_first m i b w (Propose p j c v) grown e (Propose q inst ballot y) h holds =
-    let may : MayPropose m w p j c v = grown.1 in
+proposal_first m i b w (Propose p j c z) grown e (Propose q inst ballot y) h holds =
+    let may : MayPropose m w p j c z = grown.1 in
     let mine = and_parts (eqb j i) (eqb c b) e in
     let other = and_parts (eqb inst i) (eqb ballot b) holds in
     let same_place : inst ≡ j = eqb-true inst i other.0 ∙ sym (eqb-true j i mine.0) in
@@ -93,7 +93,7 @@ proposal_first m i b w (Propose p j c v) grown e (Propose q inst ballot y) h hol
     subst (λ (n : ℕ). IsIn (Sent (Propose q j n y)) w) same_ballot
     (subst (λ (n : ℕ). IsIn (Sent (Propose q n ballot y)) w) same_place h) in
     not_proposed w q j c y (propose_positive m w grown.0 q j c y there) may.none there
-proposal_first m i b w (Propose p j c v) grown e _ h holds = cc
+proposal_first m i b w (Propose p j c z) grown e _ h holds = cc
 proposal_first m i b w _ grown e y h holds = cc
 
 no_line : (m : Membership) (w : Trace) (r : IsReached m w) (test : Message → Bool)

@@ -81,7 +81,7 @@ module _ (m : Membership) (few : 1 ≤ m.count) (w : Trace) (g : IsGrown m w) wh
 sound_empty : (m : Membership) → IsSound m []
 sound_empty m = record {
   one_suggest = λ k q i t h. absurd (cc);
-  one_propose = λ k q i b v h. absurd (cc);
+  one_propose = λ k q i b x h. absurd (cc);
   voted = λ p i b h. absurd (cc);
   to_owner = λ k q p i h. absurd (cc);
   own_untried = λ p i mine. refl;

@@ -46,9 +46,9 @@ tally_more test hs x n from e =
     sym (map-below_set (λ (q : ℕ). list_any (test q) hs) (λ (q : ℕ). list_any (test q) (hs ++ x ∷ [])) n from true false
     (any_more (test from) hs x ∙ ap (λ (a : Bool). list_any (test from) hs || a) (e from ∙ eq-eqb from from refl)
     ∙ or-true (list_any (test from) hs))
-    (λ k h ne. sym (any_more (test k) hs x
-    ∙ ap (λ (a : Bool). list_any (test k) hs || a) (e k ∙ ne_eqb from k (λ same. ne (sym same)))
-    ∙ or-false (list_any (test k) hs))))
+    (λ other h ne. sym (any_more (test other) hs x
+    ∙ ap (λ (a : Bool). list_any (test other) hs || a) (e other ∙ ne_eqb from other (λ same. ne (sym same)))
+    ∙ or-false (list_any (test other) hs))))
 
 higher_vote-none : (o : Option Vote) → higher_vote o None ≡ o
 higher_vote-none None = refl

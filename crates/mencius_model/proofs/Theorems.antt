@@ -24,55 +24,58 @@ pub course_grown : (m : Membership) (journal : List Event) (end : Trace) → IsC
 course_grown m journal end course = grown_from m journal [] end tt course.replays
 
 pub agreement : DecidedValuesAgree
-agreement m journal end w v c a d =
-    histories.one_value m c.some_server end (course_grown m journal end c) w v
-    (moment_past m journal w end a c.replays) (moment_past m journal v end d c.replays)
+agreement m journal end w other course a d =
+    histories.one_value m course.some_server end (course_grown m journal end course) w other
+    (moment_past m journal w end a course.replays) (moment_past m journal other end d course.replays)
 
 pub learning : LearnedIsDecided
-learning m journal w c = learned_decided m w (course_grown m journal w c)
+learning m journal w course = learned_decided m w (course_grown m journal w course)
 
 pub comparing : HistoriesComparable
-comparing m journal end w v c a d =
-    histories.histories_comparable m c.some_server end (course_grown m journal end c) w v
-    (moment_past m journal w end a c.replays) (moment_past m journal v end d c.replays)
+comparing m journal end w other course a d =
+    histories.histories_comparable m course.some_server end (course_grown m journal end course) w other
+    (moment_past m journal w end a course.replays) (moment_past m journal other end d course.replays)
 
 pub submitting : ExecutedWasSubmitted
-submitting m journal w c p place t h =
-    histories.history_submitted m c.some_server w (course_grown m journal w c) p t (get_in (executed w p) place t h)
+submitting m journal w course p place t h =
+    histories.history_submitted m course.some_server w (course_grown m journal w course) p t
+    (get_in (executed w p) place t h)
 
 pub once : ExecutedOnce
-once m journal w c p place other t u x y h l a d e =
-    let grown = course_grown m journal w c in
+once m journal w course p place other t u x y h l a d e =
+    let grown = course_grown m journal w course in
     let same = identity_once m w grown t u x y a d e in
-    histories.history_once m c.some_server w grown p place other t h (rw (← same) at l)
+    histories.history_once m course.some_server w grown p place other t h (rw (← same) at l)
 
 pub order : LaterCommandsStandBehind
-order m journal end w c a p q t front back late is =
-    histories.order m c.some_server w end (moment_past m journal w end a c.replays)
-    (course_grown m journal end c) p q t front back late is
+order m journal end w course a p q t front back late is =
+    histories.order m course.some_server w end (moment_past m journal w end a course.replays)
+    (course_grown m journal end course) p q t front back late is
 
 pub unknown : NoReplyWhereNotSubmitted
-unknown m journal w c id = replying.unknown m c.some_server w (course_grown m journal w c) id
+unknown m journal w course id = replying.unknown m course.some_server w (course_grown m journal w course) id
 
 pub replied : ReplyWhereExecuted
-replied m journal w c id r = replying.replied m c.some_server w (course_grown m journal w c) id r
+replied m journal w course id r = replying.replied m course.some_server w (course_grown m journal w course) id r
 
 pub awaited : PendingWhereNotExecuted
-awaited m journal w c id = replying.awaited m c.some_server w (course_grown m journal w c) id
+awaited m journal w course id = replying.awaited m course.some_server w (course_grown m journal w course) id
 
 pub one_reply : AtMostOneReply
-one_reply m journal w c id r x a b = replying.reply_once m c.some_server w (course_grown m journal w c) id r x a b
+one_reply m journal w course id r x z other =
+    replying.reply_once m course.some_server w (course_grown m journal w course) id r x z other
 
 pub growing : HistoriesGrow
-growing m journal end w c a s =
-    later.history_grows m w end (moment_past m journal w end a c.replays) (course_grown m journal end c) s
+growing m journal end w course a s =
+    later.history_grows m w end (moment_past m journal w end a course.replays) (course_grown m journal end course) s
 
 pub longest_growing : LongestHistoryGrows
-longest_growing m journal end w c a =
-    longest.longest_grows m w end c.some_server (moment_past m journal w end a c.replays) (course_grown m journal end c)
+longest_growing m journal end w course a =
+    longest.longest_grows m w end course.some_server (moment_past m journal w end a course.replays)
+    (course_grown m journal end course)
 
 pub longest_commands_growing : LongestCommandsGrow
-longest_commands_growing m journal end w c a =
-    longest.longest_commands_grow m w end c.some_server (moment_past m journal w end a c.replays)
-    (course_grown m journal end c)
+longest_commands_growing m journal end w course a =
+    longest.longest_commands_grow m w end course.some_server (moment_past m journal w end a course.replays)
+    (course_grown m journal end course)
     (history-below m w (longest_at m w) (told m w (record { journal = a.before; replays = a.replays })))

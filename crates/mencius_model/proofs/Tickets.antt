@@ -152,13 +152,13 @@ same_id_back a d h =
     rw (eq-eqb d.client a.client (sym s), eq-eqb d.number a.number (sym same))
 
 -- an item of a longer list stood there before, or is the new one
-pub get_push : {A : Type 0} (xs : List A) (x y : A) (k : ℕ) → slice_get (xs ++ x ∷ []) k ≡ Some y
-    → (slice_get xs k ≡ Some y) ⊎ ((k ≡ length xs) × (x ≡ y))
+pub get_push : {A : Type 0} (xs : List A) (x y : A) (n : ℕ) → slice_get (xs ++ x ∷ []) n ≡ Some y
+    → (slice_get xs n ≡ Some y) ⊎ ((n ≡ length xs) × (x ≡ y))
 get_push [] x y zero h = inr (refl, cc)
-get_push [] x y (suc k) h = absurd (cc)
+get_push [] x y (suc n) h = absurd (cc)
 get_push (z ∷ xs) x y zero h = inl h
-get_push (z ∷ xs) x y (suc k) h =
-    elim (get_push xs x y k h) [ inl a ↦ inl a | inr right ↦ inr (ap suc right.0, right.1) ]
+get_push (z ∷ xs) x y (suc n) h =
+    elim (get_push xs x y n h) [ inl a ↦ inl a | inr right ↦ inr (ap suc right.0, right.1) ]
 
 abbrev pub Submission : Type 0
 Submission = Command × ℕ
@@ -204,4 +204,4 @@ pub identity_once : (m : Membership) (w : Trace) → IsGrown m w → (t u : ℕ)
 identity_once m [] grown t u x y h also e = absurd (cc)
 identity_once m (l ∷ w) grown t u x y h also e =
     identity_at w t u x y e (command_in l) (command_new m w l grown.1) h also
-    (λ a b. identity_once m w grown.0 t u x y a b e)
+    (λ first second. identity_once m w grown.0 t u x y first second e)

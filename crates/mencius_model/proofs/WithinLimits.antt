@@ -165,11 +165,11 @@ messages_within m w few r k x e =
     message_within m w few r (some_server_of m w r (Sent x) there) x there k e
 
 pub learned_within : LearnedWithinLimits
-learned_within m w few r p i v e =
+learned_within m w few r p i x e =
     let grown = reached_grown m w r in
-    let there = learned_in w p i v e in (
-      learned_small m few w r p i v e,
-      decided_within m w grown (some_server_of m w r (Learned p i v) there) i v (learned_decided m w grown p i v e),
+    let there = learned_in w p i x e in (
+      learned_small m few w r p i x e,
+      decided_within m w grown (some_server_of m w r (Learned p i x) there) i x (learned_decided m w grown p i x e),
     )
 
 pub messages_addressed : MessagesAddressed

@@ -11,7 +11,7 @@ use Rattle.mencius_model.specs.Rules.{gives_up}
 
 -- a majority of the servers sent an acceptance at some ballot at which the value was proposed
 abbrev pub IsChosen : Membership → Trace → Inst → Value → Type 0
-IsChosen m w i v = (b : BallotNo) × (proposed w i b ≡ Some v) × IsTrue (are_majority m (has_accepted w i b))
+IsChosen m w i x = (b : BallotNo) × (proposed w i b ≡ Some x) × IsTrue (are_majority m (has_accepted w i b))
 
 -- a Skip gave the instance up
 abbrev pub IsSkipped : Membership → Trace → Inst → Type 0
@@ -19,4 +19,4 @@ IsSkipped m w i = IsTrue (list_any (gives_up m i) (sent w))
 
 -- chosen, or given up with no-op as its value
 abbrev pub IsDecided : Membership → Trace → Inst → Value → Type 0
-IsDecided m w i v = IsChosen m w i v ⊎ (IsSkipped m w i × (v ≡ Noop))
+IsDecided m w i x = IsChosen m w i x ⊎ (IsSkipped m w i × (x ≡ Noop))

@@ -51,7 +51,7 @@ accepted (l ∷ w) p i = greater (accepted w p i) (accepted_by p i l)
 -- a ballot with the value proposed at it
 abbrev pub vote_at : BallotNo → Option Value → Option Vote
 vote_at b None = None
-vote_at b (Some v) = Some (record { ballot = b; value = v })
+vote_at b (Some x) = Some (record { ballot = b; value = x })
 
 abbrev pub vote_of : Trace → Inst → Option BallotNo → Option Vote
 vote_of w i None = None
@@ -127,7 +127,7 @@ are_majority m among = nat_le (majority m) (count_by among (below m.count))
 -- the value of a vote, and no-op where there is none
 abbrev pub value_or_noop : Option Vote → Value
 value_or_noop None = Noop
-value_or_noop (Some v) = v.value
+value_or_noop (Some x) = x.value
 
 -- what p accepted at i had been proposed, as in every trace that comes about
 pub record IsVoted (w : Trace) (p : ServerId) (i : Inst) : Type 0 where

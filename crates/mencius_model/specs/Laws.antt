@@ -175,9 +175,9 @@ AtMostOnePropose = (m : Membership) (w : Trace) → IsReached m w → (i : Inst)
 
 -- ---- the vote reported, in every trace whatever
 
--- p heard a promise of ballot b of i that reports the vote v
+-- p heard a promise of ballot b of i that reports the vote x
 abbrev pub HearsReport : Trace → ServerId → Inst → BallotNo → Vote → Type 0
-HearsReport w p i b v = (from : ServerId) × (to : ServerId) × Contains (heard w p) (Promise from to i b (Some v))
+HearsReport w p i b x = (from : ServerId) × (to : ServerId) × Contains (heard w p) (Promise from to i b (Some x))
 
 -- the vote reported is one of those in the promises heard, and none of them has a greater ballot
 abbrev pub ReportedWasHeard : Type 0

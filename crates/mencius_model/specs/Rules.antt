@@ -48,13 +48,13 @@ is_given_up_from m i x learned = gives_up m i x && is_none learned
 
 -- what is learned is told; else a ballot above all promised ones is promised, with the vote
 abbrev pub acceptor_answer : BallotNo → Option Vote → BallotNo → Option Value → Answer
-acceptor_answer promised vote b (Some v) = Known v
+acceptor_answer promised vote b (Some x) = Known x
 acceptor_answer promised vote b None = if nat_lt promised b then Promised vote else Silent
 
 -- p answers the Prepare of q at (i, b)
 abbrev pub answer_lines : ServerId → ServerId → Inst → BallotNo → Answer → List Line
 answer_lines p q i b (Promised vote) = Sent (Promise p q i b vote) ∷ []
-answer_lines p q i b (Known v) = Sent (Learn p i v) ∷ []
+answer_lines p q i b (Known x) = Sent (Learn p i x) ∷ []
 answer_lines p q i b Silent = []
 
 -- ---- a Promise
@@ -68,7 +68,7 @@ proposal_due learned proposed majority reported =
 -- p proposes a value at (i, b), if one is due
 abbrev pub proposal_lines : ServerId → Inst → BallotNo → Option Value → List Line
 proposal_lines p i b None = []
-proposal_lines p i b (Some v) = Sent (Propose p i b v) ∷ []
+proposal_lines p i b (Some x) = Sent (Propose p i b x) ∷ []
 
 -- ---- an Accepted
 
@@ -79,13 +79,13 @@ decision_due learned proposed majority = if is_none learned && majority then pro
 -- p learns the value, and tells everybody, if one is decided
 abbrev pub decision_lines : ServerId → Inst → Option Value → List Line
 decision_lines p i None = []
-decision_lines p i (Some v) = Learned p i v ∷ Sent (Learn p i v) ∷ []
+decision_lines p i (Some x) = Learned p i x ∷ Sent (Learn p i x) ∷ []
 
 -- ---- a Learn
 
 -- the first value that is learned stays
 abbrev pub learning_lines : ServerId → Inst → Value → Option Value → List Line
-learning_lines p i v learned = if is_none learned then Learned p i v ∷ [] else []
+learning_lines p i x learned = if is_none learned then Learned p i x ∷ [] else []
 
 -- ---- a suspicion
 

@@ -26,7 +26,7 @@ key_of (Del key) = key
 
 -- what these commands make of the empty map
 abbrev pub store_after : List Command → Store
-store_after cs = fold (λ m c. apply m c.op) finite.empty cs
+store_after cs = fold (λ m command. apply m command.op) finite.empty cs
 
 -- what that map holds at a command's key: the answer of the command after these
 abbrev pub out : List Command → Command → Option (List ℕ)

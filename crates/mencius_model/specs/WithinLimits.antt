@@ -25,7 +25,7 @@ IsValueWithin w (Ticket t) = t < length (submitted w)
 
 abbrev pub IsVoteWithin : Membership → Trace → Option Vote → Type 0
 IsVoteWithin m w None = Unit {0}
-IsVoteWithin m w (Some v) = IsBallotWithin m v.ballot × IsValueWithin w v.value
+IsVoteWithin m w (Some x) = IsBallotWithin m x.ballot × IsValueWithin w x.value
 
 -- senders and addressees are members, and instances, ballots and tickets are those that there are
 abbrev pub IsMessageWithin : Membership → Trace → Message → Type 0

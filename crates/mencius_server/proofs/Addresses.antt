@@ -106,21 +106,21 @@ module _ (s : ServerState) (member : s.id < s.members.count) (few : s.members.co
 
   answer_hearable : (q i b : ℕ) → ltb q s.members.count ≡ true → ltb i instance_count ≡ true → ltb 0 b ≡ true
       → (a : Answer) → AreHearable s.members (messages_of (answer_lines s.id q i b a))
-  answer_hearable q i b from inst high (Promised v) =
-      one s.members (Promise s.id q i b v) (and_from _ _ (and_from _ _ (and_from _ _ sender from) inst) high)
-  answer_hearable q i b from inst high (Known v) = one s.members (Learn s.id i v) (and_from _ _ sender inst)
+  answer_hearable q i b from inst high (Promised y) =
+      one s.members (Promise s.id q i b y) (and_from _ _ (and_from _ _ (and_from _ _ sender from) inst) high)
+  answer_hearable q i b from inst high (Known y) = one s.members (Learn s.id i y) (and_from _ _ sender inst)
   answer_hearable q i b from inst high Silent = nothing s.members
 
   proposal_hearable : (i b : ℕ) → ltb i instance_count ≡ true → ltb 0 b ≡ true → (o : Option Value)
       → AreHearable s.members (messages_of (proposal_lines s.id i b o))
   proposal_hearable i b inst high None = nothing s.members
-  proposal_hearable i b inst high (Some v) =
-      one s.members (Propose s.id i b v) (and_from _ _ (and_from _ _ sender inst) high)
+  proposal_hearable i b inst high (Some y) =
+      one s.members (Propose s.id i b y) (and_from _ _ (and_from _ _ sender inst) high)
 
   decision_hearable : (i : ℕ) → ltb i instance_count ≡ true → (o : Option Value)
       → AreHearable s.members (messages_of (decision_lines s.id i o))
   decision_hearable i inst None = nothing s.members
-  decision_hearable i inst (Some v) = one s.members (Learn s.id i v) (and_from _ _ sender inst)
+  decision_hearable i inst (Some y) = one s.members (Learn s.id i y) (and_from _ _ sender inst)
 
   on_hearable : (x : Message) → is_within s.members x ≡ true → AreHearable s.members (sent_on s x)
   on_hearable (Suggest q i t) h = let parts = and_parts _ _ h in suggest_hearable q i parts.0 parts.1
@@ -131,16 +131,16 @@ module _ (s : ServerState) (member : s.id < s.members.count) (few : s.members.co
       let parts = and_parts _ _ h in
       let n = and_parts _ _ parts.0 in
       answer_hearable q i b n.0 n.1 parts.1 (prepare_answer (slot s i) b)
-  on_hearable (Promise q to i b v) h =
+  on_hearable (Promise q to i b y) h =
       let parts = and_parts _ _ h in
       let n = and_parts _ _ parts.0 in
-      proposal_hearable i b n.1 parts.1 (promise_answer (slot s i) q b v)
-  on_hearable (Propose q i b v) h =
+      proposal_hearable i b n.1 parts.1 (promise_answer (slot s i) q b y)
+  on_hearable (Propose q i b y) h =
       let parts = and_parts _ _ h in
       let n = and_parts _ _ parts.0 in
       one_where s.members (leb (slot s i).promised b) (Accepted s.id q i b)
       (λ e. and_from _ _ (and_from _ _ sender n.0) n.1)
-  on_hearable (Learn q i v) h = nothing s.members
+  on_hearable (Learn q i y) h = nothing s.members
 
 pub hear_addresses : HearAddresses
 hear_addresses s member few x addressed = on_hearable s member few x (within_of s.members s.id x addressed)

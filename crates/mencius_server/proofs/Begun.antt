@@ -45,7 +45,7 @@ sent_same : (f g : ℕ → Message) (a test : ℕ → Bool) (n : ℕ) → ((j : 
 sent_same f g a test zero e h = ap (map f) (filter-below_zero a) ∙ sym (ap (map g) (filter-below_zero test))
 sent_same f g a test (suc n) e h =
     let next : suc n ≡ n + 1 = omega arith in
-    let before = sent_same f g a test n (λ j l. e j (omega arith)) (λ j l k. h j (omega arith) k) in
+    let before = sent_same f g a test n (λ j l. e j (omega arith)) (λ j l passes. h j (omega arith) passes) in
     let tests : a n ≡ test n = e n (omega arith) in
     rw next
     (ap (map f) (filter-below_more a n) ∙ map-append f (filter a (below n)) _
@@ -128,10 +128,10 @@ module _ (m : Membership) (slots : List (Option SlotState)) (rs : List (List Spa
             let parts = and_parts _ _ z in
             let clear : is_passed m rs j ≡ false = sym (covered_is j parts.0) ∙ turned (covers r j) parts.1 in
             ap (λ o. unwrap_or o (unheard m (is_passed m rs j))) (stood_none j e
-            ∙ ap (λ c. cond c (Some (new_slot a.members)) None) z)
+            ∙ ap (λ bit. cond bit (Some (new_slot a.members)) None) z)
             ∙ ap new_slot members ∙ sym (ap (λ o. unwrap_or o (unheard m (is_passed m rs j))) e ∙ ap (unheard m) clear)
         | inr z ↦ ap (λ o. unwrap_or o (unheard m (is_passed m rs j))) (stood_none j e
-            ∙ ap (λ c. cond c (Some (new_slot a.members)) None) z ∙ sym e)
+            ∙ ap (λ bit. cond bit (Some (new_slot a.members)) None) z ∙ sym e)
       ]
         where
           turned : (z : Bool) → not z ≡ true → z ≡ false
@@ -183,7 +183,7 @@ module _ (m : Membership) (slots : List (Option SlotState)) (rs : List (List Spa
             | inl z ↦ let parts =
                 and_parts _ _ z in absurd (clash (not (covers r j)) parts.1 (ap not (covered_is j parts.0 ∙ passed)))
             | inr z ↦ let no : Some s ≡ None =
-                sym stands ∙ stood_none j e ∙ ap (λ c. cond c (Some (new_slot a.members)) None) z in absurd (cc)
+                sym stands ∙ stood_none j e ∙ ap (λ bit. cond bit (Some (new_slot a.members)) None) z in absurd (cc)
           ]
 
   -- ---- first phases at slots that stand

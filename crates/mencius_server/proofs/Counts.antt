@@ -13,7 +13,7 @@ use Rattle.mencius_server.proofs.Spans.{within_before, within_past, within_yes}
 -- ---- counts below a place
 
 abbrev pub bit : Bool → ℕ
-bit b = cond b 1 0
+bit a = cond a 1 0
 
 -- a test that is one of two, and never both
 pub count_split : (f g h : ℕ → Bool) (n : ℕ) → ((j : ℕ) → j < n → bit (f j) ≡ bit (g j) + bit (h j))

@@ -117,15 +117,15 @@ prepare_cases : (m : Membership) (w : Trace) (k p q i b : ℕ) → i < instance_
     → (o : Option Value) → learned w p i ≡ o
     → Meets m w k p (Prepare q i b) (answer_lines p q i b (acceptor_answer (promised w p i) (vote w p i) b o))
 prepare_cases m w k p q i b small e None un = unlearned_cases m w k p q i b small e un (ltb (promised w p i) b) refl
-prepare_cases m w k p q i b small e (Some v) known = record {
+prepare_cases m w k p q i b small e (Some x) known = record {
   sends = rw (slot-server_at m w p i small, known);
   learns = refl;
   state =
-      prepare_state m w p i b (Some v) _ small known refl
-      ∙ (server_written m w (Sent (Learn p i v) ∷ Heard k p ∷ w) p i (front m w p) _ (omega arith)
-      (slot_at-quiet m (Heard k p ∷ w) (Sent (Learn p i v)) p i (quiet_learn p p i i v) refl
+      prepare_state m w p i b (Some x) _ small known refl
+      ∙ (server_written m w (Sent (Learn p i x) ∷ Heard k p ∷ w) p i (front m w p) _ (omega arith)
+      (slot_at-quiet m (Heard k p ∷ w) (Sent (Learn p i x)) p i (quiet_learn p p i i x) refl
       ∙ slot_at-heard m w k p i _ e (uncounted_prepare q i b i (trying w p i)))
-      (λ j ne. slot_at-quiet m (Heard k p ∷ w) (Sent (Learn p i v)) p j (quiet_learn p p i j v) refl
+      (λ j ne. slot_at-quiet m (Heard k p ∷ w) (Sent (Learn p i x)) p j (quiet_learn p p i j x) refl
       ∙ slot_at-heard m w k p j _ e (uncounted_prepare q i b j (trying w p j))));
 }
 
@@ -283,14 +283,14 @@ learn_decided m w k p from i small e None un =
     (slot_at-heard_acceptance m w k p i from e)
     (λ j ne. slot_at-heard m w k p j _ e
     (uncounted_accepted from p i (trying w p i) j (trying w p j) (elsewhere i j (trying w p i) (trying w p j) ne)))
-learn_decided m w k p from i small e (Some v) decided =
-    let un : learned w p i ≡ None = unlearned_learns (learned w p i) _ _ v decided in
-    server_written m w (Sent (Learn p i v) ∷ Learned p i v ∷ Heard k p ∷ w) p i (front m w p) _ (omega arith)
-    (slot_at-quiet m (Learned p i v ∷ Heard k p ∷ w) (Sent (Learn p i v)) p i (quiet_learn p p i i v) refl
-    ∙ slot_at-learned m (Heard k p ∷ w) p i v (rw un)
-    ∙ ap (λ (s : SlotState). record s { learned = Some v }) (slot_at-heard_acceptance m w k p i from e))
-    (λ j ne. slot_at-quiet m (Learned p i v ∷ Heard k p ∷ w) (Sent (Learn p i v)) p j (quiet_learn p p i j v) refl
-    ∙ slot_at-quiet m (Heard k p ∷ w) (Learned p i v) p j (quiet_learned p i j v ne) refl
+learn_decided m w k p from i small e (Some x) decided =
+    let un : learned w p i ≡ None = unlearned_learns (learned w p i) _ _ x decided in
+    server_written m w (Sent (Learn p i x) ∷ Learned p i x ∷ Heard k p ∷ w) p i (front m w p) _ (omega arith)
+    (slot_at-quiet m (Learned p i x ∷ Heard k p ∷ w) (Sent (Learn p i x)) p i (quiet_learn p p i i x) refl
+    ∙ slot_at-learned m (Heard k p ∷ w) p i x (rw un)
+    ∙ ap (λ (s : SlotState). record s { learned = Some x }) (slot_at-heard_acceptance m w k p i from e))
+    (λ j ne. slot_at-quiet m (Learned p i x ∷ Heard k p ∷ w) (Sent (Learn p i x)) p j (quiet_learn p p i j x) refl
+    ∙ slot_at-quiet m (Heard k p ∷ w) (Learned p i x) p j (quiet_learned p i j x ne) refl
     ∙ slot_at-heard m w k p j _ e
     (uncounted_accepted from p i (trying w p i) j (trying w p j) (elsewhere i j (trying w p i) (trying w p j) ne)))
 
@@ -382,7 +382,7 @@ uncounted_promise from to i b o j c other =
 
 counts_proposal : (p i b : ℕ) (o : Option Value) → 0 ≡ learnings (proposal_lines p i b o)
 counts_proposal p i b None = refl
-counts_proposal p i b (Some v) = refl
+counts_proposal p i b (Some x) = refl
 
 -- only where nothing was proposed is there a proposal
 unsaid_proposes : (a d : Bool) (o x : Option Value) (z : Value) → cond ((a && is_none o) && d) x None ≡ Some z

@@ -21,7 +21,7 @@ use Rattle.mencius_base.specs.Limits.{instance_count, most_servers}
 
 -- what callers see of a server that knows this
 abbrev pub seen : Membership → ℕ → ℕ → KnownState → ServerState
-seen m p f k = record { members = m; id = p; front = f; slots = k.slots }
+seen m p f known = record { members = m; id = p; front = f; slots = known.slots }
 
 -- a changed slot fits where the slot stood
 FitsAt-changed : (s : ServerState) (f i : ℕ) (x : SlotState) (d : Change) → IsSaid s.members d → FitsAt s f i x

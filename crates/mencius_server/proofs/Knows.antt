@@ -279,21 +279,21 @@ module _ (m : Membership) (slots new : List (Option SlotState)) (rs : List (List
 -- a change leaves what was learned
 pub changed_learned : (s : SlotState) (a : Change) → is_none s.learned ≡ false → is_none (changed s a).learned ≡ false
 changed_learned s (Promise b) h = rw h h
-changed_learned s (Accept b v) h = either (nat_le s.promised b)
+changed_learned s (Accept b y) h = either (nat_le s.promised b)
   where
     either : (x : Bool)
-        → is_none (cond x (record s { promised = b; vote = Some (record { ballot = b; value = v }) }) s).learned ≡ false
+        → is_none (cond x (record s { promised = b; vote = Some (record { ballot = b; value = y }) }) s).learned ≡ false
     either true = h
     either false = h
-changed_learned s (CountPromise q b v) h = counted (eqb b s.trying)
+changed_learned s (CountPromise q b y) h = counted (eqb b s.trying)
   where
-    noted : (o : Option Value) → is_none (proposing (with_promise s q v) o).learned ≡ false
+    noted : (o : Option Value) → is_none (proposing (with_promise s q y) o).learned ≡ false
     noted None = h
     noted (Some x) = h
 
     counted : (x : Bool)
-        → is_none (cond x (proposing (with_promise s q v) (to_propose (with_promise s q v))) s).learned ≡ false
-    counted true = noted (to_propose (with_promise s q v))
+        → is_none (cond x (proposing (with_promise s q y) (to_propose (with_promise s q y))) s).learned ≡ false
+    counted true = noted (to_propose (with_promise s q y))
     counted false = h
 changed_learned s (CountAccept q b) h = counted (eqb b s.trying)
   where
@@ -304,7 +304,7 @@ changed_learned s (CountAccept q b) h = counted (eqb b s.trying)
     counted : (x : Bool) → is_none (cond x (learning (with_accept s q) (to_learn (with_accept s q))) s).learned ≡ false
     counted true = noted (to_learn (with_accept s q))
     counted false = h
-changed_learned s (Learn v) h = rw h h
+changed_learned s (Learn y) h = rw h h
 
 pub none_there : {A : Type 0} (o : Option A) (a : Bool) → a ≡ is_some o → a ≡ false → o ≡ None
 none_there None a e fails = refl

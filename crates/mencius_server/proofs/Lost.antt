@@ -168,7 +168,7 @@ module _ (s : ServerState) (i t : ℕ) (kept : IsServer s) (mine : owner s.membe
       free : (o : Option Value) → (slot s i).learned ≡ o → waits_with later i (Some t) ≡ None
       free None e =
           let known : (slot later i).learned ≡ None = ap (λ (y : SlotState). y.learned) here ∙ e in rw known refl
-      free (Some v) e = let no = rw e at blank in absurd (cc)
+      free (Some x) e = let no = rw e at blank in absurd (cc)
 
       longer : (a d z : Bool) (u : ℕ) → (a || d) ≡ true → unless (a || (d || z)) (Some u) ≡ None
       longer true d z u h = refl

@@ -107,8 +107,8 @@ pub placed_wider : (places wider : List (Option ℕ)) (n : ℕ) → length wider
     → ((j : ℕ) → get_or wider j None ≡ get_or places j None) → IsPlaced places n → IsPlaced wider n
 placed_wider places wider n few same h = record {
   few = few;
-  within = λ j k e. h.within j k (sym (same j) ∙ e);
-  apart = λ i j k here there. h.apart i j k (sym (same i) ∙ here) (sym (same j) ∙ there);
+  within = λ j m e. h.within j m (sym (same j) ∙ e);
+  apart = λ i j m here there. h.apart i j m (sym (same i) ∙ here) (sym (same j) ∙ there);
   count = h.count ∙ count_alike places wider (λ j. ap is_some (sym (same j)));
 }
 
@@ -142,12 +142,12 @@ lends_place places slots n e h i place at left =
         (let l = length-set slots place left in omega (arith, within, l))
         ∙ ap (λ x. Some x) (get_or-set_at slots place place left left refl within)
 
-    apart_get : {A : Type 0} (xs : List A) (n k : ℕ) (x : A) → (k ≡ n → ⊥) → slice_get xs k ≡ slice_get (set xs n x) k
-    apart_get [] n k x ne = refl
+    apart_get : {A : Type 0} (xs : List A) (n m : ℕ) (x : A) → (m ≡ n → ⊥) → slice_get xs m ≡ slice_get (set xs n x) m
+    apart_get [] n m x ne = refl
     apart_get (y ∷ ys) zero zero x ne = absurd (ne refl)
-    apart_get (y ∷ ys) zero (suc k) x ne = refl
+    apart_get (y ∷ ys) zero (suc m) x ne = refl
     apart_get (y ∷ ys) (suc n) zero x ne = refl
-    apart_get (y ∷ ys) (suc n) (suc k) x ne = apart_get ys n k x (λ same. ne (ap suc same))
+    apart_get (y ∷ ys) (suc n) (suc m) x ne = apart_get ys n m x (λ same. ne (ap suc same))
 
     others : (j : ℕ) → (j ≡ i → ⊥) → (o : Option ℕ) → get_or places j None ≡ o
         → standing_at places slots j ≡ standing_at places (slice_set slots place left) j
@@ -230,8 +230,8 @@ module _ (places : List (Option ℕ)) (slots : List SlotState) (n : ℕ) (e : n 
       kept : (j : ℕ) (o : Option ℕ) → get_or places j None ≡ o
           → slot_in (slots ++ x ∷ []) (get_or places j None) ≡ standing_at places slots j
       kept j None is = ap (slot_in (slots ++ x ∷ [])) is ∙ sym (ap (slot_in slots) is)
-      kept j (Some k) is =
-          ap (slot_in (slots ++ x ∷ [])) is ∙ front slots k (let l = h.within j k is in omega (arith, l))
+      kept j (Some m) is =
+          ap (slot_in (slots ++ x ∷ [])) is ∙ front slots m (let l = h.within j m is in omega (arith, l))
           ∙ sym (ap (slot_in slots) is)
 
 -- ---- a slot more, in a table that was lengthened

@@ -177,22 +177,22 @@ module _ (m : Membership) (a : Stretch) (members : a.members ≡ m) (slots new :
           → is_none r.learned ≡ false
       told_at j r l passed None e stands =
           let no : Some r ≡ None = sym stands ∙ ap (option_map (given a j)) e in absurd (cc)
-      told_at j r l passed (Some v) e stands =
-          let both : Some (given a j v) ≡ Some r = sym (ap (option_map (given a j)) e) ∙ stands in
-          let is : given a j v ≡ r = cc in
+      told_at j r l passed (Some value) e stands =
+          let both : Some (given a j value) ≡ Some r = sym (ap (option_map (given a j)) e) ∙ stands in
+          let is : given a j value ≡ r = cc in
           rw (← is)
           (⊎_elim
           (λ (own : owner m j ≡ a.server). by_range (is_passed m rs j)
           (is_within a.first a.stop j) refl (in_own j own) (sym (passed_own j l own)
-          ∙ passed) (λ y. h.told j v l y e))
+          ∙ passed) (λ y. h.told j value l y e))
           (λ (other : owner m j ≡ a.server
-          → ⊥). stays_learned a j v (h.told j v l (sym (passed_theirs j other) ∙ passed) e))
+          → ⊥). stays_learned a j value (h.told j value l (sym (passed_theirs j other) ∙ passed) e))
           (cases_eq (owner m j) a.server))
         where
           by_range : (d z : Bool) → is_passed m rs j ≡ d → is_in a j ≡ z → (d || z) ≡ true
-              → (d ≡ true → is_none v.learned ≡ false) → is_none (given a j v).learned ≡ false
-          by_range true z same s y old = stays_learned a j v (old refl)
-          by_range false true same s y old = rw s (learned_noop v)
+              → (d ≡ true → is_none value.learned ≡ false) → is_none (given a j value).learned ≡ false
+          by_range true z same s y old = stays_learned a j value (old refl)
+          by_range false true same s y old = rw s (learned_noop value)
           by_range false false same s y old = absurd (cc)
 
 -- where the whole range was skipped before, all is as it was

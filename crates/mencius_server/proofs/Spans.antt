@@ -7,41 +7,41 @@ use Rattle.mencius_server.specs.Ranges.{IsOwned, IsRising, covers, is_within, jo
 
 -- ---- lists that rise, by place
 
-pub rising_at : (low : ℕ) (rs : List Span) → IsRising low rs → (j : ℕ) (d : Span) → j < length rs
-    → (low ≤ (get_or rs j d).first) × ((get_or rs j d).first < (get_or rs j d).stop)
-rising_at low [] h j d below = absurd (omega arith)
+pub rising_at : (low : ℕ) (rs : List Span) → IsRising low rs → (n : ℕ) (d : Span) → n < length rs
+    → (low ≤ (get_or rs n d).first) × ((get_or rs n d).first < (get_or rs n d).stop)
+rising_at low [] h n d below = absurd (omega arith)
 rising_at low (r ∷ rs) h zero d below = (h.0, h.1)
-rising_at low (r ∷ rs) h (suc j) d below =
-    let rises = rising_at (r.stop + 1) rs h.2 j d (omega arith) in (omega (arith, rises.0, h.0, h.1), rises.1)
+rising_at low (r ∷ rs) h (suc n) d below =
+    let rises = rising_at (r.stop + 1) rs h.2 n d (omega arith) in (omega (arith, rises.0, h.0, h.1), rises.1)
 
-pub rising_stop : (low : ℕ) (rs : List Span) → IsRising low rs → (i j : ℕ) (d : Span) → i ≤ j → j < length rs
-    → (get_or rs i d).stop ≤ (get_or rs j d).stop
-rising_stop low [] h i j d l below = absurd (omega arith)
+pub rising_stop : (low : ℕ) (rs : List Span) → IsRising low rs → (m n : ℕ) (d : Span) → m ≤ n → n < length rs
+    → (get_or rs m d).stop ≤ (get_or rs n d).stop
+rising_stop low [] h m n d l below = absurd (omega arith)
 rising_stop low (r ∷ rs) h zero zero d l below = omega arith
-rising_stop low (r ∷ rs) h zero (suc j) d l below =
-    let rises = rising_at (r.stop + 1) rs h.2 j d (omega arith) in omega (arith, rises.0, rises.1)
-rising_stop low (r ∷ rs) h (suc i) zero d l below = absurd (omega arith)
-rising_stop low (r ∷ rs) h (suc i) (suc j) d l below = rising_stop (r.stop + 1) rs h.2 i j d (omega arith) (omega arith)
+rising_stop low (r ∷ rs) h zero (suc n) d l below =
+    let rises = rising_at (r.stop + 1) rs h.2 n d (omega arith) in omega (arith, rises.0, rises.1)
+rising_stop low (r ∷ rs) h (suc m) zero d l below = absurd (omega arith)
+rising_stop low (r ∷ rs) h (suc m) (suc n) d l below = rising_stop (r.stop + 1) rs h.2 m n d (omega arith) (omega arith)
 
-pub rising_first : (low : ℕ) (rs : List Span) → IsRising low rs → (i j : ℕ) (d : Span) → i ≤ j → j < length rs
-    → (get_or rs i d).first ≤ (get_or rs j d).first
-rising_first low [] h i j d l below = absurd (omega arith)
+pub rising_first : (low : ℕ) (rs : List Span) → IsRising low rs → (m n : ℕ) (d : Span) → m ≤ n → n < length rs
+    → (get_or rs m d).first ≤ (get_or rs n d).first
+rising_first low [] h m n d l below = absurd (omega arith)
 rising_first low (r ∷ rs) h zero zero d l below = omega arith
-rising_first low (r ∷ rs) h zero (suc j) d l below =
-    let rises = rising_at (r.stop + 1) rs h.2 j d (omega arith) in omega (arith, rises.0, h.1)
-rising_first low (r ∷ rs) h (suc i) zero d l below = absurd (omega arith)
-rising_first low (r ∷ rs) h (suc i) (suc j) d l below =
-    rising_first (r.stop + 1) rs h.2 i j d (omega arith) (omega arith)
+rising_first low (r ∷ rs) h zero (suc n) d l below =
+    let rises = rising_at (r.stop + 1) rs h.2 n d (omega arith) in omega (arith, rises.0, h.1)
+rising_first low (r ∷ rs) h (suc m) zero d l below = absurd (omega arith)
+rising_first low (r ∷ rs) h (suc m) (suc n) d l below =
+    rising_first (r.stop + 1) rs h.2 m n d (omega arith) (omega arith)
 
 -- each begins past the end of those before it
-rising_gap : (low : ℕ) (rs : List Span) → IsRising low rs → (i j : ℕ) (d : Span) → i < j → j < length rs
-    → (get_or rs i d).stop < (get_or rs j d).first
-rising_gap low [] h i j d l below = absurd (omega arith)
+rising_gap : (low : ℕ) (rs : List Span) → IsRising low rs → (m n : ℕ) (d : Span) → m < n → n < length rs
+    → (get_or rs m d).stop < (get_or rs n d).first
+rising_gap low [] h m n d l below = absurd (omega arith)
 rising_gap low (r ∷ rs) h zero zero d l below = absurd (omega arith)
-rising_gap low (r ∷ rs) h zero (suc j) d l below =
-    let rises = rising_at (r.stop + 1) rs h.2 j d (omega arith) in omega (arith, rises.0)
-rising_gap low (r ∷ rs) h (suc i) zero d l below = absurd (omega arith)
-rising_gap low (r ∷ rs) h (suc i) (suc j) d l below = rising_gap (r.stop + 1) rs h.2 i j d (omega arith) (omega arith)
+rising_gap low (r ∷ rs) h zero (suc n) d l below =
+    let rises = rising_at (r.stop + 1) rs h.2 n d (omega arith) in omega (arith, rises.0)
+rising_gap low (r ∷ rs) h (suc m) zero d l below = absurd (omega arith)
+rising_gap low (r ∷ rs) h (suc m) (suc n) d l below = rising_gap (r.stop + 1) rs h.2 m n d (omega arith) (omega arith)
 
 -- a lower bound may be lowered
 pub rising_from : (low less : ℕ) (rs : List Span) → less ≤ low → IsRising low rs → IsRising less rs
@@ -93,53 +93,57 @@ outside r i (inl past) = within_past r.first r.stop i past
 outside r i (inr before) = within_before r.first r.stop i before
 
 pub covers_out : (rs : List Span) (i : ℕ) (d : Span)
-    → ((j : ℕ) → j < length rs → ((get_or rs j d).stop ≤ i) ⊎ (i < (get_or rs j d).first)) → covers rs i ≡ false
+    → ((n : ℕ) → n < length rs → ((get_or rs n d).stop ≤ i) ⊎ (i < (get_or rs n d).first)) → covers rs i ≡ false
 covers_out [] i d h = refl
-covers_out (r ∷ rs) i d h = rw (outside r i (h 0 (omega arith))) (covers_out rs i d (λ j k. h (suc j) (omega arith)))
+covers_out (r ∷ rs) i d h = rw (outside r i (h 0 (omega arith))) (covers_out rs i d (λ n m. h (suc n) (omega arith)))
 
 -- the end of a range lies in none
 pub open_stop : (rs : List Span) → IsRising 0 rs → (at : ℕ) (d : Span) → at < length rs
     → covers rs (get_or rs at d).stop ≡ false
-open_stop rs h at d below = covers_out rs (get_or rs at d).stop d (λ j within. ⊎_elim
-    (λ (past : at < j). inr (rising_gap 0 rs h at j d past within))
-    (λ (upto : j ≤ at). inl (rising_stop 0 rs h j at d upto below))
-    (cases_lt at j))
+open_stop rs h at d below = covers_out rs (get_or rs at d).stop d (λ n within. ⊎_elim
+    (λ (past : at < n). inr (rising_gap 0 rs h at n d past within))
+    (λ (upto : n ≤ at). inl (rising_stop 0 rs h n at d upto below))
+    (cases_lt at n))
 
 -- nor does what lies past the end of those before it, and before the next one
 pub open_between : (rs : List Span) → IsRising 0 rs → (at i : ℕ) (d : Span)
-    → ((j : ℕ) → j < at → (get_or rs j d).stop ≤ i)
+    → ((n : ℕ) → n < at → (get_or rs n d).stop ≤ i)
     → (at < length rs → i < (get_or rs at d).first) → covers rs i ≡ false
-open_between rs h at i d before next = covers_out rs i d (λ j within. ⊎_elim
-    (λ (low : j < at). inl (before j low))
-    (λ (high : at ≤ j). let rises = rising_first 0 rs h at j d high within in let ahead = next (omega arith) in
+open_between rs h at i d before next = covers_out rs i d (λ n within. ⊎_elim
+    (λ (low : n < at). inl (before n low))
+    (λ (high : at ≤ n). let rises = rising_first 0 rs h at n d high within in let ahead = next (omega arith) in
     inr (omega (arith, rises, ahead)))
-    (cases_lt j at))
+    (cases_lt n at))
 
 -- ---- one range more
 
 -- two ranges that meet make one
-hull : (a b c e j : ℕ) → a ≤ e → c ≤ b → is_within (min a c) (max b e) j ≡ (is_within c e j || is_within a b j)
-hull a b c e j h below =
+hull : (first stop start end j : ℕ) → first ≤ end → start ≤ stop
+    → is_within (min first start) (max stop end) j ≡ (is_within start end j || is_within first stop j)
+hull first stop start end j h below =
     ⊎_elim
-    (λ (low : j < min a c). rw (
-      within_before (min a c) (max b e) j low,
-      within_before c e j (omega arith),
-      within_before a b j (omega arith),
+    (λ (low : j < min first start). rw (
+      within_before (min first start) (max stop end) j low,
+      within_before start end j (omega arith),
+      within_before first stop j (omega arith),
     ) refl)
-    (λ (from : min a c ≤ j). ⊎_elim
-    (λ (before : j < max b e).
-    within_yes (min a c) (max b e) j from before
+    (λ (from : min first start ≤ j). ⊎_elim
+    (λ (before : j < max stop end).
+    within_yes (min first start) (max stop end) j from before
     ∙ sym (⊎_elim
-    (λ (in_a : a ≤ j). ⊎_elim
-    (λ (in_b : j < b). rw (within_yes a b j in_a in_b) (or-true (is_within c e j)))
-    (λ (past_b : b ≤ j). rw (within_yes c e j (omega arith) (omega arith)) refl)
-    (cases_lt j b))
-    (λ (less : j < a). rw (within_yes c e j (omega arith) (omega arith)) refl)
-    (turn (cases_lt j a))))
-    (λ (past : max b e ≤ j). rw
-    (within_past (min a c) (max b e) j past, within_past c e j (omega arith), within_past a b j (omega arith)) refl)
-    (cases_lt j (max b e)))
-    (cases_lt j (min a c))
+    (λ (in_first : first ≤ j). ⊎_elim
+    (λ (in_stop : j < stop). rw (within_yes first stop j in_first in_stop) (or-true (is_within start end j)))
+    (λ (past_stop : stop ≤ j). rw (within_yes start end j (omega arith) (omega arith)) refl)
+    (cases_lt j stop))
+    (λ (less : j < first). rw (within_yes start end j (omega arith) (omega arith)) refl)
+    (turn (cases_lt j first))))
+    (λ (past : max stop end ≤ j). rw (
+      within_past (min first start) (max stop end) j past,
+      within_past start end j (omega arith),
+      within_past first stop j (omega arith),
+    ) refl)
+    (cases_lt j (max stop end)))
+    (cases_lt j (min first start))
   where
     turn : {A B : Type 0} → A ⊎ B → B ⊎ A
     turn (inl x) = inr x
@@ -232,12 +236,12 @@ owned_joined m q top (r ∷ rs) f s a same below h =
 
 -- the ranges that end before the new one stay
 pub joined_from : (rs : List Span) (at f s : ℕ) (d : Span) → at ≤ length rs
-    → ((j : ℕ) → j < at → (get_or rs j d).stop < f) → joined rs f s ≡ take at rs ++ joined (drop at rs) f s
+    → ((n : ℕ) → n < at → (get_or rs n d).stop < f) → joined rs f s ≡ take at rs ++ joined (drop at rs) f s
 joined_from rs zero f s d below h = refl
 joined_from [] (suc at) f s d below h = absurd (omega arith)
 joined_from (r ∷ rs) (suc at) f s d below h =
     after_it r rs f s (h 0 (omega arith))
-    ∙ ap (λ xs. r ∷ xs) (joined_from rs at f s d (omega arith) (λ j l. h (suc j) (omega arith)))
+    ∙ ap (λ xs. r ∷ xs) (joined_from rs at f s d (omega arith) (λ n l. h (suc n) (omega arith)))
 
 -- the first of the ranges that are left ends at or past the place
 abbrev pub HeadPast : ℕ → List Span → Type 0
@@ -268,15 +272,15 @@ rising_drop low (r ∷ rs) (suc at) h =
     rising_drop low rs at (rising_from (r.stop + 1) low rs (omega (arith, h.0, h.1)) h.2)
 
 head_past : (f : ℕ) (rs : List Span) (at : ℕ) (d : Span)
-    → ((j : ℕ) → at ≤ j → j < length rs → f ≤ (get_or rs j d).stop) → HeadPast f (drop at rs)
+    → ((n : ℕ) → at ≤ n → n < length rs → f ≤ (get_or rs n d).stop) → HeadPast f (drop at rs)
 head_past f [] zero d h = tt
 head_past f (r ∷ rs) zero d h = h 0 (omega arith) (omega arith)
 head_past f [] (suc at) d h = tt
-head_past f (r ∷ rs) (suc at) d h = head_past f rs at d (λ j l k. h (suc j) (omega arith) (omega arith))
+head_past f (r ∷ rs) (suc at) d h = head_past f rs at d (λ n l m. h (suc n) (omega arith) (omega arith))
 
 pub joining_start : (old : List Span) (first stop at : ℕ) (d : Span) → IsRising 0 old → first < stop → at ≤ length old
-    → ((j : ℕ) → j < at → (get_or old j d).stop < first)
-    → ((j : ℕ) → at ≤ j → j < length old → first ≤ (get_or old j d).stop)
+    → ((n : ℕ) → n < at → (get_or old n d).stop < first)
+    → ((n : ℕ) → at ≤ n → n < length old → first ≤ (get_or old n d).stop)
     → IsJoining old old first stop at first stop 0
 joining_start old first stop at d rising some within before after = record {
   within = within;

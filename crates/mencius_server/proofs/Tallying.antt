@@ -233,7 +233,7 @@ count_still : (f : ℕ → Bool) (a n : ℕ) → a ≤ n → ((j : ℕ) → a �
     → count_by f (below n) ≡ count_by f (below a)
 count_still f a n h none =
     let all : a + (n - a) ≡ n = omega arith in
-    sym (ap (λ (k : ℕ). count_by f (below k)) all)
+    sym (ap (λ (m : ℕ). count_by f (below m)) all)
     ∙ count_by-below_none f a (n - a) (λ j low high. none j low (omega (arith, all)))
 
 -- so many of q's instances from one place on are counted, of which the last is below another place

@@ -57,8 +57,8 @@ module _ (m : Membership) (w : Trace) (p : ℕ) (r : IsReached m w) where
     go : (o : Option ℕ) → suggested w p i ≡ o → None ≡ suggested w p i
     go None h = sym h
     go (Some t) h = let s = suggest_proposed w p i t (suggested_in w p i t h) in let so = s.1 in absurd (cc)
-  owner_said i mine (Some v) e =
-      let s = start_in w i v e in
+  owner_said i mine (Some y) e =
+      let s = start_in w i y e in
       let home : s.0 ≡ p = sym (suggest_owner m w grown s.0 i s.1 s.2) ∙ mine in
       ap (λ (x : Value). ticket_of (Some x)) s.3 ∙ sym (suggested_is i s.1 (rw home at s.2))
 

@@ -87,7 +87,7 @@ pub given_out : (a : Stretch) (j : ℕ) (o : Option SlotState) → is_in a j ≡
 given_out a j o e = given_kept a.members a.server a.first a.stop j o e
 
 pub given_in : (a : Stretch) (j : ℕ) (o : Option SlotState) → is_in a j ≡ true
-    → option_map (given a j) o ≡ option_map (λ u. after_learn u Noop) o
+    → option_map (given a j) o ≡ option_map (λ s. after_learn s Noop) o
 given_in a j o e = given_at a.members a.server a.first a.stop j o e
 
 -- past the last slot of the stretch

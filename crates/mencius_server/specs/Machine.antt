@@ -35,7 +35,7 @@ abbrev pub propose_sent : ServerState → ServerId → Inst → BallotNo → Lis
 propose_sent s q i b = messages_of (acceptance_lines s.id q i b (slot s i).promised)
 
 abbrev pub after_propose : ServerState → Inst → BallotNo → Value → ServerState
-after_propose s i b v = with_slot s i (after_accept (slot s i) b v)
+after_propose s i b x = with_slot s i (after_accept (slot s i) b x)
 
 -- a Suggest is heard as a Propose at ballot 0, beside the Skip
 abbrev pub suggest_sent : ServerState → ServerId → Inst → List Message
@@ -53,10 +53,10 @@ after_prepare_at s i b = with_slot s i (after_prepare (slot s i) b)
 
 -- the proposal that a Promise brings about, if any
 abbrev pub promise_sent : ServerState → ServerId → Inst → BallotNo → Option Vote → List Message
-promise_sent s q i b v = messages_of (proposal_lines s.id i b (promise_answer (slot s i) q b v))
+promise_sent s q i b x = messages_of (proposal_lines s.id i b (promise_answer (slot s i) q b x))
 
 abbrev pub after_promise_at : ServerState → ServerId → Inst → BallotNo → Option Vote → ServerState
-after_promise_at s q i b v = with_slot s i (after_promise (slot s i) q b v)
+after_promise_at s q i b x = with_slot s i (after_promise (slot s i) q b x)
 
 -- what an acceptance decides, if anything
 abbrev pub decided_on : ServerState → ServerId → Inst → BallotNo → List Line
@@ -69,7 +69,7 @@ abbrev pub after_accepted : ServerState → ServerId → Inst → BallotNo → S
 after_accepted s q i b = with_slot s i (after_acceptance (slot s i) q b)
 
 abbrev pub after_learn_at : ServerState → Inst → Value → ServerState
-after_learn_at s i v = with_slot s i (after_learn (slot s i) v)
+after_learn_at s i x = with_slot s i (after_learn (slot s i) x)
 
 -- the instances that a Skip by q gives up, and those of them that the server had not learned
 abbrev pub is_skipped : Membership → ServerId → Inst → Inst → Inst → Bool

@@ -37,7 +37,7 @@ pub(crate) fn glance_at(slot: &Slot) -> Glance
 }
 
 fn count_of(among: &[bool]) -> usize
-    ensures { result ≡ count_by (λ b. b) among.now }
+    ensures { result ≡ count_by (λ x. x) among.now }
 {
     among.iter().filter(|present| **present).count()
 }

@@ -381,7 +381,7 @@ impl Known {
 
     /// How many slots stand, and how many ranges there are.
     pub(crate) fn kept(&self) -> (u32, u32)
-        ensures { result.0 ≡ count_by (λ b. b) self.now.stands }
+        ensures { result.0 ≡ count_by (λ x. x) self.now.stands }
     {
         let slots = self.slots.len() as u32;
         let mut ranges: u32 = 0;
@@ -394,8 +394,8 @@ impl Known {
 
 // For each server, no range.
 fn no_ranges(alloc: Global, members: Members) -> Result<Vec<Ranges>, NoMemory>
-    ensures none { IfOk result (λ v. (j : ℕ) → slice_index_or v.items j [] ≡ []) }
-    ensures count { IfOk result (λ v. length v.items ≡ members.count) }
+    ensures none { IfOk result (λ x. (q : ℕ) → slice_index_or x.items q [] ≡ []) }
+    ensures count { IfOk result (λ x. length x.items ≡ members.count) }
 {
     let count = members.count() as usize;
     let mut skipped = Vec::new(alloc);

@@ -105,9 +105,9 @@ impl Ranges {
 fn first_past(spans: &[Span], inst: u32) -> usize
     requires { IsRising 0 spans.now }
     ensures within { result ≤ length spans.now }
-    ensures before { (j : ℕ) (d : Span) → j < result → (slice_index_or spans.now j d).stop ≤ inst }
-    ensures after { (j : ℕ) (d : Span) → result ≤ j → j < length spans.now
-        → inst < (slice_index_or spans.now j d).stop }
+    ensures before { (n : ℕ) (d : Span) → n < result → (slice_index_or spans.now n d).stop ≤ inst }
+    ensures after { (n : ℕ) (d : Span) → result ≤ n → n < length spans.now
+        → inst < (slice_index_or spans.now n d).stop }
 {
     let mut low = 0;
     let mut high = spans.len();

@@ -1,6 +1,6 @@
 //! What is wrong with truncated and hostile scenarios. Nothing is written for any of them.
 
-use crate::fixtures::{Script, replay_from, replayed};
+use crate::fixtures::{BAD_LIMIT, BAD_SHAPE, NOT_JSON, Script, replay_from, replayed};
 use mencius_app::{AppFault, Std};
 use std::alloc::{AllocError, Global};
 use std::io;
@@ -22,12 +22,6 @@ fn fault_of<R: Abort>(rt: &R, alloc: Global, scenario: &[u8]) -> Option<AppFault
         }
     }
 }
-
-const NOT_JSON: Option<AppFault> = Some(AppFault::NotJson);
-
-const BAD_SHAPE: Option<AppFault> = Some(AppFault::BadShape);
-
-const BAD_LIMIT: Option<AppFault> = Some(AppFault::BadLimit);
 
 // Whole scenarios, each with its fault.
 const HOSTILE: [(&str, Option<AppFault>); 27] = [
@@ -179,7 +173,7 @@ fn cut_short(rt: HostRuntime) -> Result<(), Fail> {
     let bytes = SCENARIO.as_bytes();
     for n in 0..bytes.len() {
         let fault = fault_of(&rt, rt.alloc(), &bytes[..n]);
-        assert_eq!(rt; fault, Some(AppFault::NotJson), "at {n}");
+        assert_eq!(rt; fault, NOT_JSON, "at {n}");
     }
     Ok(())
 }
@@ -202,7 +196,7 @@ fn no_text(rt: HostRuntime) -> Result<(), Fail> {
     bytes.push(255)?;
     bytes.extend_from_slice(SCENARIO.as_bytes())?;
     let fault = fault_of(&rt, rt.alloc(), bytes.as_slice());
-    assert_eq!(rt; fault, Some(AppFault::NotJson));
+    assert_eq!(rt; fault, NOT_JSON);
     Ok(())
 }
 

@@ -7,6 +7,15 @@ use std::io;
 use std::io::{ErrorKind, Read, Write};
 use std::process::Abort;
 
+/// What is answered to a scenario that is no JSON.
+pub const NOT_JSON: Option<AppFault> = Some(AppFault::NotJson);
+
+/// What is answered to a scenario of another shape.
+pub const BAD_SHAPE: Option<AppFault> = Some(AppFault::BadShape);
+
+/// What is answered to a scenario with a number or a text out of its range.
+pub const BAD_LIMIT: Option<AppFault> = Some(AppFault::BadLimit);
+
 /// Answers Interrupted so many times, then gives the bytes in pieces, and fails at one of its calls.
 #[derive(Drop)]
 pub struct Pieces<'a> {

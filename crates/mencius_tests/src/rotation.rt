@@ -47,9 +47,9 @@ impl Model for Told {
 
     ghost Value = { BoardState };
 
-    ghost view = { λ t. t.board };
+    ghost view = { λ x. x.board };
 
-    ghost invariant = { λ t. t.reader.book ≡ t.board.book };
+    ghost invariant = { λ x. x.reader.book ≡ x.board.book };
 }
 
 impl Told {

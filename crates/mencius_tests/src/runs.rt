@@ -1,7 +1,7 @@
 //! Runs of workers: what they print, that their journals replay, and the faults of their scenarios.
 
 use crate::courses::{new_cluster, stepped};
-use crate::fixtures::{Page, Pieces, Trouble, replayed, report_of};
+use crate::fixtures::{BAD_LIMIT, BAD_SHAPE, NOT_JSON, Page, Pieces, Trouble, replayed, report_of};
 use mencius_app::{AppFault, Open, Std, read_plan, read_scenario, run};
 use mencius_board::{Board, Chooser, worker_turn};
 use mencius_cluster::Cluster;
@@ -169,12 +169,6 @@ fn assert_fault<R: Abort + Threads + Wait + Sync>(
     assert_eq!(rt; answer.err(), want, "at {scenario}");
     assert!(rt; written.is_empty() == want.is_some(), "at {scenario}");
 }
-
-const NOT_JSON: Option<AppFault> = Some(AppFault::NotJson);
-
-const BAD_SHAPE: Option<AppFault> = Some(AppFault::BadShape);
-
-const BAD_LIMIT: Option<AppFault> = Some(AppFault::BadLimit);
 
 // Turns, loss, workers and commands, and the fault of a run with them.
 const LIMITED: [(u64, u64, u64, &str, Option<AppFault>); 19] = [

@@ -162,7 +162,7 @@ module _ (m : Membership) (w : Trace) (k p : ℕ) (g : List ℕ) where
   heard_told (Some (Accepted q to i b)) h =
       learned_accepted w k p i (decision_at m w (Heard k p ∷ w) p i b) (λ x e. undecided _ _ (learned w p i) _ x e)
   heard_told (Some (Prepare q i b)) h = sym (answered (past (Some (Prepare q i b))) p q i b _)
-  heard_told (Some (Promise q to i b v)) h = sym (proposing (past (Some (Promise q to i b v))) p i b _)
+  heard_told (Some (Promise q to i b y)) h = sym (proposing (past (Some (Promise q to i b y))) p i b _)
   heard_told (Some (Propose q i b x)) h = sym (one_if (past (Some (Propose q i b x))) (nat_le (promised w p i) b) _)
   heard_told (Some (Learn q i x)) h = learned_told w k p i x (learned w p i) refl
 

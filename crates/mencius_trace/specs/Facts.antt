@@ -21,7 +21,7 @@ value_text w (Ticket t) = ticket_text w t
 
 abbrev pub vote_text : Trace → Option Vote → List ℕ
 vote_text w None = codes " vote none"
-vote_text w (Some v) = codes " vote " ++ decimal v.ballot ++ 32 ∷ value_text w v.value
+vote_text w (Some x) = codes " vote " ++ decimal x.ballot ++ 32 ∷ value_text w x.value
 
 abbrev pub to_all : ServerId → List ℕ
 to_all from = codes " from " ++ decimal from ++ codes " to all"
@@ -36,7 +36,7 @@ abbrev pub at_ballot : Inst → BallotNo → List ℕ
 at_ballot i b = at_instance i ++ codes " ballot " ++ decimal b
 
 abbrev pub with_value : Trace → Value → List ℕ
-with_value w v = codes " value " ++ value_text w v
+with_value w x = codes " value " ++ value_text w x
 
 -- ---- messages
 
@@ -83,10 +83,10 @@ sent_line w (k, x) =
     codes "sent " ++ decimal k ++ 32 ∷ kind_text x ++ way_text x ++ content_text w x ++ line_feed
 
 abbrev pub learned_line : Trace → ServerId → Inst → Value → List ℕ
-learned_line w p i v = codes "learned " ++ decimal p ++ at_instance i ++ with_value w v ++ line_feed
+learned_line w p i x = codes "learned " ++ decimal p ++ at_instance i ++ with_value w x ++ line_feed
 
 abbrev pub executed_line : Trace → ServerId → Inst → Value → List ℕ
-executed_line w p i v = codes "executed " ++ decimal p ++ at_instance i ++ with_value w v ++ line_feed
+executed_line w p i x = codes "executed " ++ decimal p ++ at_instance i ++ with_value w x ++ line_feed
 
 abbrev pub front_line : ServerId → Inst → List ℕ
 front_line p front = codes "front " ++ decimal p ++ 32 ∷ decimal front ++ line_feed

@@ -29,12 +29,12 @@ use Rattle.mencius_trace.specs.Words.{former_text, id_text, line_feed}
 
 -- what is learned comes first
 abbrev pub known_or : Option Value → Hearing → Hearing
-known_or (Some v) otherwise = Known v
+known_or (Some x) otherwise = Known x
 known_or None otherwise = otherwise
 
 -- a proposal that was made already comes before a count
 abbrev pub proposed_or : Option Value → Hearing → Hearing
-proposed_or (Some v) otherwise = Proposed
+proposed_or (Some x) otherwise = Proposed
 proposed_or None otherwise = otherwise
 
 -- only a word about the ballot that is tried counts

@@ -88,7 +88,7 @@ fn push_waiting_at(
     requires small { inst < instance_count }
     ensures text { OnOk result (string_bytes text.new ≡ string_bytes text.old
         ++ ticket_in (trace_of cluster.now) (waiting_at (trace_of cluster.now) server inst)) }
-    ensures some { IfOk result (λ b. b ≡ is_some (waiting_at (trace_of cluster.now) server inst)) }
+    ensures some { IfOk result (λ x. x ≡ is_some (waiting_at (trace_of cluster.now) server inst)) }
 {
     let Some(ticket) = cluster.waiting_at(server, inst) else {
         return Ok(false);

@@ -67,9 +67,9 @@ fn push_told(
     before: &Before,
     effect: Effect,
 ) -> Result<(), NoMemory>
-    ensures { OnOk result ((c : ClusterState) (e : Event) → IsBefore c e before.now
-        → IsStepped c cluster.now e effect → string_bytes text.new
-        ≡ string_bytes text.old ++ told c.members (trace_of c) (trace_of cluster.now) e) }
+    ensures { OnOk result ((x : ClusterState) (e : Event) → IsBefore x e before.now
+        → IsStepped x cluster.now e effect → string_bytes text.new
+        ≡ string_bytes text.old ++ told x.members (trace_of x) (trace_of cluster.now) e) }
 {
     push_notice(text, cluster, before, is_silent(effect))?;
     push_learned_lines(text, cluster, before, effect.learned)?;

@@ -9,7 +9,7 @@ use std::test::Fail;
 // A ballot of three members by its number: 4 is round 1 of server 1.
 fn ballot(members: Members, number: u32) -> Option<Ballot>
     requires { members.count ≡ 3 }
-    ensures { IfSome result (λ b. b ≡ number) }
+    ensures { IfSome result (λ x. x ≡ number) }
 {
     Ballot::new(members, number / 3, (number % 3) as u8)
 }

@@ -17,12 +17,12 @@ stands w p i b z hears =
     (Stands-heard (vote_reported i b) (heard w p) (Promise hears.0 hears.1 i b (Some z)) hears.2)
 
 pub returns-clause-heard : goal.returns-clause-heard
-returns-clause-heard c = λ w p i b v e. highest_vote-heard i b v (heard w p) e
+returns-clause-heard c = λ w p i b x e. highest_vote-heard i b x (heard w p) e
 
 pub returns-clause-greatest : goal.returns-clause-greatest
 returns-clause-greatest c =
-    λ w p i b v x e hears. subst (λ (o : Option Vote). Stands o (Some x)) e (stands w p i b x hears)
+    λ w p i b y x e hears. subst (λ (o : Option Vote). Stands o (Some x)) e (stands w p i b x hears)
 
 pub returns-clause-some : goal.returns-clause-some
 returns-clause-some c =
-    λ w p i b v hears none. subst (λ (o : Option Vote). Stands o (Some v)) none (stands w p i b v hears)
+    λ w p i b x hears none. subst (λ (o : Option Vote). Stands o (Some x)) none (stands w p i b x hears)

@@ -12,4 +12,4 @@ pub returns-in-Explained-clause-lines : goal.returns-in-Explained-clause-lines
 returns-in-Explained-clause-lines g c =
     let line = fault_line c.in-Explained.fault in
     rw c.in-Explained.is (same_lines _ _ _ _ (line ++ c.as_str.result.now) (line ++ string_bytes c.in-Explained.words)
-    (ap (λ t. line ++ t) c.as_str.ensures.value) c.tell-in-Explained.ensures.lines)
+    (ap (λ text. line ++ text) c.as_str.ensures.value) c.tell-in-Explained.ensures.lines)

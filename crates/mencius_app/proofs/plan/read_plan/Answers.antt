@@ -11,5 +11,5 @@ returns-in-None c =
     let said : plan c.args.bytes.now ≡ Ok (run_in c.in_ok-members.field-0) = search rules in
     let fits = plan_in_range c.args.bytes.now _ said in
     let lists : length c.in_ok-members.field-0.commands.items ≤ most_servers = subst (λ n. n ≤ most_servers)
-    (length-map c.in_ok-members.field-0.commands.items (λ v. v.items)) fits.4 in
+    (length-map c.in_ok-members.field-0.commands.items (λ list. list.items)) fits.4 in
     absurd (search rules)

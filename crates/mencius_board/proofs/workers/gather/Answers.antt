@@ -13,7 +13,7 @@ loop-child-preserved g c =
     let step = c.in-Some.ensures.steps in
     let many : ℕ = into_iter_len c.loop-child.child-iterator in
     let left : ℕ = into_iter_len c.next.new.self in
-    let two = first_of (λ k o. Answers seed turns (done + k) o) many left _ _ c.in-Some.child step.0 step.1 was.2 in
+    let two = first_of (λ m o. Answers seed turns (done + m) o) many left _ _ c.in-Some.child step.0 step.1 was.2 in
     let next : Answers seed turns done c.in-Some.child = rw add-zero at two.0 in
     let end : EndState = c.join_one-end.result in
     let is_end : IsEndOf c.args.plan.now done end =
@@ -21,13 +21,13 @@ loop-child-preserved g c =
     let longer : vec_len c.push_reserved.new.self ≡ done + 1 = c.push_reserved.ensures.len in (
       omega (arith, was.0, longer, step.1),
       search rules,
-      (λ k d below.
-          let e : done + (k + 1) ≡ vec_len c.push_reserved.new.self + k = omega (arith, longer) in
-          subst (λ (n : ℕ). Answers seed turns n (get_or (into_iter_items c.next.new.self) k d)) e (two.1 k d below)),
-      λ k d below.
+      (λ m d below.
+          let e : done + (m + 1) ≡ vec_len c.push_reserved.new.self + m = omega (arith, longer) in
+          subst (λ (n : ℕ). Answers seed turns n (get_or (into_iter_items c.next.new.self) m d)) e (two.1 m d below)),
+      λ m d below.
           let len : length c.loop-child.ends.items ≡ done = sym c.loop-child.ends.ok.0 in
-          let small : k < length c.loop-child.ends.items + 1 = omega (arith, len, longer, below) in
+          let small : m < length c.loop-child.ends.items + 1 = omega (arith, len, longer, below) in
           let is : IsEndOf c.args.plan.now (length c.loop-child.ends.items) end = rw len is_end in
-          rw c.push_reserved.ensures.items (more_of (IsEndOf c.args.plan.now) k c.loop-child.ends.items end d
-          (λ j e under. was.3 j e (omega (arith, len, under))) is small),
+          rw c.push_reserved.ensures.items (more_of (IsEndOf c.args.plan.now) m c.loop-child.ends.items end d
+          (λ l e under. was.3 l e (omega (arith, len, under))) is small),
     )

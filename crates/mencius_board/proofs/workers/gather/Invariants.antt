@@ -8,6 +8,6 @@ invariant-loop-child g l =
     let done = vec_len l.ends in let rest = l.child-iterator in
     (done + into_iter_len rest ≡ vec_len l.fn.running)
     × (vec_len l.fn.running ≤ vec_capacity l.ends)
-    × ((k : ℕ) (d : _) → k < into_iter_len rest
-    → Answers l.plan.seed l.plan.turns (done + k) (get_or (into_iter_items rest) k d))
+    × ((n : ℕ) (d : _) → n < into_iter_len rest
+    → Answers l.plan.seed l.plan.turns (done + n) (get_or (into_iter_items rest) n d))
     × HaveEnded (vec_items l.ends) l.plan done

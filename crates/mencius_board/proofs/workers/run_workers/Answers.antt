@@ -7,6 +7,7 @@ pub returns : goal.returns
 returns g c =
     let ended = c.in-Ok-scope.ensures.1 in let ends = c.in-Ok-scope.ends in
     let many : length ends.items ≡ c.args.plan.now.workers = sym ends.ok.0 ∙ ended.0 in
-    let all = come_to c.args.plan.now ends.items (λ v. v.items) vec_len c.settle.result (λ v. v.ok.0) many ended.1
+    let all =
+    come_to c.args.plan.now ends.items (λ list. list.items) vec_len c.settle.result (λ list. list.ok.0) many ended.1
     c.settle.ensures in
     record { len = all.0; each = all.1; fault = all.2 }

@@ -9,7 +9,7 @@ pub returns-clause-task : goal.returns-clause-task
 returns-clause-task c =
     let same : map string_bytes c.as_slice.result.now ≡ line_of (bytes_of c.args.arguments.now) = search rules
     ∙ ap line_of (texts_kept c.args.arguments.now c.requires) in
-    IfOk-weaker c.read_command_line.result _ _ (λ t h. h ∙ ap asked same) c.read_command_line.ensures.task
+    IfOk-weaker c.read_command_line.result _ _ (λ task h. h ∙ ap asked same) c.read_command_line.ensures.task
 
 pub returns-clause-faults : goal.returns-clause-faults
 returns-clause-faults c =

@@ -42,4 +42,4 @@ returns-clause-task c =
     let words = map string_bytes c.as_slice.result.now in
     let joined : words ≡ words_read (map string_bytes c.args.words.now) = search rules in
     let said : asked_in c.in_ok-task.task ≡ asked_there words = search rules in
-    IfOk-weaker c.with_good_key.result _ _ (λ t h. h ∙ said ∙ ap asked_there joined) c.with_good_key.ensures.task
+    IfOk-weaker c.with_good_key.result _ _ (λ task h. h ∙ said ∙ ap asked_there joined) c.with_good_key.ensures.task

@@ -15,4 +15,4 @@ pub returns-clause-local : goal.returns-clause-local
 returns-clause-local c =
     let before : (fields_of c.with_page.result).has_globals ≡ false = search rules in
     IfOk-weaker c.arg.result _ _ (λ r h. h.globals
-    ∙ ap₂ (λ a b. a || b) before c.strict_option.ensures.local) c.arg.ensures
+    ∙ ap₂ (λ x y. x || y) before c.strict_option.ensures.local) c.arg.ensures

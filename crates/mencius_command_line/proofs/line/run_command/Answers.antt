@@ -18,6 +18,6 @@ pub returns-clause-local : goal.returns-clause-local
 returns-clause-local c =
     let before : (fields_of c.with_page.result).has_globals ≡ false = search rules in
     let first : (fields_of c.in_ok-arg.field-0).has_globals ≡ false = c.in_ok-arg.ensures.globals
-    ∙ ap₂ (λ a b. a || b) before c.journal_option.ensures.local in
+    ∙ ap₂ (λ x y. x || y) before c.journal_option.ensures.local in
     IfOk-weaker c.arg-2.result _ _ (λ r h. h.globals
-    ∙ ap₂ (λ a b. a || b) first c.lookup_option.ensures.local) c.arg-2.ensures
+    ∙ ap₂ (λ x y. x || y) first c.lookup_option.ensures.local) c.arg-2.ensures

@@ -10,4 +10,4 @@ returns-in-Some c =
     let rows = rows_of (found_of c.in-Some.options.now) in
     let there : subcommand_rows_of c.args.matches.now ≡ Some (c.in-Some.name.now, rows) =
     task_found _ c.in-Some.name.now rows c.in-Some.ensures.name c.in-Some.ensures.rows in
-    IfOk-weaker c.task_named.result _ _ (λ t h. h ∙ ap asked_by (sym there)) c.task_named.ensures
+    IfOk-weaker c.task_named.result _ _ (λ task h. h ∙ ap asked_by (sym there)) c.task_named.ensures

@@ -5,7 +5,7 @@ use Rattle.mencius_command_line.specs.CommandLine.{replay_task, trace_task, with
 use Rattle.mencius_command_line.proofs.line.with_replays.Goals as goal
 
 abbrev top_of : App → App → App
-top_of a b = with_subcommand a b.top
+top_of a d = with_subcommand a d.top
 
 pub returns : goal.returns
 returns c =

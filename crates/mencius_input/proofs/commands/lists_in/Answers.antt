@@ -13,7 +13,7 @@ use Rattle.mencius_input.proofs.commands.lists_in.Goals as goal
 pub items-init : goal.items-init
 items-init c =
     list_start commands_of lists_within _ _ _ refl
-    (ap (λ lists. Ok (map (λ v. v.items) lists)) c.new-lists.ensures.items)
+    (ap (λ lists. Ok (map (λ list. list.items) lists)) c.new-lists.ensures.items)
 
 pub returns-in_err-commands-clause-err : goal.returns-in_err-commands-clause-err
 returns-in_err-commands-clause-err c =
@@ -32,7 +32,7 @@ items-preserved c =
     (rw (← going.1) done.shorter)
     (rw (← going.1) done.ok.1)
     (sym done.ok.2)
-    (few_seen (λ v. v.items) most_servers _ _ _ _ _ _ _ c.where_room-commands.ensures
+    (few_seen (λ list. list.items) most_servers _ _ _ _ _ _ _ c.where_room-commands.ensures
     (ap (λ n. nat_lt n most_servers) many) c.in_ok-note.ensures.noted)
 
 pub returns-clause-ok : goal.returns-clause-ok
@@ -40,6 +40,7 @@ returns-clause-ok c =
     let read = list_close c.items.invariant c.take_end_array.new.self (grind arith) in (
       read.0,
       read.1,
-      seen_seen _ _ c.told.result ∙ ap (seen (map (λ v. v.items))) c.told.ensures ∙ told_seen (λ v. v.items) _ _
+      seen_seen _ _ c.told.result ∙ ap (seen (map (λ list. list.items))) c.told.ensures
+          ∙ told_seen (λ list. list.items) _ _
           ∙ read.2,
     )

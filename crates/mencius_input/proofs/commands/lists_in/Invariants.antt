@@ -8,7 +8,7 @@ use Rattle.mencius_input.proofs.commands.lists_in.Given as goal
 abbrev pub invariant-items : goal.invariant-items
 invariant-items l =
     ListSoFar commands_of lists_within l.depth l.initial.reader l.reader
-    (told (map (λ v. v.items) l.lists.items) l.fault)
+    (told (map (λ list. list.items) l.lists.items) l.fault)
 
 abbrev pub decreases-items : goal.decreases-items
 decreases-items l = length l.reader

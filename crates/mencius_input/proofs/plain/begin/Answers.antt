@@ -9,32 +9,32 @@ use Rattle.mencius_input.proofs.plain.begin.Goals as goal
 -- a text that begins with a byte, once that byte is known
 begun : (text behind : List ℕ) (x c : ℕ) → text ≡ x ∷ drop 1 text → text ≡ first text ∷ behind → x ≡ c
     → text ≡ c ∷ behind
-begun text behind x c e same equal = same ∙ ap (λ (b : ℕ). b ∷ behind) (ap first e ∙ equal)
+begun text behind x c e same equal = same ∙ ap (λ (byte : ℕ). byte ∷ behind) (ap first e ∙ equal)
 
 either : {A B C : Type 0} → A ⊎ (B × C) → A ⊎ C
 either (inl a) = inl a
 either (inr right) = inr right.1
 
 pub returns-then-byte-eq123-clause-value : goal.returns-then-byte-eq123-clause-value
-returns-then-byte-eq123-clause-value c p may =
+returns-then-byte-eq123-clause-value c place may =
     let rest : List ℕ = c.behind_first-then-byte-eq123.result.now in
-    ap (λ (t : List ℕ). punctuate p (lex between t))
+    ap (λ (bytes : List ℕ). punctuate place (lex between bytes))
     (begun c.args.text.now rest c.args.byte 123 c.requires.first c.behind_first-then-byte-eq123.ensures.value
     c.if-byte-eq123.true)
-    ∙ opens_object p rest may
+    ∙ opens_object place rest may
 
 pub returns-then-byte-eq91-clause-value : goal.returns-then-byte-eq91-clause-value
-returns-then-byte-eq91-clause-value c p may =
+returns-then-byte-eq91-clause-value c place may =
     let rest : List ℕ = c.behind_first-then-byte-eq91.result.now in
-    ap (λ (t : List ℕ). punctuate p (lex between t))
+    ap (λ (bytes : List ℕ). punctuate place (lex between bytes))
     (begun c.args.text.now rest c.args.byte 91 c.requires.first c.behind_first-then-byte-eq91.ensures.value
     c.if-byte-eq91.true)
-    ∙ opens_array p rest may
+    ∙ opens_array place rest may
 
 pub returns-then-byte-eq44-clause-value : goal.returns-then-byte-eq44-clause-value
-returns-then-byte-eq44-clause-value c p may =
-    c.failed.ensures.value _ (ap (λ (t : List ℕ). punctuate p (lex between t)) c.requires.first
-    ∙ stray p c.args.byte (drop 1 c.args.text.now) may (either c.then-byte-eq44.either))
+returns-then-byte-eq44-clause-value c place may =
+    c.failed.ensures.value _ (ap (λ (bytes : List ℕ). punctuate place (lex between bytes)) c.requires.first
+    ∙ stray place c.args.byte (drop 1 c.args.text.now) may (either c.then-byte-eq44.either))
 
 pub pass_word-requires-clause-some : goal.pass_word-requires-clause-some
 pass_word-requires-clause-some c = rw c.requires.first (omega arith)

@@ -18,17 +18,17 @@ pub returns-clause-value : goal.returns-clause-value
 returns-clause-value c =
     let open_here : may_close c.args.place ≡ true = sym c.may_close.ensures ∙ c.if-not-may_close.false in
     let here : first c.args.text.now ≡ c.args.byte = ap first c.requires.first in
-    let text = c.behind_first.ensures.value ∙ ap (λ (b : ℕ). b ∷ c.behind_first.result.now) here in
+    let text = c.behind_first.ensures.value ∙ ap (λ (byte : ℕ). byte ∷ c.behind_first.result.now) here in
     elim c.if-byte-eq93.branch [
-      | then-byte-eq93 w ↦
-          ap (tokens_at c.args.place) (text ∙ ap (λ (b : ℕ). b ∷ c.behind_first.result.now) w.if-byte-eq93.true)
+      | then-byte-eq93 way ↦
+          ap (tokens_at c.args.place) (text ∙ ap (λ (byte : ℕ). byte ∷ c.behind_first.result.now) way.if-byte-eq93.true)
           ∙ closes_array c.args.place c.behind_first.result.now open_here
-          ∙ ap (λ t. token_of t ∷ tokens_at AfterValue c.behind_first.result.now) (sym w.token-is)
-      | else-byte-eq93 w ↦ elim c.requires.closing [
-        | inl bracket ↦ absurd (w.if-byte-eq93.false bracket)
+          ∙ ap (λ symbol. token_of symbol ∷ tokens_at AfterValue c.behind_first.result.now) (sym way.token-is)
+      | else-byte-eq93 way ↦ elim c.requires.closing [
+        | inl bracket ↦ absurd (way.if-byte-eq93.false bracket)
         | inr is ↦
-            ap (tokens_at c.args.place) (text ∙ ap (λ (b : ℕ). b ∷ c.behind_first.result.now) is)
+            ap (tokens_at c.args.place) (text ∙ ap (λ (byte : ℕ). byte ∷ c.behind_first.result.now) is)
             ∙ closes_object c.args.place c.behind_first.result.now open_here
-            ∙ ap (λ t. token_of t ∷ tokens_at AfterValue c.behind_first.result.now) (sym w.token-is)
+            ∙ ap (λ symbol. token_of symbol ∷ tokens_at AfterValue c.behind_first.result.now) (sym way.token-is)
       ]
     ]

@@ -10,7 +10,7 @@ returns-then-first-eq44-clause-same c =
     let comma : first c.past_blanks-rest.result.now ≡ 44 = sym c.first.ensures ∙ c.if-first-eq44.true in
     ap (punctuate after_comma) c.past_blanks.ensures.same
     ∙ sym (comma_passed behind)
-    ∙ ap (λ (b : ℕ). punctuate after_value (lex between (b ∷ behind))) (sym comma)
-    ∙ ap (λ (t : List ℕ). punctuate after_value (lex between t)) (sym c.behind_first.ensures.value)
+    ∙ ap (λ (byte : ℕ). punctuate after_value (lex between (byte ∷ behind))) (sym comma)
+    ∙ ap (λ (bytes : List ℕ). punctuate after_value (lex between bytes)) (sym c.behind_first.ensures.value)
     ∙ ap (punctuate after_value) c.past_blanks-rest.ensures.same
     ∙ ap (λ place. tokens_at place c.args.text.now) (sym c.in-AfterValue.is)

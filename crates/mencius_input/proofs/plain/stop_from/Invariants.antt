@@ -5,7 +5,7 @@ use Rattle.mencius_input.proofs.plain.stop_from.Given as goal
 abbrev pub invariant-bytes : goal.invariant-bytes
 invariant-bytes l = record {
   within : l.place ≤ length l.bytes;
-  before : (k : ℕ) → k < l.place → is_stop (get_or l.bytes k 0) ≡ false;
+  before : (n : ℕ) → n < l.place → is_stop (get_or l.bytes n 0) ≡ false;
 }
 
 abbrev pub decreases-bytes : goal.decreases-bytes

@@ -5,7 +5,7 @@ use Rattle.mencius_input.proofs.plain.stop_in.Given as goal
 abbrev pub invariant-chunks : goal.invariant-chunks
 invariant-chunks l = record {
   within : l.place ≤ length l.inside;
-  before : (k : ℕ) → k < l.place → is_stop (get_or l.inside k 0) ≡ false;
+  before : (n : ℕ) → n < l.place → is_stop (get_or l.inside n 0) ≡ false;
 }
 
 abbrev pub decreases-chunks : goal.decreases-chunks

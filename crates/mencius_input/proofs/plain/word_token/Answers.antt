@@ -5,15 +5,15 @@ use Rattle.mencius_input.proofs.plain.word_token.Goals as goal
 
 pub returns-in-true : goal.returns-in-true
 returns-in-true c =
-    (λ rest ends. ap (λ (w : List ℕ). word (w ++ rest)) c.in-true.is ∙ true_word rest ends, refl)
+    (λ rest ends. ap (λ (front : List ℕ). word (front ++ rest)) c.in-true.is ∙ true_word rest ends, refl)
 
 pub returns-in-false : goal.returns-in-false
 returns-in-false c =
-    (λ rest ends. ap (λ (w : List ℕ). word (w ++ rest)) c.in-false.is ∙ false_word rest ends, refl)
+    (λ rest ends. ap (λ (front : List ℕ). word (front ++ rest)) c.in-false.is ∙ false_word rest ends, refl)
 
 pub returns-in-null : goal.returns-in-null
 returns-in-null c =
-    (λ rest ends. ap (λ (w : List ℕ). word (w ++ rest)) c.in-null.is ∙ null_word rest ends, refl)
+    (λ rest ends. ap (λ (front : List ℕ). word (front ++ rest)) c.in-null.is ∙ null_word rest ends, refl)
 
 pub returns-then-is_number : goal.returns-then-is_number
 returns-then-is_number c =

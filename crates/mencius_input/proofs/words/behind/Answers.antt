@@ -25,18 +25,18 @@ returns-then-eq c =
 
 pub returns : goal.returns
 returns c = elim c.else-place-bytes.branch [
-  | else-place-bytes-via-then-place-bytes+then-bytes-place-eq32+else-eq w ↦
+  | else-place-bytes-via-then-place-bytes+then-bytes-place-eq32+else-eq way ↦
       λ rest e.
-      let begins = begins_with c.args.text.now c.args.word.now w.range.result.now w.eq.result
-      w.range.ensures.value w.eq.ensures in
-      both_ways _ w.if-eq.false (begins.1 (32 ∷ rest) e)
-  | else-place-bytes-via-then-place-bytes+else-bytes-place-eq32 w ↦
+      let begins = begins_with c.args.text.now c.args.word.now way.range.result.now way.eq.result
+      way.range.ensures.value way.eq.ensures in
+      both_ways _ way.if-eq.false (begins.1 (32 ∷ rest) e)
+  | else-place-bytes-via-then-place-bytes+else-bytes-place-eq32 way ↦
       λ rest e.
-      w.if-bytes-place-eq32.false
+      way.if-bytes-place-eq32.false
       (rw c.as_bytes-bytes.ensures.value (space_behind c.args.word.now rest c.args.text.now e))
-  | else-place-bytes-via-else-place-bytes w ↦ λ rest e.
+  | else-place-bytes-via-else-place-bytes way ↦ λ rest e.
       let less = word_below c.args.word.now rest c.args.text.now e in
       let past : length c.args.text.now ≤ length c.args.word.now =
-      rw (← c.as_bytes-bytes.ensures.value) w.if-place-bytes.false in
+      rw (← c.as_bytes-bytes.ensures.value) way.if-place-bytes.false in
       absurd (omega arith)
 ]

@@ -28,9 +28,9 @@ invariant_of-self-else-is_lost c =
     let said : IsSaid c.self.inside.members c.args.change = subst
     (λ (s : ServerState). IsSaid s.members c.args.change) (sym c.self.view_is) c.requires.said in
     let other_value : is_noop c.learned.result ≡ false = elim c.match-matches.branch [
-      | in-Some-Noop w ↦ absurd (let e = w.matches-is in let so = c.if-is_lost.false in cc)
-      | in_default w ↦ search rules
-      | in_default-2 w ↦ search rules
+      | in-Some-Noop way ↦ absurd (let e = way.matches-is in let so = c.if-is_lost.false in cc)
+      | in_default way ↦ search rules
+      | in_default-2 way ↦ search rules
     ] in
     change_kept _ _ _ c.self.inside.known _ c.self.inside.notes _ c.self.invariant c.args.inst
     c.self.inside.notes.lost_from c.args.change c.requires.small said

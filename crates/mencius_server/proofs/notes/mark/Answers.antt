@@ -21,20 +21,20 @@ loop-inst-preserved c =
     let inside : c.loop-inst.inst < length c.loop-inst.moved.items = omega arith in
     record {
       len = elim c.if-is_of.branch [
-        | then-is_of w ↦ rw w.moved-is (omega arith)
-        | else-is_of w ↦ rw w.moved-is (omega arith)
+        | then-is_of way ↦ rw way.moved-is (omega arith)
+        | else-is_of way ↦ rw way.moved-is (omega arith)
       ];
       own = c.first_owned-inst-in-loop-inst.ensures.owned;
       marked = elim c.if-is_of.branch [
-        | then-is_of w ↦
+        | then-is_of way ↦
             marked_more _ _ _ _ c.loop-inst.inst _ _ _ c.loop-inst.moved.items _ true c.loop-inst-test.true inside
             c.loop-inst.invariant.own
             c.first_owned-inst-in-loop-inst.ensures.least c.first_owned-inst-in-loop-inst.ensures.above (here
-            ∙ w.if-is_of.true) (ap (λ v. v.items) w.moved-is) c.loop-inst.invariant.marked
-        | else-is_of w ↦
+            ∙ way.if-is_of.true) (ap (λ list. list.items) way.moved-is) c.loop-inst.invariant.marked
+        | else-is_of way ↦
             marked_more _ _ _ _ c.loop-inst.inst _ _ _ c.loop-inst.moved.items _ false c.loop-inst-test.true inside
             c.loop-inst.invariant.own
             c.first_owned-inst-in-loop-inst.ensures.least c.first_owned-inst-in-loop-inst.ensures.above (here
-            ∙ w.if-is_of.false) (ap (λ v. v.items) w.moved-is) c.loop-inst.invariant.marked
+            ∙ way.if-is_of.false) (ap (λ list. list.items) way.moved-is) c.loop-inst.invariant.marked
       ];
     }

@@ -8,15 +8,15 @@ pub loop-low-preserved-then-spans-middle : goal.loop-low-preserved-then-spans-mi
 loop-low-preserved-then-spans-middle c = record {
   ordered = omega arith;
   within = c.loop-low.invariant.within;
-  before = λ j d low.
+  before = λ n d low.
       let inside : c.loop-low.low + (c.loop-low.high - c.loop-low.low) / 2 < length c.args.spans.now =
       omega (arith, c.loop-low.invariant.within) in
       let here = get_or_default c.args.spans.now (c.loop-low.low + (c.loop-low.high - c.loop-low.low) / 2) d
       (record { first = 0; stop = 0 }) inside in
-      let rises = rising_stop 0 c.args.spans.now c.requires j
+      let rises = rising_stop 0 c.args.spans.now c.requires n
       (c.loop-low.low + (c.loop-low.high - c.loop-low.low) / 2) d (omega arith) inside in
-      let P : Span → Type 0 = λ r. (get_or c.args.spans.now j d).stop ≤ r.stop in
-      let rises_here : (get_or c.args.spans.now j d).stop
+      let P : Span → Type 0 = λ r. (get_or c.args.spans.now n d).stop ≤ r.stop in
+      let rises_here : (get_or c.args.spans.now n d).stop
       ≤ (get_or c.args.spans.now (c.loop-low.low + (c.loop-low.high - c.loop-low.low) / 2)
       (record { first = 0; stop = 0 })).stop = subst P here rises in
       omega (arith, rises_here, c.if-spans-middle.true);
@@ -28,16 +28,16 @@ loop-low-preserved c = record {
   ordered = omega arith;
   within = omega (arith, c.loop-low.invariant.within);
   before = c.loop-low.invariant.before;
-  after = λ j d low k.
+  after = λ n d low more.
       let inside : c.loop-low.low + (c.loop-low.high - c.loop-low.low) / 2 < length c.args.spans.now =
       omega (arith, c.loop-low.invariant.within) in
       let here = get_or_default c.args.spans.now (c.loop-low.low + (c.loop-low.high - c.loop-low.low) / 2) d
       (record { first = 0; stop = 0 }) inside in
       let rises = rising_stop 0 c.args.spans.now c.requires
-      (c.loop-low.low + (c.loop-low.high - c.loop-low.low) / 2) j d low k in
-      let P : Span → Type 0 = λ r. r.stop ≤ (get_or c.args.spans.now j d).stop in
+      (c.loop-low.low + (c.loop-low.high - c.loop-low.low) / 2) n d low more in
+      let P : Span → Type 0 = λ r. r.stop ≤ (get_or c.args.spans.now n d).stop in
       let rises_here :
       (get_or c.args.spans.now (c.loop-low.low + (c.loop-low.high - c.loop-low.low) / 2)
-      (record { first = 0; stop = 0 })).stop ≤ (get_or c.args.spans.now j d).stop = subst P here rises in
+      (record { first = 0; stop = 0 })).stop ≤ (get_or c.args.spans.now n d).stop = subst P here rises in
       omega (arith, rises_here, c.if-spans-middle.false);
 }

@@ -6,8 +6,8 @@ abbrev pub invariant-loop-low : goal.invariant-loop-low
 invariant-loop-low l = record {
   ordered : l.low ≤ l.high;
   within : l.high ≤ length l.spans;
-  before : (j : ℕ) (d : Span) → j < l.low → (get_or l.spans j d).stop ≤ l.inst;
-  after : (j : ℕ) (d : Span) → l.high ≤ j → j < length l.spans → l.inst < (get_or l.spans j d).stop;
+  before : (n : ℕ) (d : Span) → n < l.low → (get_or l.spans n d).stop ≤ l.inst;
+  after : (n : ℕ) (d : Span) → l.high ≤ n → n < length l.spans → l.inst < (get_or l.spans n d).stop;
 }
 
 abbrev pub decreases-loop-low : goal.decreases-loop-low

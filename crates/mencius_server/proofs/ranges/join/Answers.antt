@@ -12,22 +12,23 @@ none = record { first = 0; stop = 0 }
 pub loop-ranges-init : goal.loop-ranges-init
 loop-ranges-init c = record {
   joining = elim c.if-first-eq0.branch [
-    | then-first-eq0 w ↦ rw w.at-is
+    | then-first-eq0 way ↦ rw way.at-is
         (joining_start c.args.ranges.now.items c.args.first c.args.stop 0 none c.requires.rising c.requires.some
-        (omega arith) (λ j l. absurd (omega arith)) (λ j l past. omega (arith, w.if-first-eq0.true)))
-    | else-first-eq0 w ↦
-        let items : w.deref.result.now ≡ c.args.ranges.now.items = w.deref.ensures.value in
+        (omega arith) (λ n l. absurd (omega arith)) (λ n l past. omega (arith, way.if-first-eq0.true)))
+    | else-first-eq0 way ↦
+        let items : way.deref.result.now ≡ c.args.ranges.now.items = way.deref.ensures.value in
         let P : List Span → Type 0 =
-        λ xs. (j : ℕ) (d : Span) → j < w.first_past-at.result → (get_or xs j d).stop ≤ c.args.first - 1 in
+        λ xs. (n : ℕ) (d : Span) → n < way.first_past-at.result → (get_or xs n d).stop ≤ c.args.first - 1 in
         let Q : List Span → Type 0 =
-        λ xs. (j : ℕ) (d : Span) → w.first_past-at.result ≤ j → j < length xs
-        → c.args.first - 1 < (get_or xs j d).stop in
-        let before = subst P items w.first_past-at.ensures.before in
-        let after = subst Q items w.first_past-at.ensures.after in
-        rw w.at-is (joining_start c.args.ranges.now.items c.args.first c.args.stop w.first_past-at.result none
+        λ xs. (n : ℕ) (d : Span) → way.first_past-at.result ≤ n → n < length xs
+        → c.args.first - 1 < (get_or xs n d).stop in
+        let before = subst P items way.first_past-at.ensures.before in
+        let after = subst Q items way.first_past-at.ensures.after in
+        rw way.at-is (joining_start c.args.ranges.now.items c.args.first c.args.stop way.first_past-at.result none
         c.requires.rising c.requires.some
-        (omega (arith, w.first_past-at.ensures.within, ap length items))
-        (λ j l. omega (arith, before j none l, w.if-first-eq0.false)) (λ j l past. omega (arith, after j none l past)))
+        (omega (arith, way.first_past-at.ensures.within, ap length items))
+        (λ n l. omega (arith, before n none l, way.if-first-eq0.false))
+        (λ n l past. omega (arith, after n none l past)))
   ];
   room = c.requires.room;
 }
@@ -67,12 +68,12 @@ returns-clause-further c =
     c.if-first-eq0.at
     c.loop-ranges.union.first c.loop-ranges.union.stop c.loop-ranges.absorbed c.loop-ranges.union none refl
     (λ inside. elim c.loop-ranges-test.branch [
-      | then-loop-ranges-test+else-index-union w ↦
+      | then-loop-ranges-test+else-index-union way ↦
           omega (
             arith,
-            w.if-index-union.false,
-            ap (λ (r : Span). r.first) (w.index.ensures
+            way.if-index-union.false,
+            ap (λ (r : Span). r.first) (way.index.ensures
                 ∙ get_or_default c.loop-ranges.ranges.items c.if-first-eq0.at _ none inside),
           )
-      | else-loop-ranges-test w ↦ absurd (omega (arith, w.loop-ranges-test.false, c.len.ensures))
+      | else-loop-ranges-test way ↦ absurd (omega (arith, way.loop-ranges-test.false, c.len.ensures))
     ]) new c.loop-ranges.invariant.joining).1

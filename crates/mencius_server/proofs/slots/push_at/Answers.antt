@@ -35,7 +35,7 @@ returns-then-is_none-clause-stand c = λ j.
     stand_stand c.args.places.now.items c.args.places.now.items c.args.slots.now.items _ _ c.len-place.result
     c.args.inst c.args.slots.now.ok.0 c.requires.placed refl
     gone c.requires.placed.few (λ j. refl) within c.len-place.ensures (new_slot c.args.members) _
-    (c.push_reserved.ensures.items ∙ ap (λ t. c.args.slots.now.items ++ t ∷ []) c.new.ensures) j
+    (c.push_reserved.ensures.items ∙ ap (λ place. c.args.slots.now.items ++ place ∷ []) c.new.ensures) j
     ∙ made_yes (eqb j c.args.inst) _ _ _ (ap is_none gone)
 
 pub returns-then-is_none-clause-more : goal.returns-then-is_none-clause-more

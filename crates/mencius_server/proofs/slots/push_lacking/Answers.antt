@@ -36,30 +36,30 @@ loop-inst-preserved c =
     let ahead = c.next_owned-inst.ensures.above in
     let least = c.next_owned-inst.ensures.least in
     elim c.if-is_none.branch [
-      | then-is_none+then-not-covers w ↦
-          let clear = sym w.covers.ensures ∙ w.if-not-covers.true in
+      | then-is_none+then-not-covers way ↦
+          let clear = sym way.covers.ensures ∙ way.if-not-covers.true in
           let pushed = filled c.args.stretch c.args.skipped.now old now c.loop-inst.inst c.next_owned-inst.result
           inv.own inv.low c.loop-inst-test.true ahead least inv.walked _ _ inv.room clear _
-          w.push_at.ensures.stand _ w.push_at.ensures.more in
-          rw (w.places-is, w.slots-is) (record {
+          way.push_at.ensures.stand _ way.push_at.ensures.more in
+          rw (way.places-is, way.slots-is) (record {
             own = c.next_owned-inst.ensures.owned ∙ inv.own;
             low = omega (arith, inv.low, ahead);
-            wide = omega (arith, inv.wide, w.push_at.ensures.wide);
-            placed = w.push_at.ensures.placed;
+            wide = omega (arith, inv.wide, way.push_at.ensures.wide);
+            placed = way.push_at.ensures.placed;
             walked = pushed.0;
-            room = rw w.push_at.ensures.room pushed.1;
+            room = rw way.push_at.ensures.room pushed.1;
           })
-      | else-is_none w ↦
+      | else-is_none way ↦
           let full : is_lacking c.args.stretch c.args.skipped.now old c.loop-inst.inst ≡ false =
-          elim w.else-is_none.branch [
-            | else-is_none-via-then-is_none+else-not-covers v ↦
+          elim way.else-is_none.branch [
+            | else-is_none-via-then-is_none+else-not-covers way ↦
                 lacking_covered c.args.stretch c.args.skipped.now old c.loop-inst.inst
-                (sym v.covers.ensures ∙ v.if-not-covers.false)
-            | else-is_none-via-else-is_none v ↦ whole c v.if-is_none.false
+                (sym way.covers.ensures ∙ way.if-not-covers.false)
+            | else-is_none-via-else-is_none way ↦ whole c way.if-is_none.false
           ] in
           let passing = passed c.args.stretch c.args.skipped.now old now c.loop-inst.inst c.next_owned-inst.result
           inv.own inv.low c.loop-inst-test.true ahead least inv.walked _ _ inv.room full in
-          rw (w.places-is, w.slots-is) (record {
+          rw (way.places-is, way.slots-is) (record {
             own = c.next_owned-inst.ensures.owned ∙ inv.own;
             low = omega (arith, inv.low, ahead);
             wide = inv.wide;

@@ -12,11 +12,11 @@ pub loop-inst-preserved : goal.loop-inst-preserved
 loop-inst-preserved c =
     let either : (c.in_ok-some.some || c.loop-inst.some) ≡ c.if-branch.some =
     elim c.if-branch.branch [
-      | then-branch w ↦ ap (λ bit. bit || c.loop-inst.some) w.if-branch.true ∙ sym w.if-branch.true
-          ∙ sym w.some-is
-      | else-branch w ↦ ap (λ bit. bit || c.loop-inst.some) w.if-branch.false ∙ sym w.some-is
+      | then-branch way ↦ ap (λ bit. bit || c.loop-inst.some) way.if-branch.true ∙ sym way.if-branch.true
+          ∙ sym way.some-is
+      | else-branch way ↦ ap (λ bit. bit || c.loop-inst.some) way.if-branch.false ∙ sym way.some-is
     ] in
-    subst (λ b. IsWaitingTo (trace_of c.args.cluster.now) c.args.server (c.loop-inst.inst + 1) b
+    subst (λ some. IsWaitingTo (trace_of c.args.cluster.now) c.args.server (c.loop-inst.inst + 1) some
     (string_bytes c.args.text.now) (string_bytes c.push_waiting_at.new.text)) either
     (waiting_next (trace_of c.args.cluster.now) c.args.server c.loop-inst.inst c.loop-inst.some c.in_ok-some.some _ _ _
     c.loop-inst.invariant c.in_ok-some.ensures.text c.in_ok-some.ensures.some)

@@ -9,12 +9,12 @@ use Rattle.mencius_trace.proofs.telling.push_told.Goals as goal
 
 pub returns : goal.returns
 returns c = λ old e noted step.
-    let b = c.args.before.now in
+    let front = c.args.before.now in
     let d = c.args.cluster.now in
-    told_is old d e b c.args.effect noted step _ (string_bytes c.push_notice.new.text) _ _ _ _
-    (subst (λ s. b.server < d.members.count → IfSome b.heard (λ x. place_of x < instance_count)
+    told_is old d e front c.args.effect noted step _ (string_bytes c.push_notice.new.text) _ _ _ _
+    (subst (λ s. front.server < d.members.count → IfSome front.heard (λ x. place_of x < instance_count)
     → string_bytes c.push_notice.new.text ≡ string_bytes c.args.text.now
-    ++ notice_after d.members (trace_of d) b.server s b.hearing b.heard) c.is_silent.ensures
+    ++ notice_after d.members (trace_of d) front.server s front.hearing front.heard) c.is_silent.ensures
     c.in_ok-push_notice.ensures)
     c.in_ok-push_learned_lines.ensures c.in_ok-push_sent_lines.ensures c.in_ok-push_front_line.ensures
     c.in_ok-push_execution.ensures

@@ -6,14 +6,14 @@ use Rattle.mencius_choices.proofs.plan.Plan.find_in_row.Goals as goal
 
 pub loop-server-preserved : goal.loop-server-preserved
 loop-server-preserved c =
-    let p = c.args.self.now in
+    let plan = c.args.self.now in
     let s = c.loop-server.server in
     let none : c.own_command.result ≡ None =
     none_from c.own_command.result (sym c.is_some.ensures ∙ c.if-is_some.false) in
-    let absent : own_command p c.args.worker c.args.row s ≡ None = sym c.own_command.ensures.command
+    let absent : own_command plan c.args.worker c.args.row s ≡ None = sym c.own_command.ensures.command
     ∙ ap (λ o. option_map (λ x. (s, x)) (option_copied o)) none in
     let lists = c.self.inside.commands.items in
     let inside : s < length (map (λ l. l.items) lists) =
     omega (arith, length-map lists (λ l. l.items), c.loop-server-test.true, c.len-server-end.ensures) in
-    let there : s < length p.commands = subst (λ (y : PlanState). s < length y.commands) c.self.view_is inside in
-    c.loop-server.invariant ∙ row_from-skip p c.args.worker c.args.row s there absent
+    let there : s < length plan.commands = subst (λ (y : PlanState). s < length y.commands) c.self.view_is inside in
+    c.loop-server.invariant ∙ row_from-skip plan c.args.worker c.args.row s there absent

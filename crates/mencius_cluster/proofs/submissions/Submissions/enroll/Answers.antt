@@ -18,7 +18,8 @@ unreachable-requires c =
     let low : id.number < 4294967296 = omega arith in
     let none : lookup (is_same_id id) (map row_of rows) ≡ None =
     subst (λ (a : CommandId). lookup (is_same_id a) (map row_of rows) ≡ None) (sym c.id.ensures)
-    (ap (λ (t : SubmissionTable). lookup (is_same_id c.args.command.id) t.entries) c.self.view_is ∙ c.requires.new) in
+    (ap (λ (table : SubmissionTable). lookup (is_same_id c.args.command.id) table.entries) c.self.view_is
+    ∙ c.requires.new) in
     let found =
     found_at keys c.key_of-key.result c.in_default.field-0 c.self.invariant.1.rising
     (rw (← c.deref.ensures.value) c.in_default.ensures.position) in
@@ -39,7 +40,8 @@ invariant_of-self c =
     let place =
     gap keys key c.in-Err.place c.self.invariant.1.rising (rw (← c.deref.ensures.value) c.in-Err.ensures.position) in
     let last : c.args.ticket ≡ length (map key_in rows) =
-    c.requires.ticket ∙ ap (λ (t : SubmissionTable). length t.entries) (sym c.self.view_is) ∙ length-map rows row_of
+    c.requires.ticket ∙ ap (λ (table : SubmissionTable). length table.entries) (sym c.self.view_is)
+    ∙ length-map rows row_of
     ∙ sym (length-map rows key_in) in
     let tickets = x.tickets.items in
     let index =

@@ -6,7 +6,7 @@ use Rattle.mencius_cluster.proofs.Indexed.{both_ok, keys_set, rows_set, small_se
 use Rattle.mencius_cluster.proofs.submissions.Submissions.execute.Goals as goal
 
 entries_are : (c : goal.After-self-1) → map row_of c.self.inside.rows.items ≡ c.args.self.now.entries
-entries_are c = ap (λ (t : SubmissionTable). t.entries) c.self.view_is
+entries_are c = ap (λ (table : SubmissionTable). table.entries) c.self.view_is
 
 there : (c : goal.After-self-1) → slice_get c.self.inside.rows.items c.args.ticket ≡ Some c.index_mut.result.now
 there c =

@@ -19,10 +19,10 @@ returns-in-Some c =
       value =
           copied_row c.of_ticket.result
           ∙ ap (option_map (λ (r : Row). r.1)) c.of_ticket.ensures
-          ∙ ap (λ (t : SubmissionTable). option_map (λ (r : Row). r.1) (slice_get t.entries c.in-Some.ticket))
+          ∙ ap (λ (table : SubmissionTable). option_map (λ (r : Row). r.1) (slice_get table.entries c.in-Some.ticket))
           (sym c.self.view_is)
           ∙ sym row
-          ∙ ap (λ (t : SubmissionTable). lookup (is_same_id c.args.id) t.entries) c.self.view_is;
+          ∙ ap (λ (table : SubmissionTable). lookup (is_same_id c.args.id) table.entries) c.self.view_is;
     }
 
 pub returns-in-None : goal.returns-in-None
@@ -32,5 +32,5 @@ returns-in-None c =
       value =
           sym (row_missing x.rows.items x.keys.items x.tickets.items c.self.invariant.0 c.self.invariant.1 c.args.id
           (rw (← c.as_slice.ensures.value) c.in-None.ensures))
-          ∙ ap (λ (t : SubmissionTable). lookup (is_same_id c.args.id) t.entries) c.self.view_is;
+          ∙ ap (λ (table : SubmissionTable). lookup (is_same_id c.args.id) table.entries) c.self.view_is;
     }

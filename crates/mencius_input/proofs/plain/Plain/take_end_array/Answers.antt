@@ -12,9 +12,9 @@ returns-then-first-ne93 c =
     let same = same_tokens c.self.inside.place rest c.self.inside.rest.now c.past_blanks-rest.ensures.same in
     let open_here : may_close c.self.inside.place ≡ true → first rest ≢ 93 =
     elim c.then-first-ne93.branch [
-      | then-first-ne93-via-then-first-ne93 w ↦ λ may. rw (← c.first.ensures) w.if-first-ne93.true
-      | then-first-ne93-via-else-first-ne93+then-not-may_close w ↦
-          λ may is. (let lost = w.may_close.ensures in let shut = w.if-not-may_close.true in cc)
+      | then-first-ne93-via-then-first-ne93 way ↦ λ may. rw (← c.first.ensures) way.if-first-ne93.true
+      | then-first-ne93-via-else-first-ne93+then-not-may_close way ↦
+          λ may is. (let lost = way.may_close.ensures in let shut = way.if-not-may_close.true in cc)
     ] in (
       ap after_end_array (sym c.self.view_is ∙ sym same)
           ∙ no_end_array c.self.inside.place rest c.past_blanks-rest.ensures.solid open_here,
@@ -27,7 +27,8 @@ returns c =
     let rest : List ℕ = c.past_blanks-rest.result.now in
     let same = same_tokens c.self.inside.place rest c.self.inside.rest.now c.past_blanks-rest.ensures.same in
     let bracket : first rest ≡ 93 = sym c.first.ensures ∙ c.if-first-ne93.false in
-    let text : rest ≡ 93 ∷ behind = c.behind_first-self-inside.ensures.value ∙ ap (λ (b : ℕ). b ∷ behind) bracket in
+    let text : rest ≡ 93 ∷ behind =
+    c.behind_first-self-inside.ensures.value ∙ ap (λ (byte : ℕ). byte ∷ behind) bracket in
     ap after_end_array
     (sym c.self.view_is
     ∙ sym same

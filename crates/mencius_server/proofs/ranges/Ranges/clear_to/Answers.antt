@@ -6,16 +6,16 @@ use Rattle.mencius_server.proofs.Spans.{covers_in, open_between}
 use Rattle.mencius_server.proofs.ranges.Ranges.clear_to.Goals as goal
 
 clear_at : (xs ys now : List Span) (at i j : ℕ) (d : Span) → ys ≡ xs → xs ≡ now → IsRising 0 xs
-    → ((k : ℕ) (d : Span) → k < at → (get_or ys k d).stop ≤ i) → i ≤ j
+    → ((n : ℕ) (d : Span) → n < at → (get_or ys n d).stop ≤ i) → i ≤ j
     → (at < length xs → j < (get_or xs at d).first) → covers now j ≡ false
 clear_at xs ys now at i j d same e rising before from next =
     subst (λ zs. covers zs j ≡ false) e
     (open_between xs rising at j d
-    (λ k low. let ends : (get_or xs k d).stop ≤ i = subst (λ zs. (get_or zs k d).stop ≤ i) same (before k d low) in
+    (λ n low. let ends : (get_or xs n d).stop ≤ i = subst (λ zs. (get_or zs n d).stop ≤ i) same (before n d low) in
     omega (arith, ends)) next)
 
 begins_later : (xs ys now : List Span) (at i : ℕ) (r : Span) → ys ≡ xs → xs ≡ now → at < length xs
-    → r ≡ get_or xs at r → ((k : ℕ) (d : Span) → at ≤ k → k < length ys → i < (get_or ys k d).stop)
+    → r ≡ get_or xs at r → ((n : ℕ) (d : Span) → at ≤ n → n < length ys → i < (get_or ys n d).stop)
     → covers now i ≡ false → i < r.first
 begins_later xs ys now at i r same e within is after none =
     ⊎_elim

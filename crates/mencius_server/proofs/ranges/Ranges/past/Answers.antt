@@ -49,10 +49,10 @@ returns-else-at-len-clause-open c =
     between_open c.self.inside.spans.items _ _ c.first_past-at.result c.args.inst none c.deref.ensures.value
     c.self.view_is c.self.invariant c.first_past-at.ensures.before
     (λ within. elim c.else-at-len.branch [
-      | else-at-len-via-then-at-len+else-index-inst w ↦
-          let here = w.index.ensures ∙ get_or_default c.self.inside.spans.items c.first_past-at.result
-          w.index.result.now none within in
-          omega (arith, w.if-index-inst.false, ap (λ (s : Span). s.first) here)
-      | else-at-len-via-else-at-len w ↦ absurd
-          (omega (arith, w.if-at-len.false, c.len.ensures, c.self.inside.spans.ok.0))
+      | else-at-len-via-then-at-len+else-index-inst way ↦
+          let here = way.index.ensures ∙ get_or_default c.self.inside.spans.items c.first_past-at.result
+          way.index.result.now none within in
+          omega (arith, way.if-index-inst.false, ap (λ (s : Span). s.first) here)
+      | else-at-len-via-else-at-len way ↦ absurd
+          (omega (arith, way.if-at-len.false, c.len.ensures, c.self.inside.spans.ok.0))
     ])

@@ -18,10 +18,10 @@ returns c =
     c.deref.ensures.value c.place_at.ensures c.unwrap_or-place.ensures in (
       (
         refl,
-        λ w.
+        λ way.
             lends_place c.self.inside.places.items c.self.inside.slots.items _ c.self.inside.slots.ok.0
-            c.self.invariant c.args.inst c.unwrap_or-place.result here w
-            ∙ ap (λ ss. slice_set ss c.args.inst (Some w)) c.self.view_is,
+            c.self.invariant c.args.inst c.unwrap_or-place.result here way
+            ∙ ap (λ ss. slice_set ss c.args.inst (Some way)) c.self.view_is,
       ),
       record {
         lends = tt;

@@ -75,12 +75,12 @@ loop-inst-preserved c =
           (ap (λ (a : Bool). c.begin-is_last_here.new.out.room + cond a 1 0) (begins ∙ ap is_unlearned (sym start))
           ∙ c.begin-is_last_here.ensures.room) inv.room);
       last = λ still. elim c.if-is_last.branch [
-        | then-is_last w ↦ let no : true ≡ false = sym w.if-is_last.true ∙ sym w.is_last-is ∙ still in absurd (cc)
-        | else-is_last w ↦
+        | then-is_last way ↦ let no : true ≡ false = sym way.if-is_last.true ∙ sym way.is_last-is ∙ still in absurd (cc)
+        | else-is_last way ↦
             begun_each (is_begun c.args.stretch c.args.self.now) (stand_at c.loop-inst.self)
             (stand_at c.begin-is_last_here.new.self) (λ (s : SlotState). is_spent c.args.stretch.members s ≡ false)
-            c.loop-inst.inst _ between off (inv.last w.if-is_last.false)
-            (λ s here_begun. c.begin-is_last_here.ensures.last (sym w.is_last-is ∙ still) s
+            c.loop-inst.inst _ between off (inv.last way.if-is_last.false)
+            (λ s here_begun. c.begin-is_last_here.ensures.last (sym way.is_last-is ∙ still) s
             (ap is_unlearned start ∙ sym begins ∙ here_begun))
       ];
       limit = c.begin-is_last_here.ensures.limit ∙ inv.limit;

@@ -28,10 +28,10 @@ loop-inst-preserved c =
       low = omega (arith, inv.low, ahead);
       walked = walked_more _ _ (stand_at c.loop-inst.self) _ c.loop-inst.inst _ ahead
           (λ j low high. given_out c.args.stretch j _ (out j low high))
-          (written_here (option_map (λ t. after_learn t Noop)) (stand_at c.loop-inst.self)
+          (written_here (option_map (λ s. after_learn s Noop)) (stand_at c.loop-inst.self)
           (stand_at c.learn_noop.new.self) c.loop-inst.inst c.learn_noop.ensures
           ∙ sym (given_in c.args.stretch c.loop-inst.inst _ here))
-          (written_off (option_map (λ t. after_learn t Noop)) (stand_at c.loop-inst.self)
+          (written_off (option_map (λ s. after_learn s Noop)) (stand_at c.loop-inst.self)
           (stand_at c.learn_noop.new.self) c.loop-inst.inst c.learn_noop.ensures)
           inv.walked;
     }
