@@ -17,6 +17,10 @@ greatest_front = 4102
 abbrev pub greatest_round : ℕ
 greatest_round = 65535
 
+-- the greatest number of a ballot: the greatest round, and the last of seven servers
+abbrev pub greatest_ballot : ℕ
+greatest_ballot = 458751
+
 -- how many messages may be sent
 abbrev pub message_limit : ℕ
 message_limit = 262144

@@ -16,7 +16,7 @@ abbrev pub is_for : ServerId → Option Message → Bool
 is_for p None = true
 is_for p (Some x) = goes_to p x
 
--- its servers are members, its instance is one of the 4,096, and what has a first phase has a ballot above 0
+-- its servers are members, its instance is one of those that there are, and what has a first phase has a ballot above 0
 abbrev pub is_within : Membership → Message → Bool
 is_within m (Suggest from inst ticket) = nat_lt from m.count && nat_lt inst instance_count
 is_within m (Skip from first stop) = (nat_lt from m.count && nat_lt first instance_count) && nat_le stop greatest_front

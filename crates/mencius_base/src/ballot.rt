@@ -1,4 +1,4 @@
-ghost use Rattle.mencius_base.specs.Limits.{greatest_round};
+ghost use Rattle.mencius_base.specs.Limits.{greatest_ballot, greatest_round};
 ghost use Rattle.std.specs.Prelude.{◌≡◌, ◌<◌, ◌≤◌, ◌↔◌, IsSome, IfSome};
 ghost use Rattle.mencius_base.specs.Members.{ballot_of, leader, round};
 
@@ -15,14 +15,14 @@ pub struct Ballot {
 }
 
 impl Model for Ballot {
+    ghost use Rattle.mencius_base.specs.Limits.{greatest_ballot};
     ghost use Rattle.std.specs.Prelude.{ℕ, ◌≤◌};
 
     ghost Value = { ℕ };
 
     ghost view = { λ x. x.number };
 
-    // The greatest ballot of seven servers.
-    ghost invariant = { λ x. x.number ≤ 458751 };
+    ghost invariant = { λ x. x.number ≤ greatest_ballot };
 
     ghost inverse = { λ n. record { number = n } };
 }
@@ -49,7 +49,7 @@ impl Ballot {
     /// The number, 0 for the owner's ballot. Ballots are ordered by it.
     pub fn number(self) -> u32
         ensures number { result ≡ self }
-        ensures small { result ≤ 458751 }
+        ensures small { result ≤ greatest_ballot }
     {
         self.number
     }
@@ -57,7 +57,7 @@ impl Ballot {
     /// The round, 0 for the owner's ballot.
     pub fn round(self, members: Members) -> u32
         ensures round { result ≡ round members self }
-        ensures small { result ≤ 458751 }
+        ensures small { result ≤ greatest_ballot }
     {
         self.number / members.count() as u32
     }

@@ -121,7 +121,7 @@ low_next m few w v e all h =
       low = next_along IsLow m w v e all.low h (low_head e) (low_lines m few w e all.reached);
     }
 
--- what is learned is learned at one of the 4,096 instances
+-- what is learned is learned at one of the instances that there are
 pub learned_small : (m : Membership) → m.count ≤ most_servers → (w : Trace) → IsReached m w → (p i : ℕ) (z : Value)
     → learned w p i ≡ Some z → i < instance_count
 learned_small m few w r p i z h =

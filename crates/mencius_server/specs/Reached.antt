@@ -12,7 +12,7 @@ use Rattle.mencius_model.specs.Next.{IsReached, lines, found_by_server, first_ca
 use Rattle.coord_paxos.specs.Reached.{slot_at}
 use Rattle.mencius_server.specs.State.{ServerState}
 
--- server p after a trace: its front and each of its 4,096 slots by the definitions
+-- server p after a trace: its front and its slot for each instance by the definitions
 abbrev pub server_at : Membership → Trace → ServerId → ServerState
 server_at m w p = record { members = m; id = p; front = front m w p; slots = map (slot_at m w p) instances }
 

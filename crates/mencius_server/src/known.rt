@@ -1,4 +1,4 @@
-//! What a server knows of the 4,096 instances.
+//! What a server knows of all instances.
 ghost use Rattle.mencius_base.specs.Limits.{greatest_front, greatest_round, instance_count};
 ghost use Rattle.coord_paxos.specs.Slot.{accept_answer, prepare_answer, promise_answer};
 ghost use Rattle.coord_paxos.specs.SlotState.{SlotState};
