@@ -44,14 +44,6 @@ impl Key {
     {
         self.name.as_str()
     }
-
-    /// The text that the key was made of.
-    pub fn into_string(self) -> String
-        ensures { string_bytes result ≡ self }
-    {
-        let Key { name } = self;
-        name
-    }
 }
 
 /// The text of a map's entry, as its bytes. Whether they make a good text is for [`Command::new`].
@@ -82,14 +74,6 @@ impl Text {
         ensures { result.now ≡ self.now }
     {
         self.text.as_str()
-    }
-
-    /// The text that it was made of.
-    pub fn into_string(self) -> String
-        ensures { string_bytes result ≡ self }
-    {
-        let Text { text } = self;
-        text
     }
 }
 
