@@ -4,19 +4,19 @@ use Rattle.rand_pcg.specs.Lcg.{Lcg, advance, next_state, state_after, started, i
 use Rattle.rand_pcg.specs.Pcg.{multiplier_64}
 use Rattle.mencius_choices.specs.Choices.{drawing_after, drawn, first_drawing, one_on, three_on}
 
-one_later : (x m p n s : ℕ) → state_after x m p (suc n) s ≡ next_state x m p (state_after x m p n s)
+one_later : (x m add n s : ℕ) → state_after x m add (suc n) s ≡ next_state x m add (state_after x m add n s)
 unfolding state_after
-one_later x m p zero s = refl
-one_later x m p (suc n) s = one_later x m p n (next_state x m p s)
+one_later x m add zero s = refl
+one_later x m add (suc n) s = one_later x m add n (next_state x m add s)
 
 advance_more : (n : ℕ) (g : Lcg) → advance 64 multiplier_64 (suc n) g ≡ one_on (advance 64 multiplier_64 n g)
 advance_more n g = ap (λ (s : ℕ). record g { state = s }) (one_later 64 multiplier_64 g.increment n g.state)
 
-three_more : (t : ℕ) (g : Lcg)
-    → three_on (advance 64 multiplier_64 (3 * t) g) ≡ advance 64 multiplier_64 (3 * (t + 1)) g
-three_more t g =
-    let n : ℕ = 3 * t in
-    let up : 3 * (t + 1) ≡ suc (suc (suc n)) = omega arith in
+three_more : (turns : ℕ) (g : Lcg)
+    → three_on (advance 64 multiplier_64 (3 * turns) g) ≡ advance 64 multiplier_64 (3 * (turns + 1)) g
+three_more turns g =
+    let n : ℕ = 3 * turns in
+    let up : 3 * (turns + 1) ≡ suc (suc (suc n)) = omega arith in
     sym (ap (λ (m : ℕ). advance 64 multiplier_64 m g) up
     ∙ (advance_more (suc (suc n)) g
     ∙ (ap one_on (advance_more (suc n) g) ∙ ap (λ (h : Lcg). one_on (one_on h)) (advance_more n g))))

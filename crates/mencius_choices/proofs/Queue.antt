@@ -8,11 +8,12 @@ use Rattle.mencius_choices.specs.Plans.{IsFound, IsLed, PlanState, after_place, 
 use Rattle.mencius_choices.specs.Plans.{rows_from}
 use Rattle.mencius_choices.specs.Choices.{left_at, led_by}
 
-from_to-more : (a b : ℕ) → a < b → from_to a b ≡ a ∷ from_to (a + 1) b
-from_to-more a b h = let one : b - a ≡ suc (b - (a + 1)) = omega arith in ap (range_with_len a) one
+from_to-more : (first stop : ℕ) → first < stop → from_to first stop ≡ first ∷ from_to (first + 1) stop
+from_to-more first stop h =
+    let one : stop - first ≡ suc (stop - (first + 1)) = omega arith in ap (range_with_len first) one
 
-from_to-none : (a b : ℕ) → b ≤ a → from_to a b ≡ []
-from_to-none a b h = let none : b - a ≡ 0 = omega arith in ap (range_with_len a) none
+from_to-none : (first stop : ℕ) → stop ≤ first → from_to first stop ≡ []
+from_to-none first stop h = let none : stop - first ≡ 0 = omega arith in ap (range_with_len first) none
 
 -- one server's command more
 row_from-more : (plan : PlanState) (worker row p : ℕ) → p < length plan.commands

@@ -43,6 +43,6 @@ pub record IsIndex (ids keys : List ℕ) (tickets : List TicketNo) : Type 0 wher
   pub many : length keys ≡ length ids
   pub same : length tickets ≡ length keys
   pub rising : IsRising keys
-  pub told : (i : ℕ) → i < length keys
-      → (get_or tickets i 0 < length ids) × (get_or ids (get_or tickets i 0) 0 ≡ get_or keys i 0)
-  pub kept : (t : TicketNo) → t < length ids → (i : ℕ) × (i < length keys) × (get_or tickets i 0 ≡ t)
+  pub told : (n : ℕ) → n < length keys
+      → (get_or tickets n 0 < length ids) × (get_or ids (get_or tickets n 0) 0 ≡ get_or keys n 0)
+  pub kept : (t : TicketNo) → t < length ids → (n : ℕ) × (n < length keys) × (get_or tickets n 0 ≡ t)

@@ -78,15 +78,15 @@ sent_in x (l ∷ w) h =
 pub same : (a : ℕ) → eqb a a ≡ true
 same a = eq-eqb a a refl
 
-pub same_two : (a b : ℕ) → (eqb a a && eqb b b) ≡ true
-same_two a b = rw (same a) (same b)
+pub same_two : (x y : ℕ) → (eqb x x && eqb y y) ≡ true
+same_two x y = rw (same x) (same y)
 
 if_some : {A : Type 0} (a : Bool) (x y : A) → cond a (Some x) None ≡ Some y → (a ≡ true) × (x ≡ y)
 if_some true x y h = (refl, cc)
 if_some false x y h = absurd (cc)
 
-both_eq : (a b c d : ℕ) → (eqb a b && eqb c d) ≡ true → (a ≡ b) × (c ≡ d)
-both_eq a b c d h = let r = and_parts (eqb a b) (eqb c d) h in (eqb-true a b r.0, eqb-true c d r.1)
+both_eq : (x y z n : ℕ) → (eqb x y && eqb z n) ≡ true → (x ≡ y) × (z ≡ n)
+both_eq x y z n h = let r = and_parts (eqb x y) (eqb z n) h in (eqb-true x y r.0, eqb-true z n r.1)
 
 -- ---- promises and acceptances
 

@@ -315,16 +315,17 @@ filter-below_none test n (suc m) e =
     ap (λ (j : ℕ). filter test (below j)) next ∙ filter-below_more test (n + m)
     ∙ rw (e (n + m) past (omega arith), append-nil) (filter-below_none test n m (λ j low high. e j low (omega arith)))
 
-pub count_by-below_le : (test : ℕ → Bool) (a b : ℕ) → a ≤ b → count_by test (below a) ≤ count_by test (below b)
-count_by-below_le test a zero h = let e : a ≡ 0 = omega arith in rw e (omega arith)
-count_by-below_le test a (suc b) h =
+pub count_by-below_le : (test : ℕ → Bool) (least most : ℕ) → least ≤ most
+    → count_by test (below least) ≤ count_by test (below most)
+count_by-below_le test least zero h = let e : least ≡ 0 = omega arith in rw e (omega arith)
+count_by-below_le test least (suc most) h =
     ⊎_elim
-    (λ (e : a ≡ suc b). rw e (omega arith))
-    (λ (ne : a ≡ suc b → ⊥).
-    let next : suc b ≡ b + 1 = omega arith in
-    let low : a ≤ b = omega arith in
-    rw next (omega (arith, count_by-below_more test b, count_by-below_le test a b low)))
-    (cases_eq a (suc b))
+    (λ (e : least ≡ suc most). rw e (omega arith))
+    (λ (ne : least ≡ suc most → ⊥).
+    let next : suc most ≡ most + 1 = omega arith in
+    let low : least ≤ most = omega arith in
+    rw next (omega (arith, count_by-below_more test most, count_by-below_le test least most low)))
+    (cases_eq least (suc most))
 
 filter-range_same : (g g' : ℕ → Bool) (a n : ℕ) → ((j : ℕ) → j < a + n → g j ≡ g' j)
     → filter g (range_with_len a n) ≡ filter g' (range_with_len a n)

@@ -67,11 +67,11 @@ room_more test n room new i used has = record { enough = omega (arith, count_by-
 -- the new ballot is above the one that was tried
 pub tried_below : (m : Membership) (p : ℕ) (s : SlotState) → 1 ≤ m.count → s.trying < ballot_after m p s
 tried_below m p s some = above s.trying (s.promised / m.count) m.count p some where
-  above : (a c n p : ℕ) → 1 ≤ n → a < (max (a / n) c + 1) * n + p
-  above a c n p some =
-      let d : ℕ = a / n in
-      let grows : (a / n + 1) * n ≤ (max (a / n) c + 1) * n = mul-le-mul_right n (omega arith) in
-      let whole : a < (a / n + 1) * n = omega arith in
+  above : (b promised n p : ℕ) → 1 ≤ n → b < (max (b / n) promised + 1) * n + p
+  above b promised n p some =
+      let d : ℕ = b / n in
+      let grows : (b / n + 1) * n ≤ (max (b / n) promised + 1) * n = mul-le-mul_right n (omega arith) in
+      let whole : b < (b / n + 1) * n = omega arith in
       omega arith
 
 abbrev slots_revoked : ServerState → ℕ → List SlotState

@@ -174,17 +174,17 @@ module _ (m : Membership) (w : Trace) (p q : ℕ) (r : IsReached m w) (member : 
       among (is_covered m w p q) instances j ∙ ap (λ (d : Bool). is_covered m w p q j && d) (is_instance j small)
       ∙ and-true (is_covered m w p q j) ∙ e in
       tried_after m w p j covered (Suspected p q ∷ w)
-      ∙ ap (λ (t : ℕ). cond (list_any (λ (i : ℕ). eqb i j) covered) (max t (ballot_for m w p j)) t)
+      ∙ ap (λ (b : ℕ). cond (list_any (λ (i : ℕ). eqb i j) covered) (max b (ballot_for m w p j)) b)
       (greatest_quiet (tried_by p j) (Suspected p q) w refl)
       ∙ ap (λ (d : Bool). cond d (max (trying w p j) (ballot_for m w p j)) (trying w p j)) which
-      ∙ ap (λ (t : ℕ). cond a t (trying w p j)) (greater_one (trying w p j) (ballot_for m w p j) (above j))
+      ∙ ap (λ (b : ℕ). cond a b (trying w p j)) (greater_one (trying w p j) (ballot_for m w p j) (above j))
     where
       and-true : (d : Bool) → (d && true) ≡ d
       and-true true = refl
       and-true false = refl
 
-      greater_one : (t x : ℕ) → t < x → max t x ≡ x
-      greater_one t x h = omega arith
+      greater_one : (b x : ℕ) → b < x → max b x ≡ x
+      greater_one b x h = omega arith
 
   slot_same : (j b : ℕ) → slot_trying m later p j b ≡ slot_trying m w p j b
   slot_same j b =

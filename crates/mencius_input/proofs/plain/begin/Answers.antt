@@ -7,9 +7,9 @@ use Rattle.mencius_input.proofs.Punctuated.{opens_array, opens_object, stray}
 use Rattle.mencius_input.proofs.plain.begin.Goals as goal
 
 -- a text that begins with a byte, once that byte is known
-begun : (text behind : List ℕ) (x c : ℕ) → text ≡ x ∷ drop 1 text → text ≡ first text ∷ behind → x ≡ c
-    → text ≡ c ∷ behind
-begun text behind x c e same equal = same ∙ ap (λ (byte : ℕ). byte ∷ behind) (ap first e ∙ equal)
+begun : (text behind : List ℕ) (x other : ℕ) → text ≡ x ∷ drop 1 text → text ≡ first text ∷ behind → x ≡ other
+    → text ≡ other ∷ behind
+begun text behind x other e same equal = same ∙ ap (λ (byte : ℕ). byte ∷ behind) (ap first e ∙ equal)
 
 either : {A B C : Type 0} → A ⊎ (B × C) → A ⊎ C
 either (inl a) = inl a
