@@ -41,6 +41,14 @@ neither true r h = absurd (cc)
 neither false true h = absurd (cc)
 neither false false h = (refl, refl)
 
+-- where no test passes, it is the last of four
+pub last_of_four : {A : Type 0} (one two three : Bool) (x y z last : A) → one ≡ false → two ≡ false → three ≡ false
+    → cond one x (cond two y (cond three z last)) ≡ last
+last_of_four true two three x y z last e fails lacks = absurd (cc)
+last_of_four false true three x y z last e fails lacks = absurd (cc)
+last_of_four false false true x y z last e fails lacks = absurd (cc)
+last_of_four false false false x y z last e fails lacks = refl
+
 -- ---- blanks
 
 pub is_one_blank : (P : ℕ → Type 0) → P 32 → P 9 → P 10 → P 13 → (byte : ℕ) → is_space byte ≡ true → P byte

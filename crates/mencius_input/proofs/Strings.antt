@@ -1,5 +1,5 @@
 -- The text of a string, in a text without a backslash.
-use Rattle.std.proofs.Common.{◌≡◌, ◌≢◌, ℕ, ◌+◌, ◌<◌, ◌≤◌, ◌==◌, List, [], ◌∷◌, ◌++◌, length, get_or, drop, take, Bool, true, false, cond, not, ◌||◌, inl, inr, Option, Some, None, refl, ap, sym, ◌∙◌, arith, zero, suc, nat_lt}
+use Rattle.std.proofs.Common.{◌≡◌, ◌≢◌, ℕ, ◌+◌, ◌<◌, ◌≤◌, ◌==◌, List, [], ◌∷◌, ◌++◌, length, get_or, drop, take, Bool, true, false, not, ◌||◌, inl, inr, Option, Some, None, refl, ap, sym, ◌∙◌, arith, zero, suc, nat_lt}
 use Rattle.std.specs.List.{position}
 use Rattle.std.proofs.lemmas.Bool.{and_parts, eqb-true, ltb-true, or_cases}
 use Rattle.std.proofs.lemmas.List.{drop_more, drop_all}
@@ -9,7 +9,7 @@ use Rattle.json.specs.Lex.{between, lex, in_string}
 use Rattle.json.specs.Text.{content, plain, prepend}
 use Rattle.mencius_input.specs.Tokens.{is_plain, is_stop}
 use Rattle.mencius_input.proofs.Cuts.{at_place, no_place}
-use Rattle.mencius_input.proofs.Lexing.{eqb_false, neither, not_true, plain-drop, string_passes}
+use Rattle.mencius_input.proofs.Lexing.{eqb_false, last_of_four, neither, not_true, plain-drop, string_passes}
 
 -- ---- up to a place before which the text does not stop
 
@@ -25,17 +25,10 @@ prepend-prepend : (x : ℕ) (s : List ℕ) (r : Option (List ℕ)) → prepend (
 prepend-prepend x s None = refl
 prepend-prepend x s (Some r) = refl
 
-third : {A : Type 0} (one two three : Bool) (x y z other : A) → one ≡ false → two ≡ false → three ≡ false
-    → cond one x (cond two y (cond three z other)) ≡ other
-third true two three x y z other e fails lacks = absurd (cc)
-third false true three x y z other e fails lacks = absurd (cc)
-third false false true x y z other e fails lacks = absurd (cc)
-third false false false x y z other e fails lacks = refl
-
 one_passed : (x : ℕ) (xs : List ℕ) → (x == 34) ≡ false → (x == 92) ≡ false → nat_lt x 32 ≡ false
     → content plain (x ∷ xs) ≡ prepend (x ∷ []) (content plain xs)
 unfolding content
-one_passed x xs e fails lacks = third (x == 34) (x == 92) (nat_lt x 32) _ _ _ _ e fails lacks
+one_passed x xs e fails lacks = last_of_four (x == 34) (x == 92) (nat_lt x 32) _ _ _ _ e fails lacks
 
 passed : (xs : List ℕ) (n : ℕ) → n ≤ length xs → ((m : ℕ) → m < n → is_stop (get_or xs m 0) ≡ false)
     → is_plain xs ≡ true → Passed xs n

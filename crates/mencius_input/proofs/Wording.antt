@@ -10,7 +10,7 @@ use Rattle.json.specs.Token.{Token, bad, boolean, null, number}
 use Rattle.json.specs.Word.{after_number, ends_word, head, is_operator, is_space, literal, word}
 use Rattle.json.specs.Ascii.{true_text, false_text, null_text}
 use Rattle.mencius_input.specs.Tokens.{first, is_delimiter, is_spelled, is_word}
-use Rattle.mencius_input.proofs.Lexing.{class_by, eqb_false, word_ends, word_passes}
+use Rattle.mencius_input.proofs.Lexing.{class_by, eqb_false, last_of_four, word_ends, word_passes}
 use Rattle.mencius_input.proofs.Punctuated.{as_word, bad_token}
 use Rattle.mencius_input.proofs.Spelled.{is_one_delimiter, no_number, number_word}
 
@@ -164,20 +164,13 @@ null_word rest ends = ap (λ bit. cond bit null bad) ends
 no_letter : (x y : ℕ) (xs : List ℕ) → after_number (x ∷ xs) ≡ Some [] → after_number (y ∷ xs) ≡ None → (x == y) ≡ false
 no_letter x y xs e none = eqb_false x y (λ is. (let same = ap (λ (byte : ℕ). after_number (byte ∷ xs)) is in cc))
 
-fourth : {A : Type 0} (one two three : Bool) (x y z last : A) → one ≡ false → two ≡ false → three ≡ false
-    → cond one x (cond two y (cond three z last)) ≡ last
-fourth true two three x y z last e fails lacks = absurd (cc)
-fourth false true three x y z last e fails lacks = absurd (cc)
-fourth false false true x y z last e fails lacks = absurd (cc)
-fourth false false false x y z last e fails lacks = refl
-
 pub numbered : (spelling rest : List ℕ) → is_spelled spelling ≡ true → ends_word rest ≡ true
     → after_number spelling ≡ Some []
     → word (spelling ++ rest) ≡ number spelling
 unfolding word after_number
 numbered [] rest h ends e = absurd (cc)
 numbered (x ∷ xs) rest h ends e =
-    fourth (x == 116) (x == 102) (x == 110) _ _ _ _ (no_letter x 116 xs e refl) (no_letter x 102 xs e refl)
+    last_of_four (x == 116) (x == 102) (x == 110) _ _ _ _ (no_letter x 116 xs e refl) (no_letter x 102 xs e refl)
     (no_letter x 110 xs e refl)
     ∙ number_word rest ends (x ∷ xs) h e
 
