@@ -30,7 +30,7 @@ promise_ignored s q b o same done = either (eqb b s.trying)
 proposed_once : (l : Option Value) (a : Bool) (z x : Value)
     → cond ((is_none l && is_none (Some z)) && a) (Some x) None ≡ None
 proposed_once None a z x = refl
-proposed_once (Some u) a z x = refl
+proposed_once (Some y) a z x = refl
 
 promise_noted : (s : SlotState) (q : ℕ) (r : Option Vote) → with_promise s q r ≡ s → (o : Option Value)
     → to_propose s ≡ o

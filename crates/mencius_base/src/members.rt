@@ -64,7 +64,7 @@ impl Members {
 
     /// The least instance that `server` owns, not below `from`. The server is one of the members,
     /// and `from` is at most 4,102.
-    #[tactic(auto, using(crate::proofs::Owned::first_owned_owner, crate::proofs::Owned::first_owned_least))]
+    #[tactic(auto, using(crate::proofs::LeastOwned::first_owned_owner, crate::proofs::LeastOwned::first_owned_least))]
     pub fn first_owned(self, server: u8, from: u32) -> u32
         requires member { server < self.count }
         requires small { from ≤ greatest_front }

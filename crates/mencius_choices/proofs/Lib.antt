@@ -1,4 +1,4 @@
-pub mod Drawn
-pub mod Queue
-pub mod Taken
-pub mod Worked
+pub mod DrawnWords
+pub mod CommandOrder
+pub mod ChosenEvents
+pub mod WorkedChoices

@@ -1,2 +1,2 @@
 pub mod CommandLines
-pub mod Texts
+pub mod ArgumentTexts

@@ -1,2 +1,2 @@
-pub mod Course
-pub mod Stepping
+pub mod JournalMoments
+pub mod HandDeliveries

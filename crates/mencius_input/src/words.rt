@@ -68,7 +68,7 @@ fn one_digit(word: &str) -> Option<u8>
 }
 
 /// The number that a word is, 0 to 255. Another word is a bad shape.
-#[tactic(auto, using(crate::proofs::Numbers::parsed), unfolding(crate::specs::Words::number_of))]
+#[tactic(auto, using(crate::proofs::NumberWords::parsed), unfolding(crate::specs::Words::number_of))]
 pub(crate) fn parse_u8(word: &str) -> Result<u8, AppFault>
     ensures { result ≡ judged is_u8 (number_of word.now) }
 {
@@ -85,7 +85,7 @@ pub(crate) fn parse_u8(word: &str) -> Result<u8, AppFault>
 }
 
 /// The number that a word is, 0 to 4,294,967,295. Another word is a bad shape.
-#[tactic(auto, using(crate::proofs::Numbers::parsed), unfolding(crate::specs::Words::number_of))]
+#[tactic(auto, using(crate::proofs::NumberWords::parsed), unfolding(crate::specs::Words::number_of))]
 pub(crate) fn parse_u32(word: &str) -> Result<u32, AppFault>
     ensures { result ≡ judged is_u32 (number_of word.now) }
 {

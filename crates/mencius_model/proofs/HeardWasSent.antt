@@ -62,17 +62,17 @@ higher_left y (Some z) =
 
 higher_right : (o : Option Vote) (z : Vote) → (x : Vote) × (higher_vote o (Some z) ≡ Some x) × (z.ballot ≤ x.ballot)
 higher_right None z = (z, refl, omega arith)
-higher_right (Some u) z =
-    elim (cases_Bool (ltb u.ballot z.ballot)) [
+higher_right (Some y) z =
+    elim (cases_Bool (ltb y.ballot z.ballot)) [
       | inl e ↦ (z, rw e, omega arith)
-      | inr e ↦ (u, rw e, omega (arith, ltb-false u.ballot z.ballot e))
+      | inr e ↦ (y, rw e, omega (arith, ltb-false y.ballot z.ballot e))
     ]
 
 higher_cases : (o r : Option Vote) (x : Vote) → higher_vote o r ≡ Some x → (o ≡ Some x) ⊎ (r ≡ Some x)
 higher_cases None r x h = inr h
-higher_cases (Some u) None x h = inl h
-higher_cases (Some u) (Some y) x h =
-    elim (cases_Bool (ltb u.ballot y.ballot)) [
+higher_cases (Some y) None x h = inl h
+higher_cases (Some y) (Some z) x h =
+    elim (cases_Bool (ltb y.ballot z.ballot)) [
       | inl e ↦ inr (rw e at h)
       | inr e ↦ inl (rw e at h)
     ]
@@ -151,7 +151,7 @@ promiser w p i b q h =
       vote = s.1;
       promise = rw s.2 (heard_in w p r.0 r.1);
       within =
-          λ u e.
-          fold_reaches (map (vote_reported i b) (heard w p)) None u
-          (in_votes i b (heard w p) r.0 u r.1 (ap (vote_reported i b) (sym s.2) ∙ (own_vote q s.0 i b s.1 ∙ e)));
+          λ x e.
+          fold_reaches (map (vote_reported i b) (heard w p)) None x
+          (in_votes i b (heard w p) r.0 x r.1 (ap (vote_reported i b) (sym s.2) ∙ (own_vote q s.0 i b s.1 ∙ e)));
     }

@@ -59,7 +59,7 @@ pub record MayPromise (w : Trace) (p to : ServerId) (i : Inst) (b : BallotNo) (o
 -- the ballot is in the vote's reach
 abbrev pub Reaches : Option Vote → BallotNo → Type 0
 Reaches None b = ⊥
-Reaches (Some u) b = b ≤ u.ballot
+Reaches (Some x) b = b ≤ x.ballot
 
 -- one server's promise, and the highest vote covers its vote
 pub record HasPromised (w : Trace) (q : ServerId) (i : Inst) (b : BallotNo) (highest : Option Vote) : Type 0 where

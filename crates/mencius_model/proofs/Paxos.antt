@@ -17,7 +17,7 @@ use Rattle.mencius_model.proofs.AnswersLast.{promise_within, acceptance_within, 
 -- the vote was proposed, below the ballot
 abbrev pub Backed : Trace → Inst → BallotNo → Option Vote → Type 0
 Backed w i b None = Unit {0}
-Backed w i b (Some u) = (u.ballot < b) × (proposed w i u.ballot ≡ Some u.value)
+Backed w i b (Some x) = (x.ballot < b) × (proposed w i x.ballot ≡ Some x.value)
 
 -- a promise by q at (i, b) with this vote: whatever q accepted below b, the vote's ballot is none of the lesser
 pub record IsKept (w : Trace) (q : ServerId) (i : Inst) (b : BallotNo) (o : Option Vote) : Type 0 where
@@ -38,7 +38,7 @@ pub record IsSafe (m : Membership) (w : Trace) (i : Inst) (b : BallotNo) (z : Va
 
 backed_more : (l : Line) (w : Trace) (i b : ℕ) (o : Option Vote) → Backed w i b o → Backed (l ∷ w) i b o
 backed_more l w i b None h = h
-backed_more l w i b (Some u) h = (h.0, proposed_more l w i u.ballot u.value h.1)
+backed_more l w i b (Some x) h = (h.0, proposed_more l w i x.ballot x.value h.1)
 
 backed_from : (w : Trace) (i b : ℕ) (h : Option Vote) → ((z : Vote) → h ≡ Some z → Backed w i b (Some z))
     → Backed w i b h
@@ -92,7 +92,7 @@ promise_covers m (l ∷ w) grown q to i b o (inl e) =
     let may : MayPromise w q to i b o = rw (← e) at grown.1 in
     let kept : IsKept w q i b o = rw may.is (vote_kept m w grown.0 q i b (accepted w q i) refl may.above) in
     record {
-      covers = λ t c h lt. elim h [ inl x ↦ absurd (cc) | inr x ↦ kept.covers t c x lt ];
+      covers = λ to c h lt. elim h [ inl x ↦ absurd (cc) | inr x ↦ kept.covers to c x lt ];
       backed = backed_more l w i b o kept.backed;
     }
 promise_covers m (l ∷ w) grown q to i b o (inr h) =
@@ -100,9 +100,9 @@ promise_covers m (l ∷ w) grown q to i b o (inr h) =
     let s = promise_within w q to i b o h in
     record {
       covers =
-          λ t c y lt. elim y [
-            | inl x ↦ let may : MayAccept w q t i c = rw (← x) at grown.1 in absurd (omega (arith, may.free, s, lt))
-            | inr x ↦ covered.covers t c x lt
+          λ to c y lt. elim y [
+            | inl x ↦ let may : MayAccept w q to i c = rw (← x) at grown.1 in absurd (omega (arith, may.free, s, lt))
+            | inr x ↦ covered.covers to c x lt
           ];
       backed = backed_more l w i b o covered.backed;
     }
@@ -142,7 +142,7 @@ safe_at m w p i b z grown may =
           ((promise_covers m w grown q r.to i b r.vote r.promise).covers to c h lt) r.within;
       backed =
           backed_from w i b may.highest
-          (λ u e. let r = may.reported u e in (promise_covers m w grown r.0 r.1 i b (Some u) r.2).backed);
+          (λ x e. let r = may.reported x e in (promise_covers m w grown r.0 r.1 i b (Some x) r.2).backed);
       is = may.is;
     }
 
@@ -165,10 +165,10 @@ module _ (m : Membership) (w : Trace) (g : IsGrown m w) (i c : ℕ) (z : Value) 
   above : (b : ℕ) (x : Value) (h : Option Vote) → Reaches h c → Backed w i b h → x ≡ value_or_noop h
       → ((between : ℕ) (y : Value) → between < b → c < between → proposed w i between ≡ Some y → y ≡ z) → x ≡ z
   above b x None r backed is rest = absurd r
-  above b x (Some u) r backed is rest =
-      elim (cases_lt c u.ballot) [
-        | inl lt ↦ is ∙ rest u.ballot u.value backed.0 lt backed.1
-        | inr ge ↦ let e : u.ballot ≡ c = omega (arith, r, ge) in let s = backed.1 in cc
+  above b x (Some highest) r backed is rest =
+      elim (cases_lt c highest.ballot) [
+        | inl lt ↦ is ∙ rest highest.ballot highest.value backed.0 lt backed.1
+        | inr ge ↦ let e : highest.ballot ≡ c = omega (arith, r, ge) in let s = backed.1 in cc
       ]
 
   pub chosen_above_to : (n b : ℕ) (x : Value) → b ≤ n → c < b → proposed w i b ≡ Some x → x ≡ z
@@ -188,7 +188,7 @@ module _ (m : Membership) (w : Trace) (g : IsGrown m w) (i : ℕ) where
       → ((c : ℕ) (y : Value) → c < b → proposed w i c ≡ Some y → (y ≡ Noop) ⊎ (proposed w i 0 ≡ Some y))
       → (x ≡ Noop) ⊎ (proposed w i 0 ≡ Some x)
   under b x None backed is rest = inl is
-  under b x (Some u) backed is rest = rw is (rest u.ballot u.value backed.0 backed.1)
+  under b x (Some highest) backed is rest = rw is (rest highest.ballot highest.value backed.0 backed.1)
 
   origin_below : (n b : ℕ) (x : Value) → b ≤ n → proposed w i b ≡ Some x → (x ≡ Noop) ⊎ (proposed w i 0 ≡ Some x)
   origin_below zero b x le h = let e : b ≡ 0 = omega arith in inr (rw e at h)

@@ -29,8 +29,8 @@ contains_cases y x xs has =
 -- the first vote stands when the second is reported
 abbrev pub Stands : Option Vote → Option Vote → Type 0
 Stands x None = Unit {0}
-Stands None (Some u) = ⊥
-Stands (Some x) (Some u) = u.ballot ≤ x.ballot
+Stands None (Some y) = ⊥
+Stands (Some x) (Some y) = y.ballot ≤ x.ballot
 
 pub higher_vote-stands : (o r : Option Vote) → Stands o r → higher_vote o r ≡ o
 higher_vote-stands None None stands = refl
@@ -112,7 +112,7 @@ promise_reported : (i b : ℕ) (x : Message) (z : Vote) → vote_reported i b x 
 promise_reported i b (Promise from to inst ballot vote) z e = either (eqb inst i) (eqb ballot b) refl refl e
   where
     either : (a d : Bool) → eqb inst i ≡ a → eqb ballot b ≡ d → cond (a && d) vote None ≡ Some z
-        → (p : ℕ) × (t : ℕ) × (Promise from to inst ballot vote ≡ Promise p t i b (Some z))
+        → (p : ℕ) × (q : ℕ) × (Promise from to inst ballot vote ≡ Promise p q i b (Some z))
     either true true here at e =
         let inst_is : inst ≡ i = eqb-true inst i here in
         let ballot_is : ballot ≡ b = eqb-true ballot b at in

@@ -39,7 +39,7 @@ accepted_by p i _ = None
 
 -- the greater of two ballots that may be absent
 abbrev pub greater : Option BallotNo → Option BallotNo → Option BallotNo
-greater None c = c
+greater None o = o
 greater (Some b) None = Some b
 greater (Some b) (Some c) = if nat_lt b c then Some c else Some b
 

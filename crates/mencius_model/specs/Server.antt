@@ -40,7 +40,7 @@ is_noop _ = false
 -- no answer where the test holds
 abbrev pub unless : Bool → Option TicketNo → Option TicketNo
 unless true _ = None
-unless false t = t
+unless false o = o
 
 -- the ticket that p suggested at i waits where p learned no-op there and suggested it at no greater instance
 abbrev pub waits : Trace → ServerId → Inst → Option TicketNo → Option TicketNo

@@ -19,7 +19,7 @@ use Rattle.coord_paxos.specs.Slot.{accept_answer, prepare_answer, promise_answer
 use Rattle.mencius_server.specs.Laws.{AreHearable, HearAddresses, IsHearable, RetryAddresses, SubmitAddresses, SuspectAddresses}
 use Rattle.mencius_server.specs.Machine.{first_waiting, free_at, is_free_at, is_suspected, prepare_for, retry_sent, sent_on, submit_sent, suggest_sent}
 use Rattle.mencius_server.specs.State.{ServerState, slot}
-use Rattle.mencius_server.proofs.Hears.{within_of}
+use Rattle.mencius_server.proofs.HeardMessages.{within_of}
 
 module _ (m : Membership) where
   within_hearable : (x : Message) → is_within m x ≡ true → IsHearable m x

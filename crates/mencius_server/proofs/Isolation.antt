@@ -9,7 +9,7 @@ use Rattle.mencius_model.specs.Next.{next, refused, step_or, with_event}
 use Rattle.mencius_model.proofs.LineServers.{server_of}
 use Rattle.mencius_server.specs.Laws.{ExecutionLeavesAll, LeavesOthers, LossLeavesAll, place_of}
 use Rattle.mencius_server.specs.Reached.{server_at}
-use Rattle.mencius_server.proofs.Others.{execution_stays, loss_stays, others_stay}
+use Rattle.mencius_server.proofs.OtherServers.{execution_stays, loss_stays, others_stay}
 
 place_is : (e : Event) → server_of e ≡ place_of e
 place_is (Submit p c) = refl

@@ -19,10 +19,10 @@ use Rattle.mencius_server.specs.Known.{IsSorted, IsSound, KnownState, is_given_i
 use Rattle.mencius_server.specs.Tallies.{IsTold}
 use Rattle.mencius_server.specs.declared.ranges.Span.{Span}
 use Rattle.mencius_server.specs.declared.stretch.Stretch.{Stretch}
-use Rattle.mencius_server.proofs.Counts.{count_same}
-use Rattle.mencius_server.proofs.Gaps.{unskipped_other}
-use Rattle.mencius_server.proofs.Knows.{same_known, seen}
-use Rattle.mencius_server.proofs.Spans.{within_before, within_past, within_yes}
+use Rattle.mencius_server.proofs.RangeCounts.{count_same}
+use Rattle.mencius_server.proofs.InstanceGaps.{unskipped_other}
+use Rattle.mencius_server.proofs.KnownInstances.{same_known, seen}
+use Rattle.mencius_server.proofs.RisingRanges.{within_before, within_past, within_yes}
 use Rattle.mencius_base.specs.Limits.{instance_count}
 
 noop_again : (a : Bool) (s : SlotState)
@@ -247,8 +247,8 @@ given_same m d slots rs low members h j small =
         → (not (is_passed m rs j) && not (is_learned (stand_at slots j))) ≡ is_none (known_at m slots rs j).learned
     go None e true same = rw (e, same) refl
     go None e false same = rw (e, same) refl
-    go (Some u) e true same = let so = h.told j u small same e in rw (e, same, so) refl
-    go (Some u) e false same = rw (e, same) (twice (is_none u.learned))
+    go (Some s) e true same = let so = h.told j s small same e in rw (e, same, so) refl
+    go (Some s) e false same = rw (e, same) (twice (is_none s.learned))
 
 -- a stretch of q has its instances from one place on and below another
 pub record IsAligned (q first stop : ℕ) (a : Stretch) : Type 0 where

@@ -1,8 +1,8 @@
-pub mod Worked
-pub mod Rounds
-pub mod Members
-pub mod GivenUp
-pub mod Messages
-pub mod Same
-pub mod Whole
-pub mod Settled
+pub mod WorkedTraces
+pub mod TextLoops
+pub mod MemberAnswers
+pub mod SkippedLines
+pub mod MessageLines
+pub mod ToldParts
+pub mod ToldEvents
+pub mod SettledMessages

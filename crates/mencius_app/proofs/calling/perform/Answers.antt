@@ -1,6 +1,6 @@
 use Rattle.std.proofs.Common.{inl, inr, refl}
 use Rattle.clap.specs.Words.{kind_of}
-use Rattle.mencius_app.proofs.Explained.{unexplained}
+use Rattle.mencius_app.proofs.CheckWords.{unexplained}
 use Rattle.mencius_app.proofs.calling.perform.Goals as goal
 
 pub returns-in-Err-clause-misused : goal.returns-in-Err-clause-misused

@@ -1,7 +1,7 @@
 use Rattle.std.proofs.Common.{Err, false, refl}
 use Rattle.std.proofs.lemmas.Result.{IfErr-weaker}
-use Rattle.mencius_app.proofs.Causes.{as_text, of_check, of_result, text_of_replay, text_of_run}
-use Rattle.mencius_app.proofs.Explained.{told_of_check, told_of_result}
+use Rattle.mencius_app.proofs.EndingCauses.{as_text, of_check, of_result, text_of_replay, text_of_run}
+use Rattle.mencius_app.proofs.CheckWords.{told_of_check, told_of_result}
 use Rattle.mencius_app.proofs.calling.perform_task.Goals as goal
 
 pub returns-in-Err-clause-fault : goal.returns-in-Err-clause-fault

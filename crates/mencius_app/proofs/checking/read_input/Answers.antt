@@ -1,7 +1,7 @@
 use Rattle.std.proofs.Common.{◌≡◌, ◌⊎◌, [], IfSome, string_bytes, subst, sym}
 use Rattle.mencius_ends.specs.declared.fault.AppFault.TheVariants.{BadLimit, ReadFailed, NoMemory}
 use Rattle.mencius_app.specs.Check.{AreWordsOf}
-use Rattle.mencius_app.proofs.Explained.{of_any_input}
+use Rattle.mencius_app.proofs.CheckWords.{of_any_input}
 use Rattle.mencius_app.proofs.checking.read_input.Goals as goal
 
 pub returns-in-Err-clause-words : goal.returns-in-Err-clause-words

@@ -2,7 +2,7 @@ use Rattle.std.proofs.Common.{◌≡◌, ◌≤◌, Ok, length, rules, subst}
 use Rattle.std.proofs.lemmas.List.{length-map}
 use Rattle.mencius_base.specs.Limits.{most_servers}
 use Rattle.mencius_input.specs.Plan.{plan, run_in}
-use Rattle.mencius_input.proofs.Plans.{plan_in_range}
+use Rattle.mencius_input.proofs.RunFields.{plan_in_range}
 use Rattle.mencius_app.proofs.plan.read_plan.Goals as goal
 
 -- what was read is in the range of plans

@@ -1,6 +1,6 @@
 use Rattle.mencius_app.specs.Report.{reply_line}
 use Rattle.mencius_cluster.specs.State.{trace_of}
-use Rattle.mencius_trace.proofs.Rounds.{texts_further}
+use Rattle.mencius_trace.proofs.TextLoops.{texts_further}
 use Rattle.mencius_app.proofs.printed.push_replies.Goals as goal
 
 pub loop-ticket-preserved : goal.loop-ticket-preserved

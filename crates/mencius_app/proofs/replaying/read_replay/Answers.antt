@@ -1,6 +1,6 @@
 use Rattle.std.proofs.lemmas.Result.{IfOk-weaker}
 use Rattle.mencius_input.specs.Scenario.{written_in}
-use Rattle.mencius_app.proofs.Judged.{both_of_ok}
+use Rattle.mencius_app.proofs.AnswerFacts.{both_of_ok}
 use Rattle.mencius_app.proofs.replaying.read_replay.Goals as goal
 
 pub returns-clause-text : goal.returns-clause-text

@@ -6,7 +6,7 @@ use Rattle.mencius_model.specs.Executed.{executed}
 use Rattle.mencius_model.specs.Replying.{command_at, commands_of}
 use Rattle.mencius_cluster.specs.State.{trace_of}
 use Rattle.mencius_board.specs.Boards.{longest}
-use Rattle.mencius_board.proofs.Copying.{commands_next, longest_few, take_whole}
+use Rattle.mencius_board.proofs.LongestCopy.{commands_next, longest_few, take_whole}
 use Rattle.mencius_board.proofs.longest.copy_longest.Goals as goal
 
 pub loop-ticket-preserved : goal.loop-ticket-preserved

@@ -2,8 +2,8 @@ use Rattle.std.specs.Prelude.{◌≡◌, ℕ, ◌+◌, ◌<◌, get_or, length, 
 use Rattle.std.proofs.Common.{rules, arith, add-zero, subst, sym}
 use Rattle.std.specs.Vec.Iter.{into_iter_items, into_iter_len}
 use Rattle.mencius_board.specs.Running.{Answers, EndState, IsEndOf}
-use Rattle.mencius_board.proofs.Ended.{ended}
-use Rattle.mencius_board.proofs.Walked.{first_of, more_of}
+use Rattle.mencius_board.proofs.JoinedWorkers.{ended}
+use Rattle.mencius_board.proofs.ListSteps.{first_of, more_of}
 use Rattle.mencius_board.proofs.workers.gather.Goals as goal
 
 pub loop-child-preserved : goal.loop-child-preserved

@@ -2,7 +2,7 @@ use Rattle.std.specs.Prelude.{◌≡◌}
 use Rattle.std.proofs.Common.{sym, subst, ap, ◌∙◌}
 use Rattle.mencius_choices.specs.Choices.{ChooserState, chooser_at, drawn}
 use Rattle.mencius_board.specs.Turns.{EndsTurn, TakesTurn}
-use Rattle.mencius_board.proofs.Turned.{turn_fault, turn_plan}
+use Rattle.mencius_board.proofs.WorkerTurns.{turn_fault, turn_plan}
 use Rattle.mencius_board.proofs.workers.take_turn.Goals as goal
 
 pub returns : goal.returns

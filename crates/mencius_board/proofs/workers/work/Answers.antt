@@ -1,6 +1,6 @@
 use Rattle.std.proofs.Common.{◌≡◌, ap, ◌∙◌}
 use Rattle.mencius_choices.specs.Choices.{ChooserState, drawn}
-use Rattle.mencius_choices.proofs.Drawn.{first_is, turn_more}
+use Rattle.mencius_choices.proofs.DrawnWords.{first_is, turn_more}
 use Rattle.mencius_board.proofs.workers.work.Goals as goal
 
 pub loop-turn-init : goal.loop-turn-init

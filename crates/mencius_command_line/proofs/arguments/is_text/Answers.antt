@@ -1,6 +1,6 @@
 use Rattle.std.proofs.Common.{sym}
 use Rattle.std.proofs.lemmas.Str.{is_utf8-from_IsUtf8}
-use Rattle.mencius_command_line.proofs.Texts.{no_text}
+use Rattle.mencius_command_line.proofs.ArgumentTexts.{no_text}
 use Rattle.mencius_command_line.proofs.arguments.is_text.Goals as goal
 
 pub returns-in-Ok : goal.returns-in-Ok

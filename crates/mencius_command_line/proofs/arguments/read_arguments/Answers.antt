@@ -2,7 +2,7 @@ use Rattle.std.proofs.Common.{◌≡◌, ◌∙◌, ap, map, string_bytes, rules
 use Rattle.std.proofs.lemmas.Result.{IfOk-weaker}
 use Rattle.clap.specs.Words.{FailsBy}
 use Rattle.mencius_command_line.specs.CommandLine.{asked, bytes_of, faults, line_of}
-use Rattle.mencius_command_line.proofs.Texts.{texts_kept}
+use Rattle.mencius_command_line.proofs.ArgumentTexts.{texts_kept}
 use Rattle.mencius_command_line.proofs.arguments.read_arguments.Goals as goal
 
 pub returns-clause-task : goal.returns-clause-task

@@ -1,7 +1,7 @@
 use Rattle.std.proofs.Common.{◌≡◌, ◌<◌, ◌≤◌, [], arith, rules, sym, append-nil}
 use Rattle.mencius_model.specs.Executed.{executed}
 use Rattle.mencius_cluster.specs.State.{trace_of}
-use Rattle.mencius_conclusions.proofs.Course.{comparable}
+use Rattle.mencius_conclusions.proofs.JournalMoments.{comparable}
 use Rattle.mencius_conclusions.proofs.conclusions.histories.Goals as goal
 
 pub returns-clause-comparable : goal.returns-clause-comparable

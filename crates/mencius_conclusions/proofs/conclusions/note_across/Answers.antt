@@ -3,7 +3,7 @@ use Rattle.mencius_base.specs.Members.{Membership}
 use Rattle.mencius_model.specs.Next.{replay}
 use Rattle.mencius_model.specs.Executed.{executed}
 use Rattle.mencius_cluster.specs.State.{trace_of}
-use Rattle.mencius_conclusions.proofs.Course.{comparable, grows}
+use Rattle.mencius_conclusions.proofs.JournalMoments.{comparable, grows}
 use Rattle.mencius_conclusions.proofs.conclusions.note_across.Goals as goal
 
 pub returns-clause-comparable : goal.returns-clause-comparable

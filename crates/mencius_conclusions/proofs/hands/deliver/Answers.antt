@@ -1,4 +1,4 @@
-use Rattle.mencius_conclusions.proofs.Stepping.{delivered_then}
+use Rattle.mencius_conclusions.proofs.HandDeliveries.{delivered_then}
 use Rattle.mencius_conclusions.proofs.hands.deliver.Goals as goal
 
 pub returns-clause-delivery : goal.returns-clause-delivery

@@ -1,7 +1,7 @@
 use Rattle.std.proofs.Common.{rules, arith, drop, length, length-drop}
 use Rattle.std.specs.Prelude.{nat_lt}
 use Rattle.std.proofs.lemmas.List.{take_rest}
-use Rattle.mencius_ends.proofs.Known.{appends_further, took_some}
+use Rattle.mencius_ends.proofs.FurtherCalls.{appends_further, took_some}
 use Rattle.mencius_ends.proofs.write.write_all.Goals as goal
 
 pub loop-written-preserved-in-Ok : goal.loop-written-preserved-in-Ok

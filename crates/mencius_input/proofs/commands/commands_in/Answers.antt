@@ -3,8 +3,8 @@ use Rattle.std.specs.List.{list_all}
 use Rattle.json.specs.Json.{after_end_array}
 use Rattle.mencius_input.specs.Grammar.{command_of, command_within}
 use Rattle.mencius_input.specs.Scenario.{said_by}
-use Rattle.mencius_input.proofs.Next.{stops_at, stops_whole}
-use Rattle.mencius_input.proofs.Noted.{answer_known, list_close, list_further, list_start, list_stop}
+use Rattle.mencius_input.proofs.NextValues.{stops_at, stops_whole}
+use Rattle.mencius_input.proofs.NotedItems.{answer_known, list_close, list_further, list_start, list_stop}
 use Rattle.mencius_input.proofs.commands.commands_in.Goals as goal
 
 pub items-init : goal.items-init

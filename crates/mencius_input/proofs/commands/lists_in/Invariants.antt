@@ -2,7 +2,7 @@ use Rattle.std.proofs.Common.{length, map}
 use Rattle.mencius_input.specs.Noted.{told}
 use Rattle.mencius_input.specs.Plan.{commands_of}
 use Rattle.mencius_input.specs.PlanFields.{lists_within}
-use Rattle.mencius_input.proofs.Noted.{ListSoFar}
+use Rattle.mencius_input.proofs.NotedItems.{ListSoFar}
 use Rattle.mencius_input.proofs.commands.lists_in.Given as goal
 
 abbrev pub invariant-items : goal.invariant-items

@@ -1,8 +1,8 @@
 use Rattle.std.proofs.Common.{Ok, Err, Some, None, ◌∙◌, ap, sym}
 use Rattle.mencius_input.specs.Words.{words}
 use Rattle.mencius_input.specs.Grammar.{command_within, command_of}
-use Rattle.mencius_input.proofs.Judging.{passed_on, shapeless}
-use Rattle.mencius_input.proofs.Reading.{command_one, command_pair, command_cut, command_fault}
+use Rattle.mencius_input.proofs.JudgedParts.{passed_on, shapeless}
+use Rattle.mencius_input.proofs.EventWords.{command_one, command_pair, command_cut, command_fault}
 use Rattle.mencius_input.proofs.event.parse_command.Goals as goal
 
 pub returns-in_err-id : goal.returns-in_err-id

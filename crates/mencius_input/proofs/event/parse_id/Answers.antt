@@ -1,6 +1,6 @@
 use Rattle.std.proofs.Common.{Ok, Err, refl, sym}
-use Rattle.mencius_input.proofs.Judging.{passed_on_as}
-use Rattle.mencius_input.proofs.Reading.{id_one, id_cut}
+use Rattle.mencius_input.proofs.JudgedParts.{passed_on_as}
+use Rattle.mencius_input.proofs.EventWords.{id_one, id_cut}
 use Rattle.mencius_input.proofs.event.parse_id.Goals as goal
 
 pub returns-in_err-client : goal.returns-in_err-client

@@ -3,8 +3,8 @@ use Rattle.mencius_base.specs.declared.command.Op.TheVariants.{Get, Del}
 use Rattle.mencius_input.specs.Judged.{unlimited}
 use Rattle.mencius_input.specs.Words.{name_of, words}
 use Rattle.mencius_input.specs.Grammar.{op_of}
-use Rattle.mencius_input.proofs.Judging.{passed_on, shapeless, made_given}
-use Rattle.mencius_input.proofs.Reading.{op_one, op_set, op_get, op_del, op_other}
+use Rattle.mencius_input.proofs.JudgedParts.{passed_on, shapeless, made_given}
+use Rattle.mencius_input.proofs.EventWords.{op_one, op_set, op_get, op_del, op_other}
 use Rattle.mencius_input.proofs.event.parse_op.Goals as goal
 
 pub returns-in_err-word : goal.returns-in_err-word

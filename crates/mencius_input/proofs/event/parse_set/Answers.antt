@@ -2,8 +2,8 @@ use Rattle.std.proofs.Common.{Ok, Err}
 use Rattle.mencius_input.specs.Judged.{unlimited}
 use Rattle.mencius_input.specs.Words.{words}
 use Rattle.mencius_input.specs.Grammar.{set_of}
-use Rattle.mencius_input.proofs.Judging.{passed_on, shapeless}
-use Rattle.mencius_input.proofs.Reading.{set_one, set_cut}
+use Rattle.mencius_input.proofs.JudgedParts.{passed_on, shapeless}
+use Rattle.mencius_input.proofs.EventWords.{set_one, set_cut}
 use Rattle.mencius_input.proofs.event.parse_set.Goals as goal
 
 pub returns-in_err-key : goal.returns-in_err-key

@@ -1,6 +1,6 @@
 use Rattle.std.proofs.Common.{arith}
 use Rattle.serde_json.specs.View.{items_view, view}
-use Rattle.mencius_input.proofs.Placed.{item_there, none_further}
+use Rattle.mencius_input.proofs.FaultPlaces.{item_there, none_further}
 use Rattle.mencius_input.proofs.places.first_event.Goals as goal
 
 pub returns-then-branch : goal.returns-then-branch

@@ -1,8 +1,8 @@
 use Rattle.std.proofs.Common.{◌∙◌, sym, ap}
 use Rattle.serde_json.specs.Read.{read}
 use Rattle.serde_json.specs.View.{view}
-use Rattle.mencius_input.proofs.Json.{utf8_yes}
-use Rattle.mencius_input.proofs.Placed.{place_known}
+use Rattle.mencius_input.proofs.JsonTexts.{utf8_yes}
+use Rattle.mencius_input.proofs.FaultPlaces.{place_known}
 use Rattle.mencius_input.proofs.places.place_of.Goals as goal
 
 pub returns-in-Ok-from_str : goal.returns-in-Ok-from_str

@@ -1,6 +1,6 @@
 use Rattle.std.proofs.Common.{refl}
 use Rattle.std.proofs.lemmas.Str.{IsCharBoundary-after_ascii}
-use Rattle.mencius_input.proofs.Lexing.{begins_by, length_first, plain-drop}
+use Rattle.mencius_input.proofs.FirstBytes.{begins_by, length_first, plain-drop}
 use Rattle.mencius_input.proofs.plain.behind_first.Goals as goal
 
 pub range_from-requires : goal.range_from-requires

@@ -2,7 +2,7 @@ use Rattle.std.proofs.Common.{◌≡◌, ◌∷◌, inl, inr, ℕ, ap, sym, ◌�
 use Rattle.json.specs.Reads.{token_of}
 use Rattle.mencius_input.specs.declared.plain.Place.TheVariants.{AfterValue}
 use Rattle.mencius_input.specs.Tokens.{first, may_close, refused_at, tokens_at}
-use Rattle.mencius_input.proofs.Punctuated.{closes_array, closes_object, not_closed}
+use Rattle.mencius_input.proofs.Punctuation.{closes_array, closes_object, not_closed}
 use Rattle.mencius_input.proofs.plain.close.Goals.{then-byte-eq93, else-byte-eq93}
 use Rattle.mencius_input.proofs.plain.close.Goals as goal
 

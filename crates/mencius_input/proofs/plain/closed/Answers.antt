@@ -1,7 +1,7 @@
 use Rattle.std.proofs.Common.{◌≡◌, ◌≢◌, ◌-◌, ◌∙◌, ℕ, List, ap, arith, sym, take, get_or}
 use Rattle.std.proofs.lemmas.Str.{IsCharBoundary-after_ascii}
-use Rattle.mencius_input.proofs.Lexing.{plain-drop}
-use Rattle.mencius_input.proofs.Strings.{closed_at, found_bounds, unclosed, unclosed_at}
+use Rattle.mencius_input.proofs.FirstBytes.{plain-drop}
+use Rattle.mencius_input.proofs.StringTexts.{closed_at, found_bounds, unclosed, unclosed_at}
 use Rattle.mencius_input.proofs.plain.closed.Goals as goal
 
 pub returns-in_default-clause-value : goal.returns-in_default-clause-value

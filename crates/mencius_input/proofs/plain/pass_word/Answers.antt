@@ -6,8 +6,8 @@ use Rattle.json.specs.Token.{bad}
 use Rattle.json.specs.Word.{word}
 use Rattle.mencius_input.specs.declared.plain.Place.TheVariants.{AfterValue}
 use Rattle.mencius_input.specs.Tokens.{is_delimiter, tokens_at}
-use Rattle.mencius_input.proofs.Lexing.{plain-drop}
-use Rattle.mencius_input.proofs.Wording.{Parted, cut_there, no_word_read, parted, word_read}
+use Rattle.mencius_input.proofs.FirstBytes.{plain-drop}
+use Rattle.mencius_input.proofs.FirstWords.{Parted, cut_there, no_word_read, parted, word_read}
 use Rattle.mencius_input.proofs.plain.pass_word.Goals as goal
 
 -- the word and what follows it

@@ -2,7 +2,7 @@ use Rattle.std.proofs.Common.{◌≡◌, ◌∙◌, ap, sym, true}
 use Rattle.json.specs.Lex.{between, lex}
 use Rattle.json.specs.Word.{is_space}
 use Rattle.mencius_input.specs.Tokens.{first}
-use Rattle.mencius_input.proofs.Lexing.{blank_passed}
+use Rattle.mencius_input.proofs.FirstBytes.{blank_passed}
 use Rattle.mencius_input.proofs.plain.past_blanks.Goals as goal
 
 pub blanks-preserved : goal.blanks-preserved

@@ -1,7 +1,7 @@
 use Rattle.std.proofs.Common.{◌≡◌, ◌∷◌, ℕ, List, ap, sym, ◌∙◌}
 use Rattle.json.specs.Lex.{after_comma, after_value, between, lex, punctuate}
 use Rattle.mencius_input.specs.Tokens.{first, tokens_at}
-use Rattle.mencius_input.proofs.Punctuated.{comma_passed}
+use Rattle.mencius_input.proofs.Punctuation.{comma_passed}
 use Rattle.mencius_input.proofs.plain.past_comma.Goals as goal
 
 pub returns-then-first-eq44-clause-same : goal.returns-then-first-eq44-clause-same

@@ -1,8 +1,8 @@
 use Rattle.std.proofs.Common.{◌≡◌, ◌<◌, ◌∙◌, ℕ, List, ap, arith, drop, sym, length}
 use Rattle.mencius_input.specs.declared.plain.Place.{Place}
 use Rattle.mencius_input.specs.Tokens.{first, refused_at, tokens_at}
-use Rattle.mencius_input.proofs.Lexing.{some_first}
-use Rattle.mencius_input.proofs.Closings.{not_begun}
+use Rattle.mencius_input.proofs.FirstBytes.{some_first}
+use Rattle.mencius_input.proofs.ClosedLists.{not_begun}
 use Rattle.mencius_input.proofs.plain.read.Goals as goal
 
 pub returns-then-not-may_begin-clause-value : goal.returns-then-not-may_begin-clause-value

@@ -2,7 +2,7 @@ use Rattle.std.proofs.Common.{◌≤◌, ◌+◌, ◌∙◌, ap, arith, length, 
 use Rattle.std.specs.Simd.Lanes.{mask_l}
 use lib.Lanes.{chunk}
 use Rattle.mencius_input.specs.Tokens.{is_stop}
-use Rattle.mencius_input.proofs.Stopping.{passed_over, stops_at}
+use Rattle.mencius_input.proofs.StringEnds.{passed_over, stops_at}
 use Rattle.mencius_input.proofs.plain.stop_in.Goals as goal
 
 pub returns-then-stops-ne0 : goal.returns-then-stops-ne0

@@ -1,4 +1,4 @@
-use Rattle.mencius_input.proofs.Stopping.{compared}
+use Rattle.mencius_input.proofs.StringEnds.{compared}
 use Rattle.mencius_input.proofs.plain.stops_among.Goals as goal
 
 pub returns : goal.returns

@@ -1,6 +1,6 @@
 use Rattle.std.proofs.Common.{◌≡◌, ◌≢◌, ◌∷◌, ℕ, ap, sym, ◌∙◌}
 use Rattle.mencius_input.specs.Tokens.{first}
-use Rattle.mencius_input.proofs.Punctuated.{key_read, no_string, text_read}
+use Rattle.mencius_input.proofs.Punctuation.{key_read, no_string, text_read}
 use Rattle.mencius_input.proofs.plain.string.Goals as goal
 
 pub returns-in_default-clause-value : goal.returns-in_default-clause-value

@@ -4,8 +4,8 @@ use Rattle.serde_json.specs.Data.{object}
 use Rattle.serde_json.specs.Read.{max_depth}
 use Rattle.mencius_input.specs.Judged.{judged}
 use Rattle.mencius_input.specs.Plan.{plan_within}
-use Rattle.mencius_input.proofs.Begins.{entered, not_entered}
-use Rattle.mencius_input.proofs.Plans.{no_object_planned, plan_fields_say}
+use Rattle.mencius_input.proofs.FirstTokens.{entered, not_entered}
+use Rattle.mencius_input.proofs.RunFields.{no_object_planned, plan_fields_say}
 use Rattle.mencius_input.proofs.plan.next_run_input.Goals as goal
 
 pub returns-in_ok-fields-clause-ok : goal.returns-in_ok-fields-clause-ok

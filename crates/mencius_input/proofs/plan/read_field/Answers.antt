@@ -1,5 +1,5 @@
 use Rattle.std.proofs.Common.{sym, ◌∙◌}
-use Rattle.mencius_input.proofs.Plans.{commands_set, whole_set}
+use Rattle.mencius_input.proofs.RunFields.{commands_set, whole_set}
 use Rattle.mencius_input.proofs.plan.read_field.Goals as goal
 
 pub returns-in_ok-next_lists-clause-ok : goal.returns-in_ok-next_lists-clause-ok

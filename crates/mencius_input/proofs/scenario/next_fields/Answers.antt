@@ -2,8 +2,8 @@ use Rattle.std.proofs.Common.{◌≡◌, Some, inr, arith}
 use Rattle.json.specs.Json.{read_key}
 use Rattle.json.proofs.Grammar.{read_key-shorter}
 use Rattle.serde_json.specs.Data.{no_members}
-use Rattle.mencius_input.proofs.Fields.{no_fields}
-use Rattle.mencius_input.proofs.Next.{members_close, members_further, members_no_name, members_start, members_stop, stops_at, stops_whole}
+use Rattle.mencius_input.proofs.ScenarioFields.{no_fields}
+use Rattle.mencius_input.proofs.NextValues.{members_close, members_further, members_no_name, members_start, members_stop, stops_at, stops_whole}
 use Rattle.mencius_input.proofs.scenario.next_fields.Goals as goal
 
 pub fields-init : goal.fields-init

@@ -1,5 +1,5 @@
 use Rattle.std.proofs.Common.{sym}
-use Rattle.mencius_input.proofs.Fields.{events_set, other_set, servers_set, version_set}
+use Rattle.mencius_input.proofs.ScenarioFields.{events_set, other_set, servers_set, version_set}
 use Rattle.mencius_input.proofs.scenario.read_field.Goals as goal
 
 pub returns-in_ok-next_whole-in-Version-clause-ok : goal.returns-in_ok-next_whole-in-Version-clause-ok

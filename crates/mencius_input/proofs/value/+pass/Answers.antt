@@ -5,7 +5,7 @@ use Rattle.json.proofs.Grammar.{read_key-shorter}
 use Rattle.serde_json.specs.Data.{array, object, no_members, number}
 use Rattle.mencius_ends.specs.declared.fault.AppFault.TheVariants.{NotJson}
 use Rattle.mencius_input.specs.Next.{next_value}
-use Rattle.mencius_input.proofs.Next.{array_too_deep, object_too_deep, errs_whole, oks_whole, opened_array, opened_object, items_close, items_further, items_stop, members_close, members_further, members_no_name, members_start, members_stop, next_counted, next_none, next_plain, next_uncounted, next_unfit, stops_at, stops_whole}
+use Rattle.mencius_input.proofs.NextValues.{array_too_deep, object_too_deep, errs_whole, oks_whole, opened_array, opened_object, items_close, items_further, items_stop, members_close, members_further, members_no_name, members_start, members_stop, next_counted, next_none, next_plain, next_uncounted, next_unfit, stops_at, stops_whole}
 use Rattle.mencius_input.proofs.value.+pass.Goals as goal
 
 pub pass-returns-in_err-token-clause-err : goal.pass-returns-in_err-token-clause-err

@@ -1,6 +1,6 @@
 use Rattle.std.proofs.Common.{List, ◌+◌, ◌*◌, length}
 use Rattle.serde_json.specs.Data.{Data, Members}
-use Rattle.mencius_input.proofs.Next.{ItemsSoFar, MembersSoFar}
+use Rattle.mencius_input.proofs.NextValues.{ItemsSoFar, MembersSoFar}
 use Rattle.mencius_input.proofs.value.+pass.Given as goal
 
 abbrev pub decreases-pass_from : goal.decreases-pass_from

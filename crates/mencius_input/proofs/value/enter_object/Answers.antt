@@ -2,8 +2,8 @@ use Rattle.std.proofs.Common.{◌≡◌, ◌∷◌, [], inr, sym, ap, ◌∙◌,
 use Rattle.json.specs.Reads.{token_of}
 use Rattle.mencius_ends.specs.declared.fault.AppFault.TheVariants.{NotJson}
 use Rattle.mencius_input.specs.Next.{next_value}
-use Rattle.mencius_input.proofs.Begins.{object_first, passed_first, passed_no_object}
-use Rattle.mencius_input.proofs.Next.{next_none, stops_at}
+use Rattle.mencius_input.proofs.FirstTokens.{object_first, passed_first, passed_no_object}
+use Rattle.mencius_input.proofs.NextValues.{next_none, stops_at}
 use Rattle.mencius_input.proofs.value.enter_object.Goals as goal
 
 pub returns-in_err-token-clause-err : goal.returns-in_err-token-clause-err

@@ -3,8 +3,8 @@ use Rattle.json.specs.Reads.{token_of}
 use Rattle.serde_json.specs.Data.{string}
 use Rattle.mencius_ends.specs.declared.fault.AppFault.TheVariants.{NotJson}
 use Rattle.mencius_input.specs.Next.{next_value}
-use Rattle.mencius_input.proofs.Begins.{passed_first, passed_no_text, text_first}
-use Rattle.mencius_input.proofs.Next.{next_none, stops_at}
+use Rattle.mencius_input.proofs.FirstTokens.{passed_first, passed_no_text, text_first}
+use Rattle.mencius_input.proofs.NextValues.{next_none, stops_at}
 use Rattle.mencius_input.proofs.value.next_text.Goals as goal
 
 pub returns-in_err-token-clause-err : goal.returns-in_err-token-clause-err

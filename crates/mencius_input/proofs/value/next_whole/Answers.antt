@@ -2,8 +2,8 @@ use Rattle.std.proofs.Common.{◌≡◌, ◌∷◌, [], inr, refl, ap, ◌∙◌
 use Rattle.json.specs.Reads.{token_of}
 use Rattle.mencius_ends.specs.declared.fault.AppFault.TheVariants.{NotJson}
 use Rattle.mencius_input.specs.Next.{next_value}
-use Rattle.mencius_input.proofs.Begins.{no_whole_first, passed_first, passed_no_number, whole_first}
-use Rattle.mencius_input.proofs.Next.{next_none, stops_at}
+use Rattle.mencius_input.proofs.FirstTokens.{no_whole_first, passed_first, passed_no_number, whole_first}
+use Rattle.mencius_input.proofs.NextValues.{next_none, stops_at}
 use Rattle.mencius_input.proofs.value.next_whole.Goals as goal
 
 pub returns-in_err-token-clause-err : goal.returns-in_err-token-clause-err

@@ -1,7 +1,7 @@
 use Rattle.std.proofs.Common.{◌<◌, ◌≤◌, ◌∷◌, ℕ, List, arith, length}
 use Rattle.std.proofs.lemmas.Bool.{both_ways}
 use Rattle.std.proofs.lemmas.Str.{IsCharBoundary-after_ascii}
-use Rattle.mencius_input.proofs.Cuts.{begins_with, space_behind, text_behind, word_below}
+use Rattle.mencius_input.proofs.CutWords.{begins_with, space_behind, text_behind, word_below}
 use Rattle.mencius_input.proofs.words.behind.Goals.{else-place-bytes-via-then-place-bytes+then-bytes-place-eq32+else-eq, else-place-bytes-via-then-place-bytes+else-bytes-place-eq32, else-place-bytes-via-else-place-bytes}
 use Rattle.mencius_input.proofs.words.behind.Goals as goal
 

@@ -1,6 +1,6 @@
 use Rattle.std.proofs.Common.{◌≡◌, ◌-◌, ◌∙◌, ℕ, List, ap, arith, refl, sym, take}
 use Rattle.std.proofs.lemmas.Str.{IsCharBoundary-after_ascii, IsCharBoundary-before_ascii}
-use Rattle.mencius_input.proofs.Cuts.{found_byte, found_parts, lacking_parts}
+use Rattle.mencius_input.proofs.CutWords.{found_byte, found_parts, lacking_parts}
 use Rattle.mencius_input.proofs.words.cut.Goals as goal
 
 pub range-requires-clause-end_boundary : goal.range-requires-clause-end_boundary

@@ -1,5 +1,5 @@
 use Rattle.std.proofs.Common.{sym, ◌∙◌}
-use Rattle.mencius_input.proofs.Numbers.{past_limit}
+use Rattle.mencius_input.proofs.NumberWords.{past_limit}
 use Rattle.mencius_input.proofs.words.parse_u32.Goals as goal
 
 pub returns-in-Err : goal.returns-in-Err

@@ -2,7 +2,7 @@ use Rattle.std.proofs.Common.{◌≡◌, arith, false, inl, inr, refl, rules, su
 use Rattle.mencius_server.specs.Changes.{IsSaid}
 use Rattle.mencius_model.specs.Server.{is_noop}
 use Rattle.mencius_server.specs.State.{ServerState}
-use Rattle.mencius_server.proofs.Keeping.{change_kept}
+use Rattle.mencius_server.proofs.InvariantByCall.{change_kept}
 use Rattle.mencius_server.proofs.Server.change.Goals as goal
 use Rattle.mencius_server.proofs.Server.change.Goals.{in-Some-Noop, in_default, in_default-2}
 

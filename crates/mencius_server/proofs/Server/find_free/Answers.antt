@@ -4,7 +4,7 @@ use Rattle.std.proofs.lemmas.Bool.{cases_lt}
 use Rattle.mencius_model.proofs.NumberLists.{find-instances, find-instances_none}
 use Rattle.mencius_server.specs.Machine.{is_free_at}
 use Rattle.mencius_server.specs.State.{ServerState, slot}
-use Rattle.mencius_server.proofs.Gaps.{before_unfree, known_unfree, none_more, other_unfree, unowned}
+use Rattle.mencius_server.proofs.InstanceGaps.{before_unfree, known_unfree, none_more, other_unfree, unowned}
 use Rattle.mencius_server.proofs.Server.find_free.Goals as goal
 
 pub returns-then-is_none-clause-place : goal.returns-then-is_none-clause-place

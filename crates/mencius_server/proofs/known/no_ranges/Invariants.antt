@@ -4,7 +4,7 @@ use Rattle.mencius_server.proofs.known.no_ranges.Given as goal
 abbrev pub invariant-loop-alloc : goal.invariant-loop-alloc
 invariant-loop-alloc l = record {
   few : vec_len l.skipped ≤ l.count;
-  none : (j : ℕ) → get_or l.skipped.items j [] ≡ [];
+  none : (q : ℕ) → get_or l.skipped.items q [] ≡ [];
 }
 
 abbrev pub decreases-loop-alloc : goal.decreases-loop-alloc

@@ -1,8 +1,8 @@
 use Rattle.std.proofs.Common.{◌≡◌, ◌+◌, ◌∙◌, arith, false, sym}
 use Rattle.mencius_server.specs.Places.{standing}
 use Rattle.mencius_server.specs.Slots.{is_lacking}
-use Rattle.mencius_server.proofs.Places.{some_read}
-use Rattle.mencius_server.proofs.Walks.{filled, filled_room, lacking_covered, passed, stands_whole}
+use Rattle.mencius_server.proofs.PlaceTable.{some_read}
+use Rattle.mencius_server.proofs.StretchLoops.{filled, filled_room, lacking_covered, passed, stands_whole}
 use Rattle.mencius_server.proofs.slots.push_lacking.Goals as goal
 use Rattle.mencius_server.proofs.slots.push_lacking.Goals.{then-is_none+then-not-covers, else-is_none, else-is_none-via-then-is_none+else-not-covers, else-is_none-via-else-is_none}
 

@@ -3,7 +3,7 @@ use Rattle.mencius_base.specs.declared.event.Event.{Event}
 use Rattle.mencius_cluster.specs.State.{trace_of}
 use Rattle.mencius_trace.specs.Told.{actor}
 use Rattle.mencius_trace.specs.Before.{executing}
-use Rattle.mencius_trace.proofs.Members.{executing_is}
+use Rattle.mencius_trace.proofs.MemberAnswers.{executing_is}
 use Rattle.mencius_trace.proofs.before.executing_in.Goals as goal
 
 pub returns : goal.returns

@@ -3,7 +3,7 @@ use Rattle.mencius_base.specs.Limits.{instance_count}
 use Rattle.mencius_cluster.specs.Answers.{if_member}
 use Rattle.mencius_cluster.specs.State.{trace_of}
 use Rattle.mencius_trace.specs.Told.{glance, hearing_at}
-use Rattle.mencius_trace.proofs.Members.{if_member_is}
+use Rattle.mencius_trace.proofs.MemberAnswers.{if_member_is}
 use Rattle.mencius_trace.proofs.before.hearing_of.Goals as goal
 
 pub returns-in-Some : goal.returns-in-Some

@@ -5,7 +5,7 @@ use Rattle.mencius_base.specs.declared.message.Value.TheVariants.{Noop}
 use Rattle.mencius_model.specs.Instance.{learned}
 use Rattle.mencius_cluster.specs.State.{trace_of}
 use Rattle.mencius_trace.specs.Facts.{learned_line}
-use Rattle.mencius_trace.proofs.GivenUp.{given_next, given_start, given_whole}
+use Rattle.mencius_trace.proofs.SkippedLines.{given_next, given_start, given_whole}
 use Rattle.mencius_trace.proofs.before.push_given_up.Goals as goal
 
 pub loop-inst-init : goal.loop-inst-init

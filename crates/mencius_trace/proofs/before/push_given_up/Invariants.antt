@@ -1,6 +1,6 @@
 use Rattle.std.proofs.Common.{string_bytes}
 use Rattle.mencius_cluster.specs.State.{trace_of}
-use Rattle.mencius_trace.proofs.GivenUp.{IsGivenTo}
+use Rattle.mencius_trace.proofs.SkippedLines.{IsGivenTo}
 use Rattle.mencius_trace.proofs.before.push_given_up.Given as goal
 
 abbrev pub invariant-loop-inst : goal.invariant-loop-inst

@@ -1,6 +1,6 @@
 use Rattle.mencius_trace.specs.Closing.{server_line}
 use Rattle.mencius_cluster.specs.State.{trace_of}
-use Rattle.mencius_trace.proofs.Rounds.{texts_further}
+use Rattle.mencius_trace.proofs.TextLoops.{texts_further}
 use Rattle.mencius_trace.proofs.closing.push_servers.Goals as goal
 
 pub loop-server-preserved : goal.loop-server-preserved

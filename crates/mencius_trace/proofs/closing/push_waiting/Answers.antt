@@ -1,7 +1,7 @@
 use Rattle.std.proofs.Common.{◌≡◌, ◌||◌, ◌+◌, true, false, ap, sym, subst, ◌∙◌, arith, string_bytes}
 use Rattle.mencius_base.specs.Limits.{instance_count}
 use Rattle.mencius_cluster.specs.State.{trace_of}
-use Rattle.mencius_trace.proofs.Rounds.{IsWaitingTo, waiting_next, waiting_none, waiting_some, waiting_start}
+use Rattle.mencius_trace.proofs.TextLoops.{IsWaitingTo, waiting_next, waiting_none, waiting_some, waiting_start}
 use Rattle.mencius_trace.proofs.closing.push_waiting.Goals as goal
 use Rattle.mencius_trace.proofs.closing.push_waiting.Goals.{then-branch, else-branch}
 

@@ -1,6 +1,6 @@
 use Rattle.std.proofs.Common.{string_bytes}
 use Rattle.mencius_cluster.specs.State.{trace_of}
-use Rattle.mencius_trace.proofs.Rounds.{IsWaitingTo}
+use Rattle.mencius_trace.proofs.TextLoops.{IsWaitingTo}
 use Rattle.mencius_trace.proofs.closing.push_waiting.Given as goal
 
 abbrev pub invariant-loop-inst : goal.invariant-loop-inst

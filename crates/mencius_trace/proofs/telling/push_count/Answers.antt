@@ -1,6 +1,6 @@
 use Rattle.std.proofs.Common.{sym, ◌∙◌}
 use Rattle.mencius_cluster.specs.State.{trace_of}
-use Rattle.mencius_trace.proofs.Members.{counted_by}
+use Rattle.mencius_trace.proofs.MemberAnswers.{counted_by}
 use Rattle.mencius_trace.proofs.telling.push_count.Goals as goal
 
 pub returns-in-Some : goal.returns-in-Some

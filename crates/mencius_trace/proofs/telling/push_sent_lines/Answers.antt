@@ -1,5 +1,5 @@
 use Rattle.mencius_cluster.specs.State.{trace_of}
-use Rattle.mencius_trace.proofs.Messages.{messages_further, messages_start, messages_whole}
+use Rattle.mencius_trace.proofs.MessageLines.{messages_further, messages_start, messages_whole}
 use Rattle.mencius_trace.proofs.telling.push_sent_lines.Goals as goal
 
 pub loop-number-init : goal.loop-number-init

@@ -1,6 +1,6 @@
 use Rattle.std.proofs.Common.{string_bytes}
 use Rattle.mencius_cluster.specs.State.{trace_of}
-use Rattle.mencius_trace.proofs.Messages.{IsSentTo}
+use Rattle.mencius_trace.proofs.MessageLines.{IsSentTo}
 use Rattle.mencius_trace.proofs.telling.push_sent_lines.Given as goal
 
 abbrev pub invariant-loop-number : goal.invariant-loop-number

@@ -4,7 +4,7 @@ use Rattle.mencius_base.specs.Limits.{instance_count}
 use Rattle.mencius_cluster.specs.State.{trace_of}
 use Rattle.mencius_trace.specs.After.{notice_after}
 use Rattle.mencius_trace.specs.Told.{place_of}
-use Rattle.mencius_trace.proofs.Whole.{told_is}
+use Rattle.mencius_trace.proofs.ToldEvents.{told_is}
 use Rattle.mencius_trace.proofs.telling.push_told.Goals as goal
 
 pub returns : goal.returns

@@ -4,8 +4,8 @@ use Rattle.mencius_cluster.specs.State.{trace_of}
 use Rattle.mencius_model.specs.Trace.{sent}
 use Rattle.mencius_trace.specs.After.{of_message, of_messages}
 use Rattle.mencius_trace.specs.Closing.{unheard_lines}
-use Rattle.mencius_trace.proofs.Messages.{of_messages_are}
-use Rattle.mencius_trace.proofs.Rounds.{texts_further}
+use Rattle.mencius_trace.proofs.MessageLines.{of_messages_are}
+use Rattle.mencius_trace.proofs.TextLoops.{texts_further}
 use Rattle.mencius_trace.proofs.unheard.push_all.Goals as goal
 
 pub loop-number-preserved : goal.loop-number-preserved

@@ -3,7 +3,7 @@ use Rattle.std.specs.List.{flat_map, range_with_len}
 use Rattle.mencius_base.specs.Members.{below}
 use Rattle.mencius_cluster.specs.State.{trace_of}
 use Rattle.mencius_trace.specs.Closing.{unheard_line}
-use Rattle.mencius_trace.proofs.Rounds.{texts_further}
+use Rattle.mencius_trace.proofs.TextLoops.{texts_further}
 use Rattle.mencius_trace.proofs.unheard.push_for_each.Goals as goal
 
 pub loop-server-preserved : goal.loop-server-preserved

@@ -1,6 +1,6 @@
 use Rattle.std.proofs.Common.{◌≤◌, arith}
 use Rattle.mencius_base.specs.Limits.{most_servers}
-use Rattle.mencius_trace.proofs.Settled.{of_servers, settled_all}
+use Rattle.mencius_trace.proofs.SettledMessages.{of_servers, settled_all}
 use Rattle.mencius_trace.proofs.unheard.settled.Goals as goal
 
 pub settle-requires : goal.settle-requires

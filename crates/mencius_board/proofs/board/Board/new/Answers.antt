@@ -1,5 +1,5 @@
 use Rattle.std.proofs.Common.{arith}
-use Rattle.mencius_board.proofs.Sound.{sound_new}
+use Rattle.mencius_board.proofs.BoardInvariant.{sound_new}
 use Rattle.mencius_board.proofs.board.Board.new.Goals as goal
 
 pub invariant_of-result : goal.invariant_of-result

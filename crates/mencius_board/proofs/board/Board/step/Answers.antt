@@ -1,5 +1,5 @@
-use Rattle.mencius_board.proofs.Growing.{answer_grows}
-use Rattle.mencius_board.proofs.Sound.{sound_grows}
+use Rattle.mencius_board.proofs.SteppedBoard.{answer_grows}
+use Rattle.mencius_board.proofs.BoardInvariant.{sound_grows}
 use Rattle.mencius_board.proofs.board.Board.step.Goals as goal
 
 pub invariant_of-self : goal.invariant_of-self

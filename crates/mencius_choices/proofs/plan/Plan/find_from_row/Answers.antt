@@ -1,6 +1,6 @@
 use Rattle.std.proofs.Common.{◌≡◌, ◌<◌, [], subst, ◌∙◌}
 use Rattle.mencius_choices.specs.Plans.{PlanState, row_count, row_from}
-use Rattle.mencius_choices.proofs.Queue.{led_row, rows_from-skip}
+use Rattle.mencius_choices.proofs.CommandOrder.{led_row, rows_from-skip}
 use Rattle.mencius_choices.proofs.plan.Plan.find_from_row.Goals as goal
 
 pub returns-in-Some : goal.returns-in-Some

@@ -1,7 +1,7 @@
 use Rattle.std.proofs.Common.{◌≡◌, ◌<◌, None, option_map, option_copied, length, map, sym, ap, subst, ◌∙◌, arith}
 use Rattle.std.proofs.lemmas.List.{length-map}
 use Rattle.mencius_choices.specs.Plans.{PlanState, own_command}
-use Rattle.mencius_choices.proofs.Queue.{none_from, row_from-skip}
+use Rattle.mencius_choices.proofs.CommandOrder.{none_from, row_from-skip}
 use Rattle.mencius_choices.proofs.plan.Plan.find_in_row.Goals as goal
 
 pub loop-server-preserved : goal.loop-server-preserved

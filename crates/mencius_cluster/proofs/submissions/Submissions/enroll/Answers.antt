@@ -5,8 +5,8 @@ use Rattle.std.specs.Map.{lookup}
 use Rattle.mencius_base.specs.Command.{is_same_id}
 use Rattle.mencius_base.specs.declared.command.CommandId.{CommandId}
 use Rattle.mencius_cluster.specs.Submissions.{IsIndex, SubmissionTable, key_in, key_of, row_of}
-use Rattle.mencius_cluster.proofs.Indexed.{found_at, gap, grown, not_indexed, small_more}
-use Rattle.mencius_cluster.proofs.Enrolled.{new_row}
+use Rattle.mencius_cluster.proofs.IdentityOrder.{found_at, gap, grown, not_indexed, small_more}
+use Rattle.mencius_cluster.proofs.SubmittedRows.{new_row}
 use Rattle.mencius_cluster.proofs.submissions.Submissions.enroll.Goals as goal
 
 pub unreachable-requires : goal.unreachable-requires

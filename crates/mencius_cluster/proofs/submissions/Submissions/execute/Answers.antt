@@ -2,7 +2,7 @@ use Rattle.std.proofs.Common.{◌≡◌, ◌<◌, Some, ap, arith, length, map, 
 use Rattle.std.proofs.lemmas.List.{length-map}
 use Rattle.std.proofs.lemmas.Option.{slice_get-map, slice_get_read}
 use Rattle.mencius_cluster.specs.Submissions.{IsIndex, SubmissionTable, row_of, set_value_at}
-use Rattle.mencius_cluster.proofs.Indexed.{both_ok, keys_set, rows_set, small_set}
+use Rattle.mencius_cluster.proofs.IdentityOrder.{both_ok, keys_set, rows_set, small_set}
 use Rattle.mencius_cluster.proofs.submissions.Submissions.execute.Goals as goal
 
 entries_are : (c : goal.After-self-1) → map row_of c.self.inside.rows.items ≡ c.args.self.now.entries

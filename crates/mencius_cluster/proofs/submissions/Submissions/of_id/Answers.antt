@@ -2,7 +2,7 @@ use Rattle.std.proofs.Common.{◌≡◌, ◌<◌, ap, arith, get_or, length, opt
 use Rattle.std.specs.Map.{lookup}
 use Rattle.mencius_base.specs.Command.{is_same_id}
 use Rattle.mencius_cluster.specs.Submissions.{Row, SubmissionTable, key_of}
-use Rattle.mencius_cluster.proofs.Indexed.{copied_row, row_found, row_missing}
+use Rattle.mencius_cluster.proofs.IdentityOrder.{copied_row, row_found, row_missing}
 use Rattle.mencius_cluster.proofs.submissions.Submissions.of_id.Goals as goal
 
 pub returns-in-Some : goal.returns-in-Some

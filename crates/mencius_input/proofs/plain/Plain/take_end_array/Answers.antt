@@ -1,8 +1,8 @@
 use Rattle.std.proofs.Common.{◌≡◌, ◌≢◌, ◌∷◌, ◌∙◌, ℕ, List, ap, refl, sym, true}
 use Rattle.json.specs.Json.{after_end_array}
 use Rattle.mencius_input.specs.Tokens.{first, may_close, tokens_at}
-use Rattle.mencius_input.proofs.Closings.{no_end_array}
-use Rattle.mencius_input.proofs.Punctuated.{closes_array, same_tokens}
+use Rattle.mencius_input.proofs.ClosedLists.{no_end_array}
+use Rattle.mencius_input.proofs.Punctuation.{closes_array, same_tokens}
 use Rattle.mencius_input.proofs.plain.Plain.take_end_array.Goals.{then-first-ne93-via-then-first-ne93, then-first-ne93-via-else-first-ne93+then-not-may_close}
 use Rattle.mencius_input.proofs.plain.Plain.take_end_array.Goals as goal
 

@@ -1,6 +1,6 @@
 use Rattle.std.proofs.Common.{ap, arith, refl}
 use Rattle.mencius_server.specs.Known.{KnownState}
-use Rattle.mencius_server.proofs.Opens.{open_before}
+use Rattle.mencius_server.proofs.OpenInstances.{open_before}
 use Rattle.mencius_server.proofs.known.Known.open_stretch.Goals as goal
 
 pub returns : goal.returns

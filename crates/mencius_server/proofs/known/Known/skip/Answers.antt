@@ -2,7 +2,7 @@ use Rattle.std.proofs.Common.{◌≡◌, ℕ, ◌<◌, ◌≤◌, ◌||◌, List
 use Rattle.std.specs.List.{count_by}
 use Rattle.std.proofs.lemmas.Bool.{eq-eqb, ne_eqb}
 use Rattle.std.proofs.lemmas.List.{get_or_default}
-use Rattle.mencius_base.proofs.Owned.{first_owned_owner}
+use Rattle.mencius_base.proofs.LeastOwned.{first_owned_owner}
 use Rattle.mencius_base.specs.Members.{Membership, first_owned, instances, owner}
 use Rattle.mencius_server.specs.Ranges.{covers, is_within}
 use Rattle.mencius_server.specs.declared.ranges.Span.{Span}
@@ -12,8 +12,8 @@ use Rattle.mencius_server.specs.Slots.{given}
 use Rattle.mencius_server.specs.declared.stretch.Stretch.{Stretch}
 use Rattle.mencius_server.proofs.SkipKnown.{IsAligned, news_is, skip_again, skip_given, skip_is, skip_shows, skip_sorted, skip_sound, skip_theirs}
 use Rattle.mencius_server.specs.Tallies.{IsTally, tally_of}
-use Rattle.mencius_server.proofs.Tallying.{alike_same, counts_put, sound_told, tally_alike}
-use Rattle.mencius_server.proofs.News.{old_news}
+use Rattle.mencius_server.proofs.InstanceTallies.{alike_same, counts_put, sound_told, tally_alike}
+use Rattle.mencius_server.proofs.NewRanges.{old_news}
 use Rattle.mencius_base.specs.Limits.{instance_count}
 use Rattle.mencius_server.proofs.known.Known.skip.Goals as goal
 
@@ -131,7 +131,7 @@ skip_stretch-requires-clause-told c =
     c.self.invariant.sound.sorted c.requires.member in
     let range : c.index_mut-ranges.result.now ≡ get_or rs c.args.from [] =
     c.index_mut-ranges.ensures.value ∙ get_or_default rs c.args.from _ [] member in
-    λ j u small own passed stands. c.self.invariant.sound.told j u small
+    λ j s small own passed stands. c.self.invariant.sound.told j s small
     (ap (λ q. covers (get_or rs q []) j) own ∙ ap (λ xs. covers xs j) (sym range) ∙ passed) stands
 
 pub learned_from-self-inside-requires-clause-sorted : goal.learned_from-self-inside-requires-clause-sorted

@@ -2,7 +2,7 @@ use Rattle.std.proofs.Common.{◌≡◌, ℕ, ◌<◌, ◌≤◌, true, false, L
 use Rattle.std.proofs.lemmas.List.{get_or_default}
 use Rattle.mencius_server.specs.declared.ranges.Span.{Span}
 use Rattle.mencius_server.specs.Ranges.{IsRising, covers}
-use Rattle.mencius_server.proofs.Spans.{covers_in, open_between, open_stop}
+use Rattle.mencius_server.proofs.RisingRanges.{covers_in, open_between, open_stop}
 use Rattle.mencius_server.proofs.ranges.Ranges.past.Goals as goal
 use Rattle.mencius_server.proofs.ranges.Ranges.past.Goals.{else-at-len-via-then-at-len+else-index-inst, else-at-len-via-else-at-len}
 
@@ -22,11 +22,11 @@ stop_open xs now at d e rising within t_is =
     (ap (λ (s : Span). covers xs s.stop) t_is ∙ open_stop xs rising at d within)
 
 between_open : (xs ys now : List Span) (at i : ℕ) (d : Span) → ys ≡ xs → xs ≡ now → IsRising 0 xs
-    → ((j : ℕ) (d : Span) → j < at → (get_or ys j d).stop ≤ i)
+    → ((n : ℕ) (d : Span) → n < at → (get_or ys n d).stop ≤ i)
     → (at < length xs → i < (get_or xs at d).first) → covers now i ≡ false
 between_open xs ys now at i d same e rising before next =
     subst (λ zs. covers zs i ≡ false) e
-    (open_between xs rising at i d (λ j low. subst (λ zs. (get_or zs j d).stop ≤ i) same (before j d low)) next)
+    (open_between xs rising at i d (λ n low. subst (λ zs. (get_or zs n d).stop ≤ i) same (before n d low)) next)
 
 pub returns-then-index-inst-clause-covered : goal.returns-then-index-inst-clause-covered
 returns-then-index-inst-clause-covered c = λ j from high.

@@ -3,9 +3,9 @@ use Rattle.std.specs.Option.{option_map}
 use Rattle.coord_paxos.specs.SlotState.{SlotState}
 use Rattle.mencius_server.specs.Tallies.{is_spent}
 use Rattle.mencius_server.specs.Slots.{begun, is_begun, is_in, is_unlearned, prepare_at, stand_at}
-use Rattle.mencius_server.proofs.Begins.{begun_each, room_here, room_more, room_none, sent_more, sent_none}
-use Rattle.mencius_server.proofs.Gaps.{room_gap, sent_gap, sent_to}
-use Rattle.mencius_server.proofs.Walks.{begun_in, begun_out, in_here, out_before, out_between, out_past, prepare_here, unbegun_between, unbegun_out, unlearned_in, walked_more, walked_start, written_here, written_off}
+use Rattle.mencius_server.proofs.FirstPhases.{begun_each, room_here, room_more, room_none, sent_more, sent_none}
+use Rattle.mencius_server.proofs.InstanceGaps.{room_gap, sent_gap, sent_to}
+use Rattle.mencius_server.proofs.StretchLoops.{begun_in, begun_out, in_here, out_before, out_between, out_past, prepare_here, unbegun_between, unbegun_out, unlearned_in, walked_more, walked_start, written_here, written_off}
 use Rattle.mencius_server.proofs.slots.Slots.begin_all.Goals as goal
 use Rattle.mencius_server.proofs.slots.Slots.begin_all.Goals.{then-is_last, else-is_last}
 
@@ -19,17 +19,17 @@ loop-inst-init c =
       walked = walked_start _ _ _ (λ j low. begun_out c.args.stretch c.args.id j _ (out_before c.args.stretch j low));
       sent = sent_gap _ _ _ _ 0 _ (omega arith) (λ j low high. before j high) (sent_none _ _ _);
       room = room_gap _ _ _ 0 _ (omega arith) (λ j low high. before j high) (room_none _ _ _ c.requires.room);
-      last = λ still j t low begins. let no = before j low in absurd (cc);
+      last = λ still j s low begins. let no = before j low in absurd (cc);
       limit = refl;
     }
 
 pub begin-is_last_here-requires-clause-rounds : goal.begin-is_last_here-requires-clause-rounds
-begin-is_last_here-requires-clause-rounds c = λ u stands unlearned.
+begin-is_last_here-requires-clause-rounds c = λ s stands unlearned.
     let inv = c.loop-inst.invariant in
     let here : is_in c.args.stretch c.loop-inst.inst ≡ true =
     in_here c.args.stretch c.loop-inst.inst inv.own inv.low c.loop-inst-test.true in
     let was = sym (inv.walked.rest c.loop-inst.inst (omega arith)) ∙ stands in
-    c.requires.rounds c.loop-inst.inst u
+    c.requires.rounds c.loop-inst.inst s
     (unlearned_in c.args.stretch c.args.self.now c.loop-inst.inst here ∙ ap is_unlearned was ∙ unlearned) was
 
 pub begin-is_last_here-requires-clause-room : goal.begin-is_last_here-requires-clause-room

@@ -3,7 +3,7 @@ use Rattle.std.specs.Prelude.{is_some}
 use Rattle.std.specs.List.{count_by}
 use Rattle.mencius_model.proofs.NumberLists.{length-map-instances}
 use Rattle.mencius_server.specs.Places.{standing_at}
-use Rattle.mencius_server.proofs.Places.{standing_count}
+use Rattle.mencius_server.proofs.PlaceTable.{standing_count}
 use Rattle.mencius_server.proofs.slots.Slots.len.Goals as goal
 
 pub returns-clause-count : goal.returns-clause-count

@@ -4,9 +4,9 @@ use Rattle.std.proofs.lemmas.Bool.{cases_lt}
 use Rattle.mencius_server.specs.Ranges.{covers}
 use Rattle.mencius_server.specs.Places.{standing}
 use Rattle.mencius_server.specs.Slots.{is_in, is_lacking, stand_at, stood_at}
-use Rattle.mencius_server.proofs.Counts.{count_same}
-use Rattle.mencius_server.proofs.Places.{placed_wider, stand_wider}
-use Rattle.mencius_server.proofs.Walks.{lacking_out, none_of_all, out_past, stood_none}
+use Rattle.mencius_server.proofs.RangeCounts.{count_same}
+use Rattle.mencius_server.proofs.PlaceTable.{placed_wider, stand_wider}
+use Rattle.mencius_server.proofs.StretchLoops.{lacking_out, none_of_all, out_past, stood_none}
 use Rattle.mencius_base.specs.Limits.{instance_count}
 use Rattle.mencius_server.proofs.slots.Slots.stand_all.Goals as goal
 

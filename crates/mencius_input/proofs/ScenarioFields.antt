@@ -1,0 +1,221 @@
+-- The fields of a scenario, read one after the other.
+use Rattle.std.proofs.Common.{◌≡◌, ℕ, ◌==◌, ◌&&◌, List, Bool, true, false, not, cond, codes, Option, Some, None, option_map, option_and_then, Result, Ok, Err, nat_le, refl, subst, sym, ap, ap₂, ◌∙◌}
+use Rattle.std.specs.Prelude.{if◌then◌else◌}
+use Rattle.std.specs.List.{list_all}
+use Rattle.std.specs.Str.{bytes_eq}
+use Rattle.std.proofs.lemmas.Bool.{or_parts}
+use Rattle.serde_json.specs.Data.{Data, Items, Members, no_members, object, put}
+use Rattle.serde_json.specs.Events.{members_len}
+use Rattle.serde_json.specs.Find.{as_array, as_object, get_member}
+use Rattle.mencius_base.specs.Limits.{most_servers}
+use Rattle.mencius_base.specs.declared.event.Event.{Event}
+use Rattle.mencius_ends.specs.declared.fault.AppFault.{AppFault}
+use Rattle.mencius_ends.specs.declared.fault.AppFault.TheVariants.{BadLimit, BadShape}
+use Rattle.mencius_input.specs.declared.scenario.Fields as code
+use Rattle.mencius_input.specs.declared.scenario.Name.{Name}
+use Rattle.mencius_input.specs.declared.scenario.Name.TheVariants.{Version, Servers, Events, Other}
+use Rattle.mencius_input.specs.Fields.{AreFields, fitted_events, named, said, three_names}
+use Rattle.mencius_input.specs.Grammar.{event_within}
+use Rattle.mencius_input.specs.Judged.{judged}
+use Rattle.mencius_input.specs.Named.{all_said, is_one_of}
+use Rattle.mencius_input.specs.Next.{whole_in}
+use Rattle.mencius_input.specs.Noted.{list_in}
+use Rattle.mencius_input.specs.Scenario.{◌>>=◌, Written, events_of, within, written_of}
+use Rattle.mencius_input.proofs.NamedFields.{are_ordered, named_count, no_names, no_shape, now_says, one_named, other_named, same_name, still_says, whole_field}
+
+ordered : are_ordered three_names ≡ true
+ordered = refl
+
+-- ---- which name it is
+
+abbrev IsNamed : List ℕ → Name → Type 0
+IsNamed name Version = name ≡ codes "version"
+IsNamed name Servers = name ≡ codes "servers"
+IsNamed name Events = name ≡ codes "events"
+IsNamed name Other = is_one_of name three_names ≡ false
+
+is_named : (name : List ℕ) (n : Name) → named name ≡ n → IsNamed name n
+unfolding named
+is_named name n e =
+    subst (IsNamed name) e
+    (by_tests (bytes_eq name (codes "version")) (bytes_eq name (codes "servers")) (bytes_eq name (codes "events")) refl
+    refl refl)
+  where
+    by_tests : (a s e : Bool) → bytes_eq name (codes "version") ≡ a → bytes_eq name (codes "servers") ≡ s
+        → bytes_eq name (codes "events") ≡ e → IsNamed name (cond a Version (cond s Servers (cond e Events Other)))
+    by_tests true s e same equal r = same_name name (codes "version") same
+    by_tests false true e same equal r = same_name name (codes "servers") equal
+    by_tests false false true same equal r = same_name name (codes "events") r
+    by_tests false false false same equal r = rw (r, equal, same) refl
+
+-- ---- what a field more leaves
+
+abbrev events_judged : Data → Result (List Event) AppFault
+events_judged d = judged (list_all event_within) (list_in d)
+
+module _ (f : code.Fields) (ms : Members) (name : List ℕ) (d : Data) (h : AreFields f ms) where
+  pub version_set : (o : Option ℕ) → named name ≡ Version → o ≡ whole_in d
+      → AreFields (record f { version = Some o }) (put name d ms)
+  version_set o is e = rw (is_named name Version is) record {
+    named = one_named three_names (codes "version") d ms ordered f.has_other h.named refl;
+    version = now_says whole_in (codes "version") d ms o e;
+    servers = still_says whole_in (codes "version") d ms (codes "servers") f.servers refl h.servers;
+    events = still_says events_judged (codes "version") d ms (codes "events") _ refl h.events;
+  }
+
+  pub servers_set : (o : Option ℕ) → named name ≡ Servers → o ≡ whole_in d
+      → AreFields (record f { servers = Some o }) (put name d ms)
+  servers_set o is e = rw (is_named name Servers is) record {
+    named = one_named three_names (codes "servers") d ms ordered f.has_other h.named refl;
+    version = still_says whole_in (codes "servers") d ms (codes "version") f.version refl h.version;
+    servers = now_says whole_in (codes "servers") d ms o e;
+    events = still_says events_judged (codes "servers") d ms (codes "events") _ refl h.events;
+  }
+
+  pub events_set : (es : Result (List Event) AppFault) → named name ≡ Events
+      → es ≡ judged (list_all event_within) (list_in d)
+      → AreFields (record f { events = Some es }) (put name d ms)
+  events_set es is e = rw (is_named name Events is) record {
+    named = one_named three_names (codes "events") d ms ordered f.has_other h.named refl;
+    version = still_says whole_in (codes "events") d ms (codes "version") f.version refl h.version;
+    servers = still_says whole_in (codes "events") d ms (codes "servers") f.servers refl h.servers;
+    events = now_says events_judged (codes "events") d ms _ e;
+  }
+
+  pub other_set : named name ≡ Other → AreFields (record f { has_other = true }) (put name d ms)
+  other_set is =
+      let none = is_named name Other is in
+      let parts = or_parts (bytes_eq name (codes "events")) _ none in
+      let more = or_parts (bytes_eq name (codes "servers")) _ parts.1 in
+      let last = or_parts (bytes_eq name (codes "version")) false more.1 in
+      record {
+        named = other_named three_names name d ms none;
+        version = still_says whole_in name d ms (codes "version") f.version last.0 h.version;
+        servers = still_says whole_in name d ms (codes "servers") f.servers more.0 h.servers;
+        events = still_says events_judged name d ms (codes "events") _ parts.0 h.events;
+      }
+
+pub no_fields : AreFields (record { version = None; servers = None; events = None; has_other = false }) no_members
+no_fields = record {
+  named = no_names three_names;
+  version = refl;
+  servers = refl;
+  events = refl;
+}
+
+-- ---- what an object says, by its fields
+
+abbrev bound : Bool → Option ℕ → Option ℕ → Option Items → Option Written
+bound three version servers items = do
+  version ← version
+  s ← servers
+  ds ← items
+  es ← events_of ds
+  if three then Some (record { version = version; servers = s; events = es }) else None
+
+written_bound : (ms : Members) → written_of (object ms)
+    ≡ bound (members_len ms == 3) (option_and_then whole_in (get_member (codes "version") ms))
+    (option_and_then whole_in (get_member (codes "servers") ms))
+    (option_and_then as_array (get_member (codes "events") ms))
+unfolding written_of
+written_bound ms = rw (← whole_field (codes "version") ms, ← whole_field (codes "servers") ms) refl
+
+no_servers : (ov : Option ℕ) (x : Option (Result (List Event) AppFault)) → said (Some ov) None x ≡ Err BadShape
+no_servers None x = refl
+no_servers (Some version) x = refl
+
+no_events : (ov os : Option ℕ) → said (Some ov) (Some os) None ≡ Err BadShape
+no_events None os = refl
+no_events (Some version) None = refl
+no_events (Some version) (Some s) = refl
+
+without_servers : (a : Bool) (ov : Option ℕ) (oi : Option Items) → bound a ov None oi ≡ None
+without_servers a None oi = refl
+without_servers a (Some version) oi = refl
+
+without_events : (a : Bool) (ov os : Option ℕ) → bound a ov os None ≡ None
+without_events a None os = refl
+without_events a (Some version) None = refl
+without_events a (Some version) (Some s) = refl
+
+unsaid : (o : Option (List Event)) → option_and_then {U = Written} (λ es. None) o ≡ None
+unsaid None = refl
+unsaid (Some es) = refl
+
+with_more : (ov os : Option ℕ) (oi : Option Items) → bound false ov os oi ≡ None
+with_more None os oi = refl
+with_more (Some version) None oi = refl
+with_more (Some version) (Some s) None = refl
+with_more (Some version) (Some s) (Some ds) = unsaid (events_of ds)
+
+all_hold : {X : Type 0} (x y : X) (a d : Bool) → cond (a && d) x y ≡ cond (a && d && true) x y
+all_hold x y true true = refl
+all_hold x y true false = refl
+all_hold x y false d = refl
+
+one_fails : {X : Type 0} (x y : X) (a d : Bool) → y ≡ cond (a && d && false) x y
+one_fails x y true true = refl
+one_fails x y true false = refl
+one_fails x y false d = refl
+
+by_list : (version s : ℕ) (es : List Event) (a d : Bool) → a ≡ (version == 1)
+    → d ≡ (nat_le 1 s && nat_le s most_servers)
+    → (l : Bool)
+    → fitted_events version s (cond l (Ok es) (Err BadLimit))
+    ≡ cond (a && d && l) (Ok (record { version = version; servers = s; events = es })) (Err BadLimit)
+by_list version s es a d e same true = rw (← e, ← same) (all_hold _ _ a d)
+by_list version s es a d e same false = one_fails _ _ a d
+
+with_events : (version s : ℕ) (o : Option (List Event))
+    → said (Some (Some version)) (Some (Some s)) (Some (judged (list_all event_within) o))
+    ≡ judged within (option_and_then (λ es. Some (record { version = version; servers = s; events = es })) o)
+with_events version s None = refl
+with_events version s (Some es) =
+    by_list version s es (version == 1) (nat_le 1 s && nat_le s most_servers) refl refl (list_all event_within es)
+
+all_three : (ov os : Option ℕ) (oi : Option Items)
+    → said (Some ov) (Some os) (Some (judged (list_all event_within) (option_and_then events_of oi)))
+    ≡ judged within (bound true ov os oi)
+all_three None os oi = refl
+all_three (Some version) None oi = refl
+all_three (Some version) (Some s) None = refl
+all_three (Some version) (Some s) (Some ds) = with_events version s (events_of ds)
+
+by_parts : (has_other three : Bool) (x s e : Option Data)
+    → ((dv ds de : Data) → x ≡ Some dv → s ≡ Some ds → e ≡ Some de → three ≡ not has_other)
+    → all_said has_other (said (option_map whole_in x) (option_map whole_in s) (option_map events_judged e))
+    ≡ judged within
+    (bound three (option_and_then whole_in x) (option_and_then whole_in s) (option_and_then as_array e))
+by_parts other three None s e h = no_shape other
+by_parts other three (Some dv) None e h =
+    ap (all_said other) (no_servers (whole_in dv) (option_map events_judged e)) ∙ no_shape other
+    ∙ sym (ap (judged within) (without_servers three (whole_in dv) (option_and_then as_array e)))
+by_parts other three (Some dv) (Some ds) None h =
+    ap (all_said other) (no_events (whole_in dv) (whole_in ds)) ∙ no_shape other
+    ∙ sym (ap (judged within) (without_events three (whole_in dv) (whole_in ds)))
+by_parts true three (Some dv) (Some ds) (Some de) h =
+    sym (ap (λ told. judged within (bound told (whole_in dv) (whole_in ds) (as_array de))) (h dv ds de refl refl refl)
+    ∙ ap (judged within) (with_more (whole_in dv) (whole_in ds) (as_array de)))
+by_parts false three (Some dv) (Some ds) (Some de) h =
+    all_three (whole_in dv) (whole_in ds) (as_array de)
+    ∙ sym (ap (λ told. judged within (bound told (whole_in dv) (whole_in ds) (as_array de)))
+    (h dv ds de refl refl refl))
+
+-- ---- the answer
+
+pub fields_say : (f : code.Fields) (ms : Members) → AreFields f ms
+    → all_said f.has_other (said f.version f.servers f.events)
+    ≡ judged within (written_of (object ms))
+fields_say f ms h =
+    ap₂ (λ x s. all_said f.has_other (said x s f.events)) h.version h.servers
+    ∙ ap (λ e. all_said f.has_other (said (option_map whole_in (get_member (codes "version") ms))
+    (option_map whole_in (get_member (codes "servers") ms)) e)) h.events
+    ∙ by_parts f.has_other (members_len ms == 3) (get_member (codes "version") ms) (get_member (codes "servers") ms)
+    (get_member (codes "events") ms)
+    (λ dv ds de x s e. named_count three_names f.has_other ms ordered h.named ((de, e), ((ds, s), ((dv, x), tt))))
+    ∙ ap (judged within) (sym (written_bound ms))
+
+-- what is no object is no scenario
+pub no_object_said : (d : Data) → as_object d ≡ None → written_of d ≡ None
+unfolding written_of
+no_object_said d e = rw e refl
