@@ -5,6 +5,9 @@
 //! in order, so that what was begun is ended. At the end the journal makes a second cluster with the same answers and
 //! the same report.
 //!
+//! Or standard input is a scenario of a replay. Then its events are taken in place of drawn ones, and its journal is
+//! judged; then each message that it sent comes again, from the last to the first, twice over, and all is judged again.
+//!
 //! It ends with status 0, with 2 where standard input has anything else, with 6 where memory ran out, and with 9 where
 //! something is wrong, also where no schedule had a loss, a suspicion, a repeat or a retry, or none executed a command.
 //! Standard error then says what, and else what happened.
@@ -12,17 +15,19 @@
 
 mod dice;
 mod drawing;
+mod given;
 mod mail;
 mod tally;
 
 use crate::dice::Dice;
 use crate::drawing::{Mix, draw_event};
+use crate::given::{follow, send_again};
 use crate::mail::Mail;
 use crate::tally::Tally;
 use mencius_app::report;
 use mencius_base::{Event, Members};
 use mencius_cluster::Cluster;
-use mencius_input::{Std, read_all, write_all};
+use mencius_input::{AppFault, Scenario, Std, read_all, read_scenario, write_all};
 use mencius_watch::again::again;
 use mencius_watch::same::first_difference;
 use mencius_watch::walk::{Stop, Walk};
@@ -147,14 +152,23 @@ fn attack_all(alloc: Global, seed: u64, count: u32, tally: &mut Tally) -> Result
     Ok(())
 }
 
-// The status at the end, and what is said of it.
+// The schedule that is given, by itself and with all that it sends once more.
+fn attack_given(alloc: Global, scenario: Scenario, tally: &mut Tally) -> Result<(), Stop> {
+    let mut walk = follow(alloc, scenario)?;
+    judge_journal(alloc, walk.cluster())?;
+    send_again(&mut walk)?;
+    judge_walk(alloc, &walk, tally)
+}
+
+// The status at the end, and what is said of it; `missing` is what was to happen and did not.
 fn conclude(
     alloc: Global,
     ended: Result<(), (u32, Stop)>,
+    missing: Option<&str>,
     tally: &Tally,
 ) -> Result<(u8, String), AllocError> {
     match ended {
-        Ok(()) => match tally.missing() {
+        Ok(()) => match missing {
             None => Ok((0, tally.text(alloc)?)),
             Some(words) => Ok((9, String::from_str(alloc, words)?)),
         },
@@ -168,6 +182,26 @@ fn conclude(
     }
 }
 
+// Attacks by what standard input asks for, and answers the status and what is said.
+fn attack_by(alloc: Global, bytes: &[u8]) -> Result<(u8, String), AllocError> {
+    let mut tally = Tally::new();
+    if let Some((seed, count)) = read_numbers(bytes) {
+        let ended = attack_all(alloc, seed, count, &mut tally);
+        return conclude(alloc, ended, tally.missing(), &tally);
+    }
+    match read_scenario(alloc, bytes) {
+        Ok(scenario) => {
+            let ended = attack_given(alloc, scenario, &mut tally).map_err(|stop| (0, stop));
+            conclude(alloc, ended, None, &tally)
+        }
+        Err(AppFault::NoMemory) => Ok((6, String::from_str(alloc, "no memory")?)),
+        Err(_) => Ok((
+            2,
+            String::from_str(alloc, "neither two numbers nor a scenario")?,
+        )),
+    }
+}
+
 fn main(rt: HostRuntime) -> ExitCode {
     let alloc = rt.alloc();
     let mut source = Std::new(rt.stdin());
@@ -175,12 +209,7 @@ fn main(rt: HostRuntime) -> ExitCode {
     let Ok(bytes) = read_all(alloc, &mut source) else {
         return ExitCode::from(6);
     };
-    let Some((seed, count)) = read_numbers(bytes.as_slice()) else {
-        return ExitCode::from(2);
-    };
-    let mut tally = Tally::new();
-    let ended = attack_all(alloc, seed, count, &mut tally);
-    let Ok((status, mut said)) = conclude(alloc, ended, &tally) else {
+    let Ok((status, mut said)) = attack_by(alloc, bytes.as_slice()) else {
         return ExitCode::from(6);
     };
     if said.push('\n').is_err() {

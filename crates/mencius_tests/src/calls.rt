@@ -1,6 +1,8 @@
 //! What a cluster answers after a worked schedule, each call once, and what each of its events did.
 
-use crate::courses::{named, new_cluster, scenario_of, stepped};
+use crate::courses::{
+    GET_AT_ANOTHER_SERVER, REVOKED_AND_SUGGESTED_AGAIN, cluster_after, new_cluster, scenario_of,
+};
 use mencius_base::{CommandId, Entry, Message, Value};
 use mencius_cluster::{Answered, Cluster, Effect};
 use std::alloc::Global;
@@ -35,15 +37,10 @@ fn shown(cluster: &Cluster, client: u32) -> &str {
     }
 }
 
-fn cluster_after<R: Abort>(rt: &R, alloc: Global, name: &str) -> Result<Cluster, Fail> {
-    let scenario = scenario_of(rt, alloc, named(rt, name))?;
-    Ok(stepped(rt, alloc, scenario))
-}
-
 #[test]
 fn each_event_has_its_effect(rt: HostRuntime) -> Result<(), Fail> {
     let alloc = rt.alloc();
-    let scenario = scenario_of(&rt, alloc, named(&rt, "get_at_another_server"))?;
+    let scenario = scenario_of(&rt, alloc, GET_AT_ANOTHER_SERVER);
     let mut cluster = new_cluster(&rt, alloc, scenario.members);
     let mut wanted = EFFECTS.iter();
     for event in scenario.events {
@@ -85,16 +82,15 @@ fn assert_learned<R: Abort>(rt: &R, cluster: &Cluster) {
 }
 
 #[test]
-fn servers_answer(rt: HostRuntime) -> Result<(), Fail> {
-    let cluster = cluster_after(&rt, rt.alloc(), "get_at_another_server")?;
+fn servers_answer(rt: HostRuntime) {
+    let cluster = cluster_after(&rt, rt.alloc(), GET_AT_ANOTHER_SERVER);
     assert_servers(&rt, &cluster);
     assert_learned(&rt, &cluster);
-    Ok(())
 }
 
 #[test]
 fn lists_answer(rt: HostRuntime) -> Result<(), Fail> {
-    let cluster = cluster_after(&rt, rt.alloc(), "get_at_another_server")?;
+    let cluster = cluster_after(&rt, rt.alloc(), GET_AT_ANOTHER_SERVER);
     assert_eq!(rt; cluster.messages(), 8);
     assert_eq!(rt; cluster.events(), 14);
     assert_eq!(rt; cluster.commands(), 2);
@@ -114,23 +110,17 @@ fn lists_answer(rt: HostRuntime) -> Result<(), Fail> {
 }
 
 // After a schedule, the reply of each client is the one in these words.
-fn assert_replies<R: Abort>(
-    rt: &R,
-    alloc: Global,
-    name: &str,
-    wanted: [&str; 2],
-) -> Result<(), Fail> {
-    let cluster = cluster_after(rt, alloc, name)?;
+fn assert_replies<R: Abort>(rt: &R, alloc: Global, schedule: &str, wanted: [&str; 2]) {
+    let cluster = cluster_after(rt, alloc, schedule);
     let [first, second] = wanted;
     assert_eq!(rt; shown(&cluster, 1), first);
     assert_eq!(rt; shown(&cluster, 2), second);
-    Ok(())
 }
 
 #[test]
-fn replies_answer(rt: HostRuntime) -> Result<(), Fail> {
+fn replies_answer(rt: HostRuntime) {
     let alloc = rt.alloc();
-    assert_replies(&rt, alloc, "get_at_another_server", ["none", "x"])?;
+    assert_replies(&rt, alloc, GET_AT_ANOTHER_SERVER, ["none", "x"]);
     let wanted = ["pending", "not submitted"];
-    assert_replies(&rt, alloc, "revoked_and_suggested_again", wanted)
+    assert_replies(&rt, alloc, REVOKED_AND_SUGGESTED_AGAIN, wanted);
 }

@@ -1,6 +1,6 @@
 //! What a caller concludes of a cluster, of servers stepped by hand, and of a board's readers, worked once.
 
-use crate::courses::{named, new_cluster, scenario_of, stepped};
+use crate::courses::{GET_AT_ANOTHER_SERVER, ONE_COMMAND, cluster_after, new_cluster, scenario_of};
 use mencius_base::{Ballot, Event, Members, Message, Outbox, Refusal};
 use mencius_board::{Board, BoardFault};
 use mencius_conclusions::conclusions::{histories, note_across};
@@ -26,7 +26,7 @@ const ROWS: [(usize, u8, u8, &[u32], &[u32]); 5] = [
 fn noted_histories(rt: HostRuntime) -> Result<(), Fail> {
     let alloc = rt.alloc();
     for (first, server, other, earlier, later) in ROWS {
-        let scenario = scenario_of(&rt, alloc, named(&rt, "get_at_another_server"))?;
+        let scenario = scenario_of(&rt, alloc, GET_AT_ANOTHER_SERVER);
         let mut cluster = new_cluster(&rt, alloc, scenario.members);
         let mut rest = Vec::new(alloc);
         let events: Vec<Event> = scenario.events.into_iter().collect(alloc)?;
@@ -53,7 +53,7 @@ fn noted_histories(rt: HostRuntime) -> Result<(), Fail> {
 fn no_such_server(rt: HostRuntime) -> Result<(), Fail> {
     let alloc = rt.alloc();
     for (server, other) in [(3, 0), (0, 3), (3, 3)] {
-        let scenario = scenario_of(&rt, alloc, named(&rt, "get_at_another_server"))?;
+        let scenario = scenario_of(&rt, alloc, GET_AT_ANOTHER_SERVER);
         let mut cluster = new_cluster(&rt, alloc, scenario.members);
         let events = scenario.events.into_iter().collect(alloc)?;
         let answer = note_across(alloc, &mut cluster, server, events, other);
@@ -98,8 +98,7 @@ fn look_up<R: Wait>(rt: &R, alloc: Global, board: &mut Board) -> Result<Reading,
 #[test]
 fn a_told_reader_finds_what_was_executed(rt: HostRuntime) -> Result<(), Fail> {
     let alloc = rt.alloc();
-    let scenario = scenario_of(&rt, alloc, named(&rt, "one_command"))?;
-    let cluster = stepped(&rt, alloc, scenario);
+    let cluster = cluster_after(&rt, alloc, ONE_COMMAND);
     let mut board = Board::new(&rt, alloc, cluster, 1).expect(&rt, "memory");
     let answer = look_up(&rt, alloc, &mut board);
     let cluster = board.end(&rt);

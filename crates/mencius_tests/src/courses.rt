@@ -1,44 +1,31 @@
-//! Clusters that were stepped through worked schedules.
+//! Schedules, and clusters that were stepped through them.
 
-use crate::fixtures::Script;
-use crate::schedules::{SCHEDULES, Schedule};
 use mencius_app::{Scenario, read_scenario};
 use mencius_base::{Members, Refusal};
 use mencius_cluster::Cluster;
-use std::alloc::{AllocError, Global};
+use std::alloc::Global;
 use std::panic::Expect;
 use std::process::Abort;
 
-/// The worked schedule of a name.
-pub fn named<R: Abort>(rt: &R, name: &str) -> Schedule {
-    let mut found = None;
-    for schedule in SCHEDULES {
-        if schedule.name == name {
-            found = Some(schedule);
-        }
-    }
-    found.expect(rt, "a schedule of that name")
-}
+/// Server 0 sets `a`, and nobody suspects it.
+pub const ONE_COMMAND: &str = "{\"version\":1,\"servers\":3,\"events\":[\
+    \"submit 0 1.0 set a x\",\"deliver 0 1\",\"deliver 0 0\",\"deliver 1 0\",\"deliver 2 0\",\"execute 0\"]}";
 
-/// What a worked schedule says.
-pub fn scenario_of<R: Abort>(
-    rt: &R,
-    alloc: Global,
-    schedule: Schedule,
-) -> Result<Scenario, AllocError> {
-    let mut script = Script::new(alloc, schedule.servers)?;
-    for event in schedule.events.split(',') {
-        if !event.is_empty() {
-            script.add(event)?;
-        }
-    }
-    finished(rt, alloc, script)
-}
+/// Server 0 sets `a`, and server 1 looks it up.
+pub const GET_AT_ANOTHER_SERVER: &str = "{\"version\":1,\"servers\":3,\"events\":[\
+    \"submit 0 1.0 set a x\",\"deliver 0 0\",\"deliver 0 1\",\"deliver 1 0\",\"deliver 2 0\",\"execute 0\",\
+    \"submit 1 2.0 get a\",\"deliver 4 0\",\"deliver 4 1\",\"deliver 5 1\",\"deliver 6 1\",\"deliver 3 1\",\
+    \"execute 1\",\"execute 1\"]}";
 
-/// What a script says.
-pub fn finished<R: Abort>(rt: &R, alloc: Global, script: Script) -> Result<Scenario, AllocError> {
-    let bytes = script.finish()?;
-    Ok(read_scenario(alloc, bytes.as_slice()).expect(rt, "a scenario"))
+/// Server 0 loses its instance, and suggests its command once more.
+pub const REVOKED_AND_SUGGESTED_AGAIN: &str = "{\"version\":1,\"servers\":3,\"events\":[\
+    \"submit 0 1.0 set a x\",\"lose 0 1\",\"lose 0 2\",\"suspect 1 0\",\"deliver 1 1\",\"deliver 1 2\",\
+    \"deliver 2 1\",\"deliver 3 1\",\"deliver 4 1\",\"deliver 4 2\",\"deliver 5 1\",\"deliver 6 1\",\
+    \"deliver 7 0\",\"retry 0\"]}";
+
+/// What a schedule says.
+pub fn scenario_of<R: Abort>(rt: &R, alloc: Global, text: &str) -> Scenario {
+    read_scenario(alloc, text.as_bytes()).expect(rt, "a scenario")
 }
 
 /// A cluster of these members to which nothing has happened yet.
@@ -46,8 +33,9 @@ pub fn new_cluster<R: Abort>(rt: &R, alloc: Global, members: Members) -> Cluster
     Cluster::new(alloc, members).expect(rt, "memory")
 }
 
-/// A cluster after a scenario.
-pub fn stepped<R: Abort>(rt: &R, alloc: Global, scenario: Scenario) -> Cluster {
+/// A cluster after a schedule.
+pub fn cluster_after<R: Abort>(rt: &R, alloc: Global, text: &str) -> Cluster {
+    let scenario = scenario_of(rt, alloc, text);
     let mut cluster = new_cluster(rt, alloc, scenario.members);
     for event in scenario.events {
         if let Err(refusal) = cluster.step(event) {

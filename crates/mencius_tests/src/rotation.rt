@@ -3,7 +3,6 @@
 ghost use Rattle.std.specs.Prelude.{◌≡◌};
 
 use crate::courses::new_cluster;
-use crate::runs::EIGHT_WORKERS;
 use mencius_app::read_plan;
 use mencius_base::{Command, Op};
 use mencius_board::{Board, BoardFault, Chooser, Plan, Reader, worker_turn};
@@ -13,6 +12,11 @@ use std::marker::Model;
 use std::process::Abort;
 use std::sync::Wait;
 use std::test::Fail;
+
+// Five servers and eight workers, and half of the choices lose a message.
+const EIGHT_WORKERS: &str = "{\"version\":1,\"servers\":5,\"workers\":8,\"seed\":7,\"turns\":2000,\
+    \"loss\":32,\"commands\":[[\"1.0 set a x\",\"1.1 get a\"],[\"2.0 set a y\"],[\"3.0 del a\"],\
+    [\"4.0 get a\"],[\"5.0 set b z\"]]}";
 
 // What a list of commands leaves at a key.
 fn left_at(alloc: Global, commands: &[Command], key: &str) -> Result<Option<String>, AllocError> {

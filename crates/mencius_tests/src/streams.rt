@@ -1,8 +1,81 @@
 //! Readers and writers that fail, are interrupted, or take little at a time.
 
-use crate::fixtures::{Page, Pieces, Trouble};
 use mencius_app::{AppFault, Sink, Source, Std, replay};
+use std::io;
+use std::io::{ErrorKind, Read, Write};
 use std::test::Fail;
+
+// Answers Interrupted so many times, then gives the bytes in pieces, and fails at one of its calls.
+#[derive(Drop)]
+struct Pieces<'a> {
+    bytes: &'a [u8],
+    piece: usize,
+    interruptions: u32,
+    calls: u32,
+    fails_at: Option<u32>,
+}
+
+impl Read for Pieces<'_> {
+    fn read(&mut self, buf: &mut [u8]) -> io::Result<usize> {
+        let call = self.calls;
+        self.calls = call.saturating_add(1);
+        if self.fails_at == Some(call) {
+            return Err(io::Error::from(ErrorKind::TimedOut));
+        }
+        if self.interruptions > 0 {
+            self.interruptions -= 1;
+            return Err(io::Error::from(ErrorKind::Interrupted));
+        }
+        let n = self.bytes.len().min(buf.len()).min(self.piece);
+        buf[..n].copy_from_slice(&self.bytes[..n]);
+        self.bytes = &self.bytes[n..];
+        Ok(n)
+    }
+}
+
+// How a writer goes wrong.
+#[derive(Clone, Copy, PartialEq, Eq)]
+enum Trouble {
+    None,
+    Error,
+    TakesNothing,
+}
+
+// Answers Interrupted so many times, then takes the bytes in pieces, and is in trouble at one of
+// its calls.
+#[derive(Drop)]
+struct Page<'a> {
+    taken: &'a mut Vec<u8>,
+    piece: usize,
+    interruptions: u32,
+    calls: u32,
+    trouble: Trouble,
+    trouble_at: u32,
+}
+
+impl Write for Page<'_> {
+    fn write(&mut self, buf: &[u8]) -> io::Result<usize> {
+        let call = self.calls;
+        self.calls = call.saturating_add(1);
+        if call == self.trouble_at && self.trouble == Trouble::Error {
+            return Err(io::Error::from(ErrorKind::TimedOut));
+        }
+        if call == self.trouble_at && self.trouble == Trouble::TakesNothing {
+            return Ok(0);
+        }
+        if self.interruptions > 0 {
+            self.interruptions -= 1;
+            return Err(io::Error::from(ErrorKind::Interrupted));
+        }
+        let n = buf.len().min(self.piece);
+        self.taken.extend_from_slice(&buf[..n])?;
+        Ok(n)
+    }
+
+    fn flush(&mut self) -> io::Result<()> {
+        Ok(())
+    }
+}
 
 const SCENARIO: &str = "{\"version\":1,\"servers\":1,\"events\":[\"submit 0 1.0 set a x\",\
     \"deliver 0 0\",\"deliver 1 0\",\"execute 0\"]}";

@@ -12,65 +12,56 @@ fn set(alloc: Global, key: &str, text: &str) -> Result<Op, Fail> {
     })
 }
 
-#[test]
-fn commands_have_limits(rt: HostRuntime) -> Result<(), Fail> {
-    let alloc = rt.alloc();
+// The fault of client 1's first command.
+fn fault_of(alloc: Global, key: &str, text: &str) -> Result<Option<BadCommand>, Fail> {
     let id = CommandId {
         client: 1,
         number: 0,
     };
-    let long_key = "k".repeat(alloc, 65)?;
+    Ok(Command::new(id, set(alloc, key, text)?).err())
+}
+
+// Bytes come before lengths, and the key before the text.
+#[test]
+fn commands_have_limits(rt: HostRuntime) -> Result<(), Fail> {
+    let alloc = rt.alloc();
     let long_text = "t".repeat(alloc, 257)?;
-    for (key, text, fault) in [
-        ("a", "x", None),
-        ("A-z_0.9", "", None),
-        ("a b", "x", Some(BadCommand::KeyByte)),
-        ("a b", "é", Some(BadCommand::KeyByte)),
-        ("", "x y", Some(BadCommand::TextByte)),
-        ("", "x", Some(BadCommand::KeyLength)),
-        (
-            long_key.as_str(),
-            long_text.as_str(),
-            Some(BadCommand::KeyLength),
-        ),
-        (&long_key[..64], &long_text[..256], None),
-        ("a", long_text.as_str(), Some(BadCommand::TextLength)),
-    ] {
-        match Command::new(id, set(alloc, key, text)?) {
-            Ok(command) => {
-                assert!(rt; fault.is_none(), "{key} {text}");
-                assert_eq!(rt; command.id(), id);
-                assert!(rt; matches!(command.op(), Op::Set { .. }));
-            }
-            Err(found) => assert_eq!(rt; Some(found), fault, "{key} {text}"),
-        }
-    }
+    let long_text = long_text.as_str();
+    assert_eq!(rt; fault_of(alloc, "A-z_0.9", "")?, None);
+    assert_eq!(rt; fault_of(alloc, "a b", "x y")?, Some(BadCommand::KeyByte));
+    assert_eq!(rt; fault_of(alloc, "", "x y")?, Some(BadCommand::TextByte));
+    assert_eq!(rt;
+        fault_of(alloc, "", long_text)?,
+        Some(BadCommand::KeyLength)
+    );
+    assert_eq!(rt;
+        fault_of(alloc, "a", long_text)?,
+        Some(BadCommand::TextLength)
+    );
     Ok(())
+}
+
+fn suggest(inst: u32, ticket: u32) -> Message {
+    Message::Suggest {
+        from: 0,
+        inst,
+        ticket,
+    }
 }
 
 #[test]
 fn an_outbox_stops_at_its_limit(rt: HostRuntime) -> Result<(), Fail> {
     let mut outbox = Outbox::new(rt.alloc(), 2);
-    for ticket in 0..2 {
-        outbox.reserve(1)?;
-        outbox.push(Message::Suggest {
-            from: 0,
-            inst: 3 * ticket,
-            ticket,
-        });
-    }
+    outbox.reserve(2)?;
+    outbox.push(suggest(0, 0));
+    outbox.push(suggest(3, 1));
     assert_eq!(rt; outbox.reserve(1), Err(Refusal::MessagesFull));
     assert_eq!(rt; outbox.len(), 2);
     assert_eq!(rt; outbox.limit(), 2);
     assert_eq!(rt; outbox.room(), 0);
-    let first = outbox.messages().first().copied();
     assert_eq!(rt;
-        first,
-        Some(Message::Suggest {
-            from: 0,
-            inst: 0,
-            ticket: 0
-        })
+        outbox.messages(),
+        [suggest(0, 0), suggest(3, 1)].as_slice()
     );
     Ok(())
 }

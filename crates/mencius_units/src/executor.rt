@@ -1,7 +1,7 @@
 //! What commands at one key are answered, one after the other.
 
 use map_exec::{Executor, Reply};
-use mencius_base::{Command, CommandId, Key, NoMemory, Op, Text};
+use mencius_base::{Command, CommandId, Key, Op, Text};
 use std::alloc::Global;
 use std::process::Abort;
 use std::test::Fail;
@@ -31,40 +31,6 @@ fn make_command(alloc: Global, deed: Deed) -> Option<Command> {
     Command::new(id, op).ok()
 }
 
-// A command, also where one growth is refused.
-fn command(alloc: Global, deed: Deed) -> Result<Command, Fail> {
-    let made = make_command(alloc, deed).or_else(|| make_command(alloc, deed));
-    Ok(made.ok_or("no command")?)
-}
-
-// Executes a command. Where a growth is refused, nothing has changed, and the same call then
-// answers as if none had been.
-fn execute(
-    rt: &impl Abort,
-    executor: &mut Executor,
-    command: &Command,
-    ticket: u32,
-    held: Option<&str>,
-) -> Result<Reply, NoMemory> {
-    let executed = executor.history().len();
-    match executor.execute(command, ticket) {
-        Ok(reply) => Ok(reply),
-        Err(NoMemory) => {
-            assert_eq!(rt;
-                executor.get("a"),
-                held,
-                "what is held after {ticket} was refused"
-            );
-            assert_eq!(rt;
-                executor.history().len(),
-                executed,
-                "after {ticket} was refused"
-            );
-            executor.execute(command, ticket)
-        }
-    }
-}
-
 fn text_of(reply: &Reply) -> Option<&str> {
     match reply {
         Some(text) => Some(text.as_str()),
@@ -72,30 +38,33 @@ fn text_of(reply: &Reply) -> Option<&str> {
     }
 }
 
+// A deed is answered so, and then this is held.
+fn assert_deed(
+    rt: &impl Abort,
+    alloc: Global,
+    executor: &mut Executor,
+    deed: Deed,
+    ticket: u32,
+    answer: Option<&str>,
+    held: Option<&str>,
+) -> Result<(), Fail> {
+    let command = make_command(alloc, deed).ok_or("no command")?;
+    let reply = executor.execute(&command, ticket)?;
+    assert_eq!(rt; text_of(&reply), answer, "the answer of {ticket}");
+    assert_eq!(rt; executor.get("a"), held, "what is held after {ticket}");
+    Ok(())
+}
+
 // An empty text is a text: it is answered as the former one, and a key that was removed has none.
-// `rt try --test --fail-alloc N` refuses the N-th growth.
 #[test]
 fn empty_text_del_and_get(rt: HostRuntime) -> Result<(), Fail> {
     let alloc = rt.alloc();
     let mut executor = Executor::new(alloc);
-    let rows = [
-        (Deed::Set("x"), None, Some("x")),
-        (Deed::Set(""), Some("x"), Some("")),
-        (Deed::Del, Some(""), None),
-        (Deed::Get, None, None),
-        (Deed::Set("y"), None, Some("y")),
-        (Deed::Get, Some("y"), Some("y")),
-    ];
-    let mut ticket = 0;
-    let mut before = None;
-    for (deed, answer, held) in rows {
-        let command = command(alloc, deed)?;
-        let reply = execute(&rt, &mut executor, &command, ticket, before)?;
-        assert_eq!(rt; text_of(&reply), answer, "the answer of {ticket}");
-        assert_eq!(rt; executor.get("a"), held, "what is held after {ticket}");
-        before = held;
-        ticket = ticket.saturating_add(1);
-    }
-    assert_eq!(rt; executor.history(), [0, 1, 2, 3, 4, 5].as_slice());
+    let (x, empty) = (Some("x"), Some(""));
+    assert_deed(&rt, alloc, &mut executor, Deed::Set("x"), 0, None, x)?;
+    assert_deed(&rt, alloc, &mut executor, Deed::Set(""), 1, x, empty)?;
+    assert_deed(&rt, alloc, &mut executor, Deed::Del, 2, empty, None)?;
+    assert_deed(&rt, alloc, &mut executor, Deed::Get, 3, None, None)?;
+    assert_eq!(rt; executor.history(), [0, 1, 2, 3].as_slice());
     Ok(())
 }

@@ -1,6 +1,5 @@
-//! Tests of the parts, each by its public calls: commands and outboxes, single instances, single servers, the map,
-//! boards and their readers and workers, and what is read of a scenario. They stand apart, so that no part is proved a
-//! second time with its tests.
+//! Tests of the parts, each by its public calls: commands and outboxes, single instances, single servers, the map, and
+//! boards and their readers and workers. They stand apart, so that no part is proved a second time with its tests.
 #![tactic(auto)]
 
 #[cfg(test)]
@@ -9,10 +8,6 @@ mod base;
 mod board;
 #[cfg(test)]
 mod executor;
-#[cfg(test)]
-mod explained;
-#[cfg(test)]
-mod scenarios;
 #[cfg(test)]
 mod server;
 #[cfg(test)]

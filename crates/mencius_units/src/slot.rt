@@ -1,9 +1,10 @@
 //! One instance at one server: what it answers as acceptor, and what it counts as proposer.
 
-ghost use Rattle.std.specs.Prelude.{◌≡◌, IfSome};
+ghost use Rattle.std.specs.Prelude.{◌≡◌, ◌<◌, IfSome};
 
 use coord_paxos::{Answer, Slot};
 use mencius_base::{Ballot, Members, Value, Vote};
+use std::process::Abort;
 use std::test::Fail;
 
 // A ballot of three members by its number: 4 is round 1 of server 1.
@@ -36,6 +37,21 @@ fn ballots_are_numbered(rt: HostRuntime) -> Result<(), Fail> {
     Ok(())
 }
 
+// A Prepare is answered so.
+fn assert_answers(rt: &impl Abort, slot: &mut Slot, ballot: Ballot, want: Answer) {
+    assert_eq!(rt; slot.prepare(ballot), want);
+}
+
+// A value is accepted, or not.
+fn assert_accepts(rt: &impl Abort, slot: &mut Slot, ballot: Ballot, value: Value, want: bool) {
+    assert_eq!(rt; slot.accept(ballot, value), want);
+}
+
+// A value is the first one that is learned, or not.
+fn assert_learns(rt: &impl Abort, slot: &mut Slot, value: Value, want: bool) {
+    assert_eq!(rt; slot.learn(value), want);
+}
+
 #[test]
 fn an_acceptor_answers(rt: HostRuntime) -> Result<(), Fail> {
     let members = Members::new(3).ok_or("three")?;
@@ -44,23 +60,48 @@ fn an_acceptor_answers(rt: HostRuntime) -> Result<(), Fail> {
     let seven = ballot(members, 7).ok_or("seven")?;
     let eight = ballot(members, 8).ok_or("eight")?;
     let ticket = Value::Ticket(0);
+    let accepted = vote(five, ticket);
     let mut slot = Slot::new(members);
 
-    assert_eq!(rt; slot.prepare(four), Answer::Promise(None));
-    assert_eq!(rt; slot.prepare(four), Answer::Silent);
-    assert_eq!(rt; slot.prepare(five), Answer::Promise(None));
-    assert!(rt; !slot.accept(four, Value::Noop));
-    assert!(rt; slot.accept(five, ticket));
-    assert_eq!(rt; slot.vote(), vote(five, ticket));
-    assert_eq!(rt; slot.prepare(seven), Answer::Promise(vote(five, ticket)));
-    assert!(rt; !slot.accept(Ballot::OWNER, Value::Ticket(1)));
-    assert!(rt; slot.learn(ticket));
-    assert!(rt; !slot.learn(Value::Noop));
+    assert_answers(&rt, &mut slot, four, Answer::Promise(None));
+    assert_answers(&rt, &mut slot, four, Answer::Silent);
+    assert_answers(&rt, &mut slot, five, Answer::Promise(None));
+    assert_accepts(&rt, &mut slot, four, Value::Noop, false);
+    assert_accepts(&rt, &mut slot, five, ticket, true);
+    assert_eq!(rt; slot.vote(), accepted);
+    assert_answers(&rt, &mut slot, seven, Answer::Promise(accepted));
+    assert_accepts(&rt, &mut slot, Ballot::OWNER, Value::Ticket(1), false);
+    assert_learns(&rt, &mut slot, ticket, true);
+    assert_learns(&rt, &mut slot, Value::Noop, false);
     assert_eq!(rt; slot.learned(), Some(ticket));
-    assert_eq!(rt; slot.prepare(eight), Answer::Known(ticket));
+    assert_answers(&rt, &mut slot, eight, Answer::Known(ticket));
     assert_eq!(rt; slot.promised(), seven);
-    assert!(rt; slot.accept(seven, ticket));
+    assert_accepts(&rt, &mut slot, seven, ticket, true);
     Ok(())
+}
+
+// A promise of a ballot is counted, and this is proposed.
+fn assert_promise(
+    rt: &impl Abort,
+    slot: &mut Slot,
+    from: u8,
+    ballot: Ballot,
+    vote: Option<Vote>,
+    want: Option<Value>,
+)
+    requires tried { 0 < ballot }
+    requires member { from < slot.old.members.count }
+    ensures { slot.new.members ≡ slot.old.members }
+{
+    assert_eq!(rt; slot.add_promise(from, ballot, vote), want);
+}
+
+// An acceptance of a ballot is counted, and this is learned.
+fn assert_accept(rt: &impl Abort, slot: &mut Slot, from: u8, ballot: Ballot, want: Option<Value>)
+    requires { from < slot.old.members.count }
+    ensures { slot.new.members ≡ slot.old.members }
+{
+    assert_eq!(rt; slot.add_accept(from, ballot), want);
 }
 
 #[test]
@@ -69,24 +110,22 @@ fn a_proposer_counts_servers(rt: HostRuntime) -> Result<(), Fail> {
     let four = ballot(members, 4).ok_or("four")?;
     let five = ballot(members, 5).ok_or("five")?;
     let ticket = Value::Ticket(0);
+    let owned = vote(Ballot::OWNER, ticket);
     let mut slot = Slot::new(members);
 
     slot.begin(four);
+    assert_promise(&rt, &mut slot, 1, four, None, None);
+    assert_promise(&rt, &mut slot, 1, four, None, None);
+    assert_promise(&rt, &mut slot, 2, four, owned, Some(ticket));
+    assert_promise(&rt, &mut slot, 0, four, None, None);
+    assert_accept(&rt, &mut slot, 1, four, None);
+    assert_accept(&rt, &mut slot, 1, four, None);
+    assert_accept(&rt, &mut slot, 2, five, None);
+    assert_accept(&rt, &mut slot, 2, four, Some(ticket));
+    assert_accept(&rt, &mut slot, 0, four, None);
     assert_eq!(rt; slot.trying(), four);
-    assert_eq!(rt; slot.add_promise(1, four, None), None);
-    assert_eq!(rt; slot.add_promise(1, four, None), None);
-    assert_eq!(rt; slot.promises(), [false, true, false].as_slice());
-    assert_eq!(rt;
-        slot.add_promise(2, four, vote(Ballot::OWNER, ticket)),
-        Some(ticket)
-    );
     assert_eq!(rt; slot.proposal(), Some(ticket));
-    assert_eq!(rt; slot.add_promise(0, four, None), None);
-    assert_eq!(rt; slot.add_accept(1, four), None);
-    assert_eq!(rt; slot.add_accept(1, four), None);
-    assert_eq!(rt; slot.add_accept(2, five), None);
-    assert_eq!(rt; slot.add_accept(2, four), Some(ticket));
-    assert_eq!(rt; slot.add_accept(0, four), None);
+    assert_eq!(rt; slot.promises(), [true, true, true].as_slice());
     assert_eq!(rt; slot.accepts(), [true, true, true].as_slice());
     Ok(())
 }
@@ -98,10 +137,10 @@ fn an_owner_needs_no_first_phase(rt: HostRuntime) -> Result<(), Fail> {
     let mut slot = Slot::new(members);
 
     slot.suggest(5);
-    assert_eq!(rt; slot.add_accept(0, Ballot::OWNER), None);
+    assert_accept(&rt, &mut slot, 0, Ballot::OWNER, None);
     assert_eq!(rt; slot.accept_answer(1, Ballot::OWNER), Some(ticket));
     assert_eq!(rt; slot.learned(), None);
-    assert_eq!(rt; slot.add_accept(1, Ballot::OWNER), Some(ticket));
+    assert_accept(&rt, &mut slot, 1, Ballot::OWNER, Some(ticket));
     assert_eq!(rt; slot.learned(), Some(ticket));
     Ok(())
 }

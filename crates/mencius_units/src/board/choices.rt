@@ -8,42 +8,41 @@ use mencius_cluster::Cluster;
 use rand_core::utils::NextWord;
 use rand_pcg::Lcg64Xsh32;
 use std::alloc::Global;
+use std::fmt::Debug;
 use std::panic::Expect;
 use std::process::Abort;
 use std::test::Fail;
 
-// A pick as text: `next`, or the event, of a submission the command's number.
-fn pick_text<R: Abort>(rt: &R, alloc: Global, picked: Pick) -> String {
-    match picked {
-        Pick::NextCommand => String::from_str(alloc, "next").expect(rt, "memory"),
-        Pick::Is(event) => event_text(rt, alloc, &event),
-    }
-}
-
-fn event_text<R: Abort>(rt: &R, alloc: Global, event: &Event) -> String {
-    let text = match event {
-        Event::Submit { server, command } => {
-            format!(in alloc; "submit {server} {}", command.id().number)
-        }
-        Event::Deliver { message, server } => format!(in alloc; "deliver {message} {server}"),
-        Event::Lose { message, server } => format!(in alloc; "lose {message} {server}"),
-        Event::Suspect { server, suspected } => format!(in alloc; "suspect {server} {suspected}"),
-        Event::Retry { server } => format!(in alloc; "retry {server}"),
-        Event::Execute { server } => format!(in alloc; "execute {server}"),
-    };
-    text.expect(rt, "memory")
+// A pick or an event, as `Debug` writes it.
+fn shown<R: Abort, T: Debug>(rt: &R, alloc: Global, value: &T) -> String {
+    format!(in alloc; "{value:?}").expect(rt, "memory")
 }
 
 // Words, loss, whether a command is left, and what is picked after the schedule one_command.
 const PICKS: [([u32; 3], u8, bool, &'static str); 8] = [
-    ([6, 0, 5], 0, true, "execute 2"),
-    ([18, 0, 4], 0, true, "retry 1"),
-    ([21, 4, 5], 0, true, "suspect 1 2"),
-    ([22, 2, 1], 2, true, "lose 1 0"),
-    ([22, 2, 1], 0, true, "deliver 1 0"),
-    ([63, 7, 5], 32, true, "deliver 0 2"),
-    ([69, 0, 0], 0, true, "next"),
-    ([69, 0, 0], 0, false, "deliver 0 0"),
+    ([6, 0, 5], 0, true, "Is(Execute { server: 2 })"),
+    ([18, 0, 4], 0, true, "Is(Retry { server: 1 })"),
+    (
+        [21, 4, 5],
+        0,
+        true,
+        "Is(Suspect { server: 1, suspected: 2 })",
+    ),
+    ([22, 2, 1], 2, true, "Is(Lose { message: 1, server: 0 })"),
+    ([22, 2, 1], 0, true, "Is(Deliver { message: 1, server: 0 })"),
+    (
+        [63, 7, 5],
+        32,
+        true,
+        "Is(Deliver { message: 0, server: 2 })",
+    ),
+    ([69, 0, 0], 0, true, "NextCommand"),
+    (
+        [69, 0, 0],
+        0,
+        false,
+        "Is(Deliver { message: 0, server: 0 })",
+    ),
 ];
 
 fn assert_picks<R: Abort>(
@@ -53,7 +52,7 @@ fn assert_picks<R: Abort>(
     row: ([u32; 3], u8, bool, &'static str),
 ) {
     let (words, loss, left, expected) = row;
-    let text = pick_text(rt, alloc, pick(words, loss, left, cluster));
+    let text = shown(rt, alloc, &pick(words, loss, left, cluster));
     assert_eq!(rt; text.as_str(), expected);
 }
 
@@ -75,7 +74,7 @@ fn take_one_command<R: Abort>(rt: &R, alloc: Global, cluster: &mut Cluster) {
 fn words_pick_by_the_table(rt: HostRuntime) -> Result<(), Fail> {
     let alloc = rt.alloc();
     let mut cluster = new_cluster(&rt, alloc, 3);
-    let on_new = ([40, 1, 2], 0, true, "deliver 0 2");
+    let on_new = ([40, 1, 2], 0, true, "Is(Deliver { message: 0, server: 2 })");
     assert_picks(&rt, alloc, &cluster, on_new);
     take_one_command(&rt, alloc, &mut cluster);
     for row in PICKS {
@@ -100,14 +99,24 @@ fn two_workers<R: Abort>(rt: &R, alloc: Global) -> Plan
     Plan::new(2, 7, 200, 4, lists).expect(rt, "a plan")
 }
 
-// Whether 200 choices of a worker are what the words drawn beside them pick, and its commands come in
-// this order.
+// Whether an event submits the command of a number at a server.
+fn submits(event: &Event, wanted: Option<&(u8, u32)>) -> bool {
+    match (event, wanted) {
+        (Event::Submit { server, command }, Some((at, number))) => {
+            server == at && command.id().number == *number
+        }
+        _ => false,
+    }
+}
+
+// Whether 200 choices of a worker are what the words drawn beside them pick, and its commands come in this order of
+// servers and numbers.
 fn follows<R: Abort>(
     rt: &R,
     alloc: Global,
     plan: &Plan,
     worker: u8,
-    order: &[&str],
+    order: &[(u8, u32)],
     cluster: &mut Cluster,
 ) -> bool
     requires { worker < plan.now.workers }
@@ -119,15 +128,15 @@ fn follows<R: Abort>(
         let first = words_beside.next_word();
         let second = words_beside.next_word();
         let third = words_beside.next_word();
-        let expected = match pick([first, second, third], 4, 0 < left.len(), cluster) {
-            Pick::NextCommand => match left.next() {
-                Some(text) => String::from_str(alloc, text).expect(rt, "memory"),
-                None => return false,
-            },
-            Pick::Is(event) => event_text(rt, alloc, &event),
-        };
+        let picked = pick([first, second, third], 4, 0 < left.len(), cluster);
         let event = chooser.choose(cluster).expect(rt, "memory");
-        if event_text(rt, alloc, &event).as_str() != expected.as_str() {
+        let as_picked = match picked {
+            Pick::NextCommand => submits(&event, left.next()),
+            Pick::Is(wanted) => {
+                shown(rt, alloc, &event).as_str() == shown(rt, alloc, &wanted).as_str()
+            }
+        };
+        if !as_picked {
             return false;
         }
         let _answer = cluster.step(event);
@@ -140,8 +149,8 @@ fn choices_follow_the_words_and_the_lists(rt: HostRuntime) -> Result<(), Fail> {
     let alloc = rt.alloc();
     let plan = two_workers(&rt, alloc);
     let mut cluster = new_cluster(&rt, alloc, 3);
-    let first = ["submit 0 0", "submit 2 20", "submit 0 1", "submit 2 21"];
+    let first = [(0, 0), (2, 20), (0, 1), (2, 21)];
     assert!(rt; follows(&rt, alloc, &plan, 0, &first, &mut cluster));
-    assert!(rt; follows(&rt, alloc, &plan, 1, &["submit 1 10"], &mut cluster));
+    assert!(rt; follows(&rt, alloc, &plan, 1, &[(1, 10)], &mut cluster));
     Ok(())
 }

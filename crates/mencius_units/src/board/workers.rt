@@ -1,7 +1,6 @@
 //! Workers run side by side, each turn passes the gate and steps the board.
 use super::fixtures::{new_cluster, set_number};
-use mencius_board::{Board, BoardFault, Chooser, Gate, Open, Plan, lend, run_workers, worker_turn};
-use mencius_cluster::Cluster;
+use mencius_board::{Board, Gate, Plan, lend, run_workers};
 use std::alloc::Global;
 use std::panic::Expect;
 use std::process::Abort;
@@ -9,7 +8,6 @@ use std::sync::atomic::{AtomicBool, AtomicU64, Ordering};
 use std::sync::{Mutex, Wait};
 use std::test::Fail;
 use std::thread;
-use std::thread::Threads;
 
 // Workers of some turns over three servers, each of which has one command.
 fn plan_of<R: Abort>(rt: &R, alloc: Global, workers: u8, seed: u64, turns: u32) -> Plan {
@@ -152,38 +150,5 @@ fn a_turn_waits_for_the_lock(rt: HostRuntime) -> Result<(), Fail> {
     let cluster = board.into_inner().end(&rt);
     assert!(rt; kept && ran);
     assert_eq!(rt; (cluster.commands(), cluster.events()), (1, 1));
-    Ok(())
-}
-
-// What the only worker of a plan leaves, in a thread of its own.
-fn run_in_thread<R: Threads + Wait + Abort + Sync>(
-    rt: &R,
-    alloc: Global,
-    plan: &Plan,
-) -> Result<Cluster, BoardFault> {
-    let board = Mutex::new(Board::new(rt, alloc, new_cluster(rt, alloc, 3), 1)?);
-    let ran = run_workers(rt, alloc, &board, plan, &Open).map(|choosers| choosers.len());
-    let cluster = board.into_inner().end(rt);
-    assert_eq!(rt; ran, Ok(1));
-    Ok(cluster)
-}
-
-fn take_turns<R: Abort>(rt: &R, board: &mut Board, chooser: &mut Chooser, turns: u32) {
-    for _ in 0..turns {
-        assert!(rt; worker_turn(board, chooser).is_ok());
-    }
-}
-
-#[test]
-fn one_worker_steps_as_an_owned_board_does(rt: HostRuntime) -> Result<(), Fail> {
-    let alloc = rt.alloc();
-    let plan = plan_of(&rt, alloc, 1, 1, 2000);
-    let in_thread = run_in_thread(&rt, alloc, &plan)?;
-    let mut owned = Board::new(&rt, alloc, new_cluster(&rt, alloc, 3), 1)?;
-    let mut chooser = Chooser::new(&plan, 0);
-    take_turns(&rt, &mut owned, &mut chooser, 2000);
-    let cluster = owned.end(&rt);
-    assert!(rt; cluster.journal() == in_thread.journal());
-    assert!(rt; 0 < cluster.commands());
     Ok(())
 }
