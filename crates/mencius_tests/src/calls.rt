@@ -51,9 +51,9 @@ fn each_event_has_its_effect(rt: HostRuntime) -> Result<(), Fail> {
             sent,
             learned,
         };
-        assert_eq!(rt; cluster.step(event), Ok(effect));
+        assert!(rt; cluster.step(event) == Ok(effect));
     }
-    assert_eq!(rt; wanted.next(), None);
+    assert!(rt; wanted.next().is_none());
     Ok(())
 }
 
@@ -88,25 +88,39 @@ fn servers_answer(rt: HostRuntime) {
     assert_learned(&rt, &cluster);
 }
 
-#[test]
-fn lists_answer(rt: HostRuntime) -> Result<(), Fail> {
-    let cluster = cluster_after(&rt, rt.alloc(), GET_AT_ANOTHER_SERVER);
+fn assert_counts<R: Abort>(rt: &R, cluster: &Cluster) {
     assert_eq!(rt; cluster.messages(), 8);
     assert_eq!(rt; cluster.events(), 14);
     assert_eq!(rt; cluster.commands(), 2);
+}
+
+// Message 4 is the suggestion of the second command.
+fn assert_suggested<R: Abort>(rt: &R, cluster: &Cluster) {
     let suggestion = Message::Suggest {
         from: 1,
         inst: 1,
         ticket: 1,
     };
-    assert_eq!(rt; cluster.message(4), Some(suggestion));
-    assert_eq!(rt; cluster.command(1).ok_or("no command")?.id().client, 2);
+    assert!(rt; cluster.message(4) == Some(suggestion));
+}
+
+// The first event is the first submission.
+fn assert_submitted<R: Abort>(rt: &R, cluster: &Cluster) {
     let submission = Entry::Submit {
         server: 0,
         ticket: 0,
     };
-    assert_eq!(rt; cluster.journal().first().copied(), Some(submission));
-    Ok(())
+    assert!(rt; cluster.journal().first() == Some(&submission));
+    let client = cluster.command(1).map(|command| command.id().client);
+    assert_eq!(rt; client, Some(2));
+}
+
+#[test]
+fn lists_answer(rt: HostRuntime) {
+    let cluster = cluster_after(&rt, rt.alloc(), GET_AT_ANOTHER_SERVER);
+    assert_counts(&rt, &cluster);
+    assert_suggested(&rt, &cluster);
+    assert_submitted(&rt, &cluster);
 }
 
 // After a schedule, the reply of each client is the one in these words.

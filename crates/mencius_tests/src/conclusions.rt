@@ -1,7 +1,7 @@
 //! What a caller concludes of a cluster, of servers stepped by hand, and of a board's readers, worked once.
 
 use crate::courses::{GET_AT_ANOTHER_SERVER, ONE_COMMAND, cluster_after, new_cluster, scenario_of};
-use mencius_base::{Ballot, Event, Members, Message, Outbox, Refusal};
+use mencius_base::{Ballot, Members, Message, Outbox, Refusal};
 use mencius_board::{Board, BoardFault};
 use mencius_conclusions::conclusions::{histories, note_across};
 use mencius_conclusions::hands::deliver;
@@ -9,6 +9,7 @@ use mencius_conclusions::readings::{Reading, look_up_shown};
 use mencius_server::Server;
 use std::alloc::Global;
 use std::panic::Expect;
+use std::process::Abort;
 use std::sync::Wait;
 use std::test::Fail;
 
@@ -28,15 +29,11 @@ fn noted_histories(rt: HostRuntime) -> Result<(), Fail> {
     for (first, server, other, earlier, later) in ROWS {
         let scenario = scenario_of(&rt, alloc, GET_AT_ANOTHER_SERVER);
         let mut cluster = new_cluster(&rt, alloc, scenario.members);
-        let mut rest = Vec::new(alloc);
-        let events: Vec<Event> = scenario.events.into_iter().collect(alloc)?;
-        for (place, event) in events.into_iter().enumerate() {
-            if place < first {
-                assert!(rt; cluster.step(event).is_ok());
-            } else {
-                rest.push(event)?;
-            }
+        let mut rest = scenario.events.into_iter();
+        for event in rest.by_ref().take(first) {
+            assert!(rt; cluster.step(event).is_ok());
         }
+        let rest = rest.collect(alloc)?;
         let noted = note_across(alloc, &mut cluster, server, rest, other).expect(&rt, "memory");
         assert!(rt; noted.earlier.as_slice() == earlier, "after {first}");
         assert!(rt; noted.later.as_slice() == later, "after {first}");
@@ -64,6 +61,17 @@ fn no_such_server(rt: HostRuntime) -> Result<(), Fail> {
     Ok(())
 }
 
+// The last message says that server 1 accepts what server 0 suggested at instance 0.
+fn assert_accepted<R: Abort>(rt: &R, out: &Outbox) {
+    let answer = Message::Accepted {
+        from: 1,
+        to: 0,
+        inst: 0,
+        ballot: Ballot::OWNER,
+    };
+    assert!(rt; out.messages().last() == Some(&answer));
+}
+
 // Server 1 hears the first suggestion of server 0, and accepts it.
 #[test]
 fn first_delivery(rt: HostRuntime) -> Result<(), Fail> {
@@ -73,20 +81,14 @@ fn first_delivery(rt: HostRuntime) -> Result<(), Fail> {
     let mut one = Server::new(alloc, members, 1).expect(&rt, "memory");
     let two = Server::new(alloc, members, 2).expect(&rt, "memory");
     let mut out = Outbox::new(alloc, 8);
-    assert_eq!(rt; zero.submit(0, &mut out), Ok(()));
+    assert!(rt; zero.submit(0, &mut out).is_ok());
     let message = *out.messages().first().expect(&rt, "a suggestion");
     if !message.is_for(members, 1) {
         assert!(rt; false, "it is for server 1");
         return Ok(());
     }
-    assert_eq!(rt; deliver(&mut one, &zero, &two, &mut out, &message), Ok(0));
-    let answer = Message::Accepted {
-        from: 1,
-        to: 0,
-        inst: 0,
-        ballot: Ballot::OWNER,
-    };
-    assert_eq!(rt; out.messages().last(), Some(&answer));
+    assert!(rt; deliver(&mut one, &zero, &two, &mut out, &message) == Ok(0));
+    assert_accepted(&rt, &out);
     Ok(())
 }
 
