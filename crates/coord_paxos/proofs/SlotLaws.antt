@@ -15,7 +15,7 @@ use Rattle.mencius_model.specs.Rules.{acceptor_answer, answer_lines, decision_du
 use Rattle.mencius_model.specs.Next.{decision_at, on_prepare, on_propose, proposal_at}
 use Rattle.coord_paxos.specs.SlotState.{SlotState}
 use Rattle.coord_paxos.specs.Fresh.{new_slot}
-use Rattle.coord_paxos.specs.Slot.{accept_answer, after_accept, after_acceptance, after_begin, after_learn, after_prepare, after_promise, is_majority, learning, promise_answer, proposing, to_learn, to_propose, with_accept, with_promise}
+use Rattle.coord_paxos.specs.Slot.{accept_answer, after_accept, after_acceptance, after_answer, after_begin, after_learn, after_prepare, after_promise, is_majority, learning, promise_answer, proposing, to_learn, to_propose, with_accept, with_promise}
 use Rattle.coord_paxos.specs.Reached.{if_own, slot_at}
 use Rattle.coord_paxos.specs.Laws.{counts, touches}
 use Rattle.mencius_base.specs.declared.message.Answer.TheVariants.{Promise as Promised, Silent}
@@ -39,19 +39,16 @@ slot_at-empty m p i = same_slot _ _ refl refl refl refl refl refl (nothing_owned
 -- ---- prepare
 
 module _ (m : Membership) (w : Trace) (p q i b : ℕ) where
-  abbrev promised_at : SlotState
-  promised_at = record (slot_at m w p i) { promised = b }
-
   prepared_unlearned : (a : Bool) → ltb (promised w p i) b ≡ a
       → slot_at m (followed_by w (answer_lines p q i b (cond a (Promised (vote w p i)) Silent))) p i
-      ≡ cond a promised_at (slot_at m w p i)
+      ≡ after_answer (slot_at m w p i) b (cond a (Promised (vote w p i)) Silent)
   prepared_unlearned true above =
       let over : promised w p i < b = ltb-true _ _ above in slot_at-promised m w p q i b (vote w p i) (omega arith)
   prepared_unlearned false below = refl
 
   prepared_knowing : (o : Option Value)
       → slot_at m (followed_by w (answer_lines p q i b (acceptor_answer (promised w p i) (vote w p i) b o))) p i
-      ≡ cond (is_none o && ltb (promised w p i) b) promised_at (slot_at m w p i)
+      ≡ after_answer (slot_at m w p i) b (acceptor_answer (promised w p i) (vote w p i) b o)
   prepared_knowing None = prepared_unlearned (ltb (promised w p i) b) refl
   prepared_knowing (Some x) = slot_at-quiet m w (Sent (Learn p i x)) p i (quiet_learn p p i i x) refl
 

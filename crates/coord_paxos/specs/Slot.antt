@@ -1,13 +1,14 @@
 -- What each call answers and makes of a slot, where q is a server, b a ballot and x a value or a vote.
-use Rattle.std.specs.Prelude.{Bool, true, List, Option, Some, None, ◌==◌, nat_lt, nat_le, if◌then◌else◌, ◌&&◌, is_none, slice_set}
+use Rattle.std.specs.Prelude.{Bool, true, List, Option, Some, None, ◌==◌, nat_le, if◌then◌else◌, is_none, slice_set}
 use Rattle.std.specs.List.{count_by}
 use Rattle.mencius_base.specs.Numbers.{ServerId, BallotNo}
 use Rattle.mencius_base.specs.declared.message.Answer.{Answer}
+use Rattle.mencius_base.specs.declared.message.Answer.TheVariants.{Promise}
 use Rattle.mencius_base.specs.declared.message.Value.{Value}
 use Rattle.mencius_base.specs.declared.message.Vote.{Vote}
 use Rattle.mencius_base.specs.Members.{Membership, majority}
 use Rattle.mencius_model.specs.Instance.{higher_vote}
-use Rattle.mencius_model.specs.Rules.{acceptor_answer, decision_due, proposal_due}
+use Rattle.mencius_model.specs.Rules.{acceptor_answer, decision_due, is_acceptable, proposal_due}
 use Rattle.coord_paxos.specs.SlotState.{SlotState}
 use Rattle.coord_paxos.specs.Fresh.{nobody}
 
@@ -19,14 +20,18 @@ is_majority m among = nat_le (majority m) (count_by (λ bit. bit) among)
 abbrev pub prepare_answer : SlotState → BallotNo → Answer
 prepare_answer s b = acceptor_answer s.promised s.vote b s.learned
 
--- a promise is made where the value is not known and the ballot is above every one promised
-abbrev pub after_prepare : SlotState → BallotNo → SlotState
-after_prepare s b = if is_none s.learned && nat_lt s.promised b then record s { promised = b } else s
+-- a ballot that is promised binds from then on, and any other answer changes nothing
+abbrev pub after_answer : SlotState → BallotNo → Answer → SlotState
+after_answer s b (Promise x) = record s { promised = b }
+after_answer s b _ = s
 
--- a ballot that is not below the promise is accepted, and the promise and the vote are its own
+abbrev pub after_prepare : SlotState → BallotNo → SlotState
+after_prepare s b = after_answer s b (prepare_answer s b)
+
+-- promise and vote of a ballot that is accepted are its own
 abbrev pub after_accept : SlotState → BallotNo → Value → SlotState
 after_accept s b x =
-    if nat_le s.promised b then record s { promised = b; vote = Some (record { ballot = b; value = x }) } else s
+    if is_acceptable s.promised b then record s { promised = b; vote = Some (record { ballot = b; value = x }) } else s
 
 -- a first phase starts with nothing reported, proposed or counted
 abbrev pub after_begin : SlotState → BallotNo → SlotState

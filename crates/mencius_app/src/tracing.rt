@@ -38,23 +38,22 @@ pub fn trace<R: Source, W: Sink>(
         (R.failed source.old) (R.failed source.new) (W.failed sink.old) (W.failed sink.new) }
 {
     let scenario = read_input(alloc, source)?;
-    let text = traced(alloc, scenario.members, scenario.events)?;
+    let Ok(text) = traced(alloc, scenario.members, scenario.events) else {
+        return Err(AppFault::NoMemory);
+    };
     write_all(sink, text.as_bytes())
 }
 
 // The text of a trace.
-fn traced(alloc: Global, members: Members, events: Events) -> Result<String, AppFault>
+fn traced(alloc: Global, members: Members, events: Events) -> Result<String, NoMemory>
     ensures text { IfOk result (λ s. string_bytes s ≡ trace_text members.count events) }
-    ensures memory { IfErr result (λ f. f ≡ AppFault.NoMemory) }
 {
     let Ok(mut cluster) = Cluster::new(alloc, members) else {
-        return Err(AppFault::NoMemory);
+        return Err(NoMemory);
     };
     let mut text = String::new(alloc);
-    match push_trace(alloc, &mut text, &mut cluster, events) {
-        Ok(()) => Ok(text),
-        Err(_) => Err(AppFault::NoMemory),
-    }
+    push_trace(alloc, &mut text, &mut cluster, events)?;
+    Ok(text)
 }
 
 // Adds the trace of a new cluster and these events.

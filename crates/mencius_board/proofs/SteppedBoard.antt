@@ -20,7 +20,7 @@ steady_next x y e f s step = record {
   grows = s.grows;
 }
 
--- and its longest history begins with the former one
+-- and the former longest history is a prefix of its longest one
 longest_grows : (x y : ClusterState) (e : Event) (f : Effect) → IsSteady x
     → IsStepped x y e f → IsPrefix (longest x) (longest y)
 unfolding longest

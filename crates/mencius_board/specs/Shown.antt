@@ -6,7 +6,8 @@ use lib.ListN.{get_elem?}
 use Rattle.logbook.specs.Pages.{Book}
 use Rattle.mencius_board.specs.Marks.{MarkState, VersionState}
 
--- what was seen is a prefix of this mark's list, of the same history. Who has not seen anything yet follows any
+-- what was seen is a mark of the same log, and its list a prefix of this mark's. Who has not seen anything yet follows
+-- any
 abbrev pub Follows : Option MarkState → MarkState → Type 0
 Follows None m = Unit {0}
 Follows (Some old) m = (old.book ≡ m.book) × IsPrefix old.log m.log

@@ -82,7 +82,9 @@ impl Board {
         cluster.replays();
         let log = ShownLog::new();
         let opening = log.mark();
-        let writer = open_writer(rt, alloc, &opening, readers)?;
+        let Ok(writer) = open_writer(rt, alloc, &opening, readers) else {
+            return Err(BoardFault::NoMemory);
+        };
         Ok(Board {
             cluster,
             log,

@@ -143,24 +143,23 @@ pub fn open_writer<R: Wait>(
     alloc: Global,
     opening: &Mark,
     readers: u8,
-) -> Result<Showing, BoardFault>
+) -> Result<Showing, AllocError>
     requires some { (0 < readers) × (readers ≤ 16) }
     requires empty { opening.now.log ≡ [] }
     ensures seen { IfOk result (λ x. book_of (view x.desk.place) ≡ Some opening.now.book) }
     ensures shown { IfOk result
         (λ x. x.desk.shown.value ≡ record { mark = opening.now; list = opening.now.log }) }
     ensures pending { IfOk result (λ x. added (drop x.behind x.log.items) ≡ []) }
-    ensures err { IfErr result (λ f. f ≡ BoardFault.NoMemory) }
 {
     let first = Version::new(alloc, opening.again());
     let second = Version::new(alloc, opening.again());
     let Ok(writer) = Showing::new(alloc, first, second, usize::from(readers)) else {
-        return Err(BoardFault::NoMemory);
+        return Err(AllocError);
     };
     let (writer, shown) = publish(rt, opening, writer);
     let Ok(()) = shown else {
         drop(writer.take(rt));
-        return Err(BoardFault::NoMemory);
+        return Err(AllocError);
     };
     Ok(writer)
 }

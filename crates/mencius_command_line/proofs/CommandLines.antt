@@ -1,10 +1,10 @@
 -- Command lines: what `clap` finds is what is asked for, and which kinds of error there are at some.
-use Rattle.std.specs.Prelude.{◌≡◌, Bool, true, false, List, [], ◌∷◌, Option, Some, None, Result, codes, option_map, Box}
+use Rattle.std.specs.Prelude.{◌≡◌, ◌++◌, Bool, true, false, List, [], ◌∷◌, Option, Some, None, Result, codes, option_map, Box, String, length, map, string_bytes}
 use Rattle.std.specs.Option.{option_map_or}
 use Rattle.std.specs.Box.{box_value}
 use Rattle.std.specs.Borrow.{Bor}
 use Rattle.std.specs.Str.{bytes_eq}
-use Rattle.std.proofs.Common.{refl, ap, ◌∙◌, inl, inr}
+use Rattle.std.proofs.Common.{arith, refl, ap, ◌∙◌, inl, inr, sym}
 use Rattle.std.specs.Result.{IsErrAnd}
 use Rattle.std.proofs.lemmas.Result.{err_from_is_err_and}
 use Rattle.clap.specs.Kinds.{FailsBy, HasKind, or_else}
@@ -17,7 +17,7 @@ use Rattle.clap.specs.declared.parser.matches.SubCommand.{SubCommand}
 use Rattle.clap.proofs.OnLiterals.{clap_on_literals}
 use Rattle.clap.proofs.WalkLemmas.{first_value-rows}
 use Rattle.mencius_base.specs.Command.{is_name}
-use Rattle.mencius_command_line.specs.CommandLine.{Asked, asked, asked_replay, asked_run, faults, has_flag, program}
+use Rattle.mencius_command_line.specs.CommandLine.{Asked, asked, asked_replay, asked_run, faults, has_flag, program, with_joined_key}
 
 -- ---- what was found
 
@@ -176,3 +176,20 @@ key-with-a-bad-byte = refl
 empty-key : fault_at (codes "run" ∷ codes "--lookup=" ∷ []) ≡ kind.ValueValidation ∷ []
 unfolding clap_on_literals is_name
 empty-key = refl
+
+-- `--lookup` and the word after it are read as one
+pub joined_key : (word key made : Text) (words : List Text) → bytes_eq word (codes "--lookup") ≡ true
+    → made ≡ word ++ 61 ∷ key → with_joined_key (word ∷ key ∷ words) ≡ made ∷ with_joined_key words
+joined_key word key made words same is = rw same (ap (λ text. text ∷ with_joined_key words) (sym is))
+
+-- any other word is read as it stands
+pub other_word : (word : Text) (words : List Text) → bytes_eq word (codes "--lookup") ≡ false
+    → with_joined_key (word ∷ words) ≡ word ∷ with_joined_key words
+other_word word [] other = refl
+other_word word (key ∷ words) other = rw other refl
+
+-- and so is the last one
+pub last_word : {Z : Type 0} (word : Text) (words : List (String Z)) → length words ≡ 0
+    → with_joined_key (word ∷ map string_bytes words) ≡ word ∷ with_joined_key (map string_bytes words)
+last_word word [] none = refl
+last_word word (x ∷ words) none = absurd (omega (arith, none))

@@ -40,7 +40,7 @@ pub fn look_up_told(
 }
 
 /// Shows a board's longest history, tells a reader of it, and looks a key up. The answer is from a list
-/// that begins with the longest history as it was then.
+/// of which the longest history, as it was then, is a prefix.
 pub fn look_up_shown<R: Wait>(
     rt: &R,
     alloc: Global,

@@ -17,8 +17,8 @@ use Rattle.mencius_base.specs.declared.message.Vote.{Vote}
 use Rattle.mencius_base.specs.Members.{Membership, owner, round, first_owned, instances, most_events, first_item}
 use Rattle.mencius_model.specs.Trace.{Line, Submitted, Heard, Suspected, Retried, Sent, Learned, Trace, followed_by, sent, submitted, events}
 use Rattle.mencius_model.specs.Instance.{promised, proposed, proposed_by, accepted, greater, vote, vote_of, vote_at, learned, trying, promisers, accepters, reported, are_majority, has_accepted}
-use Rattle.mencius_model.specs.Server.{front, suggested, is_suggestion_past, is_noop, unless, waits, waiting_at, waiting, is_free, free_instance, is_covered, done}
-use Rattle.mencius_model.specs.Rules.{acceptor_answer, answer_lines, decision_lines, gives_up, proposal_due, proposal_lines, suggestion}
+use Rattle.mencius_model.specs.Server.{front, suggested, is_suggestion_past, waits, waiting_at, waiting, is_free, free_instance, is_covered, done}
+use Rattle.mencius_model.specs.Rules.{acceptor_answer, answer_lines, decision_lines, gives_up, proposal_due, proposal_lines, suggestion, is_noop, unless}
 use Rattle.mencius_model.specs.Next.{head, is_given_up, on_promise, on_propose, on_accepted, on_learn, on_message, next_round, preparation, again, delivery, lines, causes, first_cause, refused, step_or, next}
 use Rattle.mencius_model.proofs.NumberLists.{find-instances_found}
 use Rattle.mencius_model.proofs.Lists.{IsIn, in_any, get_in, none_in, majority_more, majorities_meet}

@@ -16,7 +16,7 @@ use Rattle.mencius_model.specs.Instance.{learned, promised, vote}
 use Rattle.mencius_model.specs.Server.{free_instance, front, covered_by, waiting}
 use Rattle.mencius_model.specs.Rules.{acceptor_answer, answer_lines, decision_lines, proposal_lines, suggestion}
 use Rattle.mencius_model.proofs.EachLine.{AreAll, one_if}
-use Rattle.mencius_model.specs.Next.{again, delivery, head, is_given_up, lines, on_message, preparation, decision_at, proposal_at}
+use Rattle.mencius_model.specs.Next.{again, delivery, head, is_given_up, lines, on_message, preparation, decision_at, proposal_at, server_of}
 
 -- whose line it is
 abbrev pub IsBy : ServerId → Line → Type 0
@@ -33,14 +33,6 @@ IsBy p _ = Unit {0}
 
 abbrev pub AreBy : ServerId → List Line → Type 0
 AreBy p ls = AreAll (IsBy p) ls
-
-abbrev pub server_of : Event → ServerId
-server_of (Submit p command) = p
-server_of (Deliver k p) = p
-server_of (Lose k p) = p
-server_of (Suspect p q) = p
-server_of (Retry p) = p
-server_of (Execute p) = p
 
 by_suggestion : (p t : ℕ) (o : Option ℕ) → AreBy p (suggestion p o t)
 by_suggestion p t None = tt

@@ -49,7 +49,7 @@ answers-refusals : answers three [] refusals
 unfolding below instances most_messages most_events most_rounds
 answers-refusals = refl
 
--- the refused events leave no trace
+-- the refused events add no line
 outcome-refusals : outcome three [] refusals ≡ outcome three [] (Submit 0 set_a ∷ Lose 0 2 ∷ Deliver 0 1 ∷ [])
 unfolding below instances most_messages most_events most_rounds
 outcome-refusals = refl

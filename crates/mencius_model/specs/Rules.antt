@@ -1,6 +1,6 @@
 -- The rules of a server, each over the few facts that it asks: `Next` asks them of the list of lines, and whoever keeps
 -- what a server knows has them in its fields.
-use Rattle.std.specs.Prelude.{ℕ, ◌+◌, max, Bool, false, List, [], ◌∷◌, Option, Some, None, nat_lt, nat_le, if◌then◌else◌, ◌&&◌, ◌==◌, is_none}
+use Rattle.std.specs.Prelude.{ℕ, ◌+◌, max, Bool, false, List, [], ◌∷◌, Option, Some, None, nat_lt, nat_le, if◌then◌else◌, ◌&&◌, ◌==◌, is_none, true, not, ◌||◌}
 use Rattle.mencius_base.specs.Numbers.{ServerId, Inst, BallotNo, TicketNo}
 use Rattle.mencius_base.specs.Members.{Membership, owner, first_owned, round}
 use Rattle.mencius_base.specs.declared.message.Answer.{Answer}
@@ -11,6 +11,7 @@ use Rattle.mencius_base.specs.declared.message.Value.{Value}
 use Rattle.mencius_base.specs.declared.message.Vote.{Vote}
 use Rattle.mencius_model.specs.Trace.{Line, Sent, Learned}
 use Rattle.mencius_model.specs.Instance.{value_or_noop}
+use Rattle.mencius_base.specs.declared.message.Value.TheVariants.{Noop}
 
 -- ---- a ticket
 
@@ -23,15 +24,32 @@ abbrev pub suggestion : ServerId → Option Inst → TicketNo → List Line
 suggestion p None t = []
 suggestion p (Some i) t = Sent (Suggest p i t) ∷ []
 
+abbrev pub is_noop : Option Value → Bool
+is_noop (Some Noop) = true
+is_noop _ = false
+
+-- no answer where the test holds
+abbrev pub unless : Bool → Option TicketNo → Option TicketNo
+unless true _ = None
+unless false o = o
+
+-- a ticket waits where no-op was learned, and it was not suggested again further on
+abbrev pub waiting_ticket : Option Value → Bool → TicketNo → Option TicketNo
+waiting_ticket learned again t = unless (not (is_noop learned) || again) (Some t)
+
 -- ---- a Suggest or a Propose
 
 -- a suggestion above the own front gives up the own instances below it, whether or not it is accepted then
 abbrev pub skip_lines : Membership → ServerId → Inst → Inst → List Line
 skip_lines m p front i = if nat_lt front i then Sent (Skip p front (first_owned m p (i + 1))) ∷ [] else []
 
--- what q proposes at (i, b) is accepted unless a greater ballot was promised
+-- a ballot is accepted unless a greater one was promised
+abbrev pub is_acceptable : BallotNo → BallotNo → Bool
+is_acceptable promised b = nat_le promised b
+
+-- p accepts what q proposes at (i, b)
 abbrev pub acceptance_lines : ServerId → ServerId → Inst → BallotNo → BallotNo → List Line
-acceptance_lines p q i b promised = if nat_le promised b then Sent (Accepted p q i b) ∷ [] else []
+acceptance_lines p q i b promised = if is_acceptable promised b then Sent (Accepted p q i b) ∷ [] else []
 
 -- ---- a Skip
 

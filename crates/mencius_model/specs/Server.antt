@@ -1,14 +1,14 @@
 -- What a server knows beyond single instances, asked of the trace.
-use Rattle.std.specs.Prelude.{ℕ, ◌+◌, Bool, true, false, List, [], ◌∷◌, Option, Some, None, ◌==◌, max, nat_lt, if◌then◌else◌, ◌&&◌, not, ◌||◌}
+use Rattle.std.specs.Prelude.{ℕ, ◌+◌, Bool, false, List, [], ◌∷◌, Option, Some, None, ◌==◌, max, nat_lt, if◌then◌else◌, ◌&&◌, not}
 use Rattle.std.specs.List.{list_any, filter, filter_map, find}
 use Rattle.mencius_base.specs.Numbers.{ServerId, Inst, TicketNo}
 use Rattle.mencius_base.specs.declared.message.Message.TheVariants.{Suggest, Skip}
 use Rattle.mencius_base.specs.declared.message.Value.{Value}
-use Rattle.mencius_base.specs.declared.message.Value.TheVariants.{Noop, Ticket}
+use Rattle.mencius_base.specs.declared.message.Value.TheVariants.{Ticket}
 use Rattle.mencius_base.specs.Members.{Membership, instances}
 use Rattle.mencius_model.specs.Trace.{Line, Executed, Sent, Trace, greatest, oldest}
 use Rattle.mencius_model.specs.Instance.{learned}
-use Rattle.mencius_model.specs.Rules.{is_covered_from, is_free_from}
+use Rattle.mencius_model.specs.Rules.{is_covered_from, is_free_from, waiting_ticket}
 
 -- how far a line takes p's front
 abbrev pub front_by : Membership → ServerId → Line → Inst
@@ -33,19 +33,10 @@ abbrev pub is_suggestion_past : ServerId → TicketNo → Inst → Line → Bool
 is_suggestion_past p t i (Sent (Suggest from inst ticket)) = (from == p && ticket == t) && nat_lt i inst
 is_suggestion_past p t i _ = false
 
-abbrev pub is_noop : Option Value → Bool
-is_noop (Some Noop) = true
-is_noop _ = false
-
--- no answer where the test holds
-abbrev pub unless : Bool → Option TicketNo → Option TicketNo
-unless true _ = None
-unless false o = o
-
 -- the ticket that p suggested at i waits where p learned no-op there and suggested it at no greater instance
 abbrev pub waits : Trace → ServerId → Inst → Option TicketNo → Option TicketNo
 waits w p i None = None
-waits w p i (Some t) = unless (not (is_noop (learned w p i)) || list_any (is_suggestion_past p t i) w) (Some t)
+waits w p i (Some t) = waiting_ticket (learned w p i) (list_any (is_suggestion_past p t i) w) t
 
 -- the ticket that waits at p since it lost instance i
 abbrev pub waiting_at : Trace → ServerId → Inst → Option TicketNo

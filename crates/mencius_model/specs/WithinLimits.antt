@@ -1,4 +1,4 @@
--- No number in a history passes its limit.
+-- No number in a trace passes its limit.
 use Rattle.std.specs.Prelude.{◌≡◌, ◌<◌, ◌≤◌, true, Option, Some, None, length, slice_get, IsTrue}
 use Rattle.mencius_base.specs.Limits.{event_limit, greatest_front, greatest_round, instance_count, message_limit, most_servers}
 use Rattle.mencius_base.specs.Numbers.{ServerId, Inst, BallotNo, MessageNo}

@@ -17,7 +17,7 @@ use Rattle.mencius_base.specs.declared.message.Answer.{Answer}
 use Rattle.mencius_base.specs.declared.message.Answer.TheVariants.{Promise as Promised, Known, Silent}
 use Rattle.coord_paxos.specs.Slot.{accept_answer, prepare_answer, promise_answer}
 use Rattle.mencius_server.specs.Laws.{AreHearable, HearAddresses, IsHearable, RetryAddresses, SubmitAddresses, SuspectAddresses}
-use Rattle.mencius_server.specs.Machine.{first_waiting, free_at, is_free_at, is_suspected, prepare_for, retry_sent, sent_on, submit_sent, suggest_sent}
+use Rattle.mencius_server.specs.Machine.{first_waiting, free_at, is_free_at, is_covered_at, prepare_for, retry_sent, sent_on, submit_sent, suggest_sent}
 use Rattle.mencius_server.specs.State.{ServerState, slot}
 use Rattle.mencius_server.proofs.HeardMessages.{within_of}
 
@@ -85,7 +85,7 @@ prepared_hearable s member g i (suc n) h =
 
 pub suspect_addresses : SuspectAddresses
 unfolding below instances
-suspect_addresses s member q = prepared_hearable s member (is_suspected s q) 0 instance_count (omega arith)
+suspect_addresses s member q = prepared_hearable s member (is_covered_at s q) 0 instance_count (omega arith)
 
 -- what is sent on a message
 module _ (s : ServerState) (member : s.id < s.members.count) (few : s.members.count ≤ most_servers) where

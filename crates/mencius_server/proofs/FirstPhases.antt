@@ -15,7 +15,7 @@ use Rattle.coord_paxos.specs.SlotState.{SlotState}
 use Rattle.coord_paxos.specs.Fresh.{new_slot}
 use Rattle.coord_paxos.specs.Slot.{after_begin}
 use Rattle.mencius_server.specs.State.{FitsAt, IsServer, ServerState, slot}
-use Rattle.mencius_server.specs.Machine.{after_suspect, ballot_after, is_revoked, is_round_full, is_suspected, prepare_for, round_after, slot_revoked, suspect_cause, suspect_sent}
+use Rattle.mencius_server.specs.Machine.{after_suspect, ballot_after, is_covered_in, is_round_full, is_covered_at, prepare_for, round_after, slot_revoked, suspect_cause, suspect_sent}
 use Rattle.mencius_server.proofs.ServerInvariant.{FitsAt-slot, KeepsAt, KeepsAt-fits, KeepsAt-new}
 use Rattle.mencius_server.proofs.SlotFits.{FitsAt-cond}
 use Rattle.mencius_base.specs.Limits.{greatest_round, instance_count}
@@ -87,7 +87,7 @@ IsServer-suspect s q other kept = record {
   unsaid = λ i. (fits i).unsaid;
 }
   where
-    begun : (i : ℕ) → is_revoked s.members q s.front i (slot s i) ≡ true
+    begun : (i : ℕ) → is_covered_in s.members q s.front i (slot s i) ≡ true
         → FitsAt s s.front i (after_begin (slot s i) (ballot_after s.members s.id (slot s i)))
     begun i e =
         let theirs : owner s.members i ≡ q = eqb-true _ _ (and_parts _ _ (and_parts _ _ e).0).0 in
@@ -100,7 +100,7 @@ IsServer-suspect s q other kept = record {
         }
 
     given : (i : ℕ) → FitsAt s s.front i (slot_revoked s.members s.id q s.front i (slot s i))
-    given i = FitsAt-cond s s.front i (is_revoked s.members q s.front i (slot s i)) _ (slot s i) (begun i)
+    given i = FitsAt-cond s s.front i (is_covered_in s.members q s.front i (slot s i)) _ (slot s i) (begun i)
         (FitsAt-slot s i kept)
 
     fits : (i : ℕ) → KeepsAt s s.front i (slot (after_suspect s q) i)
@@ -124,24 +124,24 @@ none_given g xs = go (filter g xs) ∙ ap (λ (n : ℕ). eqb n 0) (length-filter
   go (y ∷ ys) = sym (ne_eqb (length (y ∷ ys)) 0 (λ e. absurd (omega arith)))
 
 pub suspect_cause_is : (s : ServerState) (o : Outgoing) (q : ℕ) (a d : Bool) → eqb s.id q ≡ false
-    → eqb (count_by (is_suspected s q) instances) 0 ≡ a
-    → list_any (is_round_full s) (filter (is_suspected s q) instances) ≡ d
+    → eqb (count_by (is_covered_at s q) instances) 0 ≡ a
+    → list_any (is_round_full s) (filter (is_covered_at s q) instances) ≡ d
     → suspect_cause s o q
     ≡ cond a (Some NothingToRevoke)
-    (cond d (Some RoundsFull) (outbox_full o (count_by (is_suspected s q) instances)))
+    (cond d (Some RoundsFull) (outbox_full o (count_by (is_covered_at s q) instances)))
 suspect_cause_is s o q a d other none full =
-    let many : length (suspect_sent s q) ≡ count_by (is_suspected s q) instances =
-    length-map (filter (is_suspected s q) instances) (prepare_for s) ∙ length-filter (is_suspected s q) instances in
-    rw (other, none_given (is_suspected s q) instances, none, full, many)
+    let many : length (suspect_sent s q) ≡ count_by (is_covered_at s q) instances =
+    length-map (filter (is_covered_at s q) instances) (prepare_for s) ∙ length-filter (is_covered_at s q) instances in
+    rw (other, none_given (is_covered_at s q) instances, none, full, many)
 
-pub rounds_small : (s : ServerState) (q : ℕ) → list_any (is_round_full s) (filter (is_suspected s q) instances) ≡ false
-    → (j : ℕ) → j < instance_count → is_suspected s q j ≡ true → round_after s.members (slot s j) ≤ greatest_round
+pub rounds_small : (s : ServerState) (q : ℕ) → list_any (is_round_full s) (filter (is_covered_at s q) instances) ≡ false
+    → (j : ℕ) → j < instance_count → is_covered_at s q j ≡ true → round_after s.members (slot s j) ≤ greatest_round
 rounds_small s q none j small covered =
     ⊎_elim
     (λ (full : is_round_full s j ≡ true).
-    let some : list_any (λ (i : ℕ). is_suspected s q i && is_round_full s i) instances ≡ true =
-    any-instances (λ (i : ℕ). is_suspected s q i && is_round_full s i) j small (rw covered full) in
-    let no = sym (any-filter (is_suspected s q) (is_round_full s) instances) ∙ none in
+    let some : list_any (λ (i : ℕ). is_covered_at s q i && is_round_full s i) instances ≡ true =
+    any-instances (λ (i : ℕ). is_covered_at s q i && is_round_full s i) j small (rw covered full) in
+    let no = sym (any-filter (is_covered_at s q) (is_round_full s) instances) ∙ none in
     absurd (cc))
     (λ (room : is_round_full s j ≡ false). ltb-false greatest_round (round_after s.members (slot s j)) room)
     (cases_Bool (is_round_full s j))

@@ -2,7 +2,8 @@
 use Rattle.std.proofs.Common.{◌≡◌, ℕ, ◌+◌, ◌<◌, ◌≤◌, Bool, true, false, List, [], ◌∷◌, ◌++◌, Option, Some, None, refl, sym, ◌∙◌, ap, subst, arith, cond, leb, ltb, eqb, ◌&&◌, ⊎_elim}
 use Rattle.std.specs.Prelude.{slice_get, is_none}
 use Rattle.std.proofs.lemmas.Bool.{ltb-true, leb-true, eqb-true, eq-eqb, ne_eqb, lt-ltb, cases_lt}
-use Rattle.mencius_base.specs.declared.message.Answer.TheVariants.{Promise as Promised, Silent}
+use Rattle.mencius_base.specs.declared.message.Answer.{Answer}
+use Rattle.mencius_base.specs.declared.message.Answer.TheVariants.{Promise as Promised, Known, Silent}
 use Rattle.mencius_base.specs.declared.message.Message.TheVariants.{Suggest, Skip, Accepted, Prepare, Promise, Propose, Learn}
 use Rattle.mencius_base.specs.declared.message.Value.{Value}
 use Rattle.mencius_base.specs.declared.message.Value.TheVariants.{Ticket}
@@ -15,7 +16,7 @@ use Rattle.mencius_model.specs.Next.{learnings, on_suggest, on_prepare, on_accep
 use Rattle.mencius_model.specs.Rules.{acceptor_answer, answer_lines, decision_due, decision_lines, proposal_due, proposal_lines}
 use Rattle.mencius_model.proofs.OneMoreLine.{greater-none}
 use Rattle.coord_paxos.specs.SlotState.{SlotState}
-use Rattle.coord_paxos.specs.Slot.{accept_answer, promise_answer, after_promise, proposing, to_propose, with_promise, after_accept, after_prepare, after_learn, after_acceptance, learning, to_learn, with_accept}
+use Rattle.coord_paxos.specs.Slot.{accept_answer, promise_answer, after_answer, after_promise, proposing, to_propose, with_promise, after_accept, after_prepare, after_learn, after_acceptance, learning, to_learn, with_accept}
 use Rattle.coord_paxos.specs.Reached.{if_own, slot_at}
 use Rattle.coord_paxos.proofs.SlotTrace.{slot_at-quiet, slot_at-heard, slot_at-heard_acceptance, slot_at-heard_promise, slot_at-proposed, slot_at-accepted, slot_at-promised, slot_at-learned}
 use Rattle.coord_paxos.proofs.SlotLaws.{acceptance_answered, promise_answered}
@@ -71,18 +72,14 @@ meets_learn m w k p q i z small e = learn_cases m w k p q i z small e (learned w
 uncounted_prepare : (q i b : ℕ) (j c : ℕ) → IsUncounted j c (Prepare q i b)
 uncounted_prepare q i b j c = record { promise = λ r. refl; acceptance = λ r. refl; report = refl }
 
--- the state by what p learned and whether the ballot is above the promised one
-prepare_state : (m : Membership) (w : Trace) (p i b : ℕ) (o : Option Value) (a : Bool) → i < instance_count
-    → learned w p i ≡ o → ltb (promised w p i) b ≡ a
-    → after_prepare_at (server_at m w p) i b ≡ with_slot (server_at m w p) i
-    (cond (is_none o && a) (record (slot_at m w p i) { promised = b }) (slot_at m w p i))
-prepare_state m w p i b o a small known above =
+-- the state by the answer
+prepare_state : (m : Membership) (w : Trace) (p i b : ℕ) (answer : Answer) → i < instance_count
+    → acceptor_answer (promised w p i) (vote w p i) b (learned w p i) ≡ answer
+    → after_prepare_at (server_at m w p) i b
+    ≡ with_slot (server_at m w p) i (after_answer (slot_at m w p i) b answer)
+prepare_state m w p i b answer small is =
     ap (λ (s : SlotState). with_slot (server_at m w p) i (after_prepare s b)) (slot-server_at m w p i small)
-    ∙ ap (λ (a : Bool). with_slot (server_at m w p) i
-    (cond a (record (slot_at m w p i) { promised = b }) (slot_at m w p i))) tests
-  where
-    tests : (is_none (learned w p i) && ltb (promised w p i) b) ≡ (is_none o && a)
-    tests = rw (known, above)
+    ∙ ap (λ (x : Answer). with_slot (server_at m w p) i (after_answer (slot_at m w p i) b x)) is
 
 unlearned_cases : (m : Membership) (w : Trace) (k p q i b : ℕ) → i < instance_count
     → slice_get (sent w) k ≡ Some (Prepare q i b)
@@ -92,7 +89,7 @@ unlearned_cases m w k p q i b small e un true high = record {
   sends = rw (slot-server_at m w p i small, un, high);
   learns = refl;
   state =
-      prepare_state m w p i b None true small un high
+      prepare_state m w p i b (Promised (vote w p i)) small (rw (un, high))
       ∙ (server_written m w (Sent (Promise p q i b (vote w p i)) ∷ Heard k p ∷ w) p i (front m w p) _ (omega arith)
       (slot_at-promised m (Heard k p ∷ w) p q i b (vote w p i) (let above : promised w p i < b = ltb-true _ _ high in
       omega arith)
@@ -106,7 +103,7 @@ unlearned_cases m w k p q i b small e un false low = record {
   sends = rw (slot-server_at m w p i small, un, low);
   learns = refl;
   state =
-      prepare_state m w p i b None false small un low
+      prepare_state m w p i b Silent small (rw (un, low))
       ∙ (server_written m w (Heard k p ∷ w) p i (front m w p) _ (omega arith)
       (slot_at-heard m w k p i _ e (uncounted_prepare q i b i (trying w p i)))
       (λ j ne. slot_at-heard m w k p j _ e (uncounted_prepare q i b j (trying w p j))));
@@ -121,7 +118,7 @@ prepare_cases m w k p q i b small e (Some x) known = record {
   sends = rw (slot-server_at m w p i small, known);
   learns = refl;
   state =
-      prepare_state m w p i b (Some x) _ small known refl
+      prepare_state m w p i b (Known x) small (rw known)
       ∙ (server_written m w (Sent (Learn p i x) ∷ Heard k p ∷ w) p i (front m w p) _ (omega arith)
       (slot_at-quiet m (Heard k p ∷ w) (Sent (Learn p i x)) p i (quiet_learn p p i i x) refl
       ∙ slot_at-heard m w k p i _ e (uncounted_prepare q i b i (trying w p i)))

@@ -8,7 +8,7 @@ use Rattle.mencius_base.specs.Members.{Membership, below, owner}
 use Rattle.mencius_model.proofs.NumberLists.{count_by-below_none, filter-below_none}
 use Rattle.coord_paxos.specs.SlotState.{SlotState}
 use Rattle.mencius_server.specs.State.{ServerState, slot}
-use Rattle.mencius_server.specs.Machine.{is_free_at, is_revoked, is_skipped, slot_given}
+use Rattle.mencius_server.specs.Machine.{is_free_at, is_covered_in, is_skipped, slot_given}
 use Rattle.mencius_server.proofs.FirstPhases.{HasRoomFrom, IsSentUpTo}
 use Rattle.mencius_model.proofs.Lists.{eqb_swap}
 use Rattle.mencius_server.proofs.SkipLoop.{IsCountUpTo}
@@ -100,10 +100,10 @@ slot_kept m q first stop j s e = rw e
 
 -- a suspicion covers what lies up to the front and is the suspected server's
 pub unrevoked_other : (m : Membership) (q front j : ℕ) (s : SlotState) → eqb (owner m j) q ≡ false
-    → is_revoked m q front j s ≡ false
+    → is_covered_in m q front j s ≡ false
 unrevoked_other m q front j s e = and_left _ _ (and_left _ _ e)
 
-pub unrevoked_past : (m : Membership) (q front j : ℕ) (s : SlotState) → front < j → is_revoked m q front j s ≡ false
+pub unrevoked_past : (m : Membership) (q front j : ℕ) (s : SlotState) → front < j → is_covered_in m q front j s ≡ false
 unrevoked_past m q front j s past = and_left _ _ (and_right _ _ (lt-leb j front past))
 
 -- what lies in the range and is the skipper's is given up

@@ -10,7 +10,7 @@ use Rattle.coord_paxos.specs.SlotState.{SlotState}
 use Rattle.mencius_server.specs.Known.{IsSound, KnownState, is_open, is_passed, is_round_full_at, known_at, known_of, known_slot, unheard}
 use Rattle.mencius_server.specs.Ranges.{covers}
 use Rattle.mencius_server.specs.Slots.{stand_at}
-use Rattle.mencius_server.specs.Tallies.{HasCounted, IsKnown, IsSurvey, IsTally, IsTallyFrom, IsTold, full_one, is_full_of, is_open_of, is_spent, known_by_slot, moved, no_tally, open_one, summed, tally_of, tallied, untallied}
+use Rattle.mencius_server.specs.Tallies.{HasCounted, IsKnown, IsSurvey, IsTally, IsTallyFrom, IsTold, full_one, is_full_of, is_open_of, known_by_slot, moved, no_tally, open_one, summed, tally_of, tallied, untallied}
 use Rattle.mencius_server.specs.declared.ranges.Span.{Span}
 use Rattle.mencius_server.specs.declared.tally.Tally.{Tally}
 use Rattle.mencius_server.proofs.RangeCounts.{bit, count_same}
@@ -18,6 +18,7 @@ use Rattle.mencius_server.proofs.InstanceGaps.{count_gap, count_to, unrevoked_pa
 use Rattle.mencius_server.proofs.KnownInstances.{seen}
 use Rattle.mencius_server.proofs.SkipLoop.{IsCountUpTo, count_more}
 use Rattle.mencius_base.specs.Limits.{instance_count}
+use Rattle.mencius_server.specs.Machine.{is_spent}
 
 -- ---- counts below a place
 

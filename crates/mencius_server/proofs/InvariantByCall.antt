@@ -12,12 +12,12 @@ use Rattle.mencius_server.specs.Kept.{IsKept}
 use Rattle.mencius_server.specs.Known.{KnownState, known_after_skip, known_after_suggest, known_after_suspect, known_slot, with_known}
 use Rattle.mencius_server.specs.Machine.{after_skip, after_submit, after_suspect, is_free_at, is_ticket, suggested_in}
 use Rattle.mencius_server.specs.Notes.{Noted}
-use Rattle.mencius_model.specs.Server.{is_noop}
 use Rattle.mencius_server.specs.State.{FitsAt, IsFree, ServerState, slot, with_slot_and_front}
 use Rattle.mencius_server.proofs.InvariantKept.{kept_as, place_keeps, place_marks, place_shows, put_keeps, put_shows, skip_keeps, skip_shown, suspect_keeps, suspect_shown}
 use Rattle.mencius_server.proofs.ServerInvariant.{FitsAt-slot}
 use Rattle.mencius_server.proofs.SlotFits.{FitsAt-promise, FitsAt-same, SameAttempt-accept, SameAttempt-acceptance, SameAttempt-learn, SameAttempt-prepare}
 use Rattle.mencius_base.specs.Limits.{instance_count, most_servers}
+use Rattle.mencius_model.specs.Rules.{is_noop}
 
 -- what callers see of a server that knows this
 abbrev pub seen : Membership → ℕ → ℕ → KnownState → ServerState

@@ -11,8 +11,8 @@ use Rattle.coord_paxos.specs.Fresh.{new_slot}
 use Rattle.coord_paxos.specs.Slot.{after_begin, after_learn}
 use Rattle.mencius_server.specs.Kept.{IsKept}
 use Rattle.mencius_server.specs.Notes.{Noted}
-use Rattle.mencius_server.specs.Machine.{after_skip, after_submit, after_suspect, is_free_at, is_revoked, is_round_full, is_skipped, is_suspected, is_ticket, round_after, slot_given, slot_revoked, suggested_at, suggested_in}
-use Rattle.mencius_model.specs.Server.{is_noop, ticket_of}
+use Rattle.mencius_server.specs.Machine.{after_skip, after_submit, after_suspect, is_free_at, is_covered_in, is_round_full, is_skipped, is_covered_at, is_ticket, round_after, slot_given, slot_revoked, suggested_at, suggested_in}
+use Rattle.mencius_model.specs.Server.{ticket_of}
 use Rattle.mencius_server.specs.State.{FitsAt, IsFree, IsServer, ServerState, slot, with_slot_and_front}
 use Rattle.mencius_server.specs.Known.{KnownState, is_open, is_round_full_at, known_after_skip, known_after_suspect, known_slot, with_known}
 use Rattle.std.specs.List.{count_by, list_any}
@@ -24,6 +24,7 @@ use Rattle.mencius_server.proofs.WaitingTickets.{SaysSame, moved_later, past_sam
 use Rattle.mencius_server.proofs.SkipFromOutside.{IsServer-skip}
 use Rattle.mencius_server.proofs.SlotFits.{SameAttempt-cond, SameAttempt-learn, SameAttempt-self}
 use Rattle.mencius_base.specs.Limits.{greatest_front, greatest_round, instance_count, most_servers}
+use Rattle.mencius_model.specs.Rules.{is_noop}
 
 with_slots : (m : Membership) (p f : ℕ) (xs ys : List SlotState) → xs ≡ ys
     → ◌≡◌ {A = ServerState} (record { members = m; id = p; front = f; slots = xs })
@@ -236,22 +237,23 @@ suspect_keeps s m q n other kept =
     (omega arith) refl refl (λ j low noop. suspect_since s q j other (omega (arith, kept.early)) noop _ refl) refl
     (λ j small. unfree_stays s s.front _ j (omega arith)
     (λ known. ap (λ (x : SlotState). is_none x.learned) (suspect_slot s q j small)
-    ∙ revoked_learned (is_revoked s.members q s.front j (slot s j)) (slot s j) _ known)) kept
+    ∙ revoked_learned (is_covered_in s.members q s.front j (slot s j)) (slot s j) _ known)) kept
 
 -- a suspicion, as what the server knows has it
 module _ (m : Membership) (p f : ℕ) (y : KnownState) (now : ServerState) (q : ℕ)
     (shown : record { members = m; id = p; front = f; slots = y.slots } ≡ now) (same : y.members ≡ m) where
-  pub open_shown : (j : ℕ) → is_open y q f j ≡ is_suspected now q j
+  pub open_shown : (j : ℕ) → is_open y q f j ≡ is_covered_at now q j
   open_shown j =
-      ap (λ (n : Membership). is_revoked n q f j (get_or y.slots j (new_slot n))) same
-      ∙ ap (λ (s : ServerState). is_suspected s q j) shown
+      ap (λ (n : Membership). is_covered_in n q f j (get_or y.slots j (new_slot n))) same
+      ∙ ap (λ (s : ServerState). is_covered_at s q j) shown
 
-  pub open_count : count_by (is_open y q f) instances ≡ count_by (is_suspected now q) instances
+  pub open_count : count_by (is_open y q f) instances ≡ count_by (is_covered_at now q) instances
   open_count =
-      ap (λ (n : Membership). count_by (λ (j : ℕ). is_revoked n q f j (get_or y.slots j (new_slot n))) instances) same
-      ∙ ap (λ (s : ServerState). count_by (is_suspected s q) instances) shown
+      ap (λ (n : Membership).
+      count_by (λ (j : ℕ). is_covered_in n q f j (get_or y.slots j (new_slot n))) instances) same
+      ∙ ap (λ (s : ServerState). count_by (is_covered_at s q) instances) shown
 
-  pub open_rounds : ((j : ℕ) → j < instance_count → is_suspected now q j ≡ true
+  pub open_rounds : ((j : ℕ) → j < instance_count → is_covered_at now q j ≡ true
       → round_after now.members (slot now j) ≤ greatest_round)
       → (j : ℕ) → j < instance_count → is_open y q f j ≡ true → round_after y.members (known_slot y j) ≤ greatest_round
   open_rounds rounds j small e =
@@ -262,12 +264,12 @@ module _ (m : Membership) (p f : ℕ) (y : KnownState) (now : ServerState) (q : 
       rw is there
 
   pub full_shown : list_any (is_round_full_at y) (filter (is_open y q f) instances)
-      ≡ list_any (is_round_full now) (filter (is_suspected now q) instances)
+      ≡ list_any (is_round_full now) (filter (is_covered_at now q) instances)
   full_shown =
       ap (λ (n : Membership). list_any
       (λ (j : ℕ). ltb greatest_round (round_after n (get_or y.slots j (new_slot n))))
-      (filter (λ (j : ℕ). is_revoked n q f j (get_or y.slots j (new_slot n))) instances)) same
-      ∙ ap (λ (s : ServerState). list_any (is_round_full s) (filter (is_suspected s q) instances)) shown
+      (filter (λ (j : ℕ). is_covered_in n q f j (get_or y.slots j (new_slot n))) instances)) same
+      ∙ ap (λ (s : ServerState). list_any (is_round_full s) (filter (is_covered_at s q) instances)) shown
 
   pub suspect_shown : (new : KnownState) → new ≡ known_after_suspect y p q f
       → record { members = m; id = p; front = f; slots = new.slots } ≡ after_suspect now q

@@ -5,19 +5,10 @@ use Rattle.mencius_base.specs.declared.event.Event.TheVariants.{Submit, Deliver,
 use Rattle.mencius_base.specs.declared.refusal.Refusal.{Refusal}
 use Rattle.mencius_base.specs.Members.{Membership}
 use Rattle.mencius_model.specs.Trace.{Trace}
-use Rattle.mencius_model.specs.Next.{next, refused, step_or, with_event}
-use Rattle.mencius_model.proofs.LineServers.{server_of}
-use Rattle.mencius_server.specs.Laws.{ExecutionLeavesAll, LeavesOthers, LossLeavesAll, place_of}
+use Rattle.mencius_model.specs.Next.{next, refused, step_or, with_event, server_of}
+use Rattle.mencius_server.specs.Laws.{ExecutionLeavesAll, LeavesOthers, LossLeavesAll}
 use Rattle.mencius_server.specs.Reached.{server_at}
 use Rattle.mencius_server.proofs.OtherServers.{execution_stays, loss_stays, others_stay}
-
-place_is : (e : Event) → server_of e ≡ place_of e
-place_is (Submit p c) = refl
-place_is (Deliver k p) = refl
-place_is (Lose k p) = refl
-place_is (Suspect p q) = refl
-place_is (Retry p) = refl
-place_is (Execute p) = refl
 
 accepted_on : (w v : Trace) (o : Option Refusal) → step_or w o ≡ Ok v → (o ≡ None) × (v ≡ w)
 accepted_on w v None h = (refl, cc)
@@ -30,7 +21,7 @@ accepted m w v e h = accepted_on (with_event m w e) v (refused m w e) h
 pub leaves_others : LeavesOthers
 leaves_others m w v e r h q ne =
     let is = accepted m w v e h in
-    ap (λ (x : Trace). server_at m x q) is.1 ∙ others_stay m w e r is.0 q (λ s. ne (sym (place_is e) ∙ s))
+    ap (λ (x : Trace). server_at m x q) is.1 ∙ others_stay m w e r is.0 q ne
 
 pub loss_leaves_all : LossLeavesAll
 loss_leaves_all m w v k p h q =

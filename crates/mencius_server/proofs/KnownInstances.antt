@@ -10,7 +10,9 @@ use Rattle.mencius_base.specs.Members.{Membership, below, instances, owner}
 use Rattle.mencius_model.proofs.NumberLists.{get_or-map-instances, instances-below, map-below_by, map-instances_same, map-instances_set}
 use Rattle.coord_paxos.specs.SlotState.{SlotState}
 use Rattle.coord_paxos.specs.Fresh.{new_slot}
-use Rattle.coord_paxos.specs.Slot.{learning, proposing, to_learn, to_propose, with_accept, with_promise}
+use Rattle.coord_paxos.specs.Slot.{after_answer, learning, prepare_answer, proposing, to_learn, to_propose, with_accept, with_promise}
+use Rattle.mencius_base.specs.declared.message.Answer.{Answer}
+use Rattle.mencius_base.specs.declared.message.Answer.TheVariants.{Promise as Promised, Known as Told, Silent}
 use Rattle.mencius_base.specs.declared.message.Value.{Value}
 use Rattle.mencius_server.specs.Known.{IsSound, KnownState, has_slot, is_passed, known_at, known_of, known_slot, known_standing, new_known, unheard}
 use Rattle.mencius_server.specs.Slots.{stand_at}
@@ -276,9 +278,16 @@ module _ (m : Membership) (slots new : List (Option SlotState)) (rs : List (List
       stays : is_none old.learned ≡ false → is_none y.learned ≡ false
       stays e = ap is_none same ∙ e
 
--- a change leaves what was learned
+-- an answer leaves what was learned
+answered_learned : (s : SlotState) (b : ℕ) (answer : Answer) → is_none s.learned ≡ false
+    → is_none (after_answer s b answer).learned ≡ false
+answered_learned s b (Promised x) h = h
+answered_learned s b (Told x) h = h
+answered_learned s b Silent h = h
+
+-- and so does each change
 pub changed_learned : (s : SlotState) (a : Change) → is_none s.learned ≡ false → is_none (changed s a).learned ≡ false
-changed_learned s (Promise b) h = rw h h
+changed_learned s (Promise b) h = answered_learned s b (prepare_answer s b) h
 changed_learned s (Accept b y) h = either (nat_le s.promised b)
   where
     either : (x : Bool)

@@ -4,7 +4,7 @@ use Rattle.std.specs.Prelude.{is_none}
 use Rattle.std.proofs.lemmas.Bool.{and_left, and_right, cases_eq, cases_lt, eq-eqb, le-leb, ne_eqb}
 use Rattle.mencius_base.specs.Members.{Membership, owner}
 use Rattle.coord_paxos.specs.SlotState.{SlotState}
-use Rattle.mencius_server.specs.Machine.{is_revoked}
+use Rattle.mencius_server.specs.Machine.{is_covered_in}
 use Rattle.mencius_server.specs.Slots.{stand_at}
 use Rattle.mencius_server.specs.Known.{IsSound, KnownState, is_open, is_open_in, is_passed, known_of, known_slot, unheard}
 use Rattle.mencius_server.specs.Stretches.{IsStretch}
@@ -22,7 +22,7 @@ pub open_before : (m : Membership) (slots : List (Option SlotState))
     → (j : ℕ) → j < first → is_open now q front j ≡ false
 open_before m slots rs low now shown sound q front first least near j high =
     let members : m ≡ now.members = ap (λ (x : KnownState). x.members) shown in
-    subst (λ n. is_revoked n q front j (known_slot now j) ≡ false) members
+    subst (λ n. is_covered_in n q front j (known_slot now j) ≡ false) members
     (⊎_elim
     (λ (before : j < low).
     let small : j < instance_count = omega (arith, sound.small) in

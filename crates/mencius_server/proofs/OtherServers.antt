@@ -13,7 +13,7 @@ use Rattle.mencius_base.specs.Members.{Membership, most_events, owner}
 use Rattle.mencius_model.specs.Trace.{Line, Submitted, Heard, Lost, Suspected, Retried, Executed, Sent, Learned, Trace, events, followed_by}
 use Rattle.mencius_model.specs.Instance.{proposed, proposed_by, trying, IsVoted}
 use Rattle.mencius_model.specs.Server.{front_by}
-use Rattle.mencius_model.specs.Next.{IsReached, causes, head, lines, refused, with_event}
+use Rattle.mencius_model.specs.Next.{IsReached, causes, head, lines, refused, with_event, server_of}
 use Rattle.mencius_model.proofs.OneMoreLine.{greatest_quiet, oldest_quiet}
 use Rattle.mencius_model.proofs.LineRights.{IsGrown, MaySuggest}
 use Rattle.mencius_model.proofs.AnswersLast.{accepted_in}
@@ -26,7 +26,7 @@ use Rattle.mencius_model.proofs.QuietLines.{IsQuiet}
 use Rattle.coord_paxos.proofs.SlotTrace.{slot_at-proposing, slot_at-quiet}
 use Rattle.mencius_server.specs.Reached.{server_at}
 use Rattle.mencius_server.proofs.ServerTrace.{server_unchanged}
-use Rattle.mencius_model.proofs.LineServers.{IsBy, AreBy, server_of, lines_by, head_by}
+use Rattle.mencius_model.proofs.LineServers.{IsBy, AreBy, lines_by, head_by}
 
 -- ---- one line of another server
 

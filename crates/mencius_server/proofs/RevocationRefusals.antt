@@ -8,7 +8,7 @@ use Rattle.mencius_base.specs.Members.{Membership, instances}
 use Rattle.mencius_base.specs.Outbox.{Outgoing, outbox_full}
 use Rattle.mencius_server.specs.declared.tally.Tally.{Tally}
 use Rattle.mencius_server.specs.Known.{KnownState, is_open, known_slot}
-use Rattle.mencius_server.specs.Machine.{is_round_full, is_suspected, round_after, suspect_cause}
+use Rattle.mencius_server.specs.Machine.{is_round_full, is_covered_at, round_after, suspect_cause}
 use Rattle.mencius_server.specs.State.{ServerState}
 use Rattle.mencius_server.specs.Tallies.{IsSurvey, tally_cause}
 use Rattle.mencius_server.proofs.FirstPhases.{rounds_small, suspect_cause_is}
@@ -18,10 +18,10 @@ use Rattle.mencius_base.specs.Limits.{greatest_round, instance_count}
 module _ (m : Membership) (p f : ℕ) (x : KnownState) (now : ServerState) (q : ℕ)
     (shown : record { members = m; id = p; front = f; slots = x.slots } ≡ now) (same : x.members ≡ m) (a : Tally)
     (survey : IsSurvey x q f a) where
-  count_is : a.open_count ≡ count_by (is_suspected now q) instances
+  count_is : a.open_count ≡ count_by (is_covered_at now q) instances
   count_is = survey.open_count ∙ open_count m p f x now q shown same
 
-  full_is : nat_lt 0 a.full_count ≡ list_any (is_round_full now) (filter (is_suspected now q) instances)
+  full_is : nat_lt 0 a.full_count ≡ list_any (is_round_full now) (filter (is_covered_at now q) instances)
   full_is = survey.full_count ∙ full_shown m p f x now q shown same
 
   -- the suspicion is refused for what the survey shows

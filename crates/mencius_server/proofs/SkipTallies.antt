@@ -8,12 +8,13 @@ use Rattle.mencius_model.proofs.NumberLists.{count_by-below_le}
 use Rattle.coord_paxos.specs.SlotState.{SlotState}
 use Rattle.mencius_server.specs.Ranges.{is_within}
 use Rattle.mencius_server.specs.Slots.{given, is_in}
-use Rattle.mencius_server.specs.Tallies.{IsTally, IsTallyFrom, is_full_of, is_open_of, is_spent, lessened}
+use Rattle.mencius_server.specs.Tallies.{IsTally, IsTallyFrom, is_full_of, is_open_of, lessened}
 use Rattle.mencius_server.specs.declared.stretch.Stretch.{Stretch}
 use Rattle.mencius_server.specs.declared.tally.Tally.{Tally}
 use Rattle.mencius_server.proofs.RangeCounts.{bit, count_same, count_split, count_within}
 use Rattle.mencius_server.proofs.SkipKnown.{learned_noop}
 use Rattle.mencius_server.proofs.RisingRanges.{within_before, within_past}
+use Rattle.mencius_server.specs.Machine.{is_spent}
 
 -- what passes below a place, once nothing between two others passes any more
 count_given : (test r : ℕ → Bool) (first stop n end count some : ℕ) → first ≤ stop → first ≤ n → end ≡ min stop n

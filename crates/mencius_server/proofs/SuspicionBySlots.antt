@@ -13,11 +13,11 @@ use Rattle.mencius_model.proofs.NumberLists.{count_by-below_none, filter-below_m
 use Rattle.coord_paxos.specs.SlotState.{SlotState}
 use Rattle.coord_paxos.specs.Slot.{after_begin}
 use Rattle.coord_paxos.specs.Fresh.{new_slot}
-use Rattle.mencius_server.specs.Machine.{ballot_after, round_after}
+use Rattle.mencius_server.specs.Machine.{ballot_after, round_after, is_spent}
 use Rattle.mencius_server.specs.Ranges.{covers}
 use Rattle.mencius_server.specs.Slots.{begun, begun_at, is_begun, is_in, is_lacking, is_unlearned, prepare_of, stand_at, stood_at}
 use Rattle.mencius_server.specs.Known.{IsSound, KnownState, has_slot, is_open, is_open_in, is_passed, known_after_suspect, known_at, known_begun, known_of, known_slot, known_stood, prepares, prepares_in, unheard}
-use Rattle.mencius_server.specs.Tallies.{IsOpenStretch, is_spent}
+use Rattle.mencius_server.specs.Tallies.{IsOpenStretch}
 use Rattle.mencius_server.specs.declared.ranges.Span.{Span}
 use Rattle.mencius_server.specs.declared.stretch.Stretch.{Stretch}
 use Rattle.mencius_server.proofs.RangeCounts.{count_same}

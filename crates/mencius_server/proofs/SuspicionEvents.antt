@@ -30,7 +30,7 @@ use Rattle.coord_paxos.specs.Reached.{if_own, slot_at}
 use Rattle.coord_paxos.proofs.SlotTrace.{same_slot}
 use Rattle.coord_paxos.proofs.SlotLaws.{slot_trying, slot_untried}
 use Rattle.mencius_server.specs.State.{ServerState}
-use Rattle.mencius_server.specs.Machine.{after_suspect, ballot_after, is_revoked, is_round_full, is_suspected, prepare_for, round_after, slot_revoked, suspect_cause, suspect_sent}
+use Rattle.mencius_server.specs.Machine.{after_suspect, ballot_after, is_covered_in, is_round_full, is_covered_at, prepare_for, round_after, slot_revoked, suspect_cause, suspect_sent}
 use Rattle.mencius_server.specs.Laws.{SuspectIsEvent}
 use Rattle.mencius_server.specs.Reached.{server_at}
 use Rattle.mencius_server.proofs.FirstPhases.{tried_below}
@@ -218,9 +218,9 @@ module _ (m : Membership) (w : Trace) (p q : ℕ) (r : IsReached m w) (member : 
   suspect_messages : suspect_sent (server_at m w p) q ≡ messages_of (map (preparation m w p) covered)
   suspect_messages =
       map-filter-instances_same (prepare_for (server_at m w p)) (λ (j : ℕ). Prepare p j (ballot_for m w p j))
-      (is_suspected (server_at m w p) q) (is_covered m w p q)
+      (is_covered_at (server_at m w p) q) (is_covered m w p q)
       (λ j small. ap (λ (s : SlotState). Prepare p j (ballot_after m p s)) (slot-server_at m w p j small))
-      (λ j small. ap (λ (s : SlotState). is_revoked m q (front m w p) j s) (slot-server_at m w p j small))
+      (λ j small. ap (λ (s : SlotState). is_covered_in m q (front m w p) j s) (slot-server_at m w p j small))
       ∙ sends_prepared m w p covered
 
 same_causes : (a x b' y c' d d' : Bool) → x ≡ b' → y ≡ c' → d ≡ d'
@@ -235,17 +235,17 @@ unfolding most_rounds
 suspect_causes m w p q s o e r member =
     same_causes (eqb p q) _ _ _ _ _ _
     (ap (λ (xs : List ℕ). is_none (first_item xs))
-    (filter-instances_same (is_suspected (server_at m w p) q) (is_covered m w p q) covers))
-    (any-map (is_round_full (server_at m w p)) (filter (is_suspected (server_at m w p) q) instances)
+    (filter-instances_same (is_covered_at (server_at m w p) q) (is_covered m w p q) covers))
+    (any-map (is_round_full (server_at m w p)) (filter (is_covered_at (server_at m w p) q) instances)
     ∙ ap (list_any (λ (a : Bool). a))
     (map-filter-instances_same (is_round_full (server_at m w p)) (λ (i : ℕ). ltb greatest_round (next_round m w p i))
-    (is_suspected (server_at m w p) q) (is_covered m w p q)
+    (is_covered_at (server_at m w p) q) (is_covered m w p q)
     (λ j small. ap (λ (x : SlotState). ltb greatest_round (round_after m x)) (slot-server_at m w p j small)) covers)
     ∙ sym (any-map (λ (i : ℕ). ltb greatest_round (next_round m w p i)) (covered_by m w p q)))
     (ap (λ (ms : List Message). ltb o.limit (length o.messages + length ms)) (suspect_messages m w p q r member))
   where
-    covers : (j : ℕ) → j < instance_count → is_suspected (server_at m w p) q j ≡ is_covered m w p q j
-    covers j small = ap (λ (x : SlotState). is_revoked m q (front m w p) j x) (slot-server_at m w p j small)
+    covers : (j : ℕ) → j < instance_count → is_covered_at (server_at m w p) q j ≡ is_covered m w p q j
+    covers j small = ap (λ (x : SlotState). is_covered_in m q (front m w p) j x) (slot-server_at m w p j small)
 
 pub suspect_is_event : SuspectIsEvent
 suspect_is_event w s q at member = record {

@@ -7,7 +7,7 @@ use Rattle.mencius_base.specs.declared.message.Value.{Value}
 use Rattle.mencius_base.specs.Members.{Membership, instances, owner, first_item}
 use Rattle.mencius_model.specs.Trace.{Line, Sent, Trace}
 use Rattle.mencius_model.specs.Instance.{learned, proposed, trying}
-use Rattle.mencius_model.specs.Server.{is_noop, is_suggestion_past, suggested, suggested_by, unless, waiting, waiting_at, waits, ticket_of}
+use Rattle.mencius_model.specs.Server.{is_suggestion_past, suggested, suggested_by, waiting, waiting_at, waits, ticket_of}
 use Rattle.mencius_model.specs.Next.{IsReached}
 use Rattle.mencius_model.proofs.NumberLists.{any-instances, any-instances_found, filter_map-instances_same}
 use Rattle.mencius_server.proofs.WaitingTickets.{both_ways, ticket_is}
@@ -24,6 +24,7 @@ use Rattle.mencius_server.specs.Machine.{first_waiting, is_suggested_past, is_ti
 use Rattle.mencius_server.specs.Reached.{server_at}
 use Rattle.mencius_server.proofs.ServerTrace.{slot-server_at}
 use Rattle.mencius_base.specs.Limits.{instance_count}
+use Rattle.mencius_model.specs.Rules.{is_noop, unless}
 
 past_line : (p t i : ℕ) (l : Line) → is_suggestion_past p t i l ≡ true
     → (j : ℕ) × (ltb i j ≡ true) × (l ≡ Sent (Suggest p j t))

@@ -13,9 +13,10 @@ use Rattle.mencius_model.proofs.NumberLists.{any-instances, any-instances_found}
 use Rattle.coord_paxos.specs.SlotState.{SlotState}
 use Rattle.coord_paxos.specs.Fresh.{new_slot}
 use Rattle.mencius_server.specs.Machine.{after_submit, is_suggested_past, is_ticket, suggested_at, waits_at, waits_with}
-use Rattle.mencius_model.specs.Server.{is_noop, ticket_of, unless}
+use Rattle.mencius_model.specs.Server.{ticket_of}
 use Rattle.mencius_server.specs.State.{IsServer, ServerState, slot}
 use Rattle.mencius_base.specs.Limits.{instance_count}
+use Rattle.mencius_model.specs.Rules.{is_noop, unless}
 
 -- two tests that follow from each other
 pub both_ways : (a d : Bool) → (a ≡ true → d ≡ true) → (d ≡ true → a ≡ true) → a ≡ d

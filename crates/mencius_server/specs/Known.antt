@@ -1,5 +1,5 @@
 -- What a server knows of the instances, as it keeps it: slots where they stand, and ranges of skipped instances.
-use Rattle.std.specs.Prelude.{◌≡◌, ℕ, ◌<◌, ◌≤◌, Bool, true, false, List, [], Option, Some, nat_lt, if◌then◌else◌, ◌&&◌, ◌||◌, is_none, is_some, length, map, not, slice_index_or, slice_set, unwrap_or}
+use Rattle.std.specs.Prelude.{◌≡◌, ℕ, ◌<◌, ◌≤◌, Bool, true, false, List, [], Option, Some, if◌then◌else◌, ◌&&◌, ◌||◌, is_none, is_some, length, map, not, slice_index_or, slice_set, unwrap_or}
 use Rattle.std.specs.List.{count_by, filter}
 use Rattle.mencius_base.specs.declared.message.Message.{Message}
 use Rattle.mencius_base.specs.declared.message.Message.TheVariants.{Prepare}
@@ -8,12 +8,12 @@ use Rattle.mencius_base.specs.Members.{Membership, below, first_owned, owner, in
 use Rattle.coord_paxos.specs.SlotState.{SlotState}
 use Rattle.coord_paxos.specs.Slot.{after_begin, after_learn}
 use Rattle.coord_paxos.specs.Fresh.{new_slot}
-use Rattle.mencius_server.specs.Machine.{ballot_after, is_given, is_revoked, round_after, slot_given, slot_revoked}
+use Rattle.mencius_server.specs.Machine.{ballot_after, is_given, is_covered_in, slot_given, slot_revoked, is_spent}
 use Rattle.mencius_server.specs.Ranges.{IsOwned, IsRising, covers}
 use Rattle.mencius_server.specs.Slots.{is_in, is_learned, stand_at}
 use Rattle.mencius_server.specs.declared.ranges.Span.{Span}
 use Rattle.mencius_server.specs.declared.stretch.Stretch.{Stretch}
-use Rattle.mencius_base.specs.Limits.{greatest_round, instance_count}
+use Rattle.mencius_base.specs.Limits.{instance_count}
 use Rattle.mencius_base.specs.Numbers.{Inst, ServerId, TicketNo}
 
 -- for each instance, from 0, what is known of it, and whether a slot stands there
@@ -101,7 +101,7 @@ known_given s q first stop = count_by (λ j. is_given s.members q first stop j (
 
 -- nothing was learned at an instance of q, up to a front
 abbrev pub is_open : KnownState → ServerId → Inst → Inst → Bool
-is_open s q front j = is_revoked s.members q front j (known_slot s j)
+is_open s q front j = is_covered_in s.members q front j (known_slot s j)
 
 -- the same of an instance of a stretch
 abbrev pub is_open_in : KnownState → Stretch → Inst → Bool
@@ -124,7 +124,7 @@ prepares_in s p a =
 
 -- there is no further round at an instance
 abbrev pub is_round_full_at : KnownState → Inst → Bool
-is_round_full_at s j = nat_lt greatest_round (round_after s.members (known_slot s j))
+is_round_full_at s j = is_spent s.members (known_slot s j)
 
 abbrev pub prepares : KnownState → ServerId → ServerId → Inst → List Message
 prepares s p q front =

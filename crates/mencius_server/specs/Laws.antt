@@ -12,7 +12,7 @@ use Rattle.mencius_base.specs.declared.event.Event.TheVariants.{Deliver, Execute
 use Rattle.mencius_base.specs.declared.message.Message.{Message}
 use Rattle.mencius_model.specs.Trace.{Trace, sent, submitted}
 use Rattle.mencius_model.specs.Instance.{learned}
-use Rattle.mencius_model.specs.Next.{IsReached, learnings, lines, next}
+use Rattle.mencius_model.specs.Next.{IsReached, learnings, lines, next, server_of}
 use Rattle.mencius_model.specs.Server.{front, waiting}
 use Rattle.mencius_server.specs.Machine.{after_hearing, after_retry, after_submit_at, after_suspect, first_waiting, free_at, learned_on, retry_cause, retry_sent, sent_on, submit_cause, submit_sent, suspect_cause, suspect_sent}
 use Rattle.mencius_server.specs.Reached.{IsAt, IsPart, server_at}
@@ -89,20 +89,11 @@ SuspectAddresses =
 abbrev pub RetryAddresses : Type 0
 RetryAddresses = (s : ServerState) → s.id < s.members.count → AreHearable s.members (retry_sent s (first_waiting s))
 
--- the server at which an event happens
-abbrev pub place_of : Event → ServerId
-place_of (Submit server command) = server
-place_of (Deliver message server) = server
-place_of (Lose message server) = server
-place_of (Suspect server suspected) = server
-place_of (Retry server) = server
-place_of (Execute server) = server
-
 -- an accepted event leaves each server what it was but the one at which it happens
 abbrev pub LeavesOthers : Type 0
 LeavesOthers =
     (m : Membership) (w v : Trace) (e : Event) → IsReached m w → next m w e ≡ Ok v → (q : ServerId)
-    → (place_of e ≡ q → ⊥) → server_at m v q ≡ server_at m w q
+    → (server_of e ≡ q → ⊥) → server_at m v q ≡ server_at m w q
 
 -- a loss leaves that one too
 abbrev pub LossLeavesAll : Type 0

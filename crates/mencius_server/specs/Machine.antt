@@ -1,7 +1,7 @@
 -- What a server sends on a call, how many instances it learns, and what becomes of it, said of its state alone.
 -- It holds whatever the server heard; that at a reached trace it is what the row of the event says is a law
 -- (`laws::events`).
-use Rattle.std.specs.Prelude.{◌≡◌, ℕ, ◌+◌, ◌≤◌, Bool, false, List, [], ◌∷◌, ◌++◌, Option, Some, None, ◌==◌, nat_lt, if◌then◌else◌, ◌&&◌, is_none, length, map, not, ◌||◌}
+use Rattle.std.specs.Prelude.{◌≡◌, ℕ, ◌+◌, ◌≤◌, Bool, false, List, [], ◌∷◌, ◌++◌, Option, Some, None, ◌==◌, nat_lt, if◌then◌else◌, ◌&&◌, is_none, length, map, not}
 use Rattle.std.specs.List.{count_by, filter, filter_map, find, list_any}
 use Rattle.mencius_base.specs.declared.message.Message.{Message}
 use Rattle.mencius_base.specs.declared.message.Message.TheVariants.{Suggest, Skip, Accepted, Prepare, Promise, Propose, Learn}
@@ -14,10 +14,10 @@ use Rattle.coord_paxos.specs.Slot.{after_accept, after_begin, after_prepare, aft
 use Rattle.mencius_base.specs.declared.refusal.Refusal.{Refusal}
 use Rattle.mencius_base.specs.declared.refusal.Refusal.TheVariants.{InstancesFull, MessagesFull, NothingToRevoke, NothingWaiting, RoundsFull, SelfSuspect}
 use Rattle.mencius_base.specs.Outbox.{Outgoing, outbox_full}
-use Rattle.mencius_model.specs.Server.{is_noop, unless, ticket_of}
+use Rattle.mencius_model.specs.Server.{ticket_of}
 use Rattle.mencius_model.specs.Trace.{Line, messages_of}
 use Rattle.mencius_model.specs.Next.{first_cause, learnings}
-use Rattle.mencius_model.specs.Rules.{acceptance_lines, answer_lines, decision_lines, gives_up, is_covered_from, is_free_from, is_given_up_from, learning_lines, proposal_lines, round_above, skip_lines, suggestion}
+use Rattle.mencius_model.specs.Rules.{acceptance_lines, answer_lines, decision_lines, gives_up, is_covered_from, is_free_from, is_given_up_from, learning_lines, proposal_lines, round_above, skip_lines, suggestion, waiting_ticket}
 use Rattle.mencius_server.specs.State.{ServerState, slot, with_slot, with_slot_and_front}
 use Rattle.mencius_base.specs.Limits.{greatest_round}
 use Rattle.mencius_base.specs.Numbers.{BallotNo, Inst, ServerId, TicketNo}
@@ -160,8 +160,7 @@ is_suggested_past s t i j = nat_lt i j && is_ticket t (suggested_at s j)
 -- it waits where no-op was learned there, and it was suggested nowhere further on
 abbrev pub waits_with : ServerState → Inst → Option TicketNo → Option TicketNo
 waits_with s i None = None
-waits_with s i (Some t) =
-    unless (not (is_noop (slot s i).learned) || list_any (is_suggested_past s t i) instances) (Some t)
+waits_with s i (Some t) = waiting_ticket (slot s i).learned (list_any (is_suggested_past s t i) instances) t
 
 abbrev pub waits_at : ServerState → Inst → Option TicketNo
 waits_at s i = waits_with s i (suggested_at s i)
@@ -184,8 +183,8 @@ retry_cause s o None = Some NothingWaiting
 retry_cause s o (Some t) = submit_cause o (free_at s)
 
 -- a suspicion of q covers the instance, of which the server knows this
-abbrev pub is_revoked : Membership → ServerId → Inst → Inst → SlotState → Bool
-is_revoked m q front i s = is_covered_from m q front i s.learned
+abbrev pub is_covered_in : Membership → ServerId → Inst → Inst → SlotState → Bool
+is_covered_in m q front i s = is_covered_from m q front i s.learned
 
 -- one above the rounds that were tried and promised
 abbrev pub round_after : Membership → SlotState → ℕ
@@ -195,27 +194,31 @@ abbrev pub ballot_after : Membership → ServerId → SlotState → BallotNo
 ballot_after m p s = ballot_of m (round_after m s) p
 
 abbrev pub slot_revoked : Membership → ServerId → ServerId → Inst → Inst → SlotState → SlotState
-slot_revoked m p q front i s = if is_revoked m q front i s then after_begin s (ballot_after m p s) else s
+slot_revoked m p q front i s = if is_covered_in m q front i s then after_begin s (ballot_after m p s) else s
 
-abbrev pub is_suspected : ServerState → ServerId → Inst → Bool
-is_suspected s q i = is_revoked s.members q s.front i (slot s i)
+abbrev pub is_covered_at : ServerState → ServerId → Inst → Bool
+is_covered_at s q i = is_covered_in s.members q s.front i (slot s i)
 
 abbrev pub prepare_for : ServerState → Inst → Message
 prepare_for s i = Prepare s.id i (ballot_after s.members s.id (slot s i))
 
 abbrev pub suspect_sent : ServerState → ServerId → List Message
-suspect_sent s q = map (prepare_for s) (filter (is_suspected s q) instances)
+suspect_sent s q = map (prepare_for s) (filter (is_covered_at s q) instances)
 
 abbrev pub after_suspect : ServerState → ServerId → ServerState
 after_suspect s q = record s { slots = map (λ i. slot_revoked s.members s.id q s.front i (slot s i)) instances }
 
+-- no round is left above them
+abbrev pub is_spent : Membership → SlotState → Bool
+is_spent m s = nat_lt greatest_round (round_after m s)
+
 abbrev pub is_round_full : ServerState → Inst → Bool
-is_round_full s i = nat_lt greatest_round (round_after s.members (slot s i))
+is_round_full s i = is_spent s.members (slot s i)
 
 -- why a suspicion is refused, in order
 abbrev pub suspect_cause : ServerState → Outgoing → ServerId → Option Refusal
 suspect_cause s o q = first_cause (
     (s.id == q, SelfSuspect)
-    ∷ (is_none (first_item (filter (is_suspected s q) instances)), NothingToRevoke)
-    ∷ (list_any (is_round_full s) (filter (is_suspected s q) instances), RoundsFull)
+    ∷ (is_none (first_item (filter (is_covered_at s q) instances)), NothingToRevoke)
+    ∷ (list_any (is_round_full s) (filter (is_covered_at s q) instances), RoundsFull)
     ∷ (nat_lt o.limit (length o.messages + length (suspect_sent s q)), MessagesFull) ∷ [])

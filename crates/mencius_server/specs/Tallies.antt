@@ -8,14 +8,14 @@ use Rattle.mencius_base.specs.Numbers.{Inst, ServerId}
 use Rattle.mencius_base.specs.Outbox.{Outgoing, outbox_full}
 use Rattle.coord_paxos.specs.Fresh.{new_slot}
 use Rattle.coord_paxos.specs.SlotState.{SlotState}
-use Rattle.mencius_server.specs.Machine.{round_after}
+use Rattle.mencius_server.specs.Machine.{is_spent}
 use Rattle.mencius_server.specs.Known.{IsSound, KnownState, is_open, is_passed, is_round_full_at, known_at}
 use Rattle.mencius_server.specs.Slots.{stand_at}
 use Rattle.mencius_server.specs.Stretches.{IsStretch}
 use Rattle.mencius_server.specs.declared.stretch.Stretch.{Stretch}
 use Rattle.mencius_server.specs.declared.ranges.Span.{Span}
 use Rattle.mencius_server.specs.declared.tally.Tally.{Tally}
-use Rattle.mencius_base.specs.Limits.{greatest_round, instance_count}
+use Rattle.mencius_base.specs.Limits.{instance_count}
 
 abbrev pub no_tally : Tally
 no_tally = record { stop = 0; open_count = 0; full_count = 0 }
@@ -23,10 +23,6 @@ no_tally = record { stop = 0; open_count = 0; full_count = 0 }
 -- the tally of a server
 abbrev pub tally_of : List Tally → ServerId → Tally
 tally_of ts q = slice_index_or ts q no_tally
-
--- no further round is left at a slot
-abbrev pub is_spent : Membership → SlotState → Bool
-is_spent m s = nat_lt greatest_round (round_after m s)
 
 -- an instance of q at which nothing was learned, and one that has no further round either
 abbrev pub is_open_of : Membership → (Inst → SlotState) → ServerId → Inst → Bool

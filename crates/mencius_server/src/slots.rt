@@ -8,12 +8,11 @@ ghost use Rattle.mencius_base.specs.declared.message.Message.TheVariants.{Prepar
 ghost use Rattle.mencius_base.specs.declared.message.Value.TheVariants.{Noop};
 ghost use Rattle.mencius_server.specs.Known.{unheard};
 ghost use Rattle.mencius_server.specs.Lending.{LendsSlot};
-ghost use Rattle.mencius_server.specs.Machine.{ballot_after, round_after};
+ghost use Rattle.mencius_server.specs.Machine.{ballot_after, is_spent, round_after};
 ghost use Rattle.mencius_server.specs.Places.{IsPlaced, standing};
 ghost use Rattle.mencius_server.specs.Ranges.{covers};
 ghost use Rattle.mencius_server.specs.Slots.{begun, begun_at, given, is_begun, is_lacking, is_learned, is_told, is_unlearned, prepare_at, prepare_of, stand_at, stood_at};
 ghost use Rattle.mencius_server.specs.Stretches.{IsStretch};
-ghost use Rattle.mencius_server.specs.Tallies.{is_spent};
 ghost use Rattle.std.specs.Borrow.{sem};
 ghost use Rattle.std.specs.List.{count_by, filter};
 ghost use Rattle.std.specs.Option.{option_map};

@@ -3,7 +3,8 @@ ghost use Rattle.mencius_base.specs.Limits.{greatest_round, instance_count, most
 ghost use Rattle.mencius_base.specs.Members.{owner};
 ghost use Rattle.mencius_base.specs.Refusal.{IsRefusedFor};
 ghost use Rattle.mencius_server.specs.Changes.{IsSaid, changed};
-ghost use Rattle.mencius_server.specs.Tallies.{HasCounted, is_spent, lessened, moved, no_tally, summed, tallied, tally_cause, tally_of, untallied};
+ghost use Rattle.mencius_server.specs.Machine.{is_spent};
+ghost use Rattle.mencius_server.specs.Tallies.{HasCounted, lessened, moved, no_tally, summed, tallied, tally_cause, tally_of, untallied};
 ghost use Rattle.mencius_server.specs.declared.tally.Tally.{Tally};
 ghost use Rattle.std.specs.Prelude.{◌≡◌, ℕ, ◌+◌, ◌<◌, ◌≤◌, ◌==◌, ◌⊎◌, OnOk, if◌then◌else◌, is_none};
 

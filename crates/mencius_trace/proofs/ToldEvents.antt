@@ -8,14 +8,14 @@ use Rattle.mencius_cluster.specs.State.{ClusterState, IsStepped, trace_of}
 use Rattle.mencius_cluster.specs.declared.cluster.Effect.{Effect}
 use Rattle.mencius_model.specs.Trace.{Trace, sent}
 use Rattle.mencius_model.specs.Server.{front}
-use Rattle.mencius_model.specs.Next.{IsReached, learnings, lines, with_event}
+use Rattle.mencius_model.specs.Next.{IsReached, learnings, lines, with_event, server_of}
 use Rattle.mencius_model.proofs.EventRights.{next_is}
 use Rattle.mencius_trace.specs.declared.before.Before.{Before}
-use Rattle.mencius_trace.specs.Told.{actor, execution, front_lines, is_silent, learned_lines, notices, place_of, sent_lines, told}
+use Rattle.mencius_trace.specs.Told.{execution, front_lines, is_silent, learned_lines, notices, place_of, sent_lines, told}
 use Rattle.mencius_trace.specs.Before.{IsBefore, heard_in, is_awaited}
 use Rattle.mencius_trace.specs.After.{execution_after, learned_after, messages_from, notice_after}
 use Rattle.mencius_trace.proofs.MemberAnswers.{of_member_is}
-use Rattle.mencius_trace.proofs.ToldParts.{actor_member, execution_same, learned_same, notice_same, sent_same, small_heard}
+use Rattle.mencius_trace.proofs.ToldParts.{server_member, execution_same, learned_same, notice_same, sent_same, small_heard}
 
 five : (t0 t1 t2 t3 t4 t5 : List ℕ)
     → ((((t0 ++ t1) ++ t2) ++ t3) ++ t4) ++ t5 ≡ t0 ++ ((((t1 ++ t2) ++ t3) ++ t4) ++ t5)
@@ -41,8 +41,8 @@ module _ (old new : ClusterState) (e : Event) (before : Before) (effect : Effect
   reached : IsReached m w
   reached = record { journal = old.journal; replays = noted.replays }
 
-  member : actor e < m.count
-  member = actor_member m w e (next_is m w v e step.trace).allowed
+  member : server_of e < m.count
+  member = server_member m w e (next_is m w v e step.trace).allowed
 
   here : before.server < new.members.count
   here = subst (λ (n : Membership). before.server < n.count) (sym step.members)
@@ -68,19 +68,20 @@ module _ (old new : ClusterState) (e : Event) (before : Before) (effect : Effect
       step.members
       ∙ ap (λ p. notice_after m v p (eqb effect.sent 0 && eqb effect.learned 0) before.hearing before.heard)
       noted.server
-      ∙ ap (λ (x : Effect). notice_after m v (actor e) (eqb x.sent 0 && eqb x.learned 0) before.hearing before.heard)
+      ∙ ap (λ (x : Effect).
+      notice_after m v (server_of e) (eqb x.sent 0 && eqb x.learned 0) before.hearing before.heard)
       step.effect_is
-      ∙ ap (notice_after m v (actor e) (is_silent (lines m w e)) before.hearing) noted.heard
+      ∙ ap (notice_after m v (server_of e) (is_silent (lines m w e)) before.hearing) noted.heard
       ∙ notice_same m w v e before.hearing small (noted.hearing member)
 
   taught : learned_after v before.server (string_bytes before.given_up) effect.learned before.heard
       ≡ learned_lines v (lines m w e)
   taught =
       ap (λ p. learned_after v p (string_bytes before.given_up) effect.learned before.heard) noted.server
-      ∙ ap (λ n. learned_after v (actor e) (string_bytes before.given_up) n before.heard) learned_is
-      ∙ ap (learned_after v (actor e) (string_bytes before.given_up) (learnings (lines m w e))) noted.heard
+      ∙ ap (λ n. learned_after v (server_of e) (string_bytes before.given_up) n before.heard) learned_is
+      ∙ ap (learned_after v (server_of e) (string_bytes before.given_up) (learnings (lines m w e))) noted.heard
       ∙ subst (λ (x : Trace).
-      learned_after x (actor e) (string_bytes before.given_up) (learnings (lines m w e)) (heard_in w e)
+      learned_after x (server_of e) (string_bytes before.given_up) (learnings (lines m w e)) (heard_in w e)
       ≡ learned_lines x (lines m w e)) v_is
       (learned_same m w e (string_bytes before.given_up) (noted.given_up member small))
 
@@ -91,20 +92,20 @@ module _ (old new : ClusterState) (e : Event) (before : Before) (effect : Effect
       ∙ subst (λ (x : Trace). messages_from x (length (sent w)) (length (sent x) - length (sent w))
       ≡ sent_lines x (length (sent w)) (lines m w e)) v_is (sent_same m w e)
 
-  front_was : before.front ≡ Some (front m w (actor e))
-  front_was = noted.front ∙ of_member_is m (actor e) (Some (front m w (actor e))) member
+  front_was : before.front ≡ Some (front m w (server_of e))
+  front_was = noted.front ∙ of_member_is m (server_of e) (Some (front m w (server_of e))) member
 
-  moved : front_lines before.server (front m w (actor e)) (front new.members v before.server)
-      ≡ front_lines (actor e) (front m w (actor e)) (front m v (actor e))
+  moved : front_lines before.server (front m w (server_of e)) (front new.members v before.server)
+      ≡ front_lines (server_of e) (front m w (server_of e)) (front m v (server_of e))
   moved =
-      ap (λ n. front_lines before.server (front m w (actor e)) (front n v before.server)) step.members
-      ∙ ap (λ p. front_lines p (front m w (actor e)) (front m v p)) noted.server
+      ap (λ n. front_lines before.server (front m w (server_of e)) (front n v before.server)) step.members
+      ∙ ap (λ p. front_lines p (front m w (server_of e)) (front m v p)) noted.server
 
   executed_then : execution_after v before.server before.is_awaited before.executing ≡ execution w v e
   executed_then =
       ap (λ p. execution_after v p before.is_awaited before.executing) noted.server
-      ∙ ap (λ a. execution_after v (actor e) a before.executing) noted.awaited
-      ∙ ap (λ x. execution_after v (actor e) (is_awaited w x) x) (noted.executing member)
+      ∙ ap (λ a. execution_after v (server_of e) a before.executing) noted.awaited
+      ∙ ap (λ x. execution_after v (server_of e) (is_awaited w x) x) (noted.executing member)
       ∙ execution_same w v e
 
   pub told_is : (t0 t1 t2 t3 t4 t5 : List ℕ)
@@ -124,8 +125,8 @@ module _ (old new : ClusterState) (e : Event) (before : Before) (effect : Effect
       h2 here ∙ ap (λ text. t1 ++ text) taught ∙ ap (λ text. text ++ learned_lines v (lines m w e)) g1 in
       let g3 = h3 ∙ ap (λ text. t2 ++ text) messages
       ∙ ap (λ text. text ++ sent_lines v (length (sent w)) (lines m w e)) g2 in
-      let g4 = h4 (front m w (actor e)) front_was here ∙ ap (λ text. t3 ++ text) moved
-      ∙ ap (λ text. text ++ front_lines (actor e) (front m w (actor e)) (front m v (actor e))) g3 in
+      let g4 = h4 (front m w (server_of e)) front_was here ∙ ap (λ text. t3 ++ text) moved
+      ∙ ap (λ text. text ++ front_lines (server_of e) (front m w (server_of e)) (front m v (server_of e))) g3 in
       h5 ∙ ap (λ text. t4 ++ text) executed_then ∙ ap (λ text. text ++ execution w v e) g4
       ∙ five t0 (notices m w v e) (learned_lines v (lines m w e)) (sent_lines v (length (sent w)) (lines m w e))
-      (front_lines (actor e) (front m w (actor e)) (front m v (actor e))) (execution w v e)
+      (front_lines (server_of e) (front m w (server_of e)) (front m v (server_of e))) (execution w v e)

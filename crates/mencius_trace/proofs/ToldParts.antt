@@ -17,27 +17,27 @@ use Rattle.mencius_model.specs.Trace.{Line, Heard, Sent, Learned, Trace, followe
 use Rattle.mencius_model.specs.Instance.{learned, promised, vote}
 use Rattle.mencius_model.specs.Server.{done, free_instance, front, covered_by, waiting}
 use Rattle.mencius_model.specs.Rules.{answer_lines, decision_due, decision_lines, learning_lines, proposal_lines, suggestion}
-use Rattle.mencius_model.specs.Next.{IsReached, again, causes, decision_at, delivery, is_given_up, learnings, lines, preparation, with_event}
+use Rattle.mencius_model.specs.Next.{IsReached, again, causes, decision_at, delivery, is_given_up, learnings, lines, preparation, with_event, server_of}
 use Rattle.mencius_model.proofs.AnswersLast.{same_two, sent_in}
 use Rattle.mencius_model.proofs.EventLines.{sent-event}
 use Rattle.mencius_model.proofs.EventRights.{NoneHolds}
 use Rattle.mencius_model.proofs.Lists.{get_in}
 use Rattle.mencius_model.proofs.MessageLimits.{IsSmall, sent_small}
 use Rattle.mencius_trace.specs.declared.hearing.Hearing.{Hearing}
-use Rattle.mencius_trace.specs.Told.{actor, execution, execution_of, hearing, is_silent, learned_in, learned_lines, notice, notice_of, notices, place_of, sent_lines}
+use Rattle.mencius_trace.specs.Told.{execution, execution_of, hearing, is_silent, learned_in, learned_lines, notice, notice_of, notices, place_of, sent_lines}
 use Rattle.mencius_trace.specs.Before.{executing, given_up, heard_in, is_awaited}
 use Rattle.mencius_trace.specs.After.{execution_after, learned_after, learned_at, messages_from, notice_after, value_learned}
 use Rattle.mencius_trace.specs.Facts.{learned_line, sent_line}
 use Rattle.mencius_trace.proofs.MessageLines.{of_messages_are}
 
 -- an accepted event happens at a member
-pub actor_member : (m : Membership) (w : Trace) (e : Event) → NoneHolds (causes m w e) → actor e < m.count
-actor_member m w (Submit p command) h = leb-false m.count p h.0
-actor_member m w (Deliver k p) h = leb-false m.count p h.0
-actor_member m w (Lose k p) h = leb-false m.count p h.0
-actor_member m w (Suspect p q) h = leb-false m.count p (or_parts (leb m.count p) (leb m.count q) h.0).0
-actor_member m w (Retry p) h = leb-false m.count p h.0
-actor_member m w (Execute p) h = leb-false m.count p h.0
+pub server_member : (m : Membership) (w : Trace) (e : Event) → NoneHolds (causes m w e) → server_of e < m.count
+server_member m w (Submit p command) h = leb-false m.count p h.0
+server_member m w (Deliver k p) h = leb-false m.count p h.0
+server_member m w (Lose k p) h = leb-false m.count p h.0
+server_member m w (Suspect p q) h = leb-false m.count p (or_parts (leb m.count p) (leb m.count q) h.0).0
+server_member m w (Retry p) h = leb-false m.count p h.0
+server_member m w (Execute p) h = leb-false m.count p h.0
 
 small_place : (m : Membership) (x : Message) → IsSmall m x → place_of x < instance_count
 small_place m (Suggest from inst ticket) h = h.1
@@ -62,8 +62,8 @@ small_heard m few w r _ = tt
 
 pub notice_same : (m : Membership) (w v : Trace) (e : Event) (h : Hearing)
     → IfSome (heard_in w e) (λ x. place_of x < instance_count)
-    → IfSome (heard_in w e) (λ x. place_of x < instance_count → h ≡ hearing m w (actor e) x)
-    → notice_after m v (actor e) (is_silent (lines m w e)) h (heard_in w e) ≡ notices m w v e
+    → IfSome (heard_in w e) (λ x. place_of x < instance_count → h ≡ hearing m w (server_of e) x)
+    → notice_after m v (server_of e) (is_silent (lines m w e)) h (heard_in w e) ≡ notices m w v e
 notice_same m w v (Deliver k p) h small taken =
     go (slice_get (sent w) k) (is_silent (lines m w (Deliver k p))) small taken
   where
@@ -166,8 +166,8 @@ module _ (m : Membership) (w : Trace) (k p : ℕ) (g : List ℕ) where
   heard_told (Some (Propose q i b x)) h = sym (one_if (past (Some (Propose q i b x))) (nat_le (promised w p i) b) _)
   heard_told (Some (Learn q i x)) h = learned_told w k p i x (learned w p i) refl
 
-pub learned_same : (m : Membership) (w : Trace) (e : Event) (g : List ℕ) → g ≡ given_up m w (actor e) (heard_in w e)
-    → learned_after (with_event m w e) (actor e) g (learnings (lines m w e)) (heard_in w e)
+pub learned_same : (m : Membership) (w : Trace) (e : Event) (g : List ℕ) → g ≡ given_up m w (server_of e) (heard_in w e)
+    → learned_after (with_event m w e) (server_of e) g (learnings (lines m w e)) (heard_in w e)
     ≡ learned_lines (with_event m w e) (lines m w e)
 learned_same m w (Submit p command) g h =
     sym (suggested (with_event m w (Submit p command)) p (length (submitted w)) (free_instance m w p))
@@ -190,7 +190,7 @@ sent_same m w e =
     ap (messages_from v (length (sent w))) count ∙ of_messages_are (sent_line v) (sent v) (sent w) ms (sent-event m w e)
 
 pub execution_same : (w v : Trace) (e : Event)
-    → execution_after v (actor e) (is_awaited w (executing w e)) (executing w e) ≡ execution w v e
+    → execution_after v (server_of e) (is_awaited w (executing w e)) (executing w e) ≡ execution w v e
 execution_same w v (Execute p) = go (learned w p (done w p))
   where
     go : (o : Option Value)

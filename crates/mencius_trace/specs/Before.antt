@@ -14,11 +14,11 @@ use Rattle.mencius_cluster.specs.State.{ClusterState, trace_of}
 use Rattle.mencius_model.specs.Trace.{Trace, sent}
 use Rattle.mencius_model.specs.Instance.{learned}
 use Rattle.mencius_model.specs.Server.{done, front}
-use Rattle.mencius_model.specs.Next.{on_skip, replay}
+use Rattle.mencius_model.specs.Next.{on_skip, replay, server_of}
 use Rattle.mencius_model.specs.Replying.{command_at}
 use Rattle.mencius_trace.specs.declared.before.Before.{Before}
 use Rattle.mencius_trace.specs.declared.hearing.Hearing.{Hearing}
-use Rattle.mencius_trace.specs.Told.{actor, hearing, place_of, is_pending, learned_lines}
+use Rattle.mencius_trace.specs.Told.{hearing, place_of, is_pending, learned_lines}
 
 -- the message that an event delivers
 abbrev pub heard_in : Trace → Event → Option Message
@@ -53,10 +53,10 @@ IsGivenUp m w p heard text =
 pub record IsBefore (x : ClusterState) (e : Event) (notes : Before) : Type 0 where
   pub few : x.members.count ≤ most_servers
   pub replays : replay x.members x.journal ≡ Ok (trace_of x)
-  pub server : notes.server ≡ actor e
-  pub front : notes.front ≡ if_member x.members (actor e) (front x.members (trace_of x) (actor e))
+  pub server : notes.server ≡ server_of e
+  pub front : notes.front ≡ if_member x.members (server_of e) (front x.members (trace_of x) (server_of e))
   pub heard : notes.heard ≡ heard_in (trace_of x) e
-  pub hearing : IsTaken x.members (trace_of x) (actor e) (heard_in (trace_of x) e) notes.hearing
-  pub given_up : IsGivenUp x.members (trace_of x) (actor e) (heard_in (trace_of x) e) (string_bytes notes.given_up)
-  pub executing : actor e < x.members.count → notes.executing ≡ executing (trace_of x) e
+  pub hearing : IsTaken x.members (trace_of x) (server_of e) (heard_in (trace_of x) e) notes.hearing
+  pub given_up : IsGivenUp x.members (trace_of x) (server_of e) (heard_in (trace_of x) e) (string_bytes notes.given_up)
+  pub executing : server_of e < x.members.count → notes.executing ≡ executing (trace_of x) e
   pub awaited : notes.is_awaited ≡ is_awaited (trace_of x) notes.executing

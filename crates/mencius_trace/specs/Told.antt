@@ -18,7 +18,7 @@ use Rattle.mencius_server.specs.declared.glance.Glance.{Glance}
 use Rattle.mencius_model.specs.Trace.{Line, Learned, Trace, messages_of, sent}
 use Rattle.mencius_model.specs.Instance.{learned}
 use Rattle.mencius_model.specs.Server.{done, front}
-use Rattle.mencius_model.specs.Next.{learnings, lines, next, sends}
+use Rattle.mencius_model.specs.Next.{learnings, lines, next, sends, server_of}
 use Rattle.mencius_model.specs.Replying.{Reply, Is, NotYet, command_at, reply_of}
 use Rattle.mencius_trace.specs.declared.hearing.Hearing.{Hearing}
 use Rattle.mencius_trace.specs.declared.hearing.Hearing.TheVariants.{Taken, Counted, Promised, Tries, Known, Proposed}
@@ -123,15 +123,6 @@ learned_lines v ls = flat_map (learned_in v) ls
 abbrev pub sent_lines : Trace → MessageNo → List Line → List ℕ
 sent_lines v k ls = flat_map (sent_line v) (enumerate_from k (messages_of ls))
 
--- the server that an event happens at
-abbrev pub actor : Event → ServerId
-actor (Submit server command) = server
-actor (Deliver message server) = server
-actor (Lose message server) = server
-actor (Suspect server suspected) = server
-actor (Retry server) = server
-actor (Execute server) = server
-
 -- the front where it moved
 abbrev pub front_lines : ServerId → Inst → Inst → List ℕ
 front_lines p old new = if old == new then [] else front_line p new
@@ -177,7 +168,7 @@ told m w v e =
     notices m w v e
     ++ learned_lines v (lines m w e)
     ++ sent_lines v (length (sent w)) (lines m w e)
-    ++ front_lines (actor e) (front m w (actor e)) (front m v (actor e))
+    ++ front_lines (server_of e) (front m w (server_of e)) (front m v (server_of e))
     ++ execution w v e
 
 -- what came of an event, or why it was refused

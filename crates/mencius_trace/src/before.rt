@@ -4,10 +4,10 @@ ghost use Rattle.std.specs.Prelude.{◌≡◌, ◌<◌, ◌++◌, ◌&&◌, [], 
 ghost use Rattle.mencius_base.specs.Limits.{instance_count};
 ghost use Rattle.mencius_base.specs.declared.message.Value.TheVariants.{Noop};
 ghost use Rattle.mencius_model.specs.Instance.{learned};
-ghost use Rattle.mencius_model.specs.Next.{on_skip};
+ghost use Rattle.mencius_model.specs.Next.{on_skip, server_of};
 ghost use Rattle.mencius_trace.specs.Facts.{learned_line};
 ghost use Rattle.mencius_cluster.specs.State.{trace_of};
-ghost use Rattle.mencius_trace.specs.Told.{actor, hearing, hearing_at, if_tried, known_or, learned_lines, place_of, proposed_or};
+ghost use Rattle.mencius_trace.specs.Told.{hearing, hearing_at, if_tried, known_or, learned_lines, place_of, proposed_or};
 ghost use Rattle.mencius_trace.specs.Before.{IsBefore, IsGivenUp, IsTaken, executing, given_up, heard_in, is_awaited};
 
 use crate::facts::push_learned;
@@ -42,7 +42,7 @@ pub(crate) fn note(alloc: Global, cluster: &Cluster, event: &Event) -> Result<Be
     // Called for their promises alone: the journal replays, and there are few members.
     cluster.replays();
     let _few = cluster.servers();
-    let server = actor_of(event);
+    let server = server_of(event);
     let heard = heard_in(cluster, event);
     let executing = executing_in(cluster, event);
     let is_awaited = is_awaited(cluster, &executing);
@@ -59,8 +59,8 @@ pub(crate) fn note(alloc: Global, cluster: &Cluster, event: &Event) -> Result<Be
     })
 }
 
-fn actor_of(event: &Event) -> u8
-    ensures { result ≡ actor event.now }
+fn server_of(event: &Event) -> u8
+    ensures { result ≡ server_of event.now }
 {
     match event {
         Event::Submit { server, .. }
@@ -84,7 +84,7 @@ fn heard_in(cluster: &Cluster, event: &Event) -> Option<Message>
 }
 
 fn executing_in(cluster: &Cluster, event: &Event) -> Option<(u32, Value)>
-    ensures { actor event.now < cluster.now.members.count
+    ensures { server_of event.now < cluster.now.members.count
         → result ≡ executing (trace_of cluster.now) event.now }
 {
     let Event::Execute { server } = event else {

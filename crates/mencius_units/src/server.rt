@@ -1,4 +1,4 @@
-//! Worked tables and traces, given from outside.
+//! Worked schedules, as tables of events and the messages sent.
 
 ghost use Rattle.std.specs.Prelude.{◌<◌};
 

@@ -33,7 +33,7 @@ items-preserved c =
     (rw (← going.1) done.ok.1)
     (sym done.ok.2)
     (few_seen (λ list. list.items) most_servers _ _ _ _ _ _ _ c.where_room-commands.ensures
-    (ap (λ n. nat_lt n most_servers) many) c.in_ok-note.ensures.noted)
+    (ap (λ n. nat_lt n most_servers) many) c.in-Ok.ensures.noted)
 
 pub returns-clause-ok : goal.returns-clause-ok
 returns-clause-ok c =

@@ -1,10 +1,10 @@
 use Rattle.std.proofs.Common.{◌≡◌, arith, false, inl, inr, refl, rules, subst, sym, ap, ◌∙◌, min}
 use Rattle.mencius_server.specs.Changes.{IsSaid}
-use Rattle.mencius_model.specs.Server.{is_noop}
 use Rattle.mencius_server.specs.State.{ServerState}
 use Rattle.mencius_server.proofs.InvariantByCall.{change_kept}
 use Rattle.mencius_server.proofs.Server.change.Goals as goal
 use Rattle.mencius_server.proofs.Server.change.Goals.{in-Some-Noop, in_default, in_default-2}
+use Rattle.mencius_model.specs.Rules.{is_noop}
 
 pub invariant_of-self-then-owner-self : goal.invariant_of-self-then-owner-self
 invariant_of-self-then-owner-self c =

@@ -1,14 +1,14 @@
 use Rattle.std.proofs.Common.{◌≡◌, ◌<◌, Some, sym, ◌∙◌, subst}
 use Rattle.mencius_base.specs.declared.event.Event.{Event}
 use Rattle.mencius_cluster.specs.State.{trace_of}
-use Rattle.mencius_trace.specs.Told.{actor}
 use Rattle.mencius_trace.specs.Before.{executing}
 use Rattle.mencius_trace.proofs.MemberAnswers.{executing_is}
 use Rattle.mencius_trace.proofs.before.executing_in.Goals as goal
+use Rattle.mencius_model.specs.Next.{server_of}
 
 pub returns : goal.returns
 returns c =
-    subst (λ (e : Event). actor e < c.args.cluster.now.members.count
+    subst (λ (e : Event). server_of e < c.args.cluster.now.members.count
     → Some (c.in_ok-inst.inst, c.in_ok-value.value) ≡ executing (trace_of c.args.cluster.now) e) (sym c.in-Execute.is)
     (λ member. executing_is c.args.cluster.now.members _ c.in-Execute.server _ _ member
     (sym c.in_ok-inst.was ∙ c.done.ensures) (sym c.in_ok-value.was ∙ c.learned.ensures))

@@ -13,16 +13,16 @@ returns c =
     record {
       few = subst (λ n. n ≤ most_servers) c.servers-few.ensures.count c.servers-few.ensures.few;
       replays = c.replays.ensures;
-      server = c.actor_of-server.ensures;
-      front = c.front.ensures ∙ ap (λ p. if_member m p (front m w p)) c.actor_of-server.ensures;
+      server = c.server_of-server.ensures;
+      front = c.front.ensures ∙ ap (λ p. if_member m p (front m w p)) c.server_of-server.ensures;
       heard = c.heard_in-heard.ensures;
       hearing = subst (λ p. IsTaken m w p (heard_in w c.args.event.now) c.hearing_in-hearing.result)
-          c.actor_of-server.ensures
-          (subst (λ o. IsTaken m w c.actor_of-server.result o c.hearing_in-hearing.result) c.heard_in-heard.ensures
+          c.server_of-server.ensures
+          (subst (λ o. IsTaken m w c.server_of-server.result o c.hearing_in-hearing.result) c.heard_in-heard.ensures
           c.hearing_in-hearing.ensures);
       given_up = subst (λ p. IsGivenUp m w p (heard_in w c.args.event.now) (string_bytes c.in_ok-given_up.given_up))
-          c.actor_of-server.ensures
-          (subst (λ o. IsGivenUp m w c.actor_of-server.result o (string_bytes c.in_ok-given_up.given_up))
+          c.server_of-server.ensures
+          (subst (λ o. IsGivenUp m w c.server_of-server.result o (string_bytes c.in_ok-given_up.given_up))
           c.heard_in-heard.ensures c.in_ok-given_up.ensures);
       executing = c.executing_in-executing.ensures;
       awaited = c.is_awaited-is_awaited.ensures;

@@ -10,5 +10,5 @@ invariant_of-result g c =
       replays = c.replays.ensures;
       grows = c.growth.ensures.commands;
     })
-    c.new-log.ensures c.mark-opening.ensures c.in_ok-writer.ensures.seen c.in_ok-writer.ensures.shown
-    c.in_ok-writer.ensures.pending
+    c.new-log.ensures c.mark-opening.ensures c.in-Ok.ensures.seen c.in-Ok.ensures.shown
+    c.in-Ok.ensures.pending

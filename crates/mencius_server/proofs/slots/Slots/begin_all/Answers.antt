@@ -1,13 +1,13 @@
 use Rattle.std.proofs.Common.{◌≡◌, ◌+◌, ◌<◌, ◌≤◌, ℕ, Bool, cond, false, true, ◌∙◌, ap, arith, refl, sym}
 use Rattle.std.specs.Option.{option_map}
 use Rattle.coord_paxos.specs.SlotState.{SlotState}
-use Rattle.mencius_server.specs.Tallies.{is_spent}
 use Rattle.mencius_server.specs.Slots.{begun, is_begun, is_in, is_unlearned, prepare_at, stand_at}
 use Rattle.mencius_server.proofs.FirstPhases.{begun_each, room_here, room_more, room_none, sent_more, sent_none}
 use Rattle.mencius_server.proofs.InstanceGaps.{room_gap, sent_gap, sent_to}
 use Rattle.mencius_server.proofs.StretchLoops.{begun_in, begun_out, in_here, out_before, out_between, out_past, prepare_here, unbegun_between, unbegun_out, unlearned_in, walked_more, walked_start, written_here, written_off}
 use Rattle.mencius_server.proofs.slots.Slots.begin_all.Goals as goal
 use Rattle.mencius_server.proofs.slots.Slots.begin_all.Goals.{then-is_last, else-is_last}
+use Rattle.mencius_server.specs.Machine.{is_spent}
 
 pub loop-inst-init : goal.loop-inst-init
 loop-inst-init c =

@@ -1,11 +1,11 @@
 use Rattle.std.proofs.Common.{◌≡◌, ℕ, Some, false, true, ◌-◌, ◌<◌, ◌≤◌}
 use Rattle.coord_paxos.specs.SlotState.{SlotState}
-use Rattle.mencius_server.specs.Tallies.{is_spent}
 use Rattle.mencius_base.specs.Members.{owner}
 use Rattle.mencius_server.specs.Slots.{begun_at, is_begun, prepare_of, stand_at}
 use Rattle.mencius_server.proofs.FirstPhases.{HasRoomFrom, IsSentUpTo}
 use Rattle.mencius_server.proofs.StretchLoops.{IsWalked}
 use Rattle.mencius_server.proofs.slots.Slots.begin_all.Given as goal
+use Rattle.mencius_server.specs.Machine.{is_spent}
 
 abbrev pub invariant-loop-inst : goal.invariant-loop-inst
 invariant-loop-inst l = record {
