@@ -25,8 +25,8 @@ returns-in_ok-clone-in_default-clause-read c =
     let left = texts c.args.after.now in
     let same = ap (λ word. word ∷ with_joined_key left) (sym copied) in
     elim c.in_default.branch [
-      in_default-via-in-Some+else-eq w ↦
-        (let other : bytes_eq (string_bytes c.args.word.now) (codes "--lookup") ≡ false = search rules in
-        other_word _ left other ∙ same)
+      | in_default-via-in-Some+else-eq w ↦
+          (let other : bytes_eq (string_bytes c.args.word.now) (codes "--lookup") ≡ false = search rules in
+          other_word _ left other ∙ same)
       | in_default-via-in_default w ↦ last_word _ c.args.after.now w.in_default.ensures.cases ∙ same
     ]
