@@ -4,7 +4,7 @@ use Rattle.std.specs.Prelude.{is_none}
 use Rattle.std.proofs.lemmas.List.{set-set}
 use Rattle.mencius_base.specs.declared.message.Value.{Value}
 use Rattle.mencius_base.specs.declared.message.Vote.{Vote}
-use Rattle.coord_paxos.specs.Slot.{accept_answer, after_acceptance, after_promise, learning, promise_answer, proposing, to_learn, to_propose, with_accept, with_promise}
+use Rattle.coord_paxos.specs.Slot.{acceptance_answer, after_acceptance, after_promise, learning, promise_answer, proposing, to_learn, to_propose, with_acceptance, with_promise}
 use Rattle.coord_paxos.specs.SlotState.{SlotState}
 use Rattle.mencius_model.proofs.Reports.{higher_vote_twice}
 
@@ -58,38 +58,39 @@ promise_twice s q b o = either (eqb b s.trying) refl
 
 -- ---- acceptances
 
-with_accept_twice : (s : SlotState) (q : ℕ) → with_accept (with_accept s q) q ≡ with_accept s q
-with_accept_twice s q = rw (set-set s.accepters q true true)
+with_acceptance_twice : (s : SlotState) (q : ℕ) → with_acceptance (with_acceptance s q) q ≡ with_acceptance s q
+with_acceptance_twice s q = rw (set-set s.accepters q true true)
 
 -- an acceptance that adds nothing, where nothing is due
-acceptance_ignored : (s : SlotState) (q b : ℕ) → with_accept s q ≡ s → to_learn s ≡ None
-    → (after_acceptance s q b ≡ s) × (accept_answer s q b ≡ None)
+acceptance_ignored : (s : SlotState) (q b : ℕ) → with_acceptance s q ≡ s → to_learn s ≡ None
+    → (after_acceptance s q b ≡ s) × (acceptance_answer s q b ≡ None)
 acceptance_ignored s q b same done = either (eqb b s.trying)
   where
     either : (a : Bool)
-        → (cond a (learning (with_accept s q) (to_learn (with_accept s q))) s ≡ s)
-        × (cond a (to_learn (with_accept s q)) None ≡ None)
+        → (cond a (learning (with_acceptance s q) (to_learn (with_acceptance s q))) s ≡ s)
+        × (cond a (to_learn (with_acceptance s q)) None ≡ None)
     either true = (ap (λ (r : SlotState). learning r (to_learn r)) same ∙ ap (learning s) done, ap to_learn same ∙ done)
     either false = (refl, refl)
 
-acceptance_noted : (s : SlotState) (q : ℕ) → with_accept s q ≡ s → (o : Option Value) → to_learn s ≡ o
-    → (with_accept (learning s o) q ≡ learning s o) × (to_learn (learning s o) ≡ None)
+acceptance_noted : (s : SlotState) (q : ℕ) → with_acceptance s q ≡ s → (o : Option Value) → to_learn s ≡ o
+    → (with_acceptance (learning s o) q ≡ learning s o) × (to_learn (learning s o) ≡ None)
 acceptance_noted s q same None e = (same, e)
 acceptance_noted s q same (Some x) e = (ap (λ (r : SlotState). learning r (Some x)) same, refl)
 
 pub acceptance_twice : (s : SlotState) (q b : ℕ)
     → (after_acceptance (after_acceptance s q b) q b ≡ after_acceptance s q b)
-    × (accept_answer (after_acceptance s q b) q b ≡ None)
+    × (acceptance_answer (after_acceptance s q b) q b ≡ None)
 acceptance_twice s q b = either (eqb b s.trying) refl
   where
     either : (a : Bool) → eqb b s.trying ≡ a
-        → (after_acceptance (cond a (learning (with_accept s q) (to_learn (with_accept s q))) s) q b
-        ≡ cond a (learning (with_accept s q) (to_learn (with_accept s q))) s)
-        × (accept_answer (cond a (learning (with_accept s q) (to_learn (with_accept s q))) s) q b ≡ None)
+        → (after_acceptance (cond a (learning (with_acceptance s q) (to_learn (with_acceptance s q))) s) q b
+        ≡ cond a (learning (with_acceptance s q) (to_learn (with_acceptance s q))) s)
+        × (acceptance_answer (cond a (learning (with_acceptance s q) (to_learn (with_acceptance s q))) s) q b ≡ None)
     either true e =
-        let noted = acceptance_noted (with_accept s q) q (with_accept_twice s q) (to_learn (with_accept s q)) refl in
-        acceptance_ignored (learning (with_accept s q) (to_learn (with_accept s q))) q b noted.0 noted.1
+        let counted = with_acceptance s q in
+        let noted = acceptance_noted counted q (with_acceptance_twice s q) (to_learn counted) refl in
+        acceptance_ignored (learning counted (to_learn counted)) q b noted.0 noted.1
     either false e = (
-      ap (λ (a : Bool). cond a (learning (with_accept s q) (to_learn (with_accept s q))) s) e,
-      ap (λ (a : Bool). cond a (to_learn (with_accept s q)) None) e,
+      ap (λ (a : Bool). cond a (learning (with_acceptance s q) (to_learn (with_acceptance s q))) s) e,
+      ap (λ (a : Bool). cond a (to_learn (with_acceptance s q)) None) e,
     )

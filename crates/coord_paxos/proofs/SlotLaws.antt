@@ -15,7 +15,7 @@ use Rattle.mencius_model.specs.Rules.{acceptor_answer, answer_lines, decision_du
 use Rattle.mencius_model.specs.Next.{decision_at, on_prepare, on_propose, proposal_at}
 use Rattle.coord_paxos.specs.SlotState.{SlotState}
 use Rattle.coord_paxos.specs.Fresh.{new_slot}
-use Rattle.coord_paxos.specs.Slot.{accept_answer, after_accept, after_acceptance, after_answer, after_begin, after_learn, after_prepare, after_promise, is_majority, learning, promise_answer, proposing, to_learn, to_propose, with_accept, with_promise}
+use Rattle.coord_paxos.specs.Slot.{acceptance_answer, after_accept, after_acceptance, after_answer, after_begin, after_learn, after_prepare, after_promise, has_majority, learning, promise_answer, proposing, to_learn, to_propose, with_acceptance, with_promise}
 use Rattle.coord_paxos.specs.Reached.{if_own, slot_at}
 use Rattle.coord_paxos.specs.Laws.{counts, touches}
 use Rattle.mencius_base.specs.declared.message.Answer.TheVariants.{Promise as Promised, Silent}
@@ -165,7 +165,7 @@ pub to_propose-slot_at : (m : Membership) (w : Trace) (p i b : ℕ) → 0 < b �
 to_propose-slot_at m w p i b tried same =
     ap (λ (c : ℕ). cond
     ((is_none (learned w p i) && is_none (if_own m p i c (proposed w i c)))
-    && is_majority m (map (promisers w p i c) (below m.count)))
+    && has_majority m (map (promisers w p i c) (below m.count)))
     (Some (value_or_noop (reported w p i c))) None) (sym same)
     ∙ rw (
       owned m p i b (proposed w i b) (λ zero. absurd (omega arith)),
@@ -177,7 +177,7 @@ pub to_learn-slot_at : (m : Membership) (w : Trace) (p i b : ℕ) → (b ≡ 0 �
     ≡ decision_due (learned w p i) (proposed w i b) (are_majority m (accepters w p i b))
 to_learn-slot_at m w p i b mine same =
     ap (λ (c : ℕ). cond
-    (is_none (learned w p i) && is_majority m (map (accepters w p i c) (below m.count)))
+    (is_none (learned w p i) && has_majority m (map (accepters w p i c) (below m.count)))
     (if_own m p i c (proposed w i c)) None) (sym same)
     ∙ rw (owned m p i b (proposed w i b) mine, count_by-map (accepters w p i b) (below m.count))
 
@@ -277,12 +277,12 @@ module _ (m : Membership) (w : Trace) (k p i from b : ℕ) (r : Option Vote)
 -- ---- add_accept
 
 module _ (m : Membership) (w : Trace) (k p i from b : ℕ) (e : slice_get (sent w) k ≡ Some (Accepted from p i b)) where
-  acceptance_heard : b ≡ trying w p i → slot_at m (Heard k p ∷ w) p i ≡ with_accept (slot_at m w p i) from
+  acceptance_heard : b ≡ trying w p i → slot_at m (Heard k p ∷ w) p i ≡ with_acceptance (slot_at m w p i) from
   acceptance_heard same = slot_at-heard_acceptance m w k p i from (e ∙ ap (λ (c : ℕ). Some (Accepted from p i c)) same)
 
   -- what is decided by all acceptances heard, this one among them
   acceptance_due : (b ≡ 0 → owner m i ≡ p) → b ≡ trying w p i
-      → to_learn (with_accept (slot_at m w p i) from)
+      → to_learn (with_acceptance (slot_at m w p i) from)
       ≡ decision_due (learned w p i) (proposed w i b) (are_majority m (accepters (Heard k p ∷ w) p i b))
   acceptance_due mine same =
       ap to_learn (sym (acceptance_heard same))
@@ -293,19 +293,19 @@ module _ (m : Membership) (w : Trace) (k p i from b : ℕ) (e : slice_get (sent 
       (are_majority m (accepters (Heard k p ∷ w) p i b))) (earlier-none (proposed w i b))
 
   pub acceptance_answered : (b ≡ 0 → owner m i ≡ p)
-      → accept_answer (slot_at m w p i) from b ≡ decision_at m w (Heard k p ∷ w) p i b
+      → acceptance_answer (slot_at m w p i) from b ≡ decision_at m w (Heard k p ∷ w) p i b
   acceptance_answered mine = either (eqb b (trying w p i)) refl
     where
       either : (a : Bool) → eqb b (trying w p i) ≡ a
-          → cond a (to_learn (with_accept (slot_at m w p i) from)) None
+          → cond a (to_learn (with_acceptance (slot_at m w p i) from)) None
           ≡ cond a
           (decision_due (learned w p i) (proposed w i b) (are_majority m (accepters (Heard k p ∷ w) p i b))) None
       either true at = acceptance_due mine (eqb-true _ _ at)
       either false at = refl
 
-  acceptance_decided : b ≡ trying w p i → (o : Option Value) → to_learn (with_accept (slot_at m w p i) from) ≡ o
+  acceptance_decided : b ≡ trying w p i → (o : Option Value) → to_learn (with_acceptance (slot_at m w p i) from) ≡ o
       → slot_at m (followed_by (Heard k p ∷ w) (decision_lines p i o)) p i
-      ≡ learning (with_accept (slot_at m w p i) from) o
+      ≡ learning (with_acceptance (slot_at m w p i) from) o
   acceptance_decided same None due = acceptance_heard same
   acceptance_decided same (Some x) due =
       let unlearned : learned w p i ≡ None = decided_unlearned _ _ _ x due in
@@ -314,16 +314,16 @@ module _ (m : Membership) (w : Trace) (k p i from b : ℕ) (e : slice_get (sent 
       ∙ ap (λ (s : SlotState). record s { learned = Some x }) (acceptance_heard same)
 
   pub acceptance_counted :
-      slot_at m (followed_by (Heard k p ∷ w) (decision_lines p i (accept_answer (slot_at m w p i) from b))) p i
+      slot_at m (followed_by (Heard k p ∷ w) (decision_lines p i (acceptance_answer (slot_at m w p i) from b))) p i
       ≡ after_acceptance (slot_at m w p i) from b
   acceptance_counted = either (eqb b (trying w p i)) refl
     where
       either : (a : Bool) → eqb b (trying w p i) ≡ a
           → slot_at m (followed_by (Heard k p ∷ w)
-          (decision_lines p i (cond a (to_learn (with_accept (slot_at m w p i) from)) None))) p i
-          ≡ cond a (learning (with_accept (slot_at m w p i) from)
-          (to_learn (with_accept (slot_at m w p i) from))) (slot_at m w p i)
-      either true at = acceptance_decided (eqb-true _ _ at) (to_learn (with_accept (slot_at m w p i) from)) refl
+          (decision_lines p i (cond a (to_learn (with_acceptance (slot_at m w p i) from)) None))) p i
+          ≡ cond a (learning (with_acceptance (slot_at m w p i) from)
+          (to_learn (with_acceptance (slot_at m w p i) from))) (slot_at m w p i)
+      either true at = acceptance_decided (eqb-true _ _ at) (to_learn (with_acceptance (slot_at m w p i) from)) refl
       either false at =
           slot_at-heard m w k p i _ e
           (uncounted_acceptance from p i b i (trying w p i) (ap (λ (a : Bool). eqb i i && a) at ∙ rw (eq-eqb i i refl)))

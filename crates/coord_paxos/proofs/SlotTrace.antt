@@ -13,7 +13,7 @@ use Rattle.mencius_model.specs.Instance.{promised_by, promised, proposed_by, pro
 use Rattle.mencius_model.proofs.OneMoreLine.{max-zero, earlier-none, greater-none, greatest_quiet, oldest_quiet, oldest_stays, vote_of_same, accepted_small, greater_above}
 use Rattle.std.proofs.lemmas.Bool.{eq-eqb, lt-ltb}
 use Rattle.std.specs.Prelude.{slice_get}
-use Rattle.coord_paxos.specs.Slot.{with_accept, with_promise}
+use Rattle.coord_paxos.specs.Slot.{with_acceptance, with_promise}
 use Rattle.mencius_model.proofs.Tallies.{heard_more, or-true, tally_quiet, tally_more, votes_quiet, votes_more}
 use Rattle.coord_paxos.specs.SlotState.{SlotState}
 use Rattle.coord_paxos.specs.Reached.{if_own, slot_at}
@@ -113,7 +113,7 @@ slot_at-heard m w k p i x e un =
 -- an acceptance at the ballot that is tried
 pub slot_at-heard_acceptance : (m : Membership) (w : Trace) (k p i from : ℕ)
     → slice_get (sent w) k ≡ Some (Accepted from p i (trying w p i))
-    → slot_at m (Heard k p ∷ w) p i ≡ with_accept (slot_at m w p i) from
+    → slot_at m (Heard k p ∷ w) p i ≡ with_acceptance (slot_at m w p i) from
 slot_at-heard_acceptance m w k p i from e =
     slot_at-unsaid m w (Heard k p) p i (quiet_heard k p i) ∙ ap (slot_hearing m w p i) (heard_more w k p _ e)
     ∙ same_slot _ _ refl refl refl refl refl

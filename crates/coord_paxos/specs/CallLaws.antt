@@ -4,7 +4,7 @@ use Rattle.mencius_base.specs.Numbers.{ServerId, BallotNo}
 use Rattle.mencius_base.specs.declared.message.Value.{Value}
 use Rattle.mencius_base.specs.declared.message.Vote.{Vote}
 use Rattle.coord_paxos.specs.SlotState.{SlotState}
-use Rattle.coord_paxos.specs.Slot.{accept_answer, after_accept, after_acceptance, after_begin, after_learn, after_prepare, after_promise, prepare_answer, promise_answer, with_promise}
+use Rattle.coord_paxos.specs.Slot.{acceptance_answer, after_accept, after_acceptance, after_begin, after_learn, after_prepare, after_promise, prepare_answer, promise_answer, with_promise}
 use Rattle.mencius_base.specs.declared.message.Answer.TheVariants.{Promise, Known}
 
 -- ---- the promise
@@ -47,7 +47,7 @@ abbrev pub RepeatedAcceptanceIgnored : Type 0
 RepeatedAcceptanceIgnored =
     (s : SlotState) (q : ServerId) (b : BallotNo)
     → (after_acceptance (after_acceptance s q b) q b ≡ after_acceptance s q b)
-    × (accept_answer (after_acceptance s q b) q b ≡ None)
+    × (acceptance_answer (after_acceptance s q b) q b ≡ None)
 
 -- ---- the vote reported
 
@@ -90,14 +90,14 @@ ProposalStays = (s : SlotState) (z : Value) → s.proposal ≡ Some z → KeepsP
 -- a value is learned from acceptances where none was learned, and it is this slot's own proposal there
 abbrev pub LearnsOwnProposal : Type 0
 LearnsOwnProposal =
-    (s : SlotState) (q : ServerId) (b : BallotNo) (z : Value) → accept_answer s q b ≡ Some z
+    (s : SlotState) (q : ServerId) (b : BallotNo) (z : Value) → acceptance_answer s q b ≡ Some z
     → (s.proposal ≡ Some z) × (s.learned ≡ None) × (b ≡ s.trying) × ((after_acceptance s q b).learned ≡ Some z)
 
 -- a learned value stays, and nothing more is proposed or decided
 pub record KeepsLearned (s : SlotState) (z : Value) : Type 0 where
   pub known : (b : BallotNo) → prepare_answer s b ≡ Known z
   pub unproposed : (q : ServerId) (b : BallotNo) (reported : Option Vote) → promise_answer s q b reported ≡ None
-  pub undecided : (q : ServerId) (b : BallotNo) → accept_answer s q b ≡ None
+  pub undecided : (q : ServerId) (b : BallotNo) → acceptance_answer s q b ≡ None
   pub prepare : (b : BallotNo) → (after_prepare s b).learned ≡ Some z
   pub accept : (b : BallotNo) (x : Value) → (after_accept s b x).learned ≡ Some z
   pub begin : (b : BallotNo) → (after_begin s b).learned ≡ Some z

@@ -13,7 +13,7 @@ use Rattle.mencius_model.specs.Instance.{learned, promised, proposed, trying, vo
 use Rattle.mencius_model.specs.Rules.{acceptor_answer, decision_lines, proposal_lines}
 use Rattle.mencius_model.specs.Next.{decision_at, on_prepare, on_propose, proposal_at}
 use Rattle.coord_paxos.specs.Fresh.{new_slot}
-use Rattle.coord_paxos.specs.Slot.{accept_answer, after_accept, after_acceptance, after_begin, after_learn, after_prepare, after_promise, prepare_answer, promise_answer}
+use Rattle.coord_paxos.specs.Slot.{acceptance_answer, after_accept, after_acceptance, after_begin, after_learn, after_prepare, after_promise, prepare_answer, promise_answer}
 use Rattle.coord_paxos.specs.Reached.{slot_at}
 
 -- the slot of the trace in which nothing happened is a new one
@@ -93,20 +93,20 @@ abbrev pub AcceptanceAnswered : Type 0
 AcceptanceAnswered =
     (m : Membership) (w : Trace) (k : MessageNo) (p : ServerId) (i : Inst) (q : ServerId) (b : BallotNo)
     → slice_get (sent w) k ≡ Some (Accepted q p i b)
-    → (b ≡ 0 → owner m i ≡ p) → accept_answer (slot_at m w p i) q b ≡ decision_at m w (Heard k p ∷ w) p i b
+    → (b ≡ 0 → owner m i ≡ p) → acceptance_answer (slot_at m w p i) q b ≡ decision_at m w (Heard k p ∷ w) p i b
 
 -- an acceptance at any other ballot calls for nothing
 abbrev pub IgnoresAcceptances : Type 0
 IgnoresAcceptances =
     (m : Membership) (w : Trace) (p : ServerId) (i : Inst) (q : ServerId) (b : BallotNo) → b ≢ trying w p i
-    → accept_answer (slot_at m w p i) q b ≡ None
+    → acceptance_answer (slot_at m w p i) q b ≡ None
 
 -- p hears an acceptance, and learns if that is due
 abbrev pub SlotAfterAcceptance : Type 0
 SlotAfterAcceptance =
     (m : Membership) (w : Trace) (k : MessageNo) (p : ServerId) (i : Inst) (q : ServerId) (b : BallotNo)
     → slice_get (sent w) k ≡ Some (Accepted q p i b)
-    → slot_at m (followed_by (Heard k p ∷ w) (decision_lines p i (accept_answer (slot_at m w p i) q b))) p i
+    → slot_at m (followed_by (Heard k p ∷ w) (decision_lines p i (acceptance_answer (slot_at m w p i) q b))) p i
     ≡ after_acceptance (slot_at m w p i) q b
 
 -- ---- learn

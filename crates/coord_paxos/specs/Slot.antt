@@ -1,20 +1,20 @@
 -- What each call answers and makes of a slot, where q is a server, b a ballot and x a value or a vote.
-use Rattle.std.specs.Prelude.{Bool, true, List, Option, Some, None, ◌==◌, nat_le, if◌then◌else◌, is_none, slice_set}
+use Rattle.std.specs.Prelude.{Bool, true, List, Option, Some, None, if◌then◌else◌, slice_set}
 use Rattle.std.specs.List.{count_by}
 use Rattle.mencius_base.specs.Numbers.{ServerId, BallotNo}
 use Rattle.mencius_base.specs.declared.message.Answer.{Answer}
 use Rattle.mencius_base.specs.declared.message.Answer.TheVariants.{Promise}
 use Rattle.mencius_base.specs.declared.message.Value.{Value}
 use Rattle.mencius_base.specs.declared.message.Vote.{Vote}
-use Rattle.mencius_base.specs.Members.{Membership, majority}
+use Rattle.mencius_base.specs.Members.{Membership, is_majority}
 use Rattle.mencius_model.specs.Instance.{higher_vote}
-use Rattle.mencius_model.specs.Rules.{acceptor_answer, decision_due, is_acceptable, proposal_due}
+use Rattle.mencius_model.specs.Rules.{acceptor_answer, decision_due, is_acceptable, is_tried, may_learn, proposal_due}
 use Rattle.coord_paxos.specs.SlotState.{SlotState}
 use Rattle.coord_paxos.specs.Fresh.{nobody}
 
 -- whether a majority of the servers is in the set, which has one truth value a server
-abbrev pub is_majority : Membership → List Bool → Bool
-is_majority m among = nat_le (majority m) (count_by (λ bit. bit) among)
+abbrev pub has_majority : Membership → List Bool → Bool
+has_majority m among = is_majority m (count_by (λ bit. bit) among)
 
 -- what is answered to a Prepare
 abbrev pub prepare_answer : SlotState → BallotNo → Answer
@@ -52,7 +52,7 @@ with_promise s q x = record s {
 
 -- the value to propose, if one is due
 abbrev pub to_propose : SlotState → Option Value
-to_propose s = proposal_due s.learned s.proposal (is_majority s.members s.promisers) s.reported
+to_propose s = proposal_due s.learned s.proposal (has_majority s.members s.promisers) s.reported
 
 -- with the proposal noted, if there is one
 abbrev pub proposing : SlotState → Option Value → SlotState
@@ -61,19 +61,19 @@ proposing s (Some x) = record s { proposal = Some x }
 
 -- only a promise of the ballot that is tried counts
 abbrev pub promise_answer : SlotState → ServerId → BallotNo → Option Vote → Option Value
-promise_answer s q b x = if b == s.trying then to_propose (with_promise s q x) else None
+promise_answer s q b x = if is_tried s.trying b then to_propose (with_promise s q x) else None
 
 abbrev pub after_promise : SlotState → ServerId → BallotNo → Option Vote → SlotState
 after_promise s q b x =
-    if b == s.trying then proposing (with_promise s q x) (to_propose (with_promise s q x)) else s
+    if is_tried s.trying b then proposing (with_promise s q x) (to_propose (with_promise s q x)) else s
 
 -- one more acceptance at the ballot that is tried
-abbrev pub with_accept : SlotState → ServerId → SlotState
-with_accept s q = record s { accepters = slice_set s.accepters q true }
+abbrev pub with_acceptance : SlotState → ServerId → SlotState
+with_acceptance s q = record s { accepters = slice_set s.accepters q true }
 
 -- the value that is decided, if one is: what this slot proposed
 abbrev pub to_learn : SlotState → Option Value
-to_learn s = decision_due s.learned s.proposal (is_majority s.members s.accepters)
+to_learn s = decision_due s.learned s.proposal (has_majority s.members s.accepters)
 
 -- with the value noted as learned, if there is one
 abbrev pub learning : SlotState → Option Value → SlotState
@@ -81,12 +81,13 @@ learning s None = s
 learning s (Some x) = record s { learned = Some x }
 
 -- only an acceptance at the ballot that is tried counts
-abbrev pub accept_answer : SlotState → ServerId → BallotNo → Option Value
-accept_answer s q b = if b == s.trying then to_learn (with_accept s q) else None
+abbrev pub acceptance_answer : SlotState → ServerId → BallotNo → Option Value
+acceptance_answer s q b = if is_tried s.trying b then to_learn (with_acceptance s q) else None
 
 abbrev pub after_acceptance : SlotState → ServerId → BallotNo → SlotState
-after_acceptance s q b = if b == s.trying then learning (with_accept s q) (to_learn (with_accept s q)) else s
+after_acceptance s q b =
+    if is_tried s.trying b then learning (with_acceptance s q) (to_learn (with_acceptance s q)) else s
 
--- the first value that is learned stays
+-- a value is noted where one may be learned
 abbrev pub after_learn : SlotState → Value → SlotState
-after_learn s x = if is_none s.learned then record s { learned = Some x } else s
+after_learn s x = if may_learn s.learned then record s { learned = Some x } else s

@@ -9,8 +9,9 @@
 
 ghost use Rattle.std.specs.Prelude.{◌≡◌, ◌<◌, ◌≤◌, ◌==◌, Some, None, is_none, length, nat_le, slice_set, take, true};
 ghost use Rattle.coord_paxos.specs.Fresh.{new_slot};
-ghost use Rattle.coord_paxos.specs.Slot.{accept_answer, after_accept, after_acceptance, after_begin, after_learn, after_prepare, after_promise, is_majority, prepare_answer, promise_answer, to_learn, to_propose, with_accept, with_promise};
+ghost use Rattle.coord_paxos.specs.Slot.{acceptance_answer, after_accept, after_acceptance, after_begin, after_learn, after_prepare, after_promise, has_majority, prepare_answer, promise_answer, with_acceptance, with_promise};
 ghost use Rattle.mencius_model.specs.Instance.{higher_vote, value_or_noop};
+ghost use Rattle.mencius_model.specs.Rules.{proposal_due};
 ghost use Rattle.mencius_base.specs.declared.message.Value.TheVariants.{Ticket};
 
 pub use mencius_base::Answer;
@@ -237,11 +238,12 @@ impl Slot {
         ensures answer { result ≡ promise_answer self.old from ballot vote }
         ensures after { self.new ≡ after_promise self.old from ballot vote }
     {
-        if ballot != self.trying {
+        if self.trying != ballot {
             return None;
         }
         self.note_promise(from, vote);
-        let value = self.to_propose();
+        let majority = has_majority(self.members, self.promises());
+        let value = self.proposal_due(majority, self.reported);
         if value.is_some() {
             self.proposal = value;
         }
@@ -253,13 +255,11 @@ impl Slot {
         requires { from < self.now.members.count }
         ensures { result ≡ promise_answer self.now from ballot vote }
     {
-        if ballot != self.trying || self.learned.is_some() || self.proposal.is_some() {
+        if ballot != self.trying {
             return None;
         }
-        if !has_majority_with(self.members, self.promisers, from) {
-            return None;
-        }
-        Some(value_or_noop(higher(self.reported, vote)))
+        let majority = has_majority_with(self.members, self.promisers, from);
+        self.proposal_due(majority, higher(self.reported, vote))
     }
 
     /// Counts a server's acceptance, if it is at the ballot tried; any other is ignored. Gives the
@@ -267,14 +267,13 @@ impl Slot {
     /// proposed at that ballot. It gives one at most once, and none where a value is learned.
     pub fn add_accept(&mut self, from: u8, ballot: Ballot) -> Option<Value>
         requires { from < self.old.members.count }
-        ensures answer { result ≡ accept_answer self.old from ballot }
+        ensures answer { result ≡ acceptance_answer self.old from ballot }
         ensures after { self.new ≡ after_acceptance self.old from ballot }
     {
-        if ballot != self.trying {
-            return None;
+        let value = self.accept_answer(from, ballot);
+        if ballot == self.trying {
+            self.note_accept(from);
         }
-        self.note_accept(from);
-        let value = self.to_learn();
         if value.is_some() {
             self.learned = value;
         }
@@ -284,7 +283,7 @@ impl Slot {
     /// What [`Slot::add_accept`] would give: nothing changes.
     pub fn accept_answer(&self, from: u8, ballot: Ballot) -> Option<Value>
         requires { from < self.now.members.count }
-        ensures { result ≡ accept_answer self.now from ballot }
+        ensures { result ≡ acceptance_answer self.now from ballot }
     {
         if ballot != self.trying || self.learned.is_some() {
             return None;
@@ -293,6 +292,16 @@ impl Slot {
             return None;
         }
         self.proposal
+    }
+
+    // The value to propose once a majority promised, with the greatest vote that it reported.
+    fn proposal_due(&self, majority: bool, reported: Option<Vote>) -> Option<Value>
+        ensures { result ≡ proposal_due self.now.learned self.now.proposal majority reported }
+    {
+        if self.learned.is_some() || self.proposal.is_some() || !majority {
+            return None;
+        }
+        Some(value_or_noop(reported))
     }
 
     fn note_promise(&mut self, from: u8, vote: Option<Vote>)
@@ -306,32 +315,10 @@ impl Slot {
 
     fn note_accept(&mut self, from: u8)
         requires { from < self.old.members.count }
-        ensures { self.new ≡ with_accept self.old from }
+        ensures { self.new ≡ with_acceptance self.old from }
     {
         let _few = self.members.count();
         self.accepters[from as usize] = true;
-    }
-
-    fn to_propose(&self) -> Option<Value>
-        ensures { result ≡ to_propose self.now }
-    {
-        if self.learned.is_some()
-            || self.proposal.is_some()
-            || !has_majority(self.members, self.promises())
-        {
-            return None;
-        }
-        Some(value_or_noop(self.reported))
-    }
-
-    fn to_learn(&self) -> Option<Value>
-        ensures { result ≡ to_learn self.now }
-    {
-        if self.learned.is_none() && has_majority(self.members, self.accepts()) {
-            self.proposal
-        } else {
-            None
-        }
     }
 }
 
@@ -365,7 +352,7 @@ fn value_or_noop(vote: Option<Vote>) -> Value
 // More than half of the servers are in the set, with one more.
 fn has_majority_with(members: Members, among: Tally, from: u8) -> bool
     requires { from < members.count }
-    ensures { result ≡ is_majority members (slice_set (take members.count among) from true) }
+    ensures { result ≡ has_majority members (slice_set (take members.count among) from true) }
 {
     let count = members.count() as usize;
     let mut among = among;
@@ -375,7 +362,7 @@ fn has_majority_with(members: Members, among: Tally, from: u8) -> bool
 
 // More than half of the servers are in the set.
 fn has_majority(members: Members, among: &[bool]) -> bool
-    ensures { result ≡ is_majority members among.now }
+    ensures { result ≡ has_majority members among.now }
 {
     among.iter().filter(|present| **present).count() >= members.majority() as usize
 }

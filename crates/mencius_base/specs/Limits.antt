@@ -39,6 +39,10 @@ most_turns = 100000
 abbrev pub greatest_loss : ℕ
 greatest_loss = 32
 
+-- the greatest number of readers of a board
+abbrev pub most_readers : ℕ
+most_readers = 16
+
 -- the greatest numbers of bytes of a key and of a text
 abbrev pub most_key_bytes : ℕ
 most_key_bytes = 64

@@ -1,5 +1,5 @@
 -- Who there is, who owns which instance, and who leads which ballot.
-use Rattle.std.specs.Prelude.{ℕ, ◌+◌, ◌-◌, ◌*◌, ◌/◌, ◌%◌, List, [], ◌∷◌, Option, Some, None, if◌then◌else◌, ◌==◌}
+use Rattle.std.specs.Prelude.{ℕ, Bool, nat_le, ◌+◌, ◌-◌, ◌*◌, ◌/◌, ◌%◌, List, [], ◌∷◌, Option, Some, None, if◌then◌else◌, ◌==◌}
 use Rattle.std.specs.List.{range_with_len}
 use Rattle.mencius_base.specs.Numbers.{ServerId, Inst, BallotNo}
 use Rattle.mencius_base.specs.Limits.{event_limit, greatest_round, instance_count, message_limit}
@@ -11,6 +11,10 @@ pub record Membership : Type 0 where
 -- more than half of them
 abbrev pub majority : Membership → ℕ
 majority m = m.count / 2 + 1
+
+-- whether so many of them are a majority
+abbrev pub is_majority : Membership → ℕ → Bool
+is_majority m n = nat_le (majority m) n
 
 -- the instances are owned in turn
 abbrev pub owner : Membership → Inst → ServerId

@@ -1,5 +1,5 @@
 -- Where a message may go.
-use Rattle.std.specs.Prelude.{Bool, true, Option, Some, None, ◌==◌, ◌&&◌, nat_le, nat_lt}
+use Rattle.std.specs.Prelude.{Bool, true, false, Option, Some, None, ◌==◌, ◌&&◌, nat_le, nat_lt, not}
 use Rattle.mencius_base.specs.Numbers.{ServerId}
 use Rattle.mencius_base.specs.declared.message.Message.{Message}
 use Rattle.mencius_base.specs.declared.message.Message.TheVariants.{Suggest, Skip, Accepted, Prepare, Promise, Propose, Learn}
@@ -12,9 +12,10 @@ goes_to p (Accepted from to inst ballot) = to == p
 goes_to p (Promise from to inst ballot vote) = to == p
 goes_to p _ = true
 
-abbrev pub is_for : ServerId → Option Message → Bool
-is_for p None = true
-is_for p (Some x) = goes_to p x
+-- there is a message, and it goes to others than p
+abbrev pub goes_elsewhere : ServerId → Option Message → Bool
+goes_elsewhere p None = false
+goes_elsewhere p (Some x) = not (goes_to p x)
 
 -- its servers are members, its instance is one of those that there are, and what has a first phase has a ballot above 0
 abbrev pub is_within : Membership → Message → Bool
@@ -28,5 +29,5 @@ is_within m (Propose from inst ballot value) = (nat_lt from m.count && nat_lt in
 is_within m (Learn from inst value) = nat_lt from m.count && nat_lt inst instance_count
 
 -- the message goes to server p, and all its numbers are within their limits
-abbrev pub is_addressed : Membership → ServerId → Message → Bool
-is_addressed m p x = nat_lt p m.count && (goes_to p x && is_within m x)
+abbrev pub is_for : Membership → ServerId → Message → Bool
+is_for m p x = nat_lt p m.count && (goes_to p x && is_within m x)

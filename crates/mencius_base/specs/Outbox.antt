@@ -1,5 +1,5 @@
 -- Messages that are about to be sent.
-use Rattle.std.specs.Prelude.{ℕ, ◌+◌, List, length, nat_lt, Option, Some, None, if◌then◌else◌}
+use Rattle.std.specs.Prelude.{ℕ, ◌+◌, Bool, List, length, nat_lt, Option, Some, None, if◌then◌else◌}
 use Rattle.mencius_base.specs.declared.refusal.Refusal.{Refusal}
 use Rattle.mencius_base.specs.declared.refusal.Refusal.TheVariants.{MessagesFull}
 use Rattle.mencius_base.specs.declared.message.Message.{Message}
@@ -10,6 +10,10 @@ pub record Outgoing : Type 0 where
   pub limit : ℕ
   pub room : ℕ
 
+-- where there are so many already, that many more would pass the limit
+abbrev pub is_too_many : ℕ → ℕ → ℕ → Bool
+is_too_many limit count extra = nat_lt limit (count + extra)
+
 -- that many more would be too many
 abbrev pub outbox_full : Outgoing → ℕ → Option Refusal
-outbox_full o extra = if nat_lt o.limit (length o.messages + extra) then Some MessagesFull else None
+outbox_full o extra = if is_too_many o.limit (length o.messages) extra then Some MessagesFull else None

@@ -27,6 +27,9 @@ pub const MOST_TURNS: u32 = 100_000;
 /// The greatest loss of a run: how many of 64 choices lose a message.
 pub const GREATEST_LOSS: u8 = 32;
 
+/// The greatest number of readers of a board.
+pub const MOST_READERS: u8 = 16;
+
 /// The greatest number of bytes of a key.
 pub const MOST_KEY_BYTES: usize = 64;
 

@@ -85,13 +85,13 @@ pub enum Message {
 }
 
 impl Message {
-    ghost use Rattle.mencius_base.specs.Message.{goes_to, is_addressed, is_within};
+    ghost use Rattle.mencius_base.specs.Message.{goes_to, is_for, is_within};
 
     /// Whether the message may be delivered to a server: it goes to that server, which is one of
     /// the members as are all servers that it names, its instance is at most 4,095 (the `stop` of a
     /// Skip at most 4,102), and it is no Prepare, Promise or Propose at the owner's ballot.
     pub fn is_for(&self, members: Members, server: u8) -> bool
-        ensures { result ≡ is_addressed members server self.now }
+        ensures { result ≡ is_for members server self.now }
     {
         server < members.count() && self.goes_to(server) && self.is_within(members)
     }

@@ -5,6 +5,7 @@ ghost use Rattle.mencius_board.specs.declared.fault.BoardFault.TheVariants.{NoMe
 ghost use Rattle.mencius_board.specs.Marks.{mark_of};
 ghost use Rattle.mencius_board.specs.Boards.{longest, new_board};
 ghost use Rattle.mencius_board.specs.Faults.{IsShowFault};
+ghost use Rattle.mencius_base.specs.Limits.{most_readers};
 
 use crate::fault::BoardFault;
 use crate::longest::copy_longest;
@@ -72,7 +73,7 @@ impl Board {
         cluster: Cluster,
         readers: u8,
     ) -> Result<Board, BoardFault>
-        requires { (0 < readers) × (readers ≤ 16) }
+        requires { (0 < readers) × (readers ≤ most_readers) }
         ensures board { IfOk result (λ x. x ≡ new_board x.book cluster readers) }
         ensures err { IfErr result (λ f. f ≡ NoMemory) }
     {

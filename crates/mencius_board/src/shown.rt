@@ -7,6 +7,7 @@ ghost use Rattle.mencius_board.specs.Faults.{IsLookupFault};
 ghost use Rattle.mencius_model.specs.Store.{value_at};
 ghost use Rattle.mencius_board.specs.Shown.{Follows, book_of};
 ghost use Rattle.mencius_board.specs.Pending.{IsMarked, added};
+ghost use Rattle.mencius_base.specs.Limits.{most_readers};
 
 use crate::fault::BoardFault;
 use crate::shown_log::Mark;
@@ -144,7 +145,7 @@ pub fn open_writer<R: Wait>(
     opening: &Mark,
     readers: u8,
 ) -> Result<Showing, AllocError>
-    requires some { (0 < readers) × (readers ≤ 16) }
+    requires some { (0 < readers) × (readers ≤ most_readers) }
     requires empty { opening.now.log ≡ [] }
     ensures seen { IfOk result (λ x. book_of (view x.desk.place) ≡ Some opening.now.book) }
     ensures shown { IfOk result

@@ -27,8 +27,3 @@ pub record IsExecution (p : ServerId) (t : TicketNo) (x y : ExecutorState) (old 
 abbrev pub IsPerformed : ServerId → Value → ExecutorState → ExecutorState → List Row → List Row → Type 0
 IsPerformed p Noop x y old new = (y ≡ x) × (new ≡ old)
 IsPerformed p (Ticket t) x y old new = IsExecution p t x y old new
-
--- the ticket of a value, if it has one, is below n
-abbrev pub IsTicketBelow : ℕ → Value → Type 0
-IsTicketBelow n Noop = Unit {0}
-IsTicketBelow n (Ticket t) = t < n

@@ -1,5 +1,5 @@
 -- The submitted commands, by ticket and by identity.
-use Rattle.std.specs.Prelude.{◌≡◌, ℕ, ◌+◌, ◌*◌, ◌<◌, List, [], ◌∷◌, get_or, length, zero, suc}
+use Rattle.std.specs.Prelude.{◌≡◌, ℕ, ◌+◌, ◌*◌, ◌^◌, ◌<◌, List, [], ◌∷◌, get_or, length, zero, suc}
 use Rattle.mencius_base.specs.declared.command.CommandId.{CommandId}
 use Rattle.mencius_base.specs.Numbers.{TicketNo}
 use Rattle.mencius_cluster.specs.declared.submission.Submission.{Submission}
@@ -11,9 +11,13 @@ Row = CommandId × Submission
 abbrev pub row_of : Submission → Row
 row_of s = (s.command.id, s)
 
+-- how many commands a client may number
+abbrev pub number_count : ℕ
+number_count = 2 ^ 32
+
 -- an identity as one number, below 2 ^ 64
 abbrev pub key_of : CommandId → ℕ
-key_of id = id.client * 4294967296 + id.number
+key_of id = id.client * number_count + id.number
 
 abbrev pub key_in : Submission → ℕ
 key_in s = key_of s.command.id
@@ -29,10 +33,10 @@ pub record SubmissionTable : Type 0 where
   pub entries : List Row
   pub room : ℕ
 
--- the number of each identity is one of 32 bits
+-- the number of each identity is one that a client may give
 abbrev pub AreSmall : List Submission → Type 0
 AreSmall [] = Unit {0}
-AreSmall (s ∷ rows) = (s.command.id.number < 4294967296) × AreSmall rows
+AreSmall (s ∷ rows) = (s.command.id.number < number_count) × AreSmall rows
 
 -- the numbers rise
 abbrev pub IsRising : List ℕ → Type 0

@@ -2,7 +2,8 @@ ghost use Rattle.std.specs.Prelude.{ℕ, ◌≡◌, ◌≢◌, ◌<◌, [], ◌�
 ghost use Rattle.std.specs.Map.{lookup};
 ghost use Rattle.mencius_base.specs.Command.{is_same_id};
 ghost use Rattle.mencius_cluster.specs.declared.submission.Answered.TheVariants.{Pending};
-ghost use Rattle.mencius_cluster.specs.Performed.{IsExecution, IsPerformed, IsTicketBelow};
+ghost use Rattle.mencius_cluster.specs.Performed.{IsExecution, IsPerformed};
+ghost use Rattle.mencius_model.specs.WithinLimits.{IsTicketBelow};
 ghost use Rattle.mencius_cluster.specs.Submissions.{IsRising, key_of, row_of};
 
 use crate::submission::{Answered, Submission, run};
@@ -11,11 +12,14 @@ use mencius_base::{Command, CommandId, NoMemory, Value};
 use std::alloc::Global;
 use std::marker::Model;
 
+// How many commands a client may number.
+const NUMBER_COUNT: u64 = 1 << 32;
+
 // An identity as one number.
 fn key_of(id: CommandId) -> u64
     ensures { result ≡ key_of id }
 {
-    u64::from(id.client) * 0x1_0000_0000 + u64::from(id.number)
+    u64::from(id.client) * NUMBER_COUNT + u64::from(id.number)
 }
 
 /// The submitted commands, in the order of their tickets. No two have the same identity.

@@ -7,7 +7,7 @@ use Rattle.mencius_base.specs.declared.refusal.Refusal.{Refusal}
 use Rattle.mencius_base.specs.declared.refusal.Refusal.TheVariants.{EventsFull}
 use Rattle.mencius_base.specs.Refusal.{IsRefusedFor}
 use Rattle.mencius_base.specs.Members.{Membership, most_events, most_messages}
-use Rattle.mencius_base.specs.Message.{is_addressed}
+use Rattle.mencius_base.specs.Message.{is_for}
 use Rattle.mencius_base.specs.Outbox.{Outgoing, outbox_full}
 use Rattle.mencius_model.specs.Trace.{Trace, events, messages_of, sent}
 use Rattle.mencius_model.specs.Next.{IsReached, early_cause, first_cause, found_by_cluster, found_by_server, lines, refused, with_event}
@@ -47,7 +47,7 @@ stays law m w k p s at same fine ne =
 
 -- the message is what the receiver heard, and this is what the call left
 pub record IsHeard (k : ℕ) (x : Message) (w : Trace) (r after : ServerState) (o sends : Outgoing) : Type 0 where
-  pub addressed : IsTrue (is_addressed r.members r.id x)
+  pub addressed : IsTrue (is_for r.members r.id x)
   pub number : slice_get (sent w) k ≡ Some x
   pub early : early_cause r.members w (Deliver k r.id) ≡ None
   pub state : after ≡ after_hearing r x
@@ -84,7 +84,7 @@ delivered hear law w k x r after s z o sends at h ms mt ns nt =
 
 -- so it is after a call that was not refused
 pub delivered_then : HearIsEvent → LeavesOthers → (result : Result ℕ Refusal) (x : Message)
-    (r after s y : ServerState) (o z : Outgoing) → IsTrue (is_addressed r.members r.id x)
+    (r after s y : ServerState) (o z : Outgoing) → IsTrue (is_for r.members r.id x)
     → OnOk result (z.messages ≡ o.messages ++ sent_on r x) → OnOk result (after ≡ after_hearing r x)
     → IsRefusedFor (outbox_full o (length (sent_on r x))) result → z.limit ≡ o.limit
     → s.members ≡ r.members → y.members ≡ r.members → (r.id ≡ s.id → ⊥) × (r.id ≡ y.id → ⊥)

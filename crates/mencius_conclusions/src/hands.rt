@@ -3,7 +3,7 @@
 //! Nothing here sees inside a server, and no cluster stands behind it. The proof rests on what the
 //! call promises, and on the laws.
 
-ghost use Rattle.mencius_base.specs.Message.{is_addressed};
+ghost use Rattle.mencius_base.specs.Message.{is_for};
 ghost use Rattle.mencius_base.specs.Outbox.{outbox_full};
 ghost use Rattle.mencius_base.specs.declared.event.Event.TheVariants.{Deliver};
 ghost use Rattle.mencius_model.specs.Next.{early_cause, with_event};
@@ -33,7 +33,7 @@ pub fn deliver(
     out: &mut Outbox,
     message: &Message,
 ) -> Result<u32, Refusal>
-    requires addressed { IsTrue (is_addressed receiver.old.members receiver.old.id message.now) }
+    requires addressed { IsTrue (is_for receiver.old.members receiver.old.id message.now) }
     requires second { second.now.members ≡ receiver.old.members }
     requires third { third.now.members ≡ receiver.old.members }
     requires others { (receiver.old.id ≢ second.now.id) × (receiver.old.id ≢ third.now.id) }

@@ -8,7 +8,7 @@ use Rattle.mencius_base.specs.declared.message.Value.TheVariants.{Noop, Ticket}
 use Rattle.mencius_base.specs.Members.{Membership, below}
 use Rattle.mencius_model.specs.Trace.{Line, Executed, Trace, submitted}
 use Rattle.mencius_model.specs.Instance.{learned}
-use Rattle.mencius_model.specs.Server.{done, is_done, ticket_of}
+use Rattle.mencius_model.specs.Server.{done, done_by, ticket_of}
 use Rattle.mencius_model.specs.Decided.{IsDecided}
 use Rattle.mencius_model.specs.Executed.{executed, IsPrefix, IsComparable}
 use Rattle.mencius_model.proofs.Lists.{IsIn, get_in, in_append}
@@ -21,7 +21,7 @@ use Rattle.mencius_model.proofs.Tickets.{decided_once, decided_submitted, get_pu
 -- ---- what was executed was learned
 
 -- a line is an execution by s, or leaves its count
-executed_line : (p : ℕ) (l : Line) → (is_done p l ≡ 0) ⊎ ((is_done p l ≡ 1) × (l ≡ Executed p))
+executed_line : (p : ℕ) (l : Line) → (done_by p l ≡ 0) ⊎ ((done_by p l ≡ 1) × (l ≡ Executed p))
 executed_line p (Executed server) =
     elim (cases_Bool (eqb server p)) [
       | inl e ↦ inr (rw e, ap Executed (eqb-true server p e))

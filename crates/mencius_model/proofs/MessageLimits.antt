@@ -17,7 +17,7 @@ use Rattle.mencius_model.specs.Instance.{learned, promised, trying, vote}
 use Rattle.mencius_model.specs.Server.{free_instance, front, is_covered, is_free, covered_by, waiting}
 use Rattle.mencius_model.specs.Rules.{acceptor_answer, answer_lines, decision_lines, proposal_lines, suggestion}
 use Rattle.mencius_model.specs.Next.{IsReached, again, causes, delivery, head, is_given_up, lines, next, on_message, preparation, decision_at, proposal_at}
-use Rattle.mencius_base.specs.Message.{goes_to, is_addressed, is_for, is_within}
+use Rattle.mencius_base.specs.Message.{goes_to, is_for, is_within}
 use Rattle.mencius_model.proofs.NumberLists.{find-instances_found}
 use Rattle.mencius_model.proofs.EachLine.{AreAll, HoldsAlong, next_along, one_if}
 use Rattle.mencius_model.proofs.Lists.{IsIn, get_in}
@@ -178,7 +178,7 @@ within_small m p (Learn from inst value) member h e = rw (lt-ltb from m.count h.
 
 -- a message of the trace that goes to a member is addressed to it, within all bounds
 pub sent_addressed : (m : Membership) → m.count ≤ most_servers → (w : Trace) → IsReached m w → (k p : ℕ) (x : Message)
-    → p < m.count → slice_get (sent w) k ≡ Some x → is_for p (Some x) ≡ true → IsTrue (is_addressed m p x)
+    → p < m.count → slice_get (sent w) k ≡ Some x → goes_to p x ≡ true → IsTrue (is_for m p x)
 sent_addressed m few w r k p x member h e =
     and_from _ _ (lt-ltb p m.count member)
     (and_from _ _ e (within_small m p x member (sent_small m few w r x (sent_in x w (get_in (sent w) k x h))) e))

@@ -10,7 +10,7 @@ use Rattle.mencius_base.specs.declared.message.Value.TheVariants.{Noop, Ticket}
 use Rattle.mencius_base.specs.Members.{Membership, below}
 use Rattle.mencius_model.specs.Trace.{Trace, command_in, option_to_list, submitted}
 use Rattle.mencius_model.specs.Instance.{learned}
-use Rattle.mencius_model.specs.Server.{done, is_done, ticket_of}
+use Rattle.mencius_model.specs.Server.{done, done_by, ticket_of}
 use Rattle.mencius_model.specs.Next.{head, with_event}
 use Rattle.mencius_model.specs.Executed.{executed}
 use Rattle.mencius_model.proofs.NumberLists.{below-more, map-below_same}
@@ -83,7 +83,7 @@ history-below m w p told =
 -- ---- what an event leaves
 
 -- the history of a server that executes nothing
-pub history_kept : (m : Membership) (w : Trace) (e : Event) (p : ℕ) → IsTold m w → is_done p (head e) ≡ 0
+pub history_kept : (m : Membership) (w : Trace) (e : Event) (p : ℕ) → IsTold m w → done_by p (head e) ≡ 0
     → executed (with_event m w e) p ≡ executed w p
 history_kept m w e p told none =
     let same : done (with_event m w e) p ≡ done w p =
@@ -116,7 +116,7 @@ abbrev Reply_of : List Command → Command → Reply
 Reply_of cs command = Is (out cs command)
 
 reply_from_kept : (m : Membership) (w : Trace) (e : Event) (command : Command) (home : ℕ) (o : Option ℕ) → IsTold m w
-    → is_done home (head e) ≡ 0
+    → done_by home (head e) ≡ 0
     → reply_from (with_event m w e) command home o ≡ reply_from w command home o
 reply_from_kept m w e command home None told none = refl
 reply_from_kept m w e command home (Some n) told none =
@@ -126,7 +126,7 @@ reply_from_kept m w e command home (Some n) told none =
 
 -- the reply of a command whose home executes nothing
 pub reply_kept : (m : Membership) (w : Trace) (e : Event) (t : ℕ) (command : Command) (home : ℕ) → IsTold m w
-    → is_done home (head e) ≡ 0
+    → done_by home (head e) ≡ 0
     → reply_at (with_event m w e) t command home ≡ reply_at w t command home
 reply_kept m w e t command home told none =
     ap (λ h. reply_from (with_event m w e) command home (place_of (λ u. u == t) h)) (history_kept m w e home told none)

@@ -77,7 +77,7 @@ ExecutedOnce =
 abbrev pub LaterCommandsStandBehind : Type 0
 LaterCommandsStandBehind =
     (m : Membership) (journal : List Event) (end w : Trace) → IsCourse m journal end → IsMoment m journal w
-    → (p q : ServerId) (t : TicketNo) (front back : List ℕ) → length (submitted w) ≤ t
+    → (p q : ServerId) (t : TicketNo) (front back : List TicketNo) → length (submitted w) ≤ t
     → executed end q ≡ front ++ t ∷ back
     → IsPrefix (executed w p) front
 

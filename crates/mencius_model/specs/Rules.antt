@@ -37,11 +37,28 @@ unless false o = o
 abbrev pub waiting_ticket : Option Value → Bool → TicketNo → Option TicketNo
 waiting_ticket learned again t = unless (not (is_noop learned) || again) (Some t)
 
+-- ---- what is learned and what counts
+
+-- the first value that is learned stays
+abbrev pub may_learn : Option Value → Bool
+may_learn learned = is_none learned
+
+-- a promise and an acceptance count at the ballot that is tried alone
+abbrev pub is_tried : BallotNo → BallotNo → Bool
+is_tried tried b = b == tried
+
 -- ---- a Suggest or a Propose
 
--- a suggestion above the own front gives up the own instances below it, whether or not it is accepted then
+-- a suggestion above the own front takes it to the next own instance
+abbrev pub is_past : Inst → Inst → Bool
+is_past front i = nat_lt front i
+
+abbrev pub front_past : Membership → ServerId → Inst → Inst
+front_past m p i = first_owned m p (i + 1)
+
+-- it gives up the own instances below it, whether or not it is accepted then
 abbrev pub skip_lines : Membership → ServerId → Inst → Inst → List Line
-skip_lines m p front i = if nat_lt front i then Sent (Skip p front (first_owned m p (i + 1))) ∷ [] else []
+skip_lines m p front i = if is_past front i then Sent (Skip p front (front_past m p i)) ∷ [] else []
 
 -- a ballot is accepted unless a greater one was promised
 abbrev pub is_acceptable : BallotNo → BallotNo → Bool
@@ -60,7 +77,7 @@ gives_up m i _ = false
 
 -- where an instance is given up and nothing is learned, no-op is learned at once, without a majority
 abbrev pub is_given_up_from : Membership → Inst → Message → Option Value → Bool
-is_given_up_from m i x learned = gives_up m i x && is_none learned
+is_given_up_from m i x learned = gives_up m i x && may_learn learned
 
 -- ---- a Prepare
 
@@ -101,9 +118,9 @@ decision_lines p i (Some x) = Learned p i x ∷ Sent (Learn p i x) ∷ []
 
 -- ---- a Learn
 
--- the first value that is learned stays
+-- p learns what it is told, where it may
 abbrev pub learning_lines : ServerId → Inst → Value → Option Value → List Line
-learning_lines p i x learned = if is_none learned then Learned p i x ∷ [] else []
+learning_lines p i x learned = if may_learn learned then Learned p i x ∷ [] else []
 
 -- ---- a suspicion
 

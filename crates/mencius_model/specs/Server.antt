@@ -62,14 +62,14 @@ is_covered m w p q i = is_covered_from m q (front m w p) i (learned w p i)
 abbrev pub covered_by : Membership → Trace → ServerId → ServerId → List Inst
 covered_by m w p q = filter (is_covered m w p q) instances
 
-abbrev pub is_done : ServerId → Line → ℕ
-is_done p (Executed server) = if server == p then 1 else 0
-is_done p _ = 0
+abbrev pub done_by : ServerId → Line → ℕ
+done_by p (Executed server) = if server == p then 1 else 0
+done_by p _ = 0
 
 -- how many instances p executed
 abbrev pub done : Trace → ServerId → ℕ
 done [] p = 0
-done (l ∷ w) p = done w p + is_done p l
+done (l ∷ w) p = done w p + done_by p l
 
 -- a value's ticket; no-op has none
 abbrev pub ticket_of : Option Value → Option TicketNo

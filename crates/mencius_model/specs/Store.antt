@@ -14,9 +14,9 @@ Store = finite.FinMap (slice_cmp nat_cmp) (List ℕ)
 
 -- Set binds the key, Del removes it, Get changes nothing
 abbrev pub apply : Store → Op → Store
-apply m (Set key text) = finite.insert m key text
-apply m (Get key) = m
-apply m (Del key) = finite.remove m key
+apply store (Set key text) = finite.insert store key text
+apply store (Get key) = store
+apply store (Del key) = finite.remove store key
 
 -- the key that an operation is about
 abbrev pub key_of : Op → List ℕ
@@ -26,7 +26,7 @@ key_of (Del key) = key
 
 -- what these commands make of the empty map
 abbrev pub store_after : List Command → Store
-store_after cs = fold (λ m command. apply m command.op) finite.empty cs
+store_after cs = fold (λ store command. apply store command.op) finite.empty cs
 
 -- what that map holds at a command's key: the answer of the command after these
 abbrev pub out : List Command → Command → Option (List ℕ)

@@ -1,9 +1,9 @@
 -- No number in a trace passes its limit.
-use Rattle.std.specs.Prelude.{◌≡◌, ◌<◌, ◌≤◌, true, Option, Some, None, length, slice_get, IsTrue}
+use Rattle.std.specs.Prelude.{◌≡◌, ℕ, ◌<◌, ◌≤◌, true, Option, Some, None, length, slice_get, IsTrue}
 use Rattle.mencius_base.specs.Limits.{event_limit, greatest_front, greatest_round, instance_count, message_limit, most_servers}
 use Rattle.mencius_base.specs.Numbers.{ServerId, Inst, BallotNo, MessageNo}
 use Rattle.mencius_base.specs.Members.{Membership, leader, round}
-use Rattle.mencius_base.specs.Message.{goes_to, is_addressed}
+use Rattle.mencius_base.specs.Message.{goes_to, is_for}
 use Rattle.mencius_base.specs.declared.message.Message.{Message}
 use Rattle.mencius_base.specs.declared.message.Message.TheVariants.{Suggest, Skip, Accepted, Prepare, Promise, Propose, Learn}
 use Rattle.mencius_base.specs.declared.message.Value.{Value}
@@ -18,10 +18,14 @@ pub record IsBallotWithin (m : Membership) (b : BallotNo) : Type 0 where
   pub small : round m b ≤ greatest_round
   pub led : (i : Inst) → leader m b i < m.count
 
--- the value's ticket was given to a submission
+-- the value's ticket, if it has one, is one of the first n
+abbrev pub IsTicketBelow : ℕ → Value → Type 0
+IsTicketBelow n Noop = Unit {0}
+IsTicketBelow n (Ticket t) = t < n
+
+-- it was given to a submission
 abbrev pub IsValueWithin : Trace → Value → Type 0
-IsValueWithin w Noop = Unit {0}
-IsValueWithin w (Ticket t) = t < length (submitted w)
+IsValueWithin w x = IsTicketBelow (length (submitted w)) x
 
 abbrev pub IsVoteWithin : Membership → Trace → Option Vote → Type 0
 IsVoteWithin m w None = Unit {0}
@@ -63,4 +67,4 @@ abbrev pub MessagesAddressed : Type 0
 MessagesAddressed =
     (m : Membership) (w : Trace) → m.count ≤ most_servers → IsReached m w
     → (k : MessageNo) (p : ServerId) (x : Message) → slice_get (sent w) k ≡ Some x
-    → p < m.count → goes_to p x ≡ true → IsTrue (is_addressed m p x)
+    → p < m.count → goes_to p x ≡ true → IsTrue (is_for m p x)

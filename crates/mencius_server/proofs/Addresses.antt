@@ -15,7 +15,7 @@ use Rattle.mencius_model.specs.Rules.{answer_lines, decision_lines, proposal_lin
 use Rattle.mencius_model.proofs.NumberLists.{find-instances_found}
 use Rattle.mencius_base.specs.declared.message.Answer.{Answer}
 use Rattle.mencius_base.specs.declared.message.Answer.TheVariants.{Promise as Promised, Known, Silent}
-use Rattle.coord_paxos.specs.Slot.{accept_answer, prepare_answer, promise_answer}
+use Rattle.coord_paxos.specs.Slot.{acceptance_answer, prepare_answer, promise_answer}
 use Rattle.mencius_server.specs.Laws.{AreHearable, HearAddresses, IsHearable, RetryAddresses, SubmitAddresses, SuspectAddresses}
 use Rattle.mencius_server.specs.Machine.{first_waiting, free_at, is_free_at, is_covered_at, prepare_for, retry_sent, sent_on, submit_sent, suggest_sent}
 use Rattle.mencius_server.specs.State.{ServerState, slot}
@@ -126,7 +126,7 @@ module _ (s : ServerState) (member : s.id < s.members.count) (few : s.members.co
   on_hearable (Suggest q i t) h = let parts = and_parts _ _ h in suggest_hearable q i parts.0 parts.1
   on_hearable (Skip q first stop) h = nothing s.members
   on_hearable (Accepted q to i b) h =
-      let parts = and_parts _ _ h in decision_hearable i parts.1 (accept_answer (slot s i) q b)
+      let parts = and_parts _ _ h in decision_hearable i parts.1 (acceptance_answer (slot s i) q b)
   on_hearable (Prepare q i b) h =
       let parts = and_parts _ _ h in
       let n = and_parts _ _ parts.0 in

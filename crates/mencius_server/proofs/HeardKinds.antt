@@ -16,7 +16,7 @@ use Rattle.mencius_model.specs.Next.{learnings, on_suggest, on_prepare, on_accep
 use Rattle.mencius_model.specs.Rules.{acceptor_answer, answer_lines, decision_due, decision_lines, proposal_due, proposal_lines}
 use Rattle.mencius_model.proofs.OneMoreLine.{greater-none}
 use Rattle.coord_paxos.specs.SlotState.{SlotState}
-use Rattle.coord_paxos.specs.Slot.{accept_answer, promise_answer, after_answer, after_promise, proposing, to_propose, with_promise, after_accept, after_prepare, after_learn, after_acceptance, learning, to_learn, with_accept}
+use Rattle.coord_paxos.specs.Slot.{acceptance_answer, promise_answer, after_answer, after_promise, proposing, to_propose, with_promise, after_accept, after_prepare, after_learn, after_acceptance, learning, to_learn, with_acceptance}
 use Rattle.coord_paxos.specs.Reached.{if_own, slot_at}
 use Rattle.coord_paxos.proofs.SlotTrace.{slot_at-quiet, slot_at-heard, slot_at-heard_acceptance, slot_at-heard_promise, slot_at-proposed, slot_at-accepted, slot_at-promised, slot_at-learned}
 use Rattle.coord_paxos.proofs.SlotLaws.{acceptance_answered, promise_answered}
@@ -272,8 +272,8 @@ unlearned_learns (Some y) a x z e = absurd (cc)
 
 learn_decided : (m : Membership) (w : Trace) (k p from i : ℕ) → i < instance_count
     → slice_get (sent w) k ≡ Some (Accepted from p i (trying w p i))
-    → (o : Option Value) → to_learn (with_accept (slot_at m w p i) from) ≡ o
-    → with_slot (server_at m w p) i (learning (with_accept (slot_at m w p i) from) o)
+    → (o : Option Value) → to_learn (with_acceptance (slot_at m w p i) from) ≡ o
+    → with_slot (server_at m w p) i (learning (with_acceptance (slot_at m w p i) from) o)
     ≡ server_at m (followed_by (Heard k p ∷ w) (decision_lines p i o)) p
 learn_decided m w k p from i small e None un =
     server_written m w (Heard k p ∷ w) p i (front m w p) _ (omega arith)
@@ -294,12 +294,12 @@ learn_decided m w k p from i small e (Some x) decided =
 accepted_tried : (m : Membership) (w : Trace) (k p from i : ℕ) → i < instance_count
     → slice_get (sent w) k ≡ Some (Accepted from p i (trying w p i))
     → Meets m w k p (Accepted from p i (trying w p i))
-    (decision_lines p i (to_learn (with_accept (slot_at m w p i) from)))
+    (decision_lines p i (to_learn (with_acceptance (slot_at m w p i) from)))
 accepted_tried m w k p from i small e =
-    let answer : accept_answer (slot (server_at m w p) i) from (trying w p i)
-    ≡ to_learn (with_accept (slot_at m w p i) from) =
-    ap (λ (s : SlotState). accept_answer s from (trying w p i)) (slot-server_at m w p i small)
-    ∙ ap (λ (a : Bool). cond a (to_learn (with_accept (slot_at m w p i) from)) None)
+    let answer : acceptance_answer (slot (server_at m w p) i) from (trying w p i)
+    ≡ to_learn (with_acceptance (slot_at m w p i) from) =
+    ap (λ (s : SlotState). acceptance_answer s from (trying w p i)) (slot-server_at m w p i small)
+    ∙ ap (λ (a : Bool). cond a (to_learn (with_acceptance (slot_at m w p i) from)) None)
     (eq-eqb (trying w p i) (trying w p i) refl) in
     record {
       sends = ap (λ (o : Option Value). messages_of (decision_lines p i o)) answer;
@@ -308,20 +308,20 @@ accepted_tried m w k p from i small e =
           ap (λ (s : SlotState). with_slot (server_at m w p) i (after_acceptance s from (trying w p i)))
           (slot-server_at m w p i small)
           ∙ ap (λ (a : Bool). with_slot (server_at m w p) i
-          (cond a (learning (with_accept (slot_at m w p i) from)
-          (to_learn (with_accept (slot_at m w p i) from))) (slot_at m w p i)))
+          (cond a (learning (with_acceptance (slot_at m w p i) from)
+          (to_learn (with_acceptance (slot_at m w p i) from))) (slot_at m w p i)))
           (eq-eqb (trying w p i) (trying w p i) refl)
-          ∙ learn_decided m w k p from i small e (to_learn (with_accept (slot_at m w p i) from)) refl;
+          ∙ learn_decided m w k p from i small e (to_learn (with_acceptance (slot_at m w p i) from)) refl;
     }
 
 -- the row of the table is the slot's answer
 accepted_lines : (m : Membership) (w : Trace) (k p from i : ℕ) → (trying w p i ≡ 0 → owner m i ≡ p)
     → slice_get (sent w) k ≡ Some (Accepted from p i (trying w p i))
-    → decision_lines p i (to_learn (with_accept (slot_at m w p i) from))
+    → decision_lines p i (to_learn (with_acceptance (slot_at m w p i) from))
     ≡ on_accepted m w (Heard k p ∷ w) p i (trying w p i)
 accepted_lines m w k p from i mine e =
     ap (decision_lines p i)
-    (ap (λ (a : Bool). cond a (to_learn (with_accept (slot_at m w p i) from)) None)
+    (ap (λ (a : Bool). cond a (to_learn (with_acceptance (slot_at m w p i) from)) None)
     (sym (eq-eqb (trying w p i) (trying w p i) refl))
     ∙ acceptance_answered m w k p i from (trying w p i) e mine)
 
@@ -344,8 +344,8 @@ accepted_cases m w k p from i b small mine e false other = record {
   state =
       ap (λ (s : SlotState). with_slot (server_at m w p) i (after_acceptance s from b)) (slot-server_at m w p i small)
       ∙ ap (λ (d : Bool). with_slot (server_at m w p) i
-      (cond d (learning (with_accept (slot_at m w p i) from)
-      (to_learn (with_accept (slot_at m w p i) from))) (slot_at m w p i))) other
+      (cond d (learning (with_acceptance (slot_at m w p i) from)
+      (to_learn (with_acceptance (slot_at m w p i) from))) (slot_at m w p i))) other
       ∙ server_written m w (Heard k p ∷ w) p i (front m w p) _ (omega arith)
       (slot_at-heard m w k p i _ e (uncounted_accepted from p i b i (trying w p i) (rw (eq-eqb i i refl, other))))
       (λ j ne. slot_at-heard m w k p j _ e
@@ -360,10 +360,10 @@ accepted_cases m w k p from i b small mine e false other = record {
         (are_majority m (accepters (Heard k p ∷ w) p i b))) None))
         (sym other)
 
-    stale : (from : ℕ) → accept_answer (slot (server_at m w p) i) from b ≡ None
+    stale : (from : ℕ) → acceptance_answer (slot (server_at m w p) i) from b ≡ None
     stale from =
-        ap (λ (s : SlotState). accept_answer s from b) (slot-server_at m w p i small)
-        ∙ ap (λ (d : Bool). cond d (to_learn (with_accept (slot_at m w p i) from)) None) other
+        ap (λ (s : SlotState). acceptance_answer s from b) (slot-server_at m w p i small)
+        ∙ ap (λ (d : Bool). cond d (to_learn (with_acceptance (slot_at m w p i) from)) None) other
 
 pub meets_accepted : (m : Membership) (w : Trace) (k p from i b : ℕ) → i < instance_count → (b ≡ 0 → owner m i ≡ p)
     → slice_get (sent w) k ≡ Some (Accepted from p i b)

@@ -13,7 +13,7 @@ use Rattle.mencius_server.specs.Reached.{server_at}
 use Rattle.std.proofs.lemmas.Bool.{and_parts, eqb-true, ltb-true}
 use Rattle.mencius_base.specs.declared.message.Message.TheVariants.{Suggest, Skip, Accepted, Prepare, Promise, Propose, Learn}
 use Rattle.mencius_base.specs.Members.{Membership}
-use Rattle.mencius_base.specs.Message.{goes_to, is_addressed, is_within}
+use Rattle.mencius_base.specs.Message.{goes_to, is_for, is_within}
 use Rattle.mencius_model.specs.Instance.{IsVoted}
 use Rattle.mencius_model.proofs.ServerFacts.{IsSound, sound}
 use Rattle.mencius_server.proofs.ServerTrace.{Meets, meets_propose}
@@ -24,13 +24,13 @@ voted_at : (m : Membership) (w : Trace) (p i : ℕ) → IsSound m w → IsVoted 
 voted_at m w p i facts = record { proposal = λ b e. facts.voted p i b e }
 
 -- what is addressed to a server goes to it, within all bounds
-pub within_of : (m : Membership) (p : ℕ) (x : Message) → IsTrue (is_addressed m p x) → is_within m x ≡ true
+pub within_of : (m : Membership) (p : ℕ) (x : Message) → IsTrue (is_for m p x) → is_within m x ≡ true
 within_of m p x addressed = (and_parts _ _ (and_parts _ _ addressed).1).1
 
-goes_of : (m : Membership) (p : ℕ) (x : Message) → IsTrue (is_addressed m p x) → goes_to p x ≡ true
+goes_of : (m : Membership) (p : ℕ) (x : Message) → IsTrue (is_for m p x) → goes_to p x ≡ true
 goes_of m p x addressed = (and_parts _ _ (and_parts _ _ addressed).1).0
 
-meets_any : (m : Membership) (w : Trace) (k p : ℕ) (x : Message) → IsSound m w → IsTrue (is_addressed m p x)
+meets_any : (m : Membership) (w : Trace) (k p : ℕ) (x : Message) → IsSound m w → IsTrue (is_for m p x)
     → slice_get (sent w) k ≡ Some x
     → Meets m w k p x (on_message m w (Heard k p ∷ w) p x)
 meets_any m w k p (Suggest from inst ticket) facts addressed e =

@@ -10,7 +10,7 @@ use Rattle.mencius_base.specs.Members.{Membership, below, instances, owner}
 use Rattle.mencius_model.proofs.NumberLists.{get_or-map-instances, instances-below, map-below_by, map-instances_same, map-instances_set}
 use Rattle.coord_paxos.specs.SlotState.{SlotState}
 use Rattle.coord_paxos.specs.Fresh.{new_slot}
-use Rattle.coord_paxos.specs.Slot.{after_answer, learning, prepare_answer, proposing, to_learn, to_propose, with_accept, with_promise}
+use Rattle.coord_paxos.specs.Slot.{after_answer, learning, prepare_answer, proposing, to_learn, to_propose, with_acceptance, with_promise}
 use Rattle.mencius_base.specs.declared.message.Answer.{Answer}
 use Rattle.mencius_base.specs.declared.message.Answer.TheVariants.{Promise as Promised, Known as Told, Silent}
 use Rattle.mencius_base.specs.declared.message.Value.{Value}
@@ -306,12 +306,12 @@ changed_learned s (CountPromise q b y) h = counted (eqb b s.trying)
     counted false = h
 changed_learned s (CountAccept q b) h = counted (eqb b s.trying)
   where
-    noted : (o : Option Value) → is_none (learning (with_accept s q) o).learned ≡ false
+    noted : (o : Option Value) → is_none (learning (with_acceptance s q) o).learned ≡ false
     noted None = h
     noted (Some x) = refl
 
-    counted : (x : Bool) → is_none (cond x (learning (with_accept s q) (to_learn (with_accept s q))) s).learned ≡ false
-    counted true = noted (to_learn (with_accept s q))
+    counted : (x : Bool) → is_none (cond x (learning (with_acceptance s q) (to_learn (with_acceptance s q))) s).learned ≡ false
+    counted true = noted (to_learn (with_acceptance s q))
     counted false = h
 changed_learned s (Learn y) h = rw h h
 

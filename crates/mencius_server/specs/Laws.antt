@@ -3,7 +3,7 @@ use Rattle.std.specs.Prelude.{◌≡◌, ◌<◌, ◌≤◌, IsTrue, List, Ok, S
 use Rattle.std.specs.List.{All}
 use Rattle.mencius_base.specs.Limits.{instance_count, most_servers}
 use Rattle.mencius_base.specs.Members.{Membership, first_item}
-use Rattle.mencius_base.specs.Message.{goes_to, is_addressed}
+use Rattle.mencius_base.specs.Message.{goes_to, is_for}
 use Rattle.mencius_base.specs.Numbers.{Inst, MessageNo, ServerId, TicketNo}
 use Rattle.mencius_base.specs.Outbox.{outbox_full}
 use Rattle.mencius_base.specs.declared.command.Command.{Command}
@@ -41,14 +41,14 @@ SubmitIsEvent =
 -- where a message was sent in the trace, hearing it is the server's part in the delivery
 abbrev pub HearIsEvent : Type 0
 HearIsEvent =
-    (w : Trace) (s : ServerState) (k : MessageNo) (x : Message) → IsAt w s → IsTrue (is_addressed s.members s.id x)
+    (w : Trace) (s : ServerState) (k : MessageNo) (x : Message) → IsAt w s → IsTrue (is_for s.members s.id x)
     → slice_get (sent w) k ≡ Some x
     → IsPart w (Deliver k s.id) s (sent_on s x) (after_hearing s x) (λ o. outbox_full o (length (sent_on s x)))
 
 -- and so many instances are learned then
 abbrev pub HearLearnsAsEvent : Type 0
 HearLearnsAsEvent =
-    (w : Trace) (s : ServerState) (k : MessageNo) (x : Message) → IsAt w s → IsTrue (is_addressed s.members s.id x)
+    (w : Trace) (s : ServerState) (k : MessageNo) (x : Message) → IsAt w s → IsTrue (is_for s.members s.id x)
     → slice_get (sent w) k ≡ Some x
     → learned_on s x ≡ learnings (lines s.members w (Deliver k s.id))
 
@@ -67,7 +67,7 @@ RetryIsEvent =
 
 -- `hear` takes the message at every server that it goes to
 abbrev pub IsHearable : Membership → Message → Type 0
-IsHearable m x = (q : ServerId) → q < m.count → goes_to q x ≡ true → IsTrue (is_addressed m q x)
+IsHearable m x = (q : ServerId) → q < m.count → goes_to q x ≡ true → IsTrue (is_for m q x)
 
 abbrev pub AreHearable : Membership → List Message → Type 0
 AreHearable m xs = All (IsHearable m) xs
@@ -80,7 +80,7 @@ SubmitAddresses =
 abbrev pub HearAddresses : Type 0
 HearAddresses =
     (s : ServerState) → s.id < s.members.count → s.members.count ≤ most_servers → (x : Message)
-    → IsTrue (is_addressed s.members s.id x) → AreHearable s.members (sent_on s x)
+    → IsTrue (is_for s.members s.id x) → AreHearable s.members (sent_on s x)
 
 abbrev pub SuspectAddresses : Type 0
 SuspectAddresses =

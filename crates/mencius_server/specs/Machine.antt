@@ -10,21 +10,21 @@ use Rattle.mencius_base.specs.declared.message.Value.TheVariants.{Noop, Ticket}
 use Rattle.mencius_base.specs.declared.message.Vote.{Vote}
 use Rattle.mencius_base.specs.Members.{Membership, ballot_of, owner, first_owned, instances, first_item}
 use Rattle.coord_paxos.specs.SlotState.{SlotState}
-use Rattle.coord_paxos.specs.Slot.{after_accept, after_begin, after_prepare, after_promise, after_acceptance, after_learn, prepare_answer, promise_answer, accept_answer}
+use Rattle.coord_paxos.specs.Slot.{after_accept, after_begin, after_prepare, after_promise, after_acceptance, after_learn, prepare_answer, promise_answer, acceptance_answer}
 use Rattle.mencius_base.specs.declared.refusal.Refusal.{Refusal}
 use Rattle.mencius_base.specs.declared.refusal.Refusal.TheVariants.{InstancesFull, MessagesFull, NothingToRevoke, NothingWaiting, RoundsFull, SelfSuspect}
-use Rattle.mencius_base.specs.Outbox.{Outgoing, outbox_full}
+use Rattle.mencius_base.specs.Outbox.{Outgoing, is_too_many, outbox_full}
 use Rattle.mencius_model.specs.Server.{ticket_of}
 use Rattle.mencius_model.specs.Trace.{Line, messages_of}
 use Rattle.mencius_model.specs.Next.{first_cause, learnings}
-use Rattle.mencius_model.specs.Rules.{acceptance_lines, answer_lines, decision_lines, gives_up, is_covered_from, is_free_from, is_given_up_from, learning_lines, proposal_lines, round_above, skip_lines, suggestion, waiting_ticket}
+use Rattle.mencius_model.specs.Rules.{acceptance_lines, answer_lines, decision_lines, front_past, gives_up, is_covered_from, is_free_from, is_given_up_from, is_past, learning_lines, proposal_lines, round_above, skip_lines, suggestion, waiting_ticket}
 use Rattle.mencius_server.specs.State.{ServerState, slot, with_slot, with_slot_and_front}
 use Rattle.mencius_base.specs.Limits.{greatest_round}
 use Rattle.mencius_base.specs.Numbers.{BallotNo, Inst, ServerId, TicketNo}
 
 -- a suggestion past the own front gives up the own instances before it
 abbrev pub next_front : ServerState → Inst → Inst
-next_front s i = if nat_lt s.front i then first_owned s.members s.id (i + 1) else s.front
+next_front s i = if is_past s.front i then front_past s.members s.id i else s.front
 
 -- the Skip that a suggestion at i brings about
 abbrev pub skip_sent : ServerState → Inst → List Message
@@ -60,7 +60,7 @@ after_promise_at s q i b x = with_slot s i (after_promise (slot s i) q b x)
 
 -- what an acceptance decides, if anything
 abbrev pub decided_on : ServerState → ServerId → Inst → BallotNo → List Line
-decided_on s q i b = decision_lines s.id i (accept_answer (slot s i) q b)
+decided_on s q i b = decision_lines s.id i (acceptance_answer (slot s i) q b)
 
 abbrev pub accepted_sent : ServerState → ServerId → Inst → BallotNo → List Message
 accepted_sent s q i b = messages_of (decided_on s q i b)
@@ -221,4 +221,4 @@ suspect_cause s o q = first_cause (
     (s.id == q, SelfSuspect)
     ∷ (is_none (first_item (filter (is_covered_at s q) instances)), NothingToRevoke)
     ∷ (list_any (is_round_full s) (filter (is_covered_at s q) instances), RoundsFull)
-    ∷ (nat_lt o.limit (length o.messages + length (suspect_sent s q)), MessagesFull) ∷ [])
+    ∷ (is_too_many o.limit (length o.messages) (length (suspect_sent s q)), MessagesFull) ∷ [])

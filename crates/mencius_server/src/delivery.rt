@@ -1,9 +1,9 @@
 //! What a server does on each message, Rule 2 among it.
 ghost use Rattle.mencius_base.specs.Limits.{instance_count};
 ghost use Rattle.coord_paxos.specs.Fresh.{new_slot};
-ghost use Rattle.coord_paxos.specs.Slot.{accept_answer};
+ghost use Rattle.coord_paxos.specs.Slot.{acceptance_answer};
 ghost use Rattle.mencius_base.specs.Members.{below, instances};
-ghost use Rattle.mencius_base.specs.Message.{is_addressed};
+ghost use Rattle.mencius_base.specs.Message.{is_for};
 ghost use Rattle.mencius_base.specs.Outbox.{outbox_full};
 ghost use Rattle.mencius_base.specs.Refusal.{IsRefusedFor};
 ghost use Rattle.mencius_base.specs.declared.message.Message.TheVariants.{Prepare};
@@ -45,7 +45,7 @@ impl Server {
     ///
     /// `MessagesFull` where `out` can't take the messages that are sent, then `NoMemory`.
     pub fn hear(&mut self, message: &Message, out: &mut Outbox) -> Result<u32, Refusal>
-        requires { IsTrue (is_addressed self.old.members self.old.id message.now) }
+        requires { IsTrue (is_for self.old.members self.old.id message.now) }
         // What it does by the server's own state, whatever was heard before; `laws::events` says
         // that in every reached trace it is the delivery.
         ensures sent { OnOk result (out.new.messages

@@ -1,6 +1,6 @@
 //! What a server knows of all instances.
 ghost use Rattle.mencius_base.specs.Limits.{greatest_front, greatest_round, instance_count};
-ghost use Rattle.coord_paxos.specs.Slot.{accept_answer, prepare_answer, promise_answer};
+ghost use Rattle.coord_paxos.specs.Slot.{acceptance_answer, prepare_answer, promise_answer};
 ghost use Rattle.coord_paxos.specs.SlotState.{SlotState};
 ghost use Rattle.mencius_base.specs.Members.{below, first_owned, instances, owner};
 ghost use Rattle.mencius_server.specs.Changes.{IsSaid, changed};
@@ -154,7 +154,7 @@ impl Known {
     pub(crate) fn accept_answer(&self, inst: u32, from: u8, ballot: Ballot) -> Option<Value>
         requires small { inst < instance_count }
         requires member { from < (known_slot self.now inst).members.count }
-        ensures { result ≡ accept_answer (known_slot self.now inst) from ballot }
+        ensures { result ≡ acceptance_answer (known_slot self.now inst) from ballot }
     {
         match self.slots.get(inst) {
             Some(slot) => slot.accept_answer(from, ballot),

@@ -4,7 +4,7 @@ use Rattle.std.specs.List.{insert}
 use Rattle.std.specs.Map.{lookup}
 use Rattle.mencius_base.specs.Command.{is_same_id}
 use Rattle.mencius_base.specs.declared.command.CommandId.{CommandId}
-use Rattle.mencius_cluster.specs.Submissions.{IsIndex, SubmissionTable, key_in, key_of, row_of}
+use Rattle.mencius_cluster.specs.Submissions.{IsIndex, key_in, key_of, number_count, row_of, SubmissionTable}
 use Rattle.mencius_cluster.proofs.IdentityOrder.{found_at, gap, grown, not_indexed, small_more}
 use Rattle.mencius_cluster.proofs.SubmittedRows.{new_row}
 use Rattle.mencius_cluster.proofs.submissions.Submissions.enroll.Goals as goal
@@ -15,7 +15,7 @@ unreachable-requires c =
     let rows = x.rows.items in
     let keys = x.keys.items in
     let id : CommandId = c.id.result in
-    let low : id.number < 4294967296 = omega arith in
+    let low : id.number < number_count = omega arith in
     let none : lookup (is_same_id id) (map row_of rows) ≡ None =
     subst (λ (a : CommandId). lookup (is_same_id a) (map row_of rows) ≡ None) (sym c.id.ensures)
     (ap (λ (table : SubmissionTable). lookup (is_same_id c.args.command.id) table.entries) c.self.view_is
@@ -34,9 +34,9 @@ invariant_of-self c =
     let key : ℕ = c.key_of-key.result in
     let s = (new_row c.args.command c.args.home).1 in
     let same : key ≡ key_in s = c.key_of-key.ensures ∙ ap key_of c.id.ensures in
-    let low : c.id.result.number < 4294967296 = omega arith in
-    let small : s.command.id.number < 4294967296 =
-    subst (λ (a : CommandId). a.number < 4294967296) c.id.ensures low in
+    let low : c.id.result.number < number_count = omega arith in
+    let small : s.command.id.number < number_count =
+    subst (λ (a : CommandId). a.number < number_count) c.id.ensures low in
     let place =
     gap keys key c.in-Err.place c.self.invariant.1.rising (rw (← c.deref.ensures.value) c.in-Err.ensures.position) in
     let last : c.args.ticket ≡ length (map key_in rows) =

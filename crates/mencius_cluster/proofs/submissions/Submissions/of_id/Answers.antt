@@ -1,7 +1,7 @@
 use Rattle.std.proofs.Common.{◌≡◌, ◌<◌, ap, arith, get_or, length, option_map, slice_get, sym, ◌∙◌}
 use Rattle.std.specs.Map.{lookup}
 use Rattle.mencius_base.specs.Command.{is_same_id}
-use Rattle.mencius_cluster.specs.Submissions.{Row, SubmissionTable, key_of}
+use Rattle.mencius_cluster.specs.Submissions.{key_of, number_count, Row, SubmissionTable}
 use Rattle.mencius_cluster.proofs.IdentityOrder.{copied_row, row_found, row_missing}
 use Rattle.mencius_cluster.proofs.submissions.Submissions.of_id.Goals as goal
 
@@ -9,7 +9,7 @@ pub returns-in-Some : goal.returns-in-Some
 returns-in-Some c =
     let x = c.self.inside in
     let at = c.in-Some.ensures in
-    let small : c.args.id.number < 4294967296 = omega arith in
+    let small : c.args.id.number < number_count = omega arith in
     let less : at.0 < length x.keys.items = rw (← c.as_slice.ensures.value) at.1 in
     let is : get_or x.keys.items at.0 0 ≡ key_of c.args.id = rw (← c.as_slice.ensures.value) at.2 in
     let ticket : get_or x.tickets.items at.0 0 ≡ c.in-Some.ticket = rw (← c.as_slice-2.ensures.value) at.3 in

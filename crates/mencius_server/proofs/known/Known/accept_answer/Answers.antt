@@ -1,5 +1,5 @@
 use Rattle.std.proofs.Common.{◌<◌, sym, ◌∙◌, ap, subst}
-use Rattle.coord_paxos.specs.Slot.{accept_answer}
+use Rattle.coord_paxos.specs.Slot.{acceptance_answer}
 use Rattle.coord_paxos.specs.SlotState.{SlotState}
 use Rattle.mencius_server.proofs.KnownInstances.{seen_none, seen_some}
 use Rattle.mencius_server.proofs.known.Known.accept_answer.Goals as goal
@@ -7,13 +7,13 @@ use Rattle.mencius_server.proofs.known.Known.accept_answer.Goals as goal
 pub returns-in-Some : goal.returns-in-Some
 returns-in-Some c =
     c.accept_answer.ensures
-    ∙ ap (λ (s : SlotState). accept_answer s c.args.from c.args.ballot)
+    ∙ ap (λ (s : SlotState). acceptance_answer s c.args.from c.args.ballot)
     (sym (seen_some _ _ _ _ c.self.view_is c.args.inst _ c.requires.small c.in-Some.ensures.there))
 
 pub returns-in-None : goal.returns-in-None
 returns-in-None c =
     c.accept_answer-in-None.ensures
-    ∙ ap (λ (s : SlotState). accept_answer s c.args.from c.args.ballot) (c.unheard.ensures
+    ∙ ap (λ (s : SlotState). acceptance_answer s c.args.from c.args.ballot) (c.unheard.ensures
     ∙ sym (seen_none _ _ _ _ c.self.view_is c.args.inst c.requires.small c.in-None.ensures.none))
 
 pub accept_answer-requires : goal.accept_answer-requires
