@@ -28,28 +28,30 @@ pub struct Submission {
     pub answer: Answered,
 }
 
-/// Executes a command, and keeps its reply if this is its home and it has none yet.
-pub(crate) fn run(
-    executor: &mut Executor,
-    submission: &mut Submission,
-    server: u8,
-    ticket: u32,
-) -> Result<(), NoMemory>
-    ensures executed { OnOk result (executor.new
-        ≡ after_execution executor.old submission.old.command ticket) }
-    ensures command { submission.new.command ≡ submission.old.command }
-    ensures home { submission.new.home ≡ submission.old.home }
-    ensures answer { OnOk result (bytes_in submission.new.answer
-        ≡ first_reply (submission.old.home == server) (bytes_in submission.old.answer)
-        (finite.get executor.old.store (key_of submission.old.command.op))) }
-    ensures executor { OnErr result (executor.new ≡ executor.old) }
-    ensures submission { OnErr result (submission.new ≡ submission.old) }
-{
-    let reply = executor.execute(&submission.command, ticket)?;
-    if submission.home == server
-        && let Answered::Pending = submission.answer
+impl Submission {
+    /// Executes the command, and keeps its reply if this is its home and it has none yet.
+    pub(crate) fn execute(
+        &mut self,
+        executor: &mut Executor,
+        server: u8,
+        ticket: u32,
+    ) -> Result<(), NoMemory>
+        ensures executed { OnOk result (executor.new
+            ≡ after_execution executor.old self.old.command ticket) }
+        ensures command { self.new.command ≡ self.old.command }
+        ensures home { self.new.home ≡ self.old.home }
+        ensures answer { OnOk result (bytes_in self.new.answer
+            ≡ first_reply (self.old.home == server) (bytes_in self.old.answer)
+            (finite.get executor.old.store (key_of self.old.command.op))) }
+        ensures executor { OnErr result (executor.new ≡ executor.old) }
+        ensures submission { OnErr result (self.new ≡ self.old) }
     {
-        submission.answer = Answered::Given(reply);
+        let reply = executor.execute(&self.command, ticket)?;
+        if self.home == server
+            && let Answered::Pending = self.answer
+        {
+            self.answer = Answered::Given(reply);
+        }
+        Ok(())
     }
-    Ok(())
 }

@@ -6,7 +6,7 @@ ghost use Rattle.mencius_cluster.specs.Performed.{IsExecution, IsPerformed};
 ghost use Rattle.mencius_model.specs.WithinLimits.{IsTicketBelow};
 ghost use Rattle.mencius_cluster.specs.Submissions.{IsRising, key_of, row_of};
 
-use crate::submission::{Answered, Submission, run};
+use crate::submission::{Answered, Submission};
 use map_exec::Executor;
 use mencius_base::{Command, CommandId, NoMemory, Value};
 use std::alloc::Global;
@@ -139,7 +139,7 @@ impl Submissions {
         ensures executor { OnErr result (executor.new ≡ executor.old) }
         ensures rows { OnErr result (self.new.entries ≡ self.old.entries) }
     {
-        run(executor, &mut self.rows[ticket as usize], server, ticket)
+        self.rows[ticket as usize].execute(executor, server, ticket)
     }
 }
 

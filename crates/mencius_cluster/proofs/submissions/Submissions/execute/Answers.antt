@@ -19,29 +19,29 @@ pub invariant_of-self : goal.invariant_of-self
 invariant_of-self c =
     let x = c.self.inside in
     let rows = x.rows.items in (
-      small_set c.run.new.submission c.index_mut.result.now c.run.ensures.command rows c.args.ticket (there c)
+      small_set c.execute.new.self c.index_mut.result.now c.execute.ensures.command rows c.args.ticket (there c)
           c.self.invariant.0,
       subst (λ ids. IsIndex ids x.keys.items x.tickets.items)
-          (keys_set c.run.new.submission c.index_mut.result.now c.run.ensures.command rows c.args.ticket (there c))
+          (keys_set c.execute.new.self c.index_mut.result.now c.execute.ensures.command rows c.args.ticket (there c))
           c.self.invariant.1,
     )
 
 pub returns-clause-done : goal.returns-clause-done
 returns-clause-done c =
     let rows = c.self.inside.rows.items in
-    both_ok c.run.result
+    both_ok c.execute.result
     (λ executed answer. record {
       row = row_of c.index_mut.result.now;
       there =
           ap (λ es. slice_get es c.args.ticket) (sym (entries_are c))
           ∙ slice_get-map row_of rows c.args.ticket ∙ ap (option_map row_of) (there c);
       executor = executed;
-      submission = c.run.new.submission;
+      submission = c.execute.new.self;
       rows =
-          rows_set c.run.new.submission c.index_mut.result.now c.run.ensures.command rows c.args.ticket (there c)
-          ∙ ap (λ es. set_value_at es c.args.ticket c.run.new.submission) (entries_are c);
-      command = c.run.ensures.command;
-      home = c.run.ensures.home;
+          rows_set c.execute.new.self c.index_mut.result.now c.execute.ensures.command rows c.args.ticket (there c)
+          ∙ ap (λ es. set_value_at es c.args.ticket c.execute.new.self) (entries_are c);
+      command = c.execute.ensures.command;
+      home = c.execute.ensures.home;
       answer = answer;
     })
-    c.run.ensures.executed c.run.ensures.answer
+    c.execute.ensures.executed c.execute.ensures.answer
