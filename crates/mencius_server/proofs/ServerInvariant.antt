@@ -7,7 +7,7 @@ use Rattle.mencius_base.specs.declared.message.Value.{Value}
 use Rattle.mencius_base.specs.Members.{Membership, owner}
 use Rattle.coord_paxos.specs.SlotState.{SlotState}
 use Rattle.coord_paxos.specs.Fresh.{new_slot}
-use Rattle.mencius_server.specs.Machine.{suggested_at, waits_at, waits_with}
+use Rattle.mencius_server.specs.Machine.{suggested_at, suggested_in, waits_at, waits_with}
 use Rattle.mencius_model.specs.Server.{ticket_of}
 use Rattle.mencius_server.specs.State.{ServerState, FitsAt, IsServer, new_server, slot, with_slot_and_front}
 use Rattle.mencius_base.specs.Limits.{greatest_front, instance_count, most_servers}
@@ -42,6 +42,21 @@ new_unsaid m p j t e = let none : suggested_at (new_server m p) j ≡ None = non
 
 pub new_waits : (m : Membership) (p j : ℕ) → waits_at (new_server m p) j ≡ None
 new_waits m p j = ap (waits_with (new_server m p) j) (none_said m p j (eqb (owner m j) p))
+
+-- only at an instance is anything suggested
+pub said_inside : (s : ServerState) (i t : ℕ) → length s.slots ≡ instance_count → suggested_at s i ≡ Some t
+    → i < instance_count
+said_inside s i t full said =
+    ⊎_elim
+    (λ (small : i < instance_count). small)
+    (λ (high : instance_count ≤ i).
+    let new : slot s i ≡ new_slot s.members = get_or_past s.slots i (new_slot s.members) (omega (arith, full)) in
+    absurd (none (eqb (owner s.members i) s.id) (sym (ap (suggested_in s.members s.id i) new) ∙ said)))
+    (cases_lt i instance_count)
+  where
+    none : (a : Bool) → cond a None None ≡ Some t → ⊥
+    none true e = cc
+    none false e = cc
 
 -- what holds of the new slot and of the old ones holds after a write
 pub set_keeps : (P : SlotState → Type 0) (given : List SlotState) (i j : ℕ) (s x : SlotState) → (j ≡ i → P s)

@@ -16,7 +16,6 @@ ghost use Rattle.mencius_base.specs.declared.refusal.Refusal.TheVariants as refu
 ghost use Rattle.mencius_server.specs.Reached.{server_at};
 ghost use Rattle.mencius_server.specs.Changes.{IsSaid, changed};
 ghost use Rattle.mencius_server.specs.Glances.{glance_of};
-ghost use Rattle.mencius_server.specs.Machine.{waits_at};
 ghost use Rattle.mencius_server.specs.State.{slot, with_slot};
 ghost use Rattle.std.specs.Prelude.{◌≡◌, ◌<◌, ◌≤◌, [], OnOk, OnErr, IfOk, IfErr, ℕ};
 
@@ -138,20 +137,6 @@ impl Server {
             self.known.glance(inst)
         } else {
             glance_at(&Slot::new(self.members))
-        }
-    }
-
-    /// The ticket that waits since it lost an instance: the server suggested it there and learned no-op,
-    /// and suggested it nowhere further on.
-    pub fn waiting_at(&self, inst: u32) -> Option<u32>
-        ensures { result ≡ waits_at self.now inst }
-    {
-        // That there are no more slots is learned at a field.
-        let _inside = &self.front;
-        if inst < INSTANCES {
-            self.waits(inst)
-        } else {
-            None
         }
     }
 

@@ -121,7 +121,7 @@ impl Server {
         let end = self.front.min(INSTANCES);
         let mut inst = self.next_own(self.notes.lost_from());
         while inst < end {
-            if let Some(ticket) = self.waits(inst) {
+            if let Some(ticket) = self.waiting_at(inst) {
                 return Some((inst, ticket));
             }
             inst = self.next_own(inst + 1);
@@ -129,9 +129,9 @@ impl Server {
         None
     }
 
-    // The ticket that waits since it lost an instance.
-    pub(crate) fn waits(&self, inst: u32) -> Option<u32>
-        requires { inst < instance_count }
+    /// The ticket that waits since it lost an instance: the server suggested it there and learned no-op,
+    /// and suggested it nowhere further on.
+    pub fn waiting_at(&self, inst: u32) -> Option<u32>
         ensures { result ≡ waits_at self.now inst }
     {
         let Some(ticket) = self.suggested(inst) else {
@@ -146,8 +146,7 @@ impl Server {
 
     // The ticket of an own instance was suggested again further on.
     fn is_moved(&self, inst: u32, ticket: u32) -> bool
-        requires small { inst < instance_count }
-        requires said { suggested_at self.now inst ≡ Some ticket }
+        requires { suggested_at self.now inst ≡ Some ticket }
         ensures { result ≡ list_any (is_suggested_past self.now ticket inst) instances }
     {
         self.notes.is_moved(inst)
