@@ -13,9 +13,8 @@ use Rattle.mencius_base.specs.declared.message.Message.{Message}
 use Rattle.mencius_model.proofs.NumberLists.{any-filter, any-instances, count_by-below_le, count_by-below_more, filter-below_more, filter-below_zero, get_or-map-instances, length-map-instances}
 use Rattle.coord_paxos.specs.SlotState.{SlotState}
 use Rattle.coord_paxos.specs.Fresh.{new_slot}
-use Rattle.coord_paxos.specs.Slot.{after_begin}
 use Rattle.mencius_server.specs.State.{FitsAt, IsServer, ServerState, slot}
-use Rattle.mencius_server.specs.Machine.{after_suspect, ballot_after, is_covered_in, is_round_full, is_covered_at, prepare_for, round_after, slot_revoked, suspect_cause, suspect_sent}
+use Rattle.mencius_server.specs.Machine.{after_suspect, ballot_after, is_covered_in, is_round_full, is_covered_at, prepare_for, round_after, slot_revoked, suspect_cause, suspect_sent, with_next_phase}
 use Rattle.mencius_server.proofs.ServerInvariant.{FitsAt-slot, KeepsAt, KeepsAt-fits, KeepsAt-new}
 use Rattle.mencius_server.proofs.SlotFits.{FitsAt-cond}
 use Rattle.mencius_base.specs.Limits.{greatest_round, instance_count}
@@ -88,7 +87,7 @@ IsServer-suspect s q other kept = record {
 }
   where
     begun : (i : ℕ) → is_covered_in s.members q s.front i (slot s i) ≡ true
-        → FitsAt s s.front i (after_begin (slot s i) (ballot_after s.members s.id (slot s i)))
+        → FitsAt s s.front i (with_next_phase s.members s.id (slot s i))
     begun i e =
         let theirs : owner s.members i ≡ q = eqb-true _ _ (and_parts _ _ (and_parts _ _ e).0).0 in
         record {

@@ -2,7 +2,7 @@
 use Rattle.std.proofs.Common.{◌≡◌, ℕ, ◌+◌, ◌-◌, ◌<◌, ◌≤◌, Bool, true, false, ⊎_elim, cond, eqb, List, ◌++◌, map, filter, sym, ◌∙◌, ap, arith}
 use Rattle.std.specs.List.{count_by}
 use Rattle.std.specs.Prelude.{is_none}
-use Rattle.std.proofs.lemmas.Bool.{and_left, and_right, cases_eq, cases_lt, eq-eqb, le-leb, le-ltb, lt-leb, lt-ltb, ne_eqb}
+use Rattle.std.proofs.lemmas.Bool.{and_left, and_parts, and_right, cases_eq, cases_lt, eq-eqb, eqb-true, le-leb, le-ltb, leb-true, lt-leb, lt-ltb, ne_eqb}
 use Rattle.mencius_base.specs.declared.message.Message.{Message}
 use Rattle.mencius_base.specs.Members.{Membership, below, owner}
 use Rattle.mencius_model.proofs.NumberLists.{count_by-below_none, filter-below_none}
@@ -115,6 +115,14 @@ skipped_here m q first stop j mine low high =
 pub one_at_most : (a : Bool) → cond a 1 0 ≤ 1
 one_at_most true = omega arith
 one_at_most false = omega arith
+
+-- what a free instance is
+pub free_facts : (s : ServerState) (i : ℕ) → is_free_at s i ≡ true
+    → (owner s.members i ≡ s.id) × (s.front ≤ i) × (is_none (slot s i).learned ≡ true)
+free_facts s i free =
+    let parts = and_parts _ _ free in
+    let place = and_parts _ _ parts.0 in
+    (eqb-true _ _ place.0, leb-true _ _ place.1, parts.1)
 
 -- an instance that is learned, before the front, or not the server's own, is not free
 pub known_unfree : (s : ServerState) (j : ℕ) → is_none (slot s j).learned ≡ false → is_free_at s j ≡ false

@@ -9,8 +9,8 @@ use Rattle.mencius_model.proofs.NumberLists.{any-filter, any-instances, any-inst
 use Rattle.coord_paxos.specs.SlotState.{SlotState}
 use Rattle.mencius_server.specs.Known.{IsSound, KnownState, is_open, is_passed, is_round_full_at, known_at, known_of, known_slot, unheard}
 use Rattle.mencius_server.specs.Ranges.{covers}
-use Rattle.mencius_server.specs.Slots.{stand_at}
-use Rattle.mencius_server.specs.Tallies.{HasCounted, IsKnown, IsSurvey, IsTally, IsTallyFrom, IsTold, full_one, is_full_of, is_open_of, known_by_slot, moved, no_tally, open_one, summed, tally_of, tallied, untallied}
+use Rattle.mencius_server.specs.Slots.{known_by_slot, stand_at}
+use Rattle.mencius_server.specs.Tallies.{HasCounted, IsKnown, IsSurvey, IsTally, IsTallyFrom, IsTold, full_one, is_full_of, is_open_of, moved, no_tally, open_one, summed, tally_of, tallied, untallied}
 use Rattle.mencius_server.specs.declared.ranges.Span.{Span}
 use Rattle.mencius_server.specs.declared.tally.Tally.{Tally}
 use Rattle.mencius_server.proofs.RangeCounts.{bit, count_same}

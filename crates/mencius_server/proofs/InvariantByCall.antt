@@ -10,10 +10,11 @@ use Rattle.mencius_server.specs.declared.change.Change.TheVariants.{Promise, Acc
 use Rattle.mencius_server.specs.Changes.{IsSaid, changed}
 use Rattle.mencius_server.specs.Kept.{IsKept}
 use Rattle.mencius_server.specs.Known.{KnownState, known_after_skip, known_after_suggest, known_after_suspect, known_slot, with_known}
-use Rattle.mencius_server.specs.Machine.{after_skip, after_submit, after_suspect, is_free_at, is_ticket, suggested_in}
+use Rattle.mencius_server.specs.Machine.{IsFree, after_skip, after_submit, after_suspect, is_free_at, is_ticket, suggested_in}
 use Rattle.mencius_server.specs.Notes.{Noted}
-use Rattle.mencius_server.specs.State.{FitsAt, IsFree, ServerState, slot, with_slot_and_front}
+use Rattle.mencius_server.specs.State.{FitsAt, ServerState, slot, with_slot_and_front}
 use Rattle.mencius_server.proofs.InvariantKept.{kept_as, place_keeps, place_marks, place_shows, put_keeps, put_shows, skip_keeps, skip_shown, suspect_keeps, suspect_shown}
+use Rattle.mencius_server.proofs.InstanceGaps.{free_facts}
 use Rattle.mencius_server.proofs.ServerInvariant.{FitsAt-slot}
 use Rattle.mencius_server.proofs.SlotFits.{FitsAt-promise, FitsAt-same, SameAttempt-accept, SameAttempt-acceptance, SameAttempt-learn, SameAttempt-prepare}
 use Rattle.mencius_base.specs.Limits.{instance_count, most_servers}
@@ -121,7 +122,7 @@ module _ (m : Membership) (p f : ℕ) (s new : KnownState) (before after : Noted
       ap (λ (x : ℕ). seen m p (i + x) new) count
       ∙ place_shows m p f s new (seen m p f s) i t y refl kept.members made refl in
       let marks = place_marks m p f s new (seen m p f s) i t y before.moved mid.moved after.moved refl kept.members made
-      free.ahead kept.server kept.full same marked rest in
+      (free_facts (seen m p f s) i free.free).1 kept.server kept.full same marked rest in
       noted_as (seen m p (i + n) new) new.members _ after (noted_is (lost_still ∙ lost) (free_still ∙ free_was))
       (kept_as (seen m p (i + n) new) (after_submit (seen m p f s) i t) s.members new.members
       (record before { next_ticket = after.next_ticket; moved = after.moved })

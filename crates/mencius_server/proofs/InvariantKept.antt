@@ -11,14 +11,14 @@ use Rattle.coord_paxos.specs.Fresh.{new_slot}
 use Rattle.coord_paxos.specs.Slot.{after_begin, after_learn}
 use Rattle.mencius_server.specs.Kept.{IsKept}
 use Rattle.mencius_server.specs.Notes.{Noted}
-use Rattle.mencius_server.specs.Machine.{after_skip, after_submit, after_suspect, is_free_at, is_covered_in, is_round_full, is_skipped, is_covered_at, is_ticket, round_after, slot_given, slot_revoked, suggested_at, suggested_in}
+use Rattle.mencius_server.specs.Machine.{IsFree, after_skip, after_submit, after_suspect, is_free_at, is_covered_in, is_round_full, is_skipped, is_covered_at, is_ticket, round_after, slot_given, slot_revoked, suggested_at, suggested_in}
 use Rattle.mencius_model.specs.Server.{ticket_of}
-use Rattle.mencius_server.specs.State.{FitsAt, IsFree, IsServer, ServerState, slot, with_slot_and_front}
+use Rattle.mencius_server.specs.State.{FitsAt, IsServer, ServerState, slot, with_slot_and_front}
 use Rattle.mencius_server.specs.Known.{KnownState, is_open, is_round_full_at, known_after_skip, known_after_suspect, known_slot, with_known}
 use Rattle.std.specs.List.{count_by, list_any}
 use Rattle.std.proofs.lemmas.List.{get_or-set_other, get_or_past, length-set}
 use Rattle.mencius_server.proofs.FirstPhases.{IsServer-suspect}
-use Rattle.mencius_server.proofs.InstanceGaps.{unrevoked_other}
+use Rattle.mencius_server.proofs.InstanceGaps.{free_facts, unrevoked_other}
 use Rattle.mencius_server.proofs.ServerInvariant.{IsServer-with_slot, KeepsAt-fits, KeepsAt-suggested, set_keeps}
 use Rattle.mencius_server.proofs.WaitingTickets.{SaysSame, moved_later, past_same, tickets_later, waits_later, waits_none}
 use Rattle.mencius_server.proofs.SkipFromOutside.{IsServer-skip}
@@ -291,25 +291,26 @@ pub place_keeps : (s : ServerState) (m : Membership) (i t : ℕ) (n : Noted) (ne
     → IsKept (after_submit s i t) m (record n { next_ticket = next; moved = marks })
 place_keeps s m i t n next marks some few free more above short marked kept =
     let inside : i < length s.slots = rw kept.full free.small in
+    let at = free_facts s i free.free in
     record {
       full = length-set s.slots i (record (slot s i) { proposal = Some (Ticket t) }) ∙ kept.full;
       members = kept.members;
       server = IsServer-with_slot s i _ (i + s.members.count) kept.server
           (KeepsAt-suggested s (i + s.members.count) i (Some (Ticket t)) (omega arith) kept.server)
-          (omega (arith, free.ahead)) (omega (arith, free.small));
+          (omega (arith, at.1)) (omega (arith, free.small));
       early = kept.early;
-      lost = λ j low. waits_later s i t kept.server free.own free.ahead inside free.small j free.blank
+      lost = λ j low. waits_later s i t kept.server at.0 at.1 inside free.small j at.2
           (kept.lost j low);
       bound = kept.bound;
-      free = λ j low. unfree_stays s (i + s.members.count) _ j (omega (arith, free.ahead))
+      free = λ j low. unfree_stays s (i + s.members.count) _ j (omega (arith, at.1))
           (set_keeps (λ (y : SlotState). is_none (slot s j).learned ≡ false
           → is_none y.learned ≡ false) s.slots i j (record (slot s i) { proposal = Some (Ticket t) })
           (new_slot s.members)
           (λ at known. ap (λ j. is_none (slot s j).learned) (sym at) ∙ known) (λ known. known)) (kept.free j low);
-      tickets = tickets_later s i t kept.server free.own free.ahead inside free.small n.next_ticket next more above
+      tickets = tickets_later s i t kept.server at.0 at.1 inside free.small n.next_ticket next more above
           kept.tickets;
-      short = omega (arith, free.ahead);
-      moved = moved_later s i t kept.server free.own free.ahead inside free.small n.moved marks kept.short kept.moved
+      short = omega (arith, at.1);
+      moved = moved_later s i t kept.server at.0 at.1 inside free.small n.moved marks kept.short kept.moved
           marked;
     }
 

@@ -7,16 +7,14 @@ use Rattle.std.proofs.lemmas.List.{get_or_default, map-append}
 use Rattle.std.proofs.lemmas.Bool.{cases_Bool, and_left, and_parts, and_right, eqb-true, le-ltb, ltb-true, ne_eqb}
 use Rattle.std.proofs.Math.Nat.{zero-div}
 use Rattle.mencius_base.specs.declared.message.Message.{Message}
-use Rattle.mencius_base.specs.declared.message.Message.TheVariants.{Prepare}
 use Rattle.mencius_base.specs.Members.{Membership, below, instances, owner}
 use Rattle.mencius_model.proofs.NumberLists.{count_by-below_none, filter-below_more, filter-below_none, filter-below_zero, get_or-map-instances, instances-below}
 use Rattle.coord_paxos.specs.SlotState.{SlotState}
-use Rattle.coord_paxos.specs.Slot.{after_begin}
 use Rattle.coord_paxos.specs.Fresh.{new_slot}
-use Rattle.mencius_server.specs.Machine.{ballot_after, round_after, is_spent}
+use Rattle.mencius_server.specs.Machine.{is_spent, next_prepare, round_after, with_next_phase}
 use Rattle.mencius_server.specs.Ranges.{covers}
 use Rattle.mencius_server.specs.Slots.{begun, begun_at, is_begun, is_in, is_lacking, is_unlearned, prepare_of, stand_at, stood_at}
-use Rattle.mencius_server.specs.Known.{IsSound, KnownState, has_slot, is_open, is_open_in, is_passed, known_after_suspect, known_at, known_begun, known_of, known_slot, known_stood, prepares, prepares_in, unheard}
+use Rattle.mencius_server.specs.Known.{IsSound, KnownState, has_slot, is_open, is_open_in, is_passed, known_after_suspect, known_at, known_begun, known_of, known_prepare, known_slot, known_stood, prepares, prepares_in, unheard}
 use Rattle.mencius_server.specs.Tallies.{IsOpenStretch}
 use Rattle.mencius_server.specs.declared.ranges.Span.{Span}
 use Rattle.mencius_server.specs.declared.stretch.Stretch.{Stretch}
@@ -219,12 +217,11 @@ module _ (m : Membership) (slots : List (Option SlotState)) (rs : List (List Spa
         → map (prepare_of a p slots) (filter (is_begun a slots) (below a.stop)) ≡ prepares_in now p a
     begun_sent p =
         sent_same (prepare_of a p slots)
-        (λ j. Prepare p j
-        (ballot_after now.members p (known_slot now j))) (is_begun a slots) (is_open_in now a) a.stop
+        (known_prepare now p) (is_begun a slots) (is_open_in now a) a.stop
         (λ j l. begun_is j (omega (arith, small)) (stand_at slots j) refl)
-        (λ j l z. ap (λ (s : SlotState). Prepare p j (ballot_after a.members p s))
+        (λ j l z. ap (next_prepare a.members p j)
         (there j (omega (arith, small)) (stand_at slots j) refl (and_parts _ _ z).1)
-        ∙ ap (λ n. Prepare p j (ballot_after n p (known_slot now j))) alike)
+        ∙ ap (λ n. next_prepare n p j (known_slot now j)) alike)
       where
         there : (j : ℕ) → j < instance_count → (o : Option SlotState) → stand_at slots j ≡ o
             → is_unlearned (stand_at slots j) ≡ true
@@ -240,7 +237,7 @@ module _ (m : Membership) (slots : List (Option SlotState)) (rs : List (List Spa
       begun_known : (j : ℕ) → j < instance_count → (o : Option SlotState) → stand_at slots j ≡ o
           → known_at m new rs j
           ≡ cond (is_open_in now a j)
-          (after_begin (known_slot now j) (ballot_after now.members p (known_slot now j))) (known_slot now j)
+          (with_next_phase now.members p (known_slot now j)) (known_slot now j)
       begun_known j l None e =
           let closed : is_open_in now a j ≡ false =
           sym (begun_is j l None e) ∙ ap (λ o. is_in a j && is_unlearned o) e ∙ and_right _ _ refl in
@@ -248,8 +245,7 @@ module _ (m : Membership) (slots : List (Option SlotState)) (rs : List (List Spa
           ∙ nothing (is_in a j && false))
           ∙ sym (seen_none m slots rs now shown j l e)
           ∙ sym (ap (λ z. cond z
-          (after_begin (known_slot now j)
-          (ballot_after now.members p (known_slot now j))) (known_slot now j)) closed)
+          (with_next_phase now.members p (known_slot now j)) (known_slot now j)) closed)
         where
           nothing : (z : Bool) → cond z (option_map (begun a.members p) None) None ≡ None
           nothing true = refl
@@ -259,14 +255,14 @@ module _ (m : Membership) (slots : List (Option SlotState)) (rs : List (List Spa
           ap (λ o. unwrap_or o (unheard m (is_passed m rs j))) (begins j ∙ ap (begun_at a p j) e)
           ∙ made (is_in a j) (is_none s.learned) refl
           ∙ sym (ap (λ (s : SlotState). cond (is_in a j && is_none s.learned)
-          (after_begin s (ballot_after now.members p s)) s) is
-          ∙ ap (λ n. cond (is_in a j && is_none s.learned) (after_begin s (ballot_after n p s)) s)
+          (with_next_phase now.members p s) s) is
+          ∙ ap (λ n. cond (is_in a j && is_none s.learned) (with_next_phase n p s) s)
           (sym alike))
         where
           made : (d z : Bool) → is_none s.learned ≡ z
               → unwrap_or (cond (d && is_none s.learned) (option_map (begun a.members p) (Some s)) (Some s))
               (unheard m (is_passed m rs j))
-              ≡ cond (d && is_none s.learned) (after_begin s (ballot_after a.members p s)) s
+              ≡ cond (d && is_none s.learned) (with_next_phase a.members p s) s
           made false z h = refl
           made true true h = rw h refl
           made true false h = rw h refl
@@ -277,7 +273,7 @@ module _ (m : Membership) (slots : List (Option SlotState)) (rs : List (List Spa
       begun_closed j l closed =
           begun_known j l (stand_at slots j) refl
           ∙ ap (λ z. cond z
-          (after_begin (known_slot now j) (ballot_after now.members p (known_slot now j))) (known_slot now j)) closed
+          (with_next_phase now.members p (known_slot now j)) (known_slot now j)) closed
           ∙ seen m slots rs now shown j l
 
       pub begun_theirs : (j : ℕ) → j < instance_count → (owner m j ≡ a.server → ⊥)
@@ -303,8 +299,7 @@ module _ (m : Membership) (slots : List (Option SlotState)) (rs : List (List Spa
           ∙ ap (λ (y : KnownState). record y {
             slots = map
                 (λ j. cond (is_open_in now a j)
-                (after_begin (known_slot now j)
-                (ballot_after now.members p (known_slot now j))) (known_slot now j)) instances;
+                (with_next_phase now.members p (known_slot now j)) (known_slot now j)) instances;
           }) shown
 
       begun_learned : (j : ℕ) → j < instance_count
@@ -315,8 +310,7 @@ module _ (m : Membership) (slots : List (Option SlotState)) (rs : List (List Spa
         where
           kept : (z : Bool)
               → is_none
-              (cond z (after_begin (known_slot now j)
-              (ballot_after now.members p (known_slot now j))) (known_slot now j)).learned
+              (cond z (with_next_phase now.members p (known_slot now j)) (known_slot now j)).learned
               ≡ is_none (known_slot now j).learned
           kept true = refl
           kept false = refl
@@ -391,14 +385,13 @@ module _ (now : KnownState) (q front : ℕ) (a : Stretch) (o : IsOpenStretch now
 
   pub open_sent : (p : ℕ) → prepares_in now p a ≡ prepares now p q front
   open_sent p =
-      ap (map (λ j. Prepare p j (ballot_after now.members p (known_slot now j))))
+      ap (map (known_prepare now p))
       (sym (ap (λ n. filter (is_open_in now a) (below n)) (sym all_places)
       ∙ filter-below_none (is_open_in now a) a.stop (instance_count - a.stop) (λ j low high. past_closed j low)))
-      ∙ sent_same (λ j. Prepare p j (ballot_after now.members p (known_slot now j)))
-      (λ j. Prepare p j
-      (ballot_after now.members p (known_slot now j))) (is_open_in now a) (is_open now q front) instance_count
+      ∙ sent_same (known_prepare now p)
+      (known_prepare now p) (is_open_in now a) (is_open now q front) instance_count
       (open_same now q front a o) (λ j l d. refl)
-      ∙ ap (λ xs. map (λ j. Prepare p j (ballot_after now.members p (known_slot now j)))
+      ∙ ap (λ xs. map (known_prepare now p)
       (filter (is_open now q front) xs)) (sym instances-below)
 
   pub stood_has : (j : ℕ) → j < instance_count → is_open_in now a j ≡ true → has_slot (known_stood now a) j ≡ true
@@ -414,11 +407,11 @@ module _ (now : KnownState) (q front : ℕ) (a : Stretch) (o : IsOpenStretch now
   suspect_is p =
       same_known now.members
       (λ j. cond (is_open_in now a j)
-      (after_begin (known_slot now j) (ballot_after now.members p (known_slot now j))) (known_slot now j))
+      (with_next_phase now.members p (known_slot now j)) (known_slot now j))
       (λ j. cond (is_open now q front j)
-      (after_begin (known_slot now j) (ballot_after now.members p (known_slot now j))) (known_slot now j))
+      (with_next_phase now.members p (known_slot now j)) (known_slot now j))
       (λ j. has_slot now j || is_open_in now a j) (λ j. has_slot now j || is_open now q front j)
       (λ j l. ap (λ d. cond d
-      (after_begin (known_slot now j) (ballot_after now.members p (known_slot now j))) (known_slot now j))
+      (with_next_phase now.members p (known_slot now j)) (known_slot now j))
       (open_same now q front a o j l))
       (λ j l. ap (λ d. has_slot now j || d) (open_same now q front a o j l))

@@ -30,7 +30,7 @@ use Rattle.coord_paxos.specs.Reached.{if_own, slot_at}
 use Rattle.coord_paxos.proofs.SlotTrace.{same_slot}
 use Rattle.coord_paxos.proofs.SlotLaws.{slot_trying, slot_untried}
 use Rattle.mencius_server.specs.State.{ServerState}
-use Rattle.mencius_server.specs.Machine.{after_suspect, ballot_after, is_covered_in, is_round_full, is_covered_at, prepare_for, round_after, slot_revoked, suspect_cause, suspect_sent}
+use Rattle.mencius_server.specs.Machine.{after_suspect, is_covered_in, is_round_full, is_covered_at, next_prepare, prepare_for, round_after, slot_revoked, suspect_cause, suspect_sent}
 use Rattle.mencius_server.specs.Laws.{SuspectIsEvent}
 use Rattle.mencius_server.specs.Reached.{server_at}
 use Rattle.mencius_server.proofs.FirstPhases.{tried_below}
@@ -219,7 +219,7 @@ module _ (m : Membership) (w : Trace) (p q : ℕ) (r : IsReached m w) (member : 
   suspect_messages =
       map-filter-instances_same (prepare_for (server_at m w p)) (λ (j : ℕ). Prepare p j (ballot_for m w p j))
       (is_covered_at (server_at m w p) q) (is_covered m w p q)
-      (λ j small. ap (λ (s : SlotState). Prepare p j (ballot_after m p s)) (slot-server_at m w p j small))
+      (λ j small. ap (next_prepare m p j) (slot-server_at m w p j small))
       (λ j small. ap (λ (s : SlotState). is_covered_in m q (front m w p) j s) (slot-server_at m w p j small))
       ∙ sends_prepared m w p covered
 

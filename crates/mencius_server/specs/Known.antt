@@ -2,13 +2,12 @@
 use Rattle.std.specs.Prelude.{◌≡◌, ℕ, ◌<◌, ◌≤◌, Bool, true, false, List, [], Option, Some, if◌then◌else◌, ◌&&◌, ◌||◌, is_none, is_some, length, map, not, slice_index_or, slice_set, unwrap_or}
 use Rattle.std.specs.List.{count_by, filter}
 use Rattle.mencius_base.specs.declared.message.Message.{Message}
-use Rattle.mencius_base.specs.declared.message.Message.TheVariants.{Prepare}
 use Rattle.mencius_base.specs.declared.message.Value.TheVariants.{Noop, Ticket}
 use Rattle.mencius_base.specs.Members.{Membership, below, first_owned, owner, instances}
 use Rattle.coord_paxos.specs.SlotState.{SlotState}
-use Rattle.coord_paxos.specs.Slot.{after_begin, after_learn}
+use Rattle.coord_paxos.specs.Slot.{after_learn}
 use Rattle.coord_paxos.specs.Fresh.{new_slot}
-use Rattle.mencius_server.specs.Machine.{ballot_after, is_given, is_covered_in, slot_given, slot_revoked, is_spent}
+use Rattle.mencius_server.specs.Machine.{is_covered_in, is_given, is_spent, next_prepare, slot_given, slot_revoked, with_next_phase}
 use Rattle.mencius_server.specs.Ranges.{IsOwned, IsRising, covers}
 use Rattle.mencius_server.specs.Slots.{is_in, is_learned, stand_at}
 use Rattle.mencius_server.specs.declared.ranges.Span.{Span}
@@ -114,21 +113,22 @@ known_stood s a = record s { stands = map (λ j. has_slot s j || is_open_in s a 
 -- a first phase is started at all of them
 abbrev pub known_begun : KnownState → ServerId → Stretch → KnownState
 known_begun s p a = record s {
-  slots = map (λ j. if is_open_in s a j then after_begin (known_slot s j)
-      (ballot_after s.members p (known_slot s j)) else known_slot s j) instances;
+  slots = map (λ j. if is_open_in s a j then with_next_phase s.members p (known_slot s j) else known_slot s j)
+      instances;
 }
 
+abbrev pub known_prepare : KnownState → ServerId → Inst → Message
+known_prepare s p j = next_prepare s.members p j (known_slot s j)
+
 abbrev pub prepares_in : KnownState → ServerId → Stretch → List Message
-prepares_in s p a =
-    map (λ j. Prepare p j (ballot_after s.members p (known_slot s j))) (filter (is_open_in s a) (below a.stop))
+prepares_in s p a = map (known_prepare s p) (filter (is_open_in s a) (below a.stop))
 
 -- there is no further round at an instance
 abbrev pub is_round_full_at : KnownState → Inst → Bool
 is_round_full_at s j = is_spent s.members (known_slot s j)
 
 abbrev pub prepares : KnownState → ServerId → ServerId → Inst → List Message
-prepares s p q front =
-    map (λ j. Prepare p j (ballot_after s.members p (known_slot s j))) (filter (is_open s q front) instances)
+prepares s p q front = map (known_prepare s p) (filter (is_open s q front) instances)
 
 -- slots stand where first phases are started, and nowhere else
 abbrev pub known_after_suspect : KnownState → ServerId → ServerId → Inst → KnownState

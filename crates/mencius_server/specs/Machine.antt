@@ -1,14 +1,14 @@
 -- What a server sends on a call, how many instances it learns, and what becomes of it, said of its state alone.
 -- It holds whatever the server heard; that at a reached trace it is what the row of the event says is a law
 -- (`laws::events`).
-use Rattle.std.specs.Prelude.{◌≡◌, ℕ, ◌+◌, ◌≤◌, Bool, false, List, [], ◌∷◌, ◌++◌, Option, Some, None, ◌==◌, nat_lt, if◌then◌else◌, ◌&&◌, is_none, length, map, not}
+use Rattle.std.specs.Prelude.{◌≡◌, ℕ, ◌+◌, ◌<◌, ◌≤◌, Bool, true, false, List, [], ◌∷◌, ◌++◌, Option, Some, None, ◌==◌, nat_lt, if◌then◌else◌, ◌&&◌, is_none, length, map}
 use Rattle.std.specs.List.{count_by, filter, filter_map, find, list_any}
 use Rattle.mencius_base.specs.declared.message.Message.{Message}
 use Rattle.mencius_base.specs.declared.message.Message.TheVariants.{Suggest, Skip, Accepted, Prepare, Promise, Propose, Learn}
 use Rattle.mencius_base.specs.declared.message.Value.{Value}
 use Rattle.mencius_base.specs.declared.message.Value.TheVariants.{Noop, Ticket}
 use Rattle.mencius_base.specs.declared.message.Vote.{Vote}
-use Rattle.mencius_base.specs.Members.{Membership, ballot_of, owner, first_owned, instances, first_item}
+use Rattle.mencius_base.specs.Members.{Membership, ballot_of, owner, instances, first_item}
 use Rattle.coord_paxos.specs.SlotState.{SlotState}
 use Rattle.coord_paxos.specs.Slot.{after_accept, after_begin, after_prepare, after_promise, after_acceptance, after_learn, prepare_answer, promise_answer, acceptance_answer}
 use Rattle.mencius_base.specs.declared.refusal.Refusal.{Refusal}
@@ -19,7 +19,7 @@ use Rattle.mencius_model.specs.Trace.{Line, messages_of}
 use Rattle.mencius_model.specs.Next.{first_cause, learnings}
 use Rattle.mencius_model.specs.Rules.{acceptance_lines, answer_lines, decision_lines, front_past, gives_up, is_covered_from, is_free_from, is_given_up_from, is_past, learning_lines, proposal_lines, round_above, skip_lines, suggestion, waiting_ticket}
 use Rattle.mencius_server.specs.State.{ServerState, slot, with_slot, with_slot_and_front}
-use Rattle.mencius_base.specs.Limits.{greatest_round}
+use Rattle.mencius_base.specs.Limits.{greatest_round, instance_count}
 use Rattle.mencius_base.specs.Numbers.{BallotNo, Inst, ServerId, TicketNo}
 
 -- a suggestion past the own front gives up the own instances before it
@@ -113,9 +113,14 @@ learned_on s (Skip from first stop) = given_count s from first stop
 learned_on s (Learn from inst value) = learnings (learning_lines s.id inst value (slot s inst).learned)
 learned_on s _ = 0
 
--- the least own unlearned instance from the front on
+-- an own unlearned instance from the front on, and the least of them
 abbrev pub is_free_at : ServerState → Inst → Bool
 is_free_at s i = is_free_from s.members s.id s.front i (slot s i).learned
+
+-- the server may suggest there
+pub record IsFree (s : ServerState) (i : Inst) : Type 0 where
+  pub small : i < instance_count
+  pub free : is_free_at s i ≡ true
 
 abbrev pub free_at : ServerState → Option Inst
 free_at s = find (is_free_at s) instances
@@ -193,17 +198,28 @@ round_after m s = round_above m s.trying s.promised
 abbrev pub ballot_after : Membership → ServerId → SlotState → BallotNo
 ballot_after m p s = ballot_of m (round_after m s) p
 
+-- p's next first phase at an instance of which it knows this: the Prepare, and what it knows from then on
+abbrev pub next_prepare : Membership → ServerId → Inst → SlotState → Message
+next_prepare m p i s = Prepare p i (ballot_after m p s)
+
+abbrev pub with_next_phase : Membership → ServerId → SlotState → SlotState
+with_next_phase m p s = after_begin s (ballot_after m p s)
+
 abbrev pub slot_revoked : Membership → ServerId → ServerId → Inst → Inst → SlotState → SlotState
-slot_revoked m p q front i s = if is_covered_in m q front i s then after_begin s (ballot_after m p s) else s
+slot_revoked m p q front i s = if is_covered_in m q front i s then with_next_phase m p s else s
 
 abbrev pub is_covered_at : ServerState → ServerId → Inst → Bool
 is_covered_at s q i = is_covered_in s.members q s.front i (slot s i)
 
+-- all that it covers
+abbrev pub covered_at : ServerState → ServerId → List Inst
+covered_at s q = filter (is_covered_at s q) instances
+
 abbrev pub prepare_for : ServerState → Inst → Message
-prepare_for s i = Prepare s.id i (ballot_after s.members s.id (slot s i))
+prepare_for s i = next_prepare s.members s.id i (slot s i)
 
 abbrev pub suspect_sent : ServerState → ServerId → List Message
-suspect_sent s q = map (prepare_for s) (filter (is_covered_at s q) instances)
+suspect_sent s q = map (prepare_for s) (covered_at s q)
 
 abbrev pub after_suspect : ServerState → ServerId → ServerState
 after_suspect s q = record s { slots = map (λ i. slot_revoked s.members s.id q s.front i (slot s i)) instances }
@@ -215,10 +231,17 @@ is_spent m s = nat_lt greatest_round (round_after m s)
 abbrev pub is_round_full : ServerState → Inst → Bool
 is_round_full s i = is_spent s.members (slot s i)
 
--- why a suspicion is refused, in order
+-- why a suspicion of another server is refused, in order: it covers nothing, there is no further round at an instance
+-- that it covers, or so many messages are too many
+abbrev pub revocation_causes : Bool → Bool → Outgoing → ℕ → List (Bool × Refusal)
+revocation_causes is_nothing is_full o count =
+    (is_nothing, NothingToRevoke)
+    ∷ (is_full, RoundsFull)
+    ∷ (is_too_many o.limit (length o.messages) count, MessagesFull) ∷ []
+
+-- and of any server
 abbrev pub suspect_cause : ServerState → Outgoing → ServerId → Option Refusal
 suspect_cause s o q = first_cause (
     (s.id == q, SelfSuspect)
-    ∷ (is_none (first_item (filter (is_covered_at s q) instances)), NothingToRevoke)
-    ∷ (list_any (is_round_full s) (filter (is_covered_at s q) instances), RoundsFull)
-    ∷ (is_too_many o.limit (length o.messages) (length (suspect_sent s q)), MessagesFull) ∷ [])
+    ∷ revocation_causes (is_none (first_item (covered_at s q))) (list_any (is_round_full s) (covered_at s q)) o
+    (length (suspect_sent s q)))

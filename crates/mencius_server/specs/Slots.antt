@@ -2,13 +2,11 @@
 use Rattle.std.specs.Prelude.{Bool, false, List, [], ◌∷◌, Option, None, Some, if◌then◌else◌, ◌&&◌, is_none, not, slice_index_or, unwrap_or}
 use Rattle.std.specs.Option.{option_map}
 use Rattle.mencius_base.specs.declared.message.Message.{Message}
-use Rattle.mencius_base.specs.declared.message.Message.TheVariants.{Prepare}
 use Rattle.mencius_base.specs.Members.{Membership}
 use Rattle.mencius_base.specs.Numbers.{Inst, ServerId}
 use Rattle.coord_paxos.specs.SlotState.{SlotState}
-use Rattle.coord_paxos.specs.Slot.{after_begin}
 use Rattle.coord_paxos.specs.Fresh.{new_slot}
-use Rattle.mencius_server.specs.Machine.{ballot_after, is_skipped, slot_given}
+use Rattle.mencius_server.specs.Machine.{is_skipped, next_prepare, slot_given, with_next_phase}
 use Rattle.mencius_server.specs.Ranges.{covers}
 use Rattle.mencius_server.specs.declared.ranges.Span.{Span}
 use Rattle.mencius_server.specs.declared.stretch.Stretch.{Stretch}
@@ -16,6 +14,10 @@ use Rattle.mencius_server.specs.declared.stretch.Stretch.{Stretch}
 -- the slot that stands at an instance, if one does
 abbrev pub stand_at : List (Option SlotState) → Inst → Option SlotState
 stand_at ss j = slice_index_or ss j None
+
+-- what is known of an instance by a slot alone
+abbrev pub known_by_slot : Membership → List (Option SlotState) → Inst → SlotState
+known_by_slot m ss j = unwrap_or (stand_at ss j) (new_slot m)
 
 -- a slot stands that has learned nothing, or one that has learned something
 abbrev pub is_unlearned : Option SlotState → Bool
@@ -45,7 +47,7 @@ is_begun a ss j = is_in a j && is_unlearned (stand_at ss j)
 
 -- a first phase is started where nothing was learned
 abbrev pub begun : Membership → ServerId → SlotState → SlotState
-begun m p s = if is_none s.learned then after_begin s (ballot_after m p s) else s
+begun m p s = if is_none s.learned then with_next_phase m p s else s
 
 abbrev pub begun_at : Stretch → ServerId → Inst → Option SlotState → Option SlotState
 begun_at a p j o = if is_in a j && is_unlearned o then option_map (begun a.members p) o else o
@@ -53,10 +55,10 @@ begun_at a p j o = if is_in a j && is_unlearned o then option_map (begun a.membe
 -- the messages of that
 abbrev pub prepare_at : Membership → ServerId → Inst → Option SlotState → List Message
 prepare_at m p j None = []
-prepare_at m p j (Some s) = if is_none s.learned then Prepare p j (ballot_after m p s) ∷ [] else []
+prepare_at m p j (Some s) = if is_none s.learned then next_prepare m p j s ∷ [] else []
 
 abbrev pub prepare_of : Stretch → ServerId → List (Option SlotState) → Inst → Message
-prepare_of a p ss j = Prepare p j (ballot_after a.members p (unwrap_or (stand_at ss j) (new_slot a.members)))
+prepare_of a p ss j = next_prepare a.members p j (known_by_slot a.members ss j)
 
 -- no-op is learned at the slots of a stretch
 abbrev pub given : Stretch → Inst → SlotState → SlotState

@@ -1,16 +1,14 @@
 -- What is counted of each server's instances, for suspicions of it.
-use Rattle.std.specs.Prelude.{◌≡◌, ℕ, ◌+◌, ◌-◌, ◌<◌, ◌≤◌, Bool, true, false, List, Option, Some, if◌then◌else◌, ◌&&◌, ◌==◌, is_none, min, nat_lt, slice_index_or, unwrap_or}
+use Rattle.std.specs.Prelude.{◌≡◌, ℕ, ◌+◌, ◌-◌, ◌<◌, ◌≤◌, Bool, true, false, List, Option, if◌then◌else◌, ◌&&◌, ◌==◌, is_none, min, nat_lt, slice_index_or}
 use Rattle.std.specs.List.{count_by, filter, list_any}
 use Rattle.mencius_base.specs.declared.refusal.Refusal.{Refusal}
-use Rattle.mencius_base.specs.declared.refusal.Refusal.TheVariants.{NothingToRevoke, RoundsFull}
 use Rattle.mencius_base.specs.Members.{Membership, below, instances, owner}
 use Rattle.mencius_base.specs.Numbers.{Inst, ServerId}
-use Rattle.mencius_base.specs.Outbox.{Outgoing, outbox_full}
-use Rattle.coord_paxos.specs.Fresh.{new_slot}
+use Rattle.mencius_base.specs.Outbox.{Outgoing}
 use Rattle.coord_paxos.specs.SlotState.{SlotState}
-use Rattle.mencius_server.specs.Machine.{is_spent}
+use Rattle.mencius_model.specs.Next.{first_cause}
+use Rattle.mencius_server.specs.Machine.{is_spent, revocation_causes}
 use Rattle.mencius_server.specs.Known.{IsSound, KnownState, is_open, is_passed, is_round_full_at, known_at}
-use Rattle.mencius_server.specs.Slots.{stand_at}
 use Rattle.mencius_server.specs.Stretches.{IsStretch}
 use Rattle.mencius_server.specs.declared.stretch.Stretch.{Stretch}
 use Rattle.mencius_server.specs.declared.ranges.Span.{Span}
@@ -45,10 +43,6 @@ pub record IsTallyFrom (m : Membership) (f : Inst → SlotState) (q : ServerId) 
       ≡ count_by (is_open_of m f q) (below d.stop)
   pub full_count : d.full_count + count_by (is_full_of m f q) (below first)
       ≡ count_by (is_full_of m f q) (below d.stop)
-
--- what is known of an instance by a slot alone
-abbrev pub known_by_slot : Membership → List (Option SlotState) → Inst → SlotState
-known_by_slot m slots j = unwrap_or (stand_at slots j) (new_slot m)
 
 -- nothing is open that was skipped
 abbrev pub IsTold : Membership → List (Option SlotState) → List (List Span) → Type 0
@@ -94,9 +88,7 @@ pub record IsSurvey (s : KnownState) (q : ServerId) (front : Inst) (d : Tally) :
 
 -- why a suspicion of which this was counted is refused, running out of memory aside
 abbrev pub tally_cause : Tally → Outgoing → Option Refusal
-tally_cause x o = if x.open_count == 0
-    then Some NothingToRevoke
-    else if nat_lt 0 x.full_count then Some RoundsFull else outbox_full o x.open_count
+tally_cause x o = first_cause (revocation_causes (x.open_count == 0) (nat_lt 0 x.full_count) o x.open_count)
 
 -- the instances of q from one on before which none is open, up to a front
 pub record IsOpenStretch (s : KnownState) (q : ServerId) (front : Inst) (a : Stretch) : Type 0 where

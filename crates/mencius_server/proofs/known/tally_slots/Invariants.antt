@@ -1,5 +1,5 @@
 use Rattle.std.proofs.Common.{◌≡◌, ◌-◌}
-use Rattle.mencius_server.specs.Tallies.{known_by_slot}
+use Rattle.mencius_server.specs.Slots.{known_by_slot}
 use Rattle.mencius_server.proofs.InstanceTallies.{IsTalliedTo}
 use Rattle.mencius_server.proofs.known.tally_slots.Given as goal
 
