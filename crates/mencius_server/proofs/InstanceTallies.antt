@@ -7,7 +7,7 @@ use Rattle.std.proofs.lemmas.List.{get_or_default}
 use Rattle.mencius_base.specs.Members.{Membership, below, instances, owner}
 use Rattle.mencius_model.proofs.NumberLists.{any-filter, any-instances, any-instances_found, count_by-below_le, count_by-below_more, count_by-below_none, count_by-below_zero, instances-below}
 use Rattle.coord_paxos.specs.SlotState.{SlotState}
-use Rattle.mencius_server.specs.Known.{IsSound, KnownState, is_open, is_passed, is_round_full_at, known_at, known_of, known_slot, unheard}
+use Rattle.mencius_server.specs.Known.{IsSound, KnownState, is_open, is_passed, is_round_full_at, known_at, known_of, known_slot, slotless}
 use Rattle.mencius_server.specs.Ranges.{covers}
 use Rattle.mencius_server.specs.Slots.{known_by_slot, stand_at}
 use Rattle.mencius_server.specs.Tallies.{HasCounted, IsKnown, IsSurvey, IsTally, IsTallyFrom, IsTold, full_one, is_full_of, is_open_of, moved, no_tally, open_one, summed, tally_of, tallied, untallied}
@@ -392,7 +392,7 @@ from_gap m slots rs q first ranges d x stop covered_to past end told member thei
     from_more m (known_at m slots rs) q first (known_by_slot m slots) d x past (omega (arith, past_is))
     (λ j low high own. told j (omega (arith, high, further.ahead, further.small))
     (passed j own ∙ covered j low (omega (arith, high, past_is))))
-    (λ j low high own. ap (λ bit. unwrap_or (stand_at slots j) (unheard m bit))
+    (λ j low high own. ap (λ bit. unwrap_or (stand_at slots j) (slotless m bit))
     (passed j own ∙ clear j low (omega (arith, high, end_is))))
     further h
   where

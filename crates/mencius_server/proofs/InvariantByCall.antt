@@ -6,7 +6,7 @@ use Rattle.mencius_base.specs.Members.{Membership, owner}
 use Rattle.coord_paxos.specs.SlotState.{SlotState}
 use Rattle.coord_paxos.specs.Fresh.{new_slot}
 use Rattle.mencius_server.specs.declared.change.Change.{Change}
-use Rattle.mencius_server.specs.declared.change.Change.TheVariants.{Promise, Accept, CountPromise, CountAccept, Learn}
+use Rattle.mencius_server.specs.declared.change.Change.TheVariants.{Prepare, Accept, CountPromise, CountAccept, Learn}
 use Rattle.mencius_server.specs.Changes.{IsSaid, changed}
 use Rattle.mencius_server.specs.Kept.{IsKept}
 use Rattle.mencius_server.specs.Known.{KnownState, known_after_skip, known_after_suggest, known_after_suspect, known_slot, with_known}
@@ -27,7 +27,7 @@ seen m p f known = record { members = m; id = p; front = f; slots = known.slots 
 -- a changed slot fits where the slot stood
 FitsAt-changed : (s : ServerState) (f i : ℕ) (x : SlotState) (d : Change) → IsSaid s.members d → FitsAt s f i x
     → FitsAt s f i (changed x d)
-FitsAt-changed s f i x (Promise ballot) said fits = FitsAt-same s f i x _ (SameAttempt-prepare x ballot) fits
+FitsAt-changed s f i x (Prepare ballot) said fits = FitsAt-same s f i x _ (SameAttempt-prepare x ballot) fits
 FitsAt-changed s f i x (Accept ballot value) said fits = FitsAt-same s f i x _ (SameAttempt-accept x ballot value) fits
 FitsAt-changed s f i x (CountPromise from ballot vote) said fits = FitsAt-promise s f i x from ballot vote said.1 fits
 FitsAt-changed s f i x (CountAccept from ballot) said fits = FitsAt-same s f i x _

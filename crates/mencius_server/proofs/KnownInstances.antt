@@ -14,11 +14,11 @@ use Rattle.coord_paxos.specs.Slot.{after_answer, learning, prepare_answer, propo
 use Rattle.mencius_base.specs.declared.message.Answer.{Answer}
 use Rattle.mencius_base.specs.declared.message.Answer.TheVariants.{Promise as Promised, Known as Told, Silent}
 use Rattle.mencius_base.specs.declared.message.Value.{Value}
-use Rattle.mencius_server.specs.Known.{IsSound, KnownState, has_slot, is_passed, known_at, known_of, known_slot, known_standing, new_known, unheard}
+use Rattle.mencius_server.specs.Known.{IsSound, KnownState, has_slot, is_passed, known_at, known_of, known_slot, known_standing, new_known, slotless}
 use Rattle.mencius_server.specs.Slots.{stand_at}
 use Rattle.mencius_server.specs.Changes.{changed}
 use Rattle.mencius_server.specs.declared.change.Change.{Change}
-use Rattle.mencius_server.specs.declared.change.Change.TheVariants.{Promise, Accept, CountPromise, CountAccept, Learn}
+use Rattle.mencius_server.specs.declared.change.Change.TheVariants.{Prepare, Accept, CountPromise, CountAccept, Learn}
 use Rattle.mencius_server.specs.declared.ranges.Span.{Span}
 use Rattle.mencius_base.specs.Limits.{instance_count}
 
@@ -32,11 +32,11 @@ module _ (m : Membership) (slots : List (Option SlotState)) (rs : List (List Spa
       (get_or-map-instances (known_at m slots rs) j (new_slot m) small)
 
   pub seen_some : (j : ℕ) (x : SlotState) → j < instance_count → stand_at slots j ≡ Some x → known_slot now j ≡ x
-  seen_some j x small e = seen j small ∙ ap (λ o. unwrap_or o (unheard m (is_passed m rs j))) e
+  seen_some j x small e = seen j small ∙ ap (λ o. unwrap_or o (slotless m (is_passed m rs j))) e
 
   pub seen_none : (j : ℕ) → j < instance_count → stand_at slots j ≡ None
-      → known_slot now j ≡ unheard m (is_passed m rs j)
-  seen_none j small e = seen j small ∙ ap (λ o. unwrap_or o (unheard m (is_passed m rs j))) e
+      → known_slot now j ≡ slotless m (is_passed m rs j)
+  seen_none j small e = seen j small ∙ ap (λ o. unwrap_or o (slotless m (is_passed m rs j))) e
 
   pub seen_stands : (j : ℕ) → j < instance_count → has_slot now j ≡ is_some (stand_at slots j)
   seen_stands j small =
@@ -46,13 +46,13 @@ module _ (m : Membership) (slots : List (Option SlotState)) (rs : List (List Spa
 -- what is known of an instance is what its slot says
 pub known_there : (m : Membership) (slots : List (Option SlotState)) (rs : List (List Span)) (j : ℕ) (s : SlotState)
     → stand_at slots j ≡ Some s → known_at m slots rs j ≡ s
-known_there m slots rs j s e = ap (λ o. unwrap_or o (unheard m (is_passed m rs j))) e
+known_there m slots rs j s e = ap (λ o. unwrap_or o (slotless m (is_passed m rs j))) e
 
 -- of an instance at which no slot stands, nothing was promised, accepted, tried or proposed
-pub unheard_quiet : (m : Membership) (a : Bool)
-    → ((unheard m a).promised ≡ 0) × ((unheard m a).trying ≡ 0) × ((unheard m a).proposal ≡ None)
-unheard_quiet m true = (refl, refl, refl)
-unheard_quiet m false = (refl, refl, refl)
+pub slotless_quiet : (m : Membership) (a : Bool)
+    → ((slotless m a).promised ≡ 0) × ((slotless m a).trying ≡ 0) × ((slotless m a).proposal ≡ None)
+slotless_quiet m true = (refl, refl, refl)
+slotless_quiet m false = (refl, refl, refl)
 
 -- two states that agree at each instance are the same
 pub same_known : (m : Membership) (f g : ℕ → SlotState) (a test : ℕ → Bool) → ((j : ℕ) → j < instance_count → f j ≡ g j)
@@ -72,8 +72,8 @@ no_ranges_more (x ∷ xs) h (suc q) = no_ranges_more xs (λ q. h (suc q)) q
 
 module _ (m : Membership) (slots : List (Option SlotState)) (rs : List (List Span)) (empty : (j : ℕ)
     → stand_at slots j ≡ None) (none : (q : ℕ) → get_or rs q [] ≡ []) where
-  unheard_at : (j : ℕ) → known_at m slots rs j ≡ new_slot m
-  unheard_at j = rw (empty j, none (owner m j))
+  slotless_at : (j : ℕ) → known_at m slots rs j ≡ new_slot m
+  slotless_at j = rw (empty j, none (owner m j))
 
   pub new_sound : length rs ≡ m.count → IsSound m slots rs 0
   new_sound count = record {
@@ -85,34 +85,34 @@ module _ (m : Membership) (slots : List (Option SlotState)) (rs : List (List Spa
     told = λ j t small passed stands. let no : Some t ≡ None = sym stands ∙ empty j in absurd (cc);
     small = omega arith;
     known = λ j low. absurd (omega arith);
-    least = λ low. rw (unheard_at 0) refl;
+    least = λ low. rw (slotless_at 0) refl;
   }
 
   pub new_shows : known_of m slots rs ≡ new_known m
   new_shows = same_known m (known_at m slots rs) (λ j. new_slot m) (λ j. is_some (stand_at slots j)) (λ j. false)
-      (λ j small. unheard_at j) (λ j small. ap is_some (empty j))
+      (λ j small. slotless_at j) (λ j small. ap is_some (empty j))
 
 -- ---- a slot comes to stand
 
 module _ (m : Membership) (slots new : List (Option SlotState)) (rs : List (List Span)) (i : ℕ)
     (empty : stand_at slots i ≡ None)
-    (stands : (j : ℕ) → stand_at new j ≡ cond (eqb j i) (Some (unheard m (is_passed m rs i))) (stand_at slots j)) where
-  stood_here : (j : ℕ) → j ≡ i → stand_at new j ≡ Some (unheard m (is_passed m rs i))
+    (stands : (j : ℕ) → stand_at new j ≡ cond (eqb j i) (Some (slotless m (is_passed m rs i))) (stand_at slots j)) where
+  stood_here : (j : ℕ) → j ≡ i → stand_at new j ≡ Some (slotless m (is_passed m rs i))
   stood_here j at =
-      stands j ∙ ap (λ bit. cond bit (Some (unheard m (is_passed m rs i))) (stand_at slots j)) (eq-eqb j i at)
+      stands j ∙ ap (λ bit. cond bit (Some (slotless m (is_passed m rs i))) (stand_at slots j)) (eq-eqb j i at)
 
   stood_off : (j : ℕ) → (j ≡ i → ⊥) → stand_at new j ≡ stand_at slots j
   stood_off j off =
-      stands j ∙ ap (λ bit. cond bit (Some (unheard m (is_passed m rs i))) (stand_at slots j)) (ne_eqb j i off)
+      stands j ∙ ap (λ bit. cond bit (Some (slotless m (is_passed m rs i))) (stand_at slots j)) (ne_eqb j i off)
 
   pub stood_at_same : (j : ℕ) → known_at m new rs j ≡ known_at m slots rs j
   stood_at_same j =
       ⊎_elim
       (λ (at : j ≡ i).
-      ap (λ o. unwrap_or o (unheard m (is_passed m rs j))) (stood_here j at)
-      ∙ ap (λ s. unheard m (is_passed m rs s)) (sym at)
-      ∙ sym (ap (λ o. unwrap_or o (unheard m (is_passed m rs j))) (ap (stand_at slots) at ∙ empty)))
-      (λ (off : j ≡ i → ⊥). ap (λ o. unwrap_or o (unheard m (is_passed m rs j))) (stood_off j off))
+      ap (λ o. unwrap_or o (slotless m (is_passed m rs j))) (stood_here j at)
+      ∙ ap (λ s. slotless m (is_passed m rs s)) (sym at)
+      ∙ sym (ap (λ o. unwrap_or o (slotless m (is_passed m rs j))) (ap (stand_at slots) at ∙ empty)))
+      (λ (off : j ≡ i → ⊥). ap (λ o. unwrap_or o (slotless m (is_passed m rs j))) (stood_off j off))
       (cases_eq j i)
 
   pub stood_shows : (now : KnownState) → known_of m slots rs ≡ now → known_of m new rs ≡ known_standing now i
@@ -131,8 +131,8 @@ module _ (m : Membership) (slots new : List (Option SlotState)) (rs : List (List
     sorted = h.sorted;
     told = λ j t small passed there. ⊎_elim
         (λ (at : j ≡ i).
-        let is : Some t ≡ Some (unheard m (is_passed m rs i)) = sym there ∙ stood_here j at in
-        let same : t ≡ unheard m (is_passed m rs i) = cc in
+        let is : Some t ≡ Some (slotless m (is_passed m rs i)) = sym there ∙ stood_here j at in
+        let same : t ≡ slotless m (is_passed m rs i) = cc in
         rw (same, sym (ap (is_passed m rs) at) ∙ passed) refl)
         (λ (off : j ≡ i → ⊥). h.told j t small passed (sym (stood_off j off) ∙ there))
         (cases_eq j i);
@@ -187,13 +187,13 @@ module _ (m : Membership) (slots new : List (Option SlotState)) (rs : List (List
   written_off j off = ap (λ xs. stand_at xs j) written ∙ get_or-set_other slots i j (Some y) None off
 
   pub at_here : (j : ℕ) → j ≡ i → known_at m new rs j ≡ y
-  at_here j at = ap (λ o. unwrap_or o (unheard m (is_passed m rs j))) (written_here j at)
+  at_here j at = ap (λ o. unwrap_or o (slotless m (is_passed m rs j))) (written_here j at)
 
   pub at_off : (j : ℕ) → (j ≡ i → ⊥) → known_at m new rs j ≡ known_at m slots rs j
-  at_off j off = ap (λ o. unwrap_or o (unheard m (is_passed m rs j))) (written_off j off)
+  at_off j off = ap (λ o. unwrap_or o (slotless m (is_passed m rs j))) (written_off j off)
 
   was_here : (j : ℕ) → j ≡ i → known_at m slots rs j ≡ old
-  was_here j at = ap (λ o. unwrap_or o (unheard m (is_passed m rs j))) (ap (stand_at slots) at ∙ there)
+  was_here j at = ap (λ o. unwrap_or o (slotless m (is_passed m rs j))) (ap (stand_at slots) at ∙ there)
 
   pub written_shows : (now : KnownState) → known_of m slots rs ≡ now
       → known_of m new rs ≡ record now { slots = set now.slots i y }
@@ -287,7 +287,7 @@ answered_learned s b Silent h = h
 
 -- and so does each change
 pub changed_learned : (s : SlotState) (a : Change) → is_none s.learned ≡ false → is_none (changed s a).learned ≡ false
-changed_learned s (Promise b) h = answered_learned s b (prepare_answer s b) h
+changed_learned s (Prepare b) h = answered_learned s b (prepare_answer s b) h
 changed_learned s (Accept b y) h = either (nat_le s.promised b)
   where
     either : (x : Bool)
@@ -310,7 +310,8 @@ changed_learned s (CountAccept q b) h = counted (eqb b s.trying)
     noted None = h
     noted (Some x) = refl
 
-    counted : (x : Bool) → is_none (cond x (learning (with_acceptance s q) (to_learn (with_acceptance s q))) s).learned ≡ false
+    counted : (x : Bool)
+        → is_none (cond x (learning (with_acceptance s q) (to_learn (with_acceptance s q))) s).learned ≡ false
     counted true = noted (to_learn (with_acceptance s q))
     counted false = h
 changed_learned s (Learn y) h = rw h h

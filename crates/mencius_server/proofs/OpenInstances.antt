@@ -6,7 +6,7 @@ use Rattle.mencius_base.specs.Members.{Membership, owner}
 use Rattle.coord_paxos.specs.SlotState.{SlotState}
 use Rattle.mencius_server.specs.Machine.{is_covered_in}
 use Rattle.mencius_server.specs.Slots.{stand_at}
-use Rattle.mencius_server.specs.Known.{IsSound, KnownState, is_open, is_open_in, is_passed, known_of, known_slot, unheard}
+use Rattle.mencius_server.specs.Known.{IsSound, KnownState, is_open, is_open_in, is_passed, known_of, known_slot, slotless}
 use Rattle.mencius_server.specs.Stretches.{IsStretch}
 use Rattle.mencius_server.specs.Tallies.{IsOpenStretch}
 use Rattle.mencius_server.specs.declared.ranges.Span.{Span}
@@ -32,9 +32,9 @@ open_before m slots rs low now shown sound q front first least near j high =
     (cases_lt j low))
 
 -- where no slot stands, an instance is open unless a range has it
-pub open_unheard : (m : Membership) (a : Bool) → is_none (unheard m a).learned ≡ not a
-open_unheard m true = refl
-open_unheard m false = refl
+pub open_slotless : (m : Membership) (a : Bool) → is_none (slotless m a).learned ≡ not a
+open_slotless m true = refl
+open_slotless m false = refl
 
 -- what was skipped is learned
 pub passed_known : (m : Membership) (slots : List (Option SlotState))
@@ -47,7 +47,7 @@ passed_known m slots rs low now shown sound j small passed = go (stand_at slots 
         ap (λ (s : SlotState). is_none s.learned) (seen_some m slots rs now shown j x small e)
         ∙ sound.told j x small passed e
     go None e = ap (λ (s : SlotState). is_none s.learned) (seen_none m slots rs now shown j small e)
-        ∙ ap (λ bit. is_none (unheard m bit).learned) passed
+        ∙ ap (λ bit. is_none (slotless m bit).learned) passed
 
 -- ---- the stretch of a suspicion
 

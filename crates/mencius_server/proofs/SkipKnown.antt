@@ -15,7 +15,7 @@ use Rattle.coord_paxos.specs.Fresh.{new_slot}
 use Rattle.mencius_server.specs.Machine.{is_given, is_skipped, slot_given}
 use Rattle.mencius_server.specs.Ranges.{IsOwned, IsRising, covers, is_within}
 use Rattle.mencius_server.specs.Slots.{given, is_in, is_learned, stand_at}
-use Rattle.mencius_server.specs.Known.{IsSorted, IsSound, KnownState, is_given_in, is_passed, known_after_skip, known_at, known_given, known_of, known_slot, unheard}
+use Rattle.mencius_server.specs.Known.{IsSorted, IsSound, KnownState, is_given_in, is_passed, known_after_skip, known_at, known_given, known_of, known_slot, slotless}
 use Rattle.mencius_server.specs.Tallies.{IsTold}
 use Rattle.mencius_server.specs.declared.ranges.Span.{Span}
 use Rattle.mencius_server.specs.declared.stretch.Stretch.{Stretch}
@@ -35,11 +35,11 @@ noop_again true s = go (is_none s.learned) refl
     go false e = rw (e, e) refl
 
 -- where no slot stands
-unheard_given : (a : Stretch) (m : Membership) (j : ℕ) (d x : Bool) → is_in a j ≡ x
-    → unheard m (d || x) ≡ given a j (unheard m d)
-unheard_given a m j true x e = sym (noop_again (is_in a j) (new_slot m))
-unheard_given a m j false true e = rw e refl
-unheard_given a m j false false e = rw e refl
+slotless_given : (a : Stretch) (m : Membership) (j : ℕ) (d x : Bool) → is_in a j ≡ x
+    → slotless m (d || x) ≡ given a j (slotless m d)
+slotless_given a m j true x e = sym (noop_again (is_in a j) (new_slot m))
+slotless_given a m j false true e = rw e refl
+slotless_given a m j false false e = rw e refl
 
 stays_learned : (a : Stretch) (j : ℕ) (s : SlotState) → is_none s.learned ≡ false
     → is_none (given a j s).learned ≡ false
@@ -91,22 +91,22 @@ module _ (m : Membership) (a : Stretch) (members : a.members ≡ m) (slots new :
   skip_at : (j : ℕ) → j < instance_count → (o : Option SlotState) → stand_at slots j ≡ o
       → known_at m new (set rs a.server ys) j ≡ given a j (known_at m slots rs j)
   skip_at j small (Some r) e =
-      ap (λ o. unwrap_or o (unheard m (is_passed m (set rs a.server ys) j))) (gives j small
+      ap (λ o. unwrap_or o (slotless m (is_passed m (set rs a.server ys) j))) (gives j small
       ∙ ap (option_map (given a j)) e)
-      ∙ sym (ap (λ o. given a j (unwrap_or o (unheard m (is_passed m rs j)))) e)
+      ∙ sym (ap (λ o. given a j (unwrap_or o (slotless m (is_passed m rs j)))) e)
   skip_at j small None e =
-      ap (λ o. unwrap_or o (unheard m (is_passed m (set rs a.server ys) j))) (gives j small
+      ap (λ o. unwrap_or o (slotless m (is_passed m (set rs a.server ys) j))) (gives j small
       ∙ ap (option_map (given a j)) e)
       ∙ ⊎_elim
-      (λ (own : owner m j ≡ a.server). ap (unheard m) (passed_own j small own)
-      ∙ unheard_given a m j (is_passed m rs j) (is_within a.first a.stop j) (in_own j own))
+      (λ (own : owner m j ≡ a.server). ap (slotless m) (passed_own j small own)
+      ∙ slotless_given a m j (is_passed m rs j) (is_within a.first a.stop j) (in_own j own))
       (λ (other : owner m j ≡ a.server → ⊥).
-      ap (unheard m) (passed_theirs j other)
+      ap (slotless m) (passed_theirs j other)
       ∙ sym (ap
-      (λ d. cond d (after_learn (unheard m (is_passed m rs j)) Noop)
-      (unheard m (is_passed m rs j))) (in_theirs j other)))
+      (λ d. cond d (after_learn (slotless m (is_passed m rs j)) Noop)
+      (slotless m (is_passed m rs j))) (in_theirs j other)))
       (cases_eq (owner m j) a.server)
-      ∙ sym (ap (λ o. given a j (unwrap_or o (unheard m (is_passed m rs j)))) e)
+      ∙ sym (ap (λ o. given a j (unwrap_or o (slotless m (is_passed m rs j)))) e)
 
   -- no-op is learned at each instance that is given up
   pub skip_given : (j : ℕ) → j < instance_count

@@ -11,7 +11,7 @@ use Rattle.mencius_model.specs.Trace.{Sent, messages_of}
 use Rattle.coord_paxos.specs.SlotState.{SlotState}
 use Rattle.coord_paxos.specs.Fresh.{new_slot}
 use Rattle.coord_paxos.specs.Slot.{after_accept}
-use Rattle.mencius_server.specs.Machine.{after_suggest, next_front, skip_sent, suggest_sent}
+use Rattle.mencius_server.specs.Machine.{after_suggest, next_front, own_skip, suggest_sent}
 use Rattle.mencius_server.specs.State.{ServerState, slot, with_slot, with_slot_and_front}
 
 -- only ballot 0 is not above ballot 0
@@ -38,26 +38,26 @@ module _ (s : ServerState) (i t : ℕ) where
       → record mid { front = next_front mid i } ≡ after_suggest s i t
   front_moves mid is = ap (λ (x : ServerState). record x { front = next_front x i }) is
 
-  pub nothing_skipped : (xs : List Message) → ltb s.front i ≡ false → xs ≡ xs ++ skip_sent s i
+  pub nothing_skipped : (xs : List Message) → ltb s.front i ≡ false → xs ≡ xs ++ own_skip s i
   nothing_skipped xs fails =
       let skip = Skip s.id s.front (first_owned s.members s.id (i + 1)) in
       sym (ap (λ (a : Bool). xs ++ messages_of (cond a (Sent skip ∷ []) [])) fails ∙ append-nil xs)
 
-  pub skip_says : (mid : ServerState) → mid ≡ with_slot s i accepted → skip_sent mid i ≡ skip_sent s i
-  skip_says mid is = ap (λ (x : ServerState). skip_sent x i) is
+  pub skip_says : (mid : ServerState) → mid ≡ with_slot s i accepted → own_skip mid i ≡ own_skip s i
+  skip_says mid is = ap (λ (x : ServerState). own_skip x i) is
 
   -- the acceptance stands behind the Skip
   pub acceptance_sent : (xs : List Message) (q p : ℕ) → p ≡ s.id → leb (slot s i).promised 0 ≡ true
-      → (xs ++ skip_sent s i) ++ (Accepted p q i 0 ∷ []) ≡ xs ++ suggest_sent s q i
+      → (xs ++ own_skip s i) ++ (Accepted p q i 0 ∷ []) ≡ xs ++ suggest_sent s q i
   acceptance_sent xs q p own holds =
-      append_assoc xs (skip_sent s i) (Accepted p q i 0 ∷ [])
-      ∙ ap (λ (n : ℕ). xs ++ (skip_sent s i ++ (Accepted n q i 0 ∷ []))) own
-      ∙ ap (λ (a : Bool). xs ++ (skip_sent s i ++ messages_of (cond a (Sent (Accepted s.id q i 0) ∷ []) [])))
+      append_assoc xs (own_skip s i) (Accepted p q i 0 ∷ [])
+      ∙ ap (λ (n : ℕ). xs ++ (own_skip s i ++ (Accepted n q i 0 ∷ []))) own
+      ∙ ap (λ (a : Bool). xs ++ (own_skip s i ++ messages_of (cond a (Sent (Accepted s.id q i 0) ∷ []) [])))
       (sym holds)
 
   pub no_acceptance : (xs : List Message) (q : ℕ) → leb (slot s i).promised 0 ≡ false
-      → xs ++ skip_sent s i ≡ xs ++ suggest_sent s q i
+      → xs ++ own_skip s i ≡ xs ++ suggest_sent s q i
   no_acceptance xs q fails =
-      ap (λ (ys : List Message). xs ++ ys) (sym (append-nil (skip_sent s i)))
-      ∙ ap (λ (a : Bool). xs ++ (skip_sent s i ++ messages_of (cond a (Sent (Accepted s.id q i 0) ∷ []) [])))
+      ap (λ (ys : List Message). xs ++ ys) (sym (append-nil (own_skip s i)))
+      ∙ ap (λ (a : Bool). xs ++ (own_skip s i ++ messages_of (cond a (Sent (Accepted s.id q i 0) ∷ []) [])))
       (sym fails)

@@ -14,14 +14,14 @@ use Rattle.coord_paxos.specs.Fresh.{new_slot}
 use Rattle.mencius_server.specs.Machine.{is_spent, next_prepare, round_after, with_next_phase}
 use Rattle.mencius_server.specs.Ranges.{covers}
 use Rattle.mencius_server.specs.Slots.{begun, begun_at, is_begun, is_in, is_lacking, is_unlearned, prepare_of, stand_at, stood_at}
-use Rattle.mencius_server.specs.Known.{IsSound, KnownState, has_slot, is_open, is_open_in, is_passed, known_after_suspect, known_at, known_begun, known_of, known_prepare, known_slot, known_stood, prepares, prepares_in, unheard}
+use Rattle.mencius_server.specs.Known.{IsSound, KnownState, has_slot, is_open, is_open_in, is_passed, known_after_suspect, known_at, known_begun, known_of, known_prepare, known_slot, known_stood, prepares, prepares_in, slotless}
 use Rattle.mencius_server.specs.Tallies.{IsOpenStretch}
 use Rattle.mencius_server.specs.declared.ranges.Span.{Span}
 use Rattle.mencius_server.specs.declared.stretch.Stretch.{Stretch}
 use Rattle.mencius_server.proofs.RangeCounts.{count_same}
 use Rattle.mencius_server.proofs.InstanceGaps.{unskipped_other, unskipped_past}
 use Rattle.mencius_server.proofs.KnownInstances.{known_there, same_known, seen, seen_none, seen_some, seen_stands}
-use Rattle.mencius_server.proofs.OpenInstances.{open_same, open_unheard}
+use Rattle.mencius_server.proofs.OpenInstances.{open_same, open_slotless}
 use Rattle.mencius_server.proofs.InstanceTallies.{IsAlike, alike_same, count_less}
 use Rattle.mencius_base.specs.Limits.{greatest_round, instance_count}
 
@@ -56,10 +56,10 @@ sent_same f g a test (suc n) e h =
     last false same = rw same refl
 
 -- rounds are left where nothing was heard
-unspent_unheard : (m : Membership) (a : Bool) → is_spent m (unheard m a) ≡ false
-unspent_unheard m a = go a (0 / m.count) refl (zero-div m.count)
+unspent_slotless : (m : Membership) (a : Bool) → is_spent m (slotless m a) ≡ false
+unspent_slotless m a = go a (0 / m.count) refl (zero-div m.count)
   where
-    go : (a : Bool) (n : ℕ) → 0 / m.count ≡ n → n ≡ 0 → is_spent m (unheard m a) ≡ false
+    go : (a : Bool) (n : ℕ) → 0 / m.count ≡ n → n ≡ 0 → is_spent m (slotless m a) ≡ false
     go true n is e = rw (is, e) refl
     go false n is e = rw (is, e) refl
 
@@ -91,7 +91,7 @@ module _ (m : Membership) (slots : List (Option SlotState)) (rs : List (List Spa
           ap (λ z. z && not (covers r j)) left ∙ ap not (covered_is j left)
           ∙ sym (ap (λ z. z && is_none (known_slot now j).learned) left
           ∙ ap (λ (s : SlotState). is_none s.learned) (seen_none m slots rs now shown j l e)
-          ∙ open_unheard m (is_passed m rs j))
+          ∙ open_slotless m (is_passed m rs j))
       | inr right ↦ and_left _ _ right ∙ sym (and_left _ _ right)
     ]
 
@@ -120,15 +120,16 @@ module _ (m : Membership) (slots : List (Option SlotState)) (rs : List (List Spa
 
       stood_known : (j : ℕ) → (o : Option SlotState) → stand_at slots j ≡ o
           → known_at m new rs j ≡ known_at m slots rs j
-      stood_known j (Some s) e = ap (λ o. unwrap_or o (unheard m (is_passed m rs j))) (stood_some j s e ∙ sym e)
+      stood_known j (Some s) e = ap (λ o. unwrap_or o (slotless m (is_passed m rs j))) (stood_some j s e ∙ sym e)
       stood_known j None e = elim (cases_Bool (is_in a j && not (covers r j))) [
         | inl z ↦
             let parts = and_parts _ _ z in
             let clear : is_passed m rs j ≡ false = sym (covered_is j parts.0) ∙ turned (covers r j) parts.1 in
-            ap (λ o. unwrap_or o (unheard m (is_passed m rs j))) (stood_none j e
+            ap (λ o. unwrap_or o (slotless m (is_passed m rs j))) (stood_none j e
             ∙ ap (λ bit. cond bit (Some (new_slot a.members)) None) z)
-            ∙ ap new_slot members ∙ sym (ap (λ o. unwrap_or o (unheard m (is_passed m rs j))) e ∙ ap (unheard m) clear)
-        | inr z ↦ ap (λ o. unwrap_or o (unheard m (is_passed m rs j))) (stood_none j e
+            ∙ ap new_slot members
+            ∙ sym (ap (λ o. unwrap_or o (slotless m (is_passed m rs j))) e ∙ ap (slotless m) clear)
+        | inr z ↦ ap (λ o. unwrap_or o (slotless m (is_passed m rs j))) (stood_none j e
             ∙ ap (λ bit. cond bit (Some (new_slot a.members)) None) z ∙ sym e)
       ]
         where
@@ -241,7 +242,7 @@ module _ (m : Membership) (slots : List (Option SlotState)) (rs : List (List Spa
       begun_known j l None e =
           let closed : is_open_in now a j ≡ false =
           sym (begun_is j l None e) ∙ ap (λ o. is_in a j && is_unlearned o) e ∙ and_right _ _ refl in
-          ap (λ o. unwrap_or o (unheard m (is_passed m rs j))) (begins j ∙ ap (begun_at a p j) e
+          ap (λ o. unwrap_or o (slotless m (is_passed m rs j))) (begins j ∙ ap (begun_at a p j) e
           ∙ nothing (is_in a j && false))
           ∙ sym (seen_none m slots rs now shown j l e)
           ∙ sym (ap (λ z. cond z
@@ -252,7 +253,7 @@ module _ (m : Membership) (slots : List (Option SlotState)) (rs : List (List Spa
           nothing false = refl
       begun_known j l (Some s) e =
           let is : known_slot now j ≡ s = seen_some m slots rs now shown j s l e in
-          ap (λ o. unwrap_or o (unheard m (is_passed m rs j))) (begins j ∙ ap (begun_at a p j) e)
+          ap (λ o. unwrap_or o (slotless m (is_passed m rs j))) (begins j ∙ ap (begun_at a p j) e)
           ∙ made (is_in a j) (is_none s.learned) refl
           ∙ sym (ap (λ (s : SlotState). cond (is_in a j && is_none s.learned)
           (with_next_phase now.members p s) s) is
@@ -261,7 +262,7 @@ module _ (m : Membership) (slots : List (Option SlotState)) (rs : List (List Spa
         where
           made : (d z : Bool) → is_none s.learned ≡ z
               → unwrap_or (cond (d && is_none s.learned) (option_map (begun a.members p) (Some s)) (Some s))
-              (unheard m (is_passed m rs j))
+              (slotless m (is_passed m rs j))
               ≡ cond (d && is_none s.learned) (with_next_phase a.members p s) s
           made false z h = refl
           made true true h = rw h refl
@@ -325,7 +326,7 @@ module _ (m : Membership) (slots : List (Option SlotState)) (rs : List (List Spa
         unspent_new j z (Some s) e =
             ap (is_spent m) (known_there m new rs j s e) ∙ ap (λ n. is_spent n s) (sym members) ∙ last j s z e
         unspent_new j z None e =
-            ap (λ o. is_spent m (unwrap_or o (unheard m (is_passed m rs j)))) e ∙ unspent_unheard m (is_passed m rs j)
+            ap (λ o. is_spent m (unwrap_or o (slotless m (is_passed m rs j)))) e ∙ unspent_slotless m (is_passed m rs j)
 
         unspent_old : (j : ℕ) → j < instance_count → is_open_in now a j ≡ true
             → is_spent m (known_at m slots rs j) ≡ false
@@ -349,7 +350,7 @@ module _ (m : Membership) (slots : List (Option SlotState)) (rs : List (List Spa
       begun_sound = record {
         sorted = sound.sorted;
         told = λ j s l passed stands.
-            ap (λ o. is_none (unwrap_or o (unheard m (is_passed m rs j))).learned) (sym stands) ∙ begun_learned j l
+            ap (λ o. is_none (unwrap_or o (slotless m (is_passed m rs j))).learned) (sym stands) ∙ begun_learned j l
             ∙ passed_known_at j l passed (stand_at slots j) refl;
         small = sound.small;
         known = λ j l. begun_learned j (omega (arith, l, sound.small)) ∙ sound.known j l;

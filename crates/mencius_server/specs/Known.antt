@@ -42,16 +42,16 @@ new_known m = record { members = m; slots = map (λ j. new_slot m) instances; st
 
 -- ---- slots and ranges
 
--- where no slot stands
-abbrev pub unheard : Membership → Bool → SlotState
-unheard m is_skipped = if is_skipped then after_learn (new_slot m) Noop else new_slot m
+-- what is known of an instance where no slot stands
+abbrev pub slotless : Membership → Bool → SlotState
+slotless m is_skipped = if is_skipped then after_learn (new_slot m) Noop else new_slot m
 
 -- the owner was heard to skip the instance
 abbrev pub is_passed : Membership → List (List Span) → Inst → Bool
 is_passed m rs j = covers (slice_index_or rs (owner m j) []) j
 
 abbrev pub known_at : Membership → List (Option SlotState) → List (List Span) → Inst → SlotState
-known_at m slots rs j = unwrap_or (stand_at slots j) (unheard m (is_passed m rs j))
+known_at m slots rs j = unwrap_or (stand_at slots j) (slotless m (is_passed m rs j))
 
 abbrev pub known_of : Membership → List (Option SlotState) → List (List Span) → KnownState
 known_of m slots rs = record {

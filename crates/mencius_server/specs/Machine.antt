@@ -27,8 +27,8 @@ abbrev pub next_front : ServerState → Inst → Inst
 next_front s i = if is_past s.front i then front_past s.members s.id i else s.front
 
 -- the Skip that a suggestion at i brings about
-abbrev pub skip_sent : ServerState → Inst → List Message
-skip_sent s i = messages_of (skip_lines s.members s.id s.front i)
+abbrev pub own_skip : ServerState → Inst → List Message
+own_skip s i = messages_of (skip_lines s.members s.id s.front i)
 
 -- the acceptance of a Propose, if any
 abbrev pub propose_sent : ServerState → ServerId → Inst → BallotNo → List Message
@@ -39,7 +39,7 @@ after_propose s i b x = with_slot s i (after_accept (slot s i) b x)
 
 -- a Suggest is heard as a Propose at ballot 0, beside the Skip
 abbrev pub suggest_sent : ServerState → ServerId → Inst → List Message
-suggest_sent s q i = skip_sent s i ++ propose_sent s q i 0
+suggest_sent s q i = own_skip s i ++ propose_sent s q i 0
 
 abbrev pub after_suggest : ServerState → Inst → TicketNo → ServerState
 after_suggest s i t = record (after_propose s i 0 (Ticket t)) { front = next_front s i }

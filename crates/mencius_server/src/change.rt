@@ -11,7 +11,7 @@ use mencius_base::{Ballot, Value, Vote};
 /// it stands.
 #[derive(Clone, Copy, Debug)]
 pub(crate) enum Change {
-    Promise(Ballot),
+    Prepare(Ballot),
     Accept(Ballot, Value),
     CountPromise(u8, Ballot, Option<Vote>),
     CountAccept(u8, Ballot),
@@ -25,7 +25,7 @@ impl Change {
         ensures { slot.new ≡ changed slot.old self }
     {
         match self {
-            Change::Promise(ballot) => {
+            Change::Prepare(ballot) => {
                 slot.prepare(ballot);
             }
             Change::Accept(ballot, value) => {

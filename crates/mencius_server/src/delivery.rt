@@ -8,7 +8,7 @@ ghost use Rattle.mencius_base.specs.Outbox.{outbox_full};
 ghost use Rattle.mencius_base.specs.Refusal.{IsRefusedFor};
 ghost use Rattle.mencius_base.specs.declared.message.Message.TheVariants.{Prepare};
 ghost use Rattle.mencius_base.specs.declared.message.Value.TheVariants.{Noop};
-ghost use Rattle.mencius_server.specs.Machine.{IsUndone, accepted_sent, after_accepted, after_hearing, after_learn_at, after_skip, given_count, is_given, slot_given, after_prepare_at, after_promise_at, after_propose, after_suggest, learned_on, decided_on, prepare_sent, promise_sent, propose_sent, sent_on, skip_sent, suggest_sent, next_front};
+ghost use Rattle.mencius_server.specs.Machine.{IsUndone, accepted_sent, after_accepted, after_hearing, after_learn_at, after_skip, given_count, is_given, slot_given, after_prepare_at, after_promise_at, after_propose, after_suggest, learned_on, decided_on, prepare_sent, promise_sent, propose_sent, sent_on, own_skip, suggest_sent, next_front};
 ghost use Rattle.mencius_model.specs.Trace.{messages_of};
 ghost use Rattle.mencius_model.specs.Next.{learnings};
 ghost use Rattle.mencius_model.specs.Rules.{decision_lines};
@@ -162,7 +162,7 @@ impl Server {
         match self.known.prepare_answer(inst, ballot) {
             Answer::Promise(vote) => {
                 out.reserve(1)?;
-                self.change(inst, Change::Promise(ballot))?;
+                self.change(inst, Change::Prepare(ballot))?;
                 out.push(Message::Promise {
                     from: self.id,
                     to: from,
@@ -322,7 +322,7 @@ impl Server {
         requires small { inst < instance_count }
         requires ahead { self.old.front < inst }
         requires room { 0 < out.old.room }
-        ensures sent { out.new.messages ≡ out.old.messages ++ skip_sent self.old inst }
+        ensures sent { out.new.messages ≡ out.old.messages ++ own_skip self.old inst }
         ensures after { self.new ≡ record self.old { front = next_front self.old inst } }
         ensures room { out.new.room + 1 ≡ out.old.room }
         ensures limit { out.new.limit ≡ out.old.limit }

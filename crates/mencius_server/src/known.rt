@@ -5,7 +5,7 @@ ghost use Rattle.coord_paxos.specs.SlotState.{SlotState};
 ghost use Rattle.mencius_base.specs.Members.{below, first_owned, instances, owner};
 ghost use Rattle.mencius_server.specs.Changes.{IsSaid, changed};
 ghost use Rattle.mencius_server.specs.Glances.{glance_of};
-ghost use Rattle.mencius_server.specs.Known.{IsSorted, has_slot, is_given_in, is_open, is_open_in, is_passed, known_after_skip, known_after_suggest, known_after_suspect, known_at, known_begun, known_given, known_slot, known_standing, known_stood, new_known, prepares, prepares_in, unheard, with_known};
+ghost use Rattle.mencius_server.specs.Known.{IsSorted, has_slot, is_given_in, is_open, is_open_in, is_passed, known_after_skip, known_after_suggest, known_after_suspect, known_at, known_begun, known_given, known_slot, known_standing, known_stood, new_known, prepares, prepares_in, slotless, with_known};
 ghost use Rattle.mencius_server.specs.Machine.{round_after};
 ghost use Rattle.mencius_server.specs.Ranges.{IsOwned, IsRising, covers, is_within};
 ghost use Rattle.mencius_server.specs.Slots.{given, known_by_slot, stand_at};
@@ -117,7 +117,7 @@ impl Known {
     {
         match self.slots.get(inst) {
             Some(slot) => glance_at(slot),
-            None => glance_at(&unheard(&self.skipped, self.members, inst)),
+            None => glance_at(&slotless(&self.skipped, self.members, inst)),
         }
     }
 
@@ -128,7 +128,7 @@ impl Known {
     {
         match self.slots.get(inst) {
             Some(slot) => slot.prepare_answer(ballot),
-            None => unheard(&self.skipped, self.members, inst).prepare_answer(ballot),
+            None => slotless(&self.skipped, self.members, inst).prepare_answer(ballot),
         }
     }
 
@@ -146,7 +146,7 @@ impl Known {
     {
         match self.slots.get(inst) {
             Some(slot) => slot.promise_answer(from, ballot, vote),
-            None => unheard(&self.skipped, self.members, inst).promise_answer(from, ballot, vote),
+            None => slotless(&self.skipped, self.members, inst).promise_answer(from, ballot, vote),
         }
     }
 
@@ -158,7 +158,7 @@ impl Known {
     {
         match self.slots.get(inst) {
             Some(slot) => slot.accept_answer(from, ballot),
-            None => unheard(&self.skipped, self.members, inst).accept_answer(from, ballot),
+            None => slotless(&self.skipped, self.members, inst).accept_answer(from, ballot),
         }
     }
 
@@ -414,9 +414,9 @@ fn is_passed(skipped: &Vec<Ranges>, members: Members, inst: u32) -> bool
 }
 
 // What is known of an instance where no slot stands.
-fn unheard(skipped: &Vec<Ranges>, members: Members, inst: u32) -> Slot
+fn slotless(skipped: &Vec<Ranges>, members: Members, inst: u32) -> Slot
     requires { IsSorted members skipped.now.items }
-    ensures { result ≡ unheard members (is_passed members skipped.now.items inst) }
+    ensures { result ≡ slotless members (is_passed members skipped.now.items inst) }
 {
     blank(members, is_passed(skipped, members, inst))
 }

@@ -6,7 +6,7 @@ ghost use Rattle.coord_paxos.specs.SlotState.{SlotState};
 ghost use Rattle.mencius_base.specs.Members.{below, instances};
 ghost use Rattle.mencius_base.specs.declared.message.Message.TheVariants.{Prepare};
 ghost use Rattle.mencius_base.specs.declared.message.Value.TheVariants.{Noop};
-ghost use Rattle.mencius_server.specs.Known.{unheard};
+ghost use Rattle.mencius_server.specs.Known.{slotless};
 ghost use Rattle.mencius_server.specs.Lending.{LendsSlot};
 ghost use Rattle.mencius_server.specs.Machine.{ballot_after, is_spent, round_after};
 ghost use Rattle.mencius_server.specs.Places.{IsPlaced, standing};
@@ -110,7 +110,7 @@ impl Slots {
         requires small { inst < instance_count }
         requires none { stand_at self.old inst ≡ None }
         ensures ok { OnOk result ((j : ℕ) → stand_at self.new j
-            ≡ (if j == inst then Some (unheard members is_skipped) else stand_at self.old j)) }
+            ≡ (if j == inst then Some (slotless members is_skipped) else stand_at self.old j)) }
         ensures err { OnErr result (self.new ≡ self.old) }
     {
         self.slots.reserve(1)?;
@@ -276,7 +276,7 @@ impl Slots {
 
 /// A slot where nothing was heard but perhaps a Skip.
 pub(crate) fn blank(members: Members, is_skipped: bool) -> Slot
-    ensures { result ≡ unheard members is_skipped }
+    ensures { result ≡ slotless members is_skipped }
 {
     if is_skipped {
         Slot::known(members, Value::Noop)

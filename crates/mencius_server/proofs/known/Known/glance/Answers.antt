@@ -13,6 +13,6 @@ returns-in-Some c =
 pub returns-in-None : goal.returns-in-None
 returns-in-None c =
     c.glance_at-in-None.ensures
-    ∙ ap glance_of (c.unheard.ensures
+    ∙ ap glance_of (c.slotless.ensures
     ∙ sym (seen_none c.self.inside.members c.self.inside.slots c.self.inside.skipped.items c.args.self.now
     c.self.view_is c.args.inst c.requires c.in-None.ensures.none))

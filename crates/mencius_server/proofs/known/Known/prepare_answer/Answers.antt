@@ -13,5 +13,5 @@ returns-in-Some c =
 pub returns-in-None : goal.returns-in-None
 returns-in-None c =
     c.prepare_answer-in-None.ensures
-    ∙ ap (λ (s : SlotState). prepare_answer s c.args.ballot) (c.unheard.ensures
+    ∙ ap (λ (s : SlotState). prepare_answer s c.args.ballot) (c.slotless.ensures
     ∙ sym (seen_none _ _ _ _ c.self.view_is c.args.inst c.requires c.in-None.ensures.none))

@@ -13,7 +13,7 @@ returns-in-Some c =
 pub returns-in-None : goal.returns-in-None
 returns-in-None c =
     c.promise_answer-in-None.ensures
-    ∙ ap (λ (s : SlotState). promise_answer s c.args.from c.args.ballot c.args.vote) (c.unheard.ensures
+    ∙ ap (λ (s : SlotState). promise_answer s c.args.from c.args.ballot c.args.vote) (c.slotless.ensures
     ∙ sym (seen_none _ _ _ _ c.self.view_is c.args.inst c.requires.small c.in-None.ensures.none))
 
 pub promise_answer-requires : goal.promise_answer-requires
@@ -24,5 +24,5 @@ promise_answer-requires c =
 pub promise_answer-requires-in-None : goal.promise_answer-requires-in-None
 promise_answer-requires-in-None c =
     subst (λ (s : SlotState). c.args.from < s.members.count)
-    (seen_none _ _ _ _ c.self.view_is c.args.inst c.requires.small c.in-None.ensures.none ∙ sym c.unheard.ensures)
+    (seen_none _ _ _ _ c.self.view_is c.args.inst c.requires.small c.in-None.ensures.none ∙ sym c.slotless.ensures)
     c.requires.member

@@ -1,6 +1,6 @@
 use Rattle.std.proofs.Common.{sym, ◌∙◌, ap}
 use Rattle.coord_paxos.specs.SlotState.{SlotState}
-use Rattle.mencius_server.proofs.KnownInstances.{seen_none, seen_some, unheard_quiet}
+use Rattle.mencius_server.proofs.KnownInstances.{seen_none, seen_some, slotless_quiet}
 use Rattle.mencius_server.proofs.known.Known.proposal.Goals as goal
 
 pub returns-in-Some : goal.returns-in-Some
@@ -13,4 +13,4 @@ pub returns-in-None : goal.returns-in-None
 returns-in-None c =
     sym (ap (λ (s : SlotState). s.proposal)
     (seen_none _ _ _ _ c.self.view_is c.args.inst c.requires c.in-None.ensures.none)
-    ∙ (unheard_quiet c.self.inside.members _).2)
+    ∙ (slotless_quiet c.self.inside.members _).2)

@@ -1,5 +1,5 @@
 use Rattle.std.proofs.Common.{ℕ, Some, cond, eqb, sym, ◌∙◌, ap}
-use Rattle.mencius_server.specs.Known.{unheard}
+use Rattle.mencius_server.specs.Known.{slotless}
 use Rattle.mencius_server.specs.Slots.{stand_at}
 use Rattle.mencius_server.proofs.KnownInstances.{none_there, seen_stands, stood_already, stood_at_same, stood_has, stood_shows, stood_sound}
 use Rattle.mencius_server.proofs.InstanceTallies.{alike_same, counts_kept, unchanged}
@@ -21,7 +21,7 @@ invariant_of-self-2 c =
     let gone = none_there (stand_at c.self.inside.slots c.args.inst) c.has.result c.has.ensures c.if-has.false in
     let stands =
     λ (j : ℕ). c.in_ok-stand.ensures.ok j
-    ∙ ap (λ bit. cond (eqb j c.args.inst) (Some (unheard c.self.inside.members bit)) (stand_at c.self.inside.slots j))
+    ∙ ap (λ bit. cond (eqb j c.args.inst) (Some (slotless c.self.inside.members bit)) (stand_at c.self.inside.slots j))
     c.is_passed-was_skipped.ensures in
     counts_kept _ _ _ _ _ _ _ _
     (stood_sound _ _ _ _ _ gone stands c.self.inside.learned_below c.self.invariant.sound)
@@ -34,7 +34,7 @@ returns-clause-ok c =
     let gone = none_there (stand_at c.self.inside.slots c.args.inst) c.has.result c.has.ensures c.if-has.false in
     stood_shows _ _ _ _ _ gone
     (λ j. c.in_ok-stand.ensures.ok j
-    ∙ ap (λ bit. cond (eqb j c.args.inst) (Some (unheard c.self.inside.members bit))
+    ∙ ap (λ bit. cond (eqb j c.args.inst) (Some (slotless c.self.inside.members bit))
     (stand_at c.self.inside.slots j)) c.is_passed-was_skipped.ensures) c.args.self.now c.self.view_is
 
 pub returns-clause-there : goal.returns-clause-there
