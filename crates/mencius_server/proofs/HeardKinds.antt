@@ -141,24 +141,21 @@ pub record IsSkipping (m : Membership) (w v : Trace) (p f : ℕ) : Type 0 where
   pub slots : (j : ℕ) → slot_at m v p j ≡ slot_at m w p j
   pub front : front m v p ≡ f
 
+-- the slot once it accepted a ticket at ballot 0
+abbrev with_ticket : SlotState → ℕ → SlotState
+with_ticket s t = record s { promised = 0; vote = Some (record { ballot = 0; value = Ticket t }) }
+
 suggest_accepts : (m : Membership) (w v : Trace) (p q i f : ℕ) (t : ℕ) → IsSkipping m w v p f
     → proposed v i 0 ≡ Some (Ticket t)
     → (a : Bool) → leb (promised w p i) 0 ≡ a
-    → with_slot_and_front (server_at m w p) i
-    (cond a (record (slot_at m w p i) {
-      promised = 0;
-      vote = Some (record { ballot = 0; value = Ticket t });
-    }) (slot_at m w p i)) f
+    → with_slot_and_front (server_at m w p) i (cond a (with_ticket (slot_at m w p i) t) (slot_at m w p i)) f
     ≡ server_at m (followed_by v (cond a (Sent (Accepted p q i 0) ∷ []) [])) p
 suggest_accepts m w v p q i f t skips said true free =
     let none : promised v p i ≡ promised w p i = ap (λ (s : SlotState). s.promised) (skips.slots i) in
     let zero : promised w p i ≤ 0 = leb-true _ _ free in
     server_written m w (Sent (Accepted p q i 0) ∷ v) p i f _ (rw (← skips.front) (omega arith))
     (slot_at-accepted m v p q i 0 (Ticket t) (omega arith) said
-    ∙ ap (λ (s : SlotState). record s {
-      promised = 0;
-      vote = Some (record { ballot = 0; value = Ticket t });
-    }) (skips.slots i))
+    ∙ ap (λ (s : SlotState). with_ticket s t) (skips.slots i))
     (λ j ne. slot_at-quiet m v (Sent (Accepted p q i 0)) p j (quiet_accepted p q i 0 j ne) refl ∙ skips.slots j)
 suggest_accepts m w v p q i f t skips said false taken =
     server_written m w v p i f _ skips.front (skips.slots i) (λ j ne. skips.slots j)
@@ -180,67 +177,56 @@ suggest_skips m w k p q i t small e false behind = record {
   front = omega arith;
 }
 
+-- its lines: a Skip or none, and an acceptance or none
+abbrev suggest_lines : Membership → Trace → ℕ → ℕ → ℕ → Bool → Bool → List Line
+suggest_lines m w p q i a d =
+    cond a (Sent (Skip p (front m w p) (first_owned m p (i + 1))) ∷ []) [] ++ cond d (Sent (Accepted p q i 0) ∷ []) []
+
+suggest_messages : (m : Membership) (w : Trace) (p q i : ℕ) (a d : Bool)
+    → (messages_of (cond a (Sent (Skip p (front m w p) (first_owned m p (i + 1))) ∷ []) [])
+    ++ messages_of (cond d (Sent (Accepted p q i 0) ∷ []) []))
+    ≡ messages_of (suggest_lines m w p q i a d)
+suggest_messages m w p q i true true = refl
+suggest_messages m w p q i true false = refl
+suggest_messages m w p q i false true = refl
+suggest_messages m w p q i false false = refl
+
+suggest_learnings : (m : Membership) (w : Trace) (p q i : ℕ) (a d : Bool)
+    → 0 ≡ learnings (suggest_lines m w p q i a d)
+suggest_learnings m w p q i true true = refl
+suggest_learnings m w p q i true false = refl
+suggest_learnings m w p q i false true = refl
+suggest_learnings m w p q i false false = refl
+
+-- the server after them
+suggest_world : (m : Membership) (w : Trace) (k p q i t : ℕ) → i < instance_count
+    → slice_get (sent w) k ≡ Some (Suggest q i t) → proposed w i 0 ≡ Some (Ticket t)
+    → (a d : Bool) → ltb (front m w p) i ≡ a → leb (promised w p i) 0 ≡ d
+    → with_slot_and_front (server_at m w p) i (cond d (with_ticket (slot_at m w p i) t) (slot_at m w p i))
+    (cond a (first_owned m p (i + 1)) (front m w p))
+    ≡ server_at m (followed_by (Heard k p ∷ w) (suggest_lines m w p q i a d)) p
+suggest_world m w k p q i t small e said true d ahead free =
+    suggest_accepts m w _ p q i _ t (suggest_skips m w k p q i t small e true ahead) (rw said) d free
+suggest_world m w k p q i t small e said false d ahead free =
+    suggest_accepts m w _ p q i _ t (suggest_skips m w k p q i t small e false ahead) (rw said) d free
+
 suggest_cases : (m : Membership) (w : Trace) (k p q i t : ℕ) → i < instance_count
     → slice_get (sent w) k ≡ Some (Suggest q i t) → proposed w i 0 ≡ Some (Ticket t)
     → (a d : Bool) → ltb (front m w p) i ≡ a → leb (promised w p i) 0 ≡ d
-    → Meets m w k p (Suggest q i t)
-    (cond a (Sent (Skip p (front m w p) (first_owned m p (i + 1))) ∷ []) [] ++ cond d (Sent (Accepted p q i 0) ∷ []) [])
+    → Meets m w k p (Suggest q i t) (suggest_lines m w p q i a d)
 suggest_cases m w k p q i t small e said a d ahead free = record {
-  sends = rw (slot-server_at m w p i small, ahead, free) (suggest_messages a d);
-  learns = suggest_learnings a d;
+  sends = rw (slot-server_at m w p i small, ahead, free) (suggest_messages m w p q i a d);
+  learns = suggest_learnings m w p q i a d;
   state =
       ap (λ (s : SlotState). with_slot_and_front (server_at m w p) i (after_accept s 0 (Ticket t))
       (next_front (server_at m w p) i)) (slot-server_at m w p i small)
       ∙ ap (λ (x : Bool). with_slot_and_front (server_at m w p) i
-      (cond x (record (slot_at m w p i) {
-        promised = 0;
-        vote = Some (record { ballot = 0; value = Ticket t });
-      }) (slot_at m w p i))
-      (next_front (server_at m w p) i)) free
+      (cond x (with_ticket (slot_at m w p i) t) (slot_at m w p i)) (next_front (server_at m w p) i)) free
       ∙ ap (λ (x : Bool). with_slot_and_front (server_at m w p) i
-      (cond d (record (slot_at m w p i) {
-        promised = 0;
-        vote = Some (record { ballot = 0; value = Ticket t });
-      }) (slot_at m w p i))
+      (cond d (with_ticket (slot_at m w p i) t) (slot_at m w p i))
       (cond x (first_owned m p (i + 1)) (front m w p))) ahead
-      ∙ suggest_world a d ahead free;
+      ∙ suggest_world m w k p q i t small e said a d ahead free;
 }
-  where
-    suggest_messages : (a d : Bool)
-        → (messages_of (cond a (Sent (Skip p (front m w p) (first_owned m p (i + 1))) ∷ []) [])
-        ++ messages_of (cond d (Sent (Accepted p q i 0) ∷ []) []))
-        ≡ messages_of
-        (cond a (Sent (Skip p (front m w p) (first_owned m p (i + 1))) ∷ []) []
-        ++ cond d (Sent (Accepted p q i 0) ∷ []) [])
-    suggest_messages true true = refl
-    suggest_messages true false = refl
-    suggest_messages false true = refl
-    suggest_messages false false = refl
-
-    suggest_learnings : (a d : Bool)
-        → 0 ≡ learnings
-        (cond a (Sent (Skip p (front m w p) (first_owned m p (i + 1))) ∷ []) []
-        ++ cond d (Sent (Accepted p q i 0) ∷ []) [])
-    suggest_learnings true true = refl
-    suggest_learnings true false = refl
-    suggest_learnings false true = refl
-    suggest_learnings false false = refl
-
-    suggest_world : (a d : Bool) → ltb (front m w p) i ≡ a → leb (promised w p i) 0 ≡ d
-        → with_slot_and_front (server_at m w p) i
-        (cond d (record (slot_at m w p i) {
-          promised = 0;
-          vote = Some (record { ballot = 0; value = Ticket t });
-        }) (slot_at m w p i))
-        (cond a (first_owned m p (i + 1)) (front m w p))
-        ≡ server_at m
-        (followed_by (Heard k p ∷ w)
-        (cond a (Sent (Skip p (front m w p) (first_owned m p (i + 1))) ∷ []) []
-        ++ cond d (Sent (Accepted p q i 0) ∷ []) [])) p
-    suggest_world true d ahead free =
-        suggest_accepts m w _ p q i _ t (suggest_skips m w k p q i t small e true ahead) (rw said) d free
-    suggest_world false d ahead free =
-        suggest_accepts m w _ p q i _ t (suggest_skips m w k p q i t small e false ahead) (rw said) d free
 
 pub meets_suggest : (m : Membership) (w : Trace) (k p q i t : ℕ) → i < instance_count
     → slice_get (sent w) k ≡ Some (Suggest q i t) → proposed w i 0 ≡ Some (Ticket t)
