@@ -1,11 +1,11 @@
 -- What an accepted event leaves, in the words of the laws.
-use Rattle.std.proofs.Common.{◌≡◌, Option, None, Some, Ok, refl, sym, ap, ◌∙◌}
+use Rattle.std.proofs.Common.{◌≡◌, Option, None, Some, Ok, refl, ap, ◌∙◌}
 use Rattle.mencius_base.specs.declared.event.Event.{Event}
-use Rattle.mencius_base.specs.declared.event.Event.TheVariants.{Submit, Deliver, Lose, Suspect, Retry, Execute}
+use Rattle.mencius_base.specs.declared.event.Event.TheVariants.{Lose, Execute}
 use Rattle.mencius_base.specs.declared.refusal.Refusal.{Refusal}
 use Rattle.mencius_base.specs.Members.{Membership}
 use Rattle.mencius_model.specs.Trace.{Trace}
-use Rattle.mencius_model.specs.Next.{next, refused, step_or, with_event, server_of}
+use Rattle.mencius_model.specs.Next.{next, refused, step_or, with_event}
 use Rattle.mencius_server.specs.Laws.{ExecutionLeavesAll, LeavesOthers, LossLeavesAll}
 use Rattle.mencius_server.specs.Reached.{server_at}
 use Rattle.mencius_server.proofs.OtherServers.{execution_stays, loss_stays, others_stay}

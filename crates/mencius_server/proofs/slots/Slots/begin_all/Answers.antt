@@ -1,4 +1,4 @@
-use Rattle.std.proofs.Common.{◌≡◌, ◌+◌, ◌<◌, ◌≤◌, ℕ, Bool, cond, false, true, ◌∙◌, ap, arith, refl, sym}
+use Rattle.std.proofs.Common.{◌≡◌, ◌+◌, ◌<◌, ℕ, Bool, cond, false, true, ◌∙◌, ap, arith, refl, sym}
 use Rattle.std.specs.Option.{option_map}
 use Rattle.coord_paxos.specs.SlotState.{SlotState}
 use Rattle.mencius_server.specs.Slots.{begun, is_begun, is_in, is_unlearned, prepare_at, stand_at}
