@@ -12,6 +12,9 @@ returns-then-is_none-clause-place c =
     let free : is_free_at c.args.self.now c.loop-inst.inst ≡ true = search rules in
     sym (find-instances (is_free_at c.args.self.now) c.loop-inst.inst (omega arith) c.loop-inst.invariant.none free)
 
+pub returns-then-is_none-clause-fits : goal.returns-then-is_none-clause-fits
+returns-then-is_none-clause-fits c = record { small = omega arith; free = search rules }
+
 pub loop-inst-init : goal.loop-inst-init
 loop-inst-init c = record {
   own = c.next_own-inst.ensures.own;

@@ -1,0 +1,6 @@
+use Rattle.std.proofs.Common.{arith}
+use Rattle.std.proofs.lemmas.Grind.{common_steps}
+use Rattle.mencius_server.proofs.slots.Slots.learn_noop.Goals as goal
+
+pub returns-then-has : goal.returns-then-has
+returns-then-has c = λ j. grind (arith, common_steps)
