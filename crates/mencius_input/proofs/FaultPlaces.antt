@@ -12,8 +12,8 @@ use Rattle.serde_json.proofs.Views.{get_item_within}
 use Rattle.mencius_ends.specs.declared.fault.AppFault.{AppFault}
 use Rattle.mencius_base.specs.declared.refusal.NoMemory.{NoMemory}
 use Rattle.mencius_input.specs.declared.places.Place.{Place}
-use Rattle.mencius_input.specs.Place.{IsAt, NoneBefore, item_said}
-use Rattle.mencius_input.specs.Scenario.{json_of}
+use Rattle.mencius_input.specs.Place.{IsAt, NoneBefore}
+use Rattle.mencius_input.specs.Scenario.{item_said, json_of}
 
 pub said_err : {X : Type 0} (r : Result X AppFault) (fault : AppFault) → result_err r ≡ Some fault → r ≡ Err fault
 said_err (Ok x) fault e = absurd (cc)

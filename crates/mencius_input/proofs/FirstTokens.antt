@@ -7,7 +7,8 @@ use Rattle.json.proofs.Grammar.{value_is}
 use Rattle.serde_json.specs.Data.{Data, Num, Items, Members, array, boolean, null, number, object, string}
 use Rattle.serde_json.specs.Find.{as_array, as_number, as_object, as_str, as_u64}
 use Rattle.serde_json.specs.Read.{converted, number_of, of_json}
-use Rattle.mencius_input.specs.Next.{EntersObject, next_items, next_members, next_value, number_text, opens_array, opens_object, text_of, whole_in}
+use Rattle.mencius_input.specs.Next.{EntersObject, next_items, next_members, next_value, number_text, opens_array, opens_object, text_of}
+use Rattle.mencius_input.specs.Scenario.{whole_in}
 use Rattle.mencius_input.proofs.NextValues.{array_too_deep, object_too_deep, next_counted, next_number, next_string, next_uncounted, opened_array, opened_object, paired}
 
 -- the value that begins with the token

@@ -9,12 +9,11 @@ use Rattle.std.proofs.lemmas.Map.Text.{is_eq-slice_cmp}
 use Rattle.std.proofs.lemmas.Slice.Eq.{bytes_eq-Decides}
 use Rattle.serde_json.specs.Data.{Data, Members, member, no_members, object, put}
 use Rattle.serde_json.specs.Events.{members_len}
-use Rattle.serde_json.specs.Find.{as_number, as_u64, get_member}
+use Rattle.serde_json.specs.Find.{get_member}
 use Rattle.serde_json.proofs.Views.{get_member-put, get_member-put_other}
 use Rattle.mencius_ends.specs.declared.fault.AppFault.TheVariants.{BadShape}
 use Rattle.mencius_input.specs.Named.{all_said, AreNamed, Says, field, is_one_of, newest, these}
-use Rattle.mencius_input.specs.Next.{whole_in}
-use Rattle.mencius_input.specs.Scenario.{whole_of}
+use Rattle.mencius_input.specs.Scenario.{whole_in, whole_of}
 
 -- ---- names
 
@@ -327,8 +326,4 @@ no_shape false = refl
 pub whole_field : (name : List ℕ) (ms : Members)
     → whole_of name (object ms) ≡ option_and_then whole_in (get_member name ms)
 unfolding whole_of
-whole_field name ms = twice (get_member name ms)
-  where
-    twice : (o : Option Data) → option_and_then as_u64 (option_and_then as_number o) ≡ option_and_then whole_in o
-    twice None = refl
-    twice (Some d) = refl
+whole_field name ms = refl

@@ -19,10 +19,9 @@ use Rattle.mencius_input.specs.declared.plan.Numbers.{Numbers}
 use Rattle.mencius_input.specs.Grammar.{command_within}
 use Rattle.mencius_input.specs.Judged.{judged, seen}
 use Rattle.mencius_input.specs.Named.{all_said, AreNamed, Says, is_one_of}
-use Rattle.mencius_input.specs.Next.{whole_in}
-use Rattle.mencius_input.specs.Plan.{WrittenPlan, commands_of, numbers_of, numbers_within, plan, plan_of, plan_within}
+use Rattle.mencius_input.specs.Plan.{WrittenPlan, commands_of, lists_fit, numbers_of, plan, plan_of, plan_within}
 use Rattle.mencius_input.specs.PlanFields.{AreFields, lists_of, lists_within, noted, numbers_in, plan_names, plan_said, there, whole_names}
-use Rattle.mencius_input.specs.Scenario.{◌>>=◌, all_of, json_of, or_not_json, read_there, whole_of}
+use Rattle.mencius_input.specs.Scenario.{◌>>=◌, all_of, json_of, or_not_json, read_there, whole_in, whole_of}
 use Rattle.mencius_input.proofs.JudgedParts.{judged_ok}
 use Rattle.mencius_input.proofs.NamedFields.{AllFound, are_ordered, named_count, newest_says, no_names, no_shape, now_says, one_named, other_named, same_name, still_says, whole_field}
 
@@ -198,19 +197,19 @@ plan_bound ms = refl
 
 -- more lists than there may be servers are refused by the other limits too
 too_many : (n : Numbers) (many : ℕ) → nat_le many most_servers ≡ false
-    → (numbers_within n && (many == n.servers)) ≡ false
+    → lists_fit n many ≡ false
 too_many n many e = grind (arith, nat_tests)
 
 by_list : (n : Numbers) (all : List (List Request)) (l few : Bool) → nat_le (length all) most_servers ≡ few
     → plan_said (Some n) (Some (cond (l && few) (Ok all) (Err BadLimit)))
-    ≡ cond ((numbers_within n && (length all == n.servers)) && l) (Ok (written n all)) (Err BadLimit)
+    ≡ cond (lists_fit n (length all) && l) (Ok (written n all)) (Err BadLimit)
 by_list n all true true e =
-    let fits = numbers_within n && (length all == n.servers) in
+    let fits = lists_fit n (length all) in
     ap (λ bit. cond bit (Ok (written n all)) (Err BadLimit)) (sym (and-true fits))
 by_list n all true false e =
     ap (λ bit. cond (bit && true) (Ok (written n all)) (Err BadLimit)) (sym (too_many n (length all) e))
 by_list n all false few e =
-    let fits = numbers_within n && (length all == n.servers) in
+    let fits = lists_fit n (length all) in
     ap (λ bit. cond bit (Ok (written n all)) (Err BadLimit)) (sym (and-false fits))
 
 with_all : (n : Numbers) (o : Option (List (List Request)))
@@ -275,7 +274,7 @@ plan_fits bytes x e = by_value (json_of bytes) e
     by_value None e = absurd (cc)
     by_value (Some d) e = (judged_ok plan_within (plan_of d) x e).1
 
-in_range : (n : Numbers) (many : ℕ) → (numbers_within n && (many == n.servers)) ≡ true
+in_range : (n : Numbers) (many : ℕ) → lists_fit n many ≡ true
     → (1 ≤ n.workers) × (n.workers ≤ most_workers) × (n.turns ≤ most_turns) × (n.loss ≤ greatest_loss)
     × (many ≤ most_servers)
 in_range n many e = (
@@ -294,6 +293,6 @@ pub plan_in_range : (bytes : List ℕ) (x : WrittenPlan) → plan bytes ≡ Ok x
     → (1 ≤ x.numbers.workers) × (x.numbers.workers ≤ most_workers) × (x.numbers.turns ≤ most_turns)
     × (x.numbers.loss ≤ greatest_loss) × (length x.commands ≤ most_servers)
 plan_in_range bytes x e =
-    let fits = and_parts (numbers_within x.numbers && (length x.commands == x.numbers.servers))
+    let fits = and_parts (lists_fit x.numbers (length x.commands))
     (list_all (list_all command_within) x.commands) (plan_fits bytes x e) in
     in_range x.numbers (length x.commands) fits.0

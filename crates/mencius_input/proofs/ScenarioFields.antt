@@ -1,13 +1,13 @@
 -- The fields of a scenario, read one after the other.
-use Rattle.std.proofs.Common.{◌≡◌, ℕ, ◌==◌, ◌&&◌, List, Bool, true, false, not, cond, codes, Option, Some, None, option_map, option_and_then, Result, Ok, Err, nat_le, refl, subst, sym, ap, ap₂, ◌∙◌}
+use Rattle.std.proofs.Common.{◌≡◌, ℕ, ◌==◌, ◌&&◌, List, Bool, true, false, not, cond, codes, Option, Some, None, option_map, option_and_then, Result, Ok, Err, refl, subst, sym, ap, ap₂, ◌∙◌}
 use Rattle.std.specs.Prelude.{if◌then◌else◌}
 use Rattle.std.specs.List.{list_all}
 use Rattle.std.specs.Str.{bytes_eq}
+use Rattle.std.proofs.Math.Bool.{and-true, and-false}
 use Rattle.std.proofs.lemmas.Bool.{or_parts}
 use Rattle.serde_json.specs.Data.{Data, Items, Members, no_members, object, put}
 use Rattle.serde_json.specs.Events.{members_len}
 use Rattle.serde_json.specs.Find.{as_array, as_object, get_member}
-use Rattle.mencius_base.specs.Limits.{most_servers}
 use Rattle.mencius_base.specs.declared.event.Event.{Event}
 use Rattle.mencius_ends.specs.declared.fault.AppFault.{AppFault}
 use Rattle.mencius_ends.specs.declared.fault.AppFault.TheVariants.{BadLimit, BadShape}
@@ -18,9 +18,8 @@ use Rattle.mencius_input.specs.Fields.{AreFields, fitted_events, named, said, th
 use Rattle.mencius_input.specs.Grammar.{event_within}
 use Rattle.mencius_input.specs.Judged.{judged}
 use Rattle.mencius_input.specs.Named.{all_said, is_one_of}
-use Rattle.mencius_input.specs.Next.{whole_in}
 use Rattle.mencius_input.specs.Noted.{list_in}
-use Rattle.mencius_input.specs.Scenario.{◌>>=◌, Written, events_of, within, written_of}
+use Rattle.mencius_input.specs.Scenario.{◌>>=◌, Written, cluster_within, events_of, whole_in, within, written_of}
 use Rattle.mencius_input.proofs.NamedFields.{are_ordered, named_count, no_names, no_shape, now_says, one_named, other_named, same_name, still_says, whole_field}
 
 ordered : are_ordered three_names ≡ true
@@ -148,30 +147,24 @@ with_more (Some version) None oi = refl
 with_more (Some version) (Some s) None = refl
 with_more (Some version) (Some s) (Some ds) = unsaid (events_of ds)
 
-all_hold : {X : Type 0} (x y : X) (a d : Bool) → cond (a && d) x y ≡ cond (a && d && true) x y
-all_hold x y true true = refl
-all_hold x y true false = refl
-all_hold x y false d = refl
+abbrev written : ℕ → ℕ → List Event → Written
+written version s es = record { version = version; servers = s; events = es }
 
-one_fails : {X : Type 0} (x y : X) (a d : Bool) → y ≡ cond (a && d && false) x y
-one_fails x y true true = refl
-one_fails x y true false = refl
-one_fails x y false d = refl
-
-by_list : (version s : ℕ) (es : List Event) (a d : Bool) → a ≡ (version == 1)
-    → d ≡ (nat_le 1 s && nat_le s most_servers)
-    → (l : Bool)
-    → fitted_events version s (cond l (Ok es) (Err BadLimit))
-    ≡ cond (a && d && l) (Ok (record { version = version; servers = s; events = es })) (Err BadLimit)
-by_list version s es a d e same true = rw (← e, ← same) (all_hold _ _ a d)
-by_list version s es a d e same false = one_fails _ _ a d
+-- the limits of the cluster, and then those of the events
+by_limits : (version s : ℕ) (es : List Event) (fits : Bool)
+    → fitted_events version s (cond fits (Ok es) (Err BadLimit))
+    ≡ cond (cluster_within version s && fits) (Ok (written version s es)) (Err BadLimit)
+by_limits version s es true =
+    ap (λ bit. cond bit (Ok (written version s es)) (Err BadLimit)) (sym (and-true (cluster_within version s)))
+by_limits version s es false =
+    ap (λ bit. cond bit (Ok (written version s es)) (Err BadLimit)) (sym (and-false (cluster_within version s)))
 
 with_events : (version s : ℕ) (o : Option (List Event))
     → said (Some (Some version)) (Some (Some s)) (Some (judged (list_all event_within) o))
     ≡ judged within (option_and_then (λ es. Some (record { version = version; servers = s; events = es })) o)
 with_events version s None = refl
 with_events version s (Some es) =
-    by_list version s es (version == 1) (nat_le 1 s && nat_le s most_servers) refl refl (list_all event_within es)
+    by_limits version s es (list_all event_within es)
 
 all_three : (ov os : Option ℕ) (oi : Option Items)
     → said (Some ov) (Some os) (Some (judged (list_all event_within) (option_and_then events_of oi)))

@@ -1,9 +1,8 @@
 -- The fields of a scenario that were read so far; for private clauses.
-use Rattle.std.specs.Prelude.{ℕ, ◌==◌, ◌&&◌, List, [], ◌∷◌, codes, Option, Some, Result, Ok, Err, nat_le, if◌then◌else◌}
+use Rattle.std.specs.Prelude.{ℕ, List, [], ◌∷◌, codes, Option, Some, Result, Ok, Err, if◌then◌else◌}
 use Rattle.std.specs.List.{list_all}
 use Rattle.std.specs.Str.{bytes_eq}
 use Rattle.serde_json.specs.Data.{Members}
-use Rattle.mencius_base.specs.Limits.{most_servers}
 use Rattle.mencius_base.specs.declared.event.Event.{Event}
 use Rattle.mencius_ends.specs.declared.fault.AppFault.{AppFault}
 use Rattle.mencius_ends.specs.declared.fault.AppFault.TheVariants.{BadLimit, BadShape}
@@ -13,9 +12,8 @@ use Rattle.mencius_input.specs.declared.scenario.Name.TheVariants.{Version, Serv
 use Rattle.mencius_input.specs.Grammar.{event_within}
 use Rattle.mencius_input.specs.Judged.{judged}
 use Rattle.mencius_input.specs.Named.{AreNamed, Says}
-use Rattle.mencius_input.specs.Next.{whole_in}
 use Rattle.mencius_input.specs.Noted.{list_in}
-use Rattle.mencius_input.specs.Scenario.{Written}
+use Rattle.mencius_input.specs.Scenario.{Written, cluster_within, whole_in}
 
 -- which field a name means
 unfoldable pub named : List ℕ → Name
@@ -36,11 +34,11 @@ pub record AreFields (f : code.Fields) (ms : Members) : Type 0 where
   pub servers : Says whole_in (codes "servers") f.servers ms
   pub events : Says (λ d. judged (list_all event_within) (list_in d)) (codes "events") f.events ms
 
--- a scenario of this version
+-- a scenario within the limits
 abbrev pub fitted : ℕ → ℕ → List Event → Result Written AppFault
 fitted version servers events =
-    if (version == 1) && (nat_le 1 servers && nat_le servers most_servers)
-    then Ok (record { version = version; servers = servers; events = events }) else Err BadLimit
+    if cluster_within version servers then Ok (record { version = version; servers = servers; events = events })
+    else Err BadLimit
 
 abbrev pub fitted_events : ℕ → ℕ → Result (List Event) AppFault → Result Written AppFault
 fitted_events version servers (Ok events) = fitted version servers events

@@ -1,10 +1,10 @@
 -- The next value of a row of tokens; for private clauses.
-use Rattle.std.specs.Prelude.{◌≡◌, ◌⊎◌, ◌-◌, ℕ, List, length, Bool, true, false, Option, Some, None, option_and_then}
+use Rattle.std.specs.Prelude.{◌≡◌, ◌⊎◌, ◌-◌, ℕ, List, length, Bool, true, false, Option, Some, None}
 use Rattle.json.specs.Token.{Token}
 use Rattle.json.specs.Token as token
 use Rattle.json.specs.Json.{items, members, parse_map, value}
 use Rattle.serde_json.specs.Data.{Data, Items, Members, array, no_members, object}
-use Rattle.serde_json.specs.Find.{as_array, as_number, as_object, as_u64}
+use Rattle.serde_json.specs.Find.{as_array, as_object}
 use Rattle.serde_json.specs.Read.{converted, of_items, of_json, of_members}
 use Rattle.mencius_ends.specs.declared.fault.AppFault.{AppFault}
 use Rattle.mencius_ends.specs.declared.fault.AppFault.TheVariants.{NoMemory, NotJson}
@@ -51,7 +51,3 @@ opens_array _ = false
 abbrev pub opens_object : Token → Bool
 opens_object token.begin_object = true
 opens_object _ = false
-
--- the whole number that a value is
-abbrev pub whole_in : Data → Option ℕ
-whole_in d = option_and_then as_u64 (as_number d)

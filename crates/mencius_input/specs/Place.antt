@@ -1,9 +1,7 @@
 -- Where the value of a scenario has a fault.
-use Rattle.std.specs.Prelude.{ℕ, ◌≡◌, ◌≢◌, ◌⊎◌, ◌==◌, ◌&&◌, ◌<◌, ◌++◌, List, ◌∷◌, codes, decimal, Option, Some, None, option_map, IfSome, Result, Err, nat_le, string_bytes}
+use Rattle.std.specs.Prelude.{ℕ, ◌≡◌, ◌≢◌, ◌⊎◌, ◌<◌, ◌++◌, List, ◌∷◌, codes, decimal, Option, Some, None, option_map, IfSome, Err, string_bytes}
 use Rattle.serde_json.specs.Data.{Data, Items, Members}
 use Rattle.serde_json.specs.Find.{as_array, as_object, as_str, get, get_item}
-use Rattle.mencius_base.specs.Limits.{most_servers}
-use Rattle.mencius_base.specs.declared.event.Event.{Event as SpecEvent}
 use Rattle.mencius_ends.specs.declared.fault.AppFault.{AppFault}
 use Rattle.mencius_ends.specs.declared.fault.AppFault.TheVariants.{BadLimit, BadShape}
 use Rattle.mencius_input.specs.declared.places.Field.{Field}
@@ -13,19 +11,13 @@ use Rattle.mencius_input.specs.declared.places.Place.TheVariants.{Whole, Unknown
 use Rattle.mencius_input.specs.declared.places.Places.{Places}
 use Rattle.mencius_input.specs.declared.scenario.Name.TheVariants.{Other}
 use Rattle.mencius_input.specs.Fields.{named}
-use Rattle.mencius_input.specs.Grammar.{event_of, event_within}
 use Rattle.mencius_input.specs.Judged.{judged}
-use Rattle.mencius_input.specs.Next.{whole_in}
-use Rattle.mencius_input.specs.Scenario.{json_of, said_by}
+use Rattle.mencius_input.specs.Scenario.{are_servers, is_version, item_said, json_of, whole_in}
 
 abbrev pub field_name : Field → List ℕ
 field_name Version = codes "version"
 field_name Servers = codes "servers"
 field_name Events = codes "events"
-
--- what an item of the events says, or its fault
-abbrev pub item_said : Data → Result SpecEvent AppFault
-item_said d = judged event_within (said_by event_of d)
 
 -- no item before this index has the fault
 abbrev pub NoneBefore : AppFault → Items → ℕ → Type 0
@@ -42,8 +34,8 @@ pub record IsFirst (fault : AppFault) (items : Items) (index : ℕ) (text : Opti
 
 -- the value of a field has the fault
 abbrev pub FieldFails : AppFault → Field → Data → Type 0
-FieldFails fault Version d = judged (λ version. version == 1) (whole_in d) ≡ Err fault
-FieldFails fault Servers d = judged (λ s. nat_le 1 s && nat_le s most_servers) (whole_in d) ≡ Err fault
+FieldFails fault Version d = judged is_version (whole_in d) ≡ Err fault
+FieldFails fault Servers d = judged are_servers (whole_in d) ≡ Err fault
 FieldFails fault Events d = (fault ≡ BadShape) × (as_array d ≡ None)
 
 -- the place has the fault

@@ -4,14 +4,14 @@ use Rattle.std.specs.List.{list_all}
 use Rattle.serde_json.specs.Data.{Data}
 use Rattle.serde_json.specs.Find.{as_object, as_array, get}
 use Rattle.serde_json.specs.Events.{members_len}
-use Rattle.mencius_base.specs.Limits.{greatest_loss, most_servers, most_turns, most_workers}
+use Rattle.mencius_base.specs.Limits.{greatest_loss, most_turns, most_workers}
 use Rattle.mencius_base.specs.Request.{Request}
 use Rattle.mencius_ends.specs.declared.fault.AppFault.{AppFault}
 use Rattle.mencius_input.specs.declared.plan.Numbers.{Numbers}
 use Rattle.mencius_input.specs.declared.plan.RunInput as code
 use Rattle.mencius_input.specs.Judged.{judged}
 use Rattle.mencius_input.specs.Grammar.{command_of, command_within}
-use Rattle.mencius_input.specs.Scenario.{◌>>=◌, all_of, json_of, or_not_json, read_there, said_by, whole_of}
+use Rattle.mencius_input.specs.Scenario.{◌>>=◌, all_in, all_of, cluster_within, json_of, known_version, or_not_json, read_there, said_by, whole_of}
 
 -- the numbers, and a list of commands for each server
 pub record WrittenPlan : Type 0 where
@@ -32,7 +32,7 @@ numbers_of d = do
 
 -- a list of texts, each a command's
 abbrev pub commands_of : Data → Option (List Request)
-commands_of d = option_and_then (all_of (said_by command_of)) (as_array d)
+commands_of d = all_in (said_by command_of) d
 
 -- an object with these seven fields and no other
 unfoldable pub plan_of : Data → Option WrittenPlan
@@ -47,14 +47,15 @@ plan_of d = do
 
 abbrev pub numbers_within : Numbers → Bool
 numbers_within n =
-    (n.version == 1) && (nat_le 1 n.servers && nat_le n.servers most_servers)
-    && (nat_le 1 n.workers && nat_le n.workers most_workers) && nat_le n.turns most_turns && nat_le n.loss greatest_loss
+    cluster_within n.version n.servers && (nat_le 1 n.workers && nat_le n.workers most_workers)
+    && nat_le n.turns most_turns && nat_le n.loss greatest_loss
 
--- as many lists as there are servers
+-- and as many lists as there are servers
+abbrev pub lists_fit : Numbers → ℕ → Bool
+lists_fit n lists = numbers_within n && (lists == n.servers)
+
 abbrev pub plan_within : WrittenPlan → Bool
-plan_within x =
-    (numbers_within x.numbers && (length x.commands == x.numbers.servers))
-    && list_all (list_all command_within) x.commands
+plan_within x = lists_fit x.numbers (length x.commands) && list_all (list_all command_within) x.commands
 
 -- ---- the bytes
 
@@ -66,7 +67,7 @@ plan bytes = read_there (λ d. judged plan_within (plan_of d)) (or_not_json (jso
 abbrev pub run_in : code.RunInput → WrittenPlan
 run_in s = record {
   numbers = record {
-    version = 1;
+    version = known_version;
     servers = s.members.count;
     workers = s.workers;
     seed = s.seed;

@@ -1,8 +1,7 @@
 -- The fields of a run's scenario that were read so far; for private clauses.
-use Rattle.std.specs.Prelude.{ℕ, ◌==◌, ◌&&◌, ◌||◌, List, [], ◌∷◌, length, map, codes, not, Option, Some, option_and_then, option_map, Result, Ok, Err, Bool, nat_le, if◌then◌else◌}
+use Rattle.std.specs.Prelude.{ℕ, ◌&&◌, ◌||◌, List, [], ◌∷◌, length, map, codes, not, Option, Some, option_and_then, option_map, Result, Ok, Err, Bool, nat_le, if◌then◌else◌}
 use Rattle.std.specs.List.{list_all}
 use Rattle.serde_json.specs.Data.{Data, Members}
-use Rattle.serde_json.specs.Find.{as_array}
 use Rattle.mencius_base.specs.Limits.{most_servers}
 use Rattle.mencius_base.specs.Request.{Request}
 use Rattle.mencius_ends.specs.declared.fault.AppFault.{AppFault}
@@ -13,13 +12,12 @@ use Rattle.mencius_input.specs.declared.plan.Numbers.{Numbers}
 use Rattle.mencius_input.specs.Grammar.{command_within}
 use Rattle.mencius_input.specs.Judged.{judged, seen}
 use Rattle.mencius_input.specs.Named.{AreNamed, Says, is_one_of, newest}
-use Rattle.mencius_input.specs.Next.{whole_in}
-use Rattle.mencius_input.specs.Plan.{WrittenPlan, commands_of, numbers_within}
-use Rattle.mencius_input.specs.Scenario.{◌>>=◌, all_of}
+use Rattle.mencius_input.specs.Plan.{WrittenPlan, commands_of, lists_fit}
+use Rattle.mencius_input.specs.Scenario.{◌>>=◌, all_in, whole_in}
 
 -- a list of lists of texts
 abbrev pub lists_of : Data → Option (List (List Request))
-lists_of d = option_and_then (all_of commands_of) (as_array d)
+lists_of d = all_in commands_of d
 
 -- no command past a limit, and no more lists than there may be servers
 abbrev pub lists_within : List (List Request) → Bool
@@ -75,7 +73,6 @@ numbers_in x = do
 -- what the seven fields say
 abbrev pub plan_said : Option Numbers → Option (Result (List (List Request)) AppFault) → Result WrittenPlan AppFault
 plan_said (Some n) (Some (Ok lists)) =
-    if numbers_within n && (length lists == n.servers)
-    then Ok (record { numbers = n; commands = lists }) else Err BadLimit
+    if lists_fit n (length lists) then Ok (record { numbers = n; commands = lists }) else Err BadLimit
 plan_said (Some n) (Some (Err fault)) = Err fault
 plan_said _ _ = Err BadShape

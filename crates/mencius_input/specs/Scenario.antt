@@ -27,7 +27,7 @@ pub record Written : Type 0 where
 
 -- ---- the shape
 
--- each item of a list, read in order
+-- each of some items, read in order
 unfoldable pub all_of : {X : Type 0} → (Data → Option X) → Items → Option (List X)
 all_of read no_items = Some []
 all_of read (item d ds) = do
@@ -35,17 +35,25 @@ all_of read (item d ds) = do
   xs ← all_of read ds
   Some (x ∷ xs)
 
+-- a list, each item read in order
+abbrev pub all_in : {X : Type 0} → (Data → Option X) → Data → Option (List X)
+all_in read d = option_and_then (all_of read) (as_array d)
+
 -- a text, read by its words
 abbrev pub said_by : {X : Type 0} → (List (List ℕ) → Option X) → Data → Option X
 said_by read d = option_and_then (λ text. read (words text)) (as_str d)
 
--- a list of texts, each an event's
+-- texts, each an event's
 abbrev pub events_of : Items → Option (List Event)
 events_of = all_of (said_by event_of)
 
+-- the whole number that a value is
+abbrev pub whole_in : Data → Option ℕ
+whole_in d = option_and_then as_u64 (as_number d)
+
 -- a field that is a whole number
 unfoldable pub whole_of : List ℕ → Data → Option ℕ
-whole_of name d = option_and_then as_u64 (option_and_then as_number (get name d))
+whole_of name d = option_and_then whole_in (get name d)
 
 -- an object with these three fields and no other
 unfoldable pub written_of : Data → Option Written
@@ -59,8 +67,26 @@ written_of d = do
 
 -- ---- the limits
 
+-- the one version there is
+abbrev pub known_version : ℕ
+known_version = 1
+
+abbrev pub is_version : ℕ → Bool
+is_version version = version == known_version
+
+-- a cluster may have so many servers
+abbrev pub are_servers : ℕ → Bool
+are_servers servers = nat_le 1 servers && nat_le servers most_servers
+
+abbrev pub cluster_within : ℕ → ℕ → Bool
+cluster_within version servers = is_version version && are_servers servers
+
 abbrev pub within : Written → Bool
-within x = (x.version == 1) && (nat_le 1 x.servers && nat_le x.servers most_servers) && list_all event_within x.events
+within x = cluster_within x.version x.servers && list_all event_within x.events
+
+-- what an item of the events says, or its fault
+abbrev pub item_said : Data → Result Event AppFault
+item_said d = judged event_within (said_by event_of d)
 
 -- ---- the bytes
 
@@ -83,4 +109,4 @@ scenario bytes = read_there (λ d. judged within (written_of d)) (or_not_json (j
 
 -- what a scenario that was read says
 abbrev pub written_in : code.Scenario → Written
-written_in s = record { version = 1; servers = s.members.count; events = s.events }
+written_in s = record { version = known_version; servers = s.members.count; events = s.events }

@@ -5,7 +5,7 @@ use Rattle.std.specs.Char.{is_ascii_digit}
 use Rattle.std.specs.Str.Parse.{digits_value}
 use Rattle.mencius_base.specs.Command.{is_name}
 
--- what stands between the bytes c
+-- what stands between the marks
 abbrev pub parts : ℕ → List ℕ → List (List ℕ)
 parts mark text = slice_split (λ byte. byte == mark) text
 

@@ -8,8 +8,8 @@ ghost use Rattle.serde_json.specs.Find.{as_str};
 ghost use Rattle.serde_json.specs.View.{items_view, view};
 ghost use Rattle.mencius_input.specs.declared.scenario.Name.TheVariants.{Other};
 ghost use Rattle.mencius_input.specs.Fields.{named};
-ghost use Rattle.mencius_input.specs.Place.{ArePlaces, IsAt, IsFirst, field_name, item_said};
-ghost use Rattle.mencius_input.specs.Scenario.{json_of};
+ghost use Rattle.mencius_input.specs.Place.{ArePlaces, IsAt, IsFirst, field_name};
+ghost use Rattle.mencius_input.specs.Scenario.{item_said, json_of};
 
 use crate::event::parse_event;
 use crate::scenario::{Name, are_servers, is_version, named};

@@ -7,7 +7,8 @@ ghost use Rattle.json.specs.Reads.{token_of};
 ghost use Rattle.serde_json.specs.Data.{Data, Items, Members};
 ghost use Rattle.serde_json.specs.Find.{as_str, as_u64};
 ghost use Rattle.serde_json.specs.Read.{float_of, number_from, number_of};
-ghost use Rattle.mencius_input.specs.Next.{EntersArray, EntersObject, StopsBy, next_items, next_members, next_value, number_text, opens_array, opens_object, text_of, whole_in};
+ghost use Rattle.mencius_input.specs.Next.{EntersArray, EntersObject, StopsBy, next_items, next_members, next_value, number_text, opens_array, opens_object, text_of};
+ghost use Rattle.mencius_input.specs.Scenario.{whole_in};
 
 use crate::tokens::Tokens;
 use fast_float::Numeral;
