@@ -12,6 +12,7 @@ pub mod EventWords
 pub mod JsonTexts
 pub mod Conversions
 pub mod NextValues
+pub mod TokenKinds
 pub mod FirstTokens
 pub mod NotedItems
 pub mod NamedFields
