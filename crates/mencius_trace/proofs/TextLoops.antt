@@ -9,7 +9,8 @@ use Rattle.mencius_base.specs.Members.{below}
 use Rattle.mencius_model.specs.Trace.{Trace}
 use Rattle.mencius_model.specs.Server.{waiting, waiting_at}
 use Rattle.mencius_model.proofs.NumberLists.{below-more, instances-below}
-use Rattle.mencius_trace.specs.Closing.{ticket_in, tickets_text, waiting_ticket}
+use Rattle.mencius_trace.specs.Closing.{ticket_in}
+use Rattle.mencius_trace.specs.Words.{spaced_ticket, tickets_text}
 
 -- one number more
 pub range_last : (a n j : ℕ) → a + n ≡ j → range_with_len a (suc n) ≡ range_with_len a n ++ j ∷ []
@@ -45,7 +46,7 @@ is_some_list (t ∷ ts) = true
 
 -- a text has the tickets of the instances below a place, and it is known whether there are any
 pub record IsWaitingTo (w : Trace) (p i : ℕ) (some : Bool) (before now : List ℕ) : Type 0 where
-  pub text : now ≡ before ++ flat_map (waiting_ticket w) (waiting_below w p i)
+  pub text : now ≡ before ++ flat_map (spaced_ticket w) (waiting_below w p i)
   pub some_is : some ≡ is_some_list (waiting_below w p i)
 
 below_none : (w : Trace) (p : ℕ) → waiting_below w p 0 ≡ []
@@ -54,7 +55,7 @@ below_none w p = refl
 
 pub waiting_start : (w : Trace) (p : ℕ) (before : List ℕ) → IsWaitingTo w p 0 false before before
 waiting_start w p before = record {
-  text = sym (ap (λ ts. before ++ flat_map (waiting_ticket w) ts) (below_none w p) ∙ append-nil before);
+  text = sym (ap (λ ts. before ++ flat_map (spaced_ticket w) ts) (below_none w p) ∙ append-nil before);
   some_is = sym (ap is_some_list (below_none w p));
 }
 
@@ -68,9 +69,9 @@ some_more xs None = ap is_some_list (sym (append-nil xs))
 some_more [] (Some t) = refl
 some_more (x ∷ xs) (Some t) = refl
 
-one_more : (w : Trace) (o : Option ℕ) → ticket_in w o ≡ flat_map (waiting_ticket w) (cons_option o [])
+one_more : (w : Trace) (o : Option ℕ) → ticket_in w o ≡ flat_map (spaced_ticket w) (cons_option o [])
 one_more w None = refl
-one_more w (Some t) = sym (append-nil (waiting_ticket w t))
+one_more w (Some t) = sym (append-nil (spaced_ticket w t))
 
 pub waiting_next : (w : Trace) (p i : ℕ) (some one : Bool) (before old new : List ℕ)
     → IsWaitingTo w p i some before old → new ≡ old ++ ticket_in w (waiting_at w p i)
@@ -78,7 +79,7 @@ pub waiting_next : (w : Trace) (p i : ℕ) (some one : Bool) (before old new : L
 waiting_next w p i some one before old new had got is =
     let o = waiting_at w p i in
     let xs = waiting_below w p i in
-    let waiting = waiting_ticket w in
+    let waiting = spaced_ticket w in
     record {
       text =
           got ∙ ap (λ text. text ++ ticket_in w o) had.text ∙ append_assoc before (flat_map waiting xs) (ticket_in w o)
@@ -92,12 +93,12 @@ waiting_next w p i some one before old new had got is =
 all_below : (w : Trace) (p : ℕ) → waiting_below w p instance_count ≡ waiting w p
 all_below w p = ap (filter_map (waiting_at w p)) (sym instances-below)
 
-some_text : (w : Trace) (xs : List ℕ) → true ≡ is_some_list xs → flat_map (waiting_ticket w) xs ≡ tickets_text w xs
+some_text : (w : Trace) (xs : List ℕ) → true ≡ is_some_list xs → flat_map (spaced_ticket w) xs ≡ tickets_text w xs
 some_text w [] h = absurd (cc)
 some_text w (x ∷ xs) h = refl
 
 none_text : (w : Trace) (xs : List ℕ) → false ≡ is_some_list xs
-    → flat_map (waiting_ticket w) xs ++ codes " -" ≡ tickets_text w xs
+    → flat_map (spaced_ticket w) xs ++ codes " -" ≡ tickets_text w xs
 none_text w [] h = refl
 none_text w (x ∷ xs) h = absurd (cc)
 
@@ -111,5 +112,5 @@ pub waiting_none : (w : Trace) (p : ℕ) (before old new : List ℕ) → IsWaiti
     → new ≡ old ++ codes " -" → new ≡ before ++ tickets_text w (waiting w p)
 waiting_none w p before old new had got =
     let xs = waiting_below w p instance_count in
-    got ∙ ap (λ text. text ++ codes " -") had.text ∙ append_assoc before (flat_map (waiting_ticket w) xs) (codes " -")
+    got ∙ ap (λ text. text ++ codes " -") had.text ∙ append_assoc before (flat_map (spaced_ticket w) xs) (codes " -")
     ∙ ap (λ text. before ++ text) (none_text w xs had.some_is) ∙ ap (λ ts. before ++ tickets_text w ts) (all_below w p)

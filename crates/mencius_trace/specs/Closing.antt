@@ -1,5 +1,5 @@
 -- What is told after the last event, and the whole text.
-use Rattle.std.specs.Prelude.{Option, Some, None, ℕ, ◌+◌, Bool, false, List, [], ◌∷◌, ◌++◌, codes, decimal, ◌==◌, ◌&&◌, not, if◌then◌else◌}
+use Rattle.std.specs.Prelude.{Option, Some, None, ℕ, ◌+◌, Bool, List, [], ◌∷◌, ◌++◌, codes, decimal, ◌&&◌, not, if◌then◌else◌}
 use Rattle.std.specs.List.{enumerate_from, flat_map, list_any, range_with_len}
 use Rattle.mencius_base.specs.Numbers.{ServerId, Inst, TicketNo, MessageNo}
 use Rattle.mencius_base.specs.declared.event.Event.{Event}
@@ -8,27 +8,18 @@ use Rattle.mencius_base.specs.Members.{Membership, below}
 use Rattle.mencius_base.specs.Message.{goes_to}
 use Rattle.mencius_model.specs.Trace.{Line, Heard, Lost, Trace, sent}
 use Rattle.mencius_model.specs.Server.{done, front, waiting}
-use Rattle.mencius_model.specs.Next.{next}
+use Rattle.mencius_model.specs.Next.{is_loss, next}
 use Rattle.mencius_model.specs.Outcomes.{trace_after}
 use Rattle.mencius_trace.specs.Facts.{kind_text}
 use Rattle.mencius_trace.specs.Told.{event_lines}
-use Rattle.mencius_trace.specs.Words.{line_feed, ticket_text}
+use Rattle.mencius_trace.specs.Words.{line_feed, spaced_ticket, tickets_text}
 
 -- ---- each server
 
--- a command after a space
-abbrev pub waiting_ticket : Trace → TicketNo → List ℕ
-waiting_ticket w t = 32 ∷ ticket_text w t
-
--- that of a ticket that may be absent
+-- the command of a ticket that may be absent
 abbrev pub ticket_in : Trace → Option TicketNo → List ℕ
 ticket_in w None = []
-ticket_in w (Some t) = waiting_ticket w t
-
--- the commands of tickets, or a dash
-abbrev pub tickets_text : Trace → List TicketNo → List ℕ
-tickets_text w [] = codes " -"
-tickets_text w (t ∷ ts) = flat_map (waiting_ticket w) (t ∷ ts)
+ticket_in w (Some t) = spaced_ticket w t
 
 -- its front, how many instances it executed, and the next one
 abbrev pub progress_text : ServerId → Inst → ℕ → List ℕ
@@ -45,11 +36,10 @@ server_lines m w n = flat_map (server_line m w) (range_with_len 0 n)
 
 -- ---- each message that may still be heard
 
--- the line says that p heard message k, or that it was lost for p
+-- the line says that message k was lost for p, or that p heard it, which settles it as its loss does
 abbrev pub settles : MessageNo → ServerId → Line → Bool
-settles k p (Heard message server) = message == k && server == p
-settles k p (Lost message server) = message == k && server == p
-settles k p _ = false
+settles k p (Heard message server) = is_loss k p (Lost message server)
+settles k p l = is_loss k p l
 
 -- the message goes to p, and p neither heard it nor can no longer hear it
 abbrev pub is_unheard : Trace → MessageNo → Message → ServerId → Bool

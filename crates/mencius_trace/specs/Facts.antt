@@ -82,11 +82,15 @@ abbrev pub sent_line : Trace → MessageNo × Message → List ℕ
 sent_line w (k, x) =
     codes "sent " ++ decimal k ++ 32 ∷ kind_text x ++ way_text x ++ content_text w x ++ line_feed
 
+-- which value a server learned or executed at an instance
+abbrev pub value_line : List ℕ → Trace → ServerId → Inst → Value → List ℕ
+value_line kind w p i x = kind ++ 32 ∷ decimal p ++ at_instance i ++ with_value w x ++ line_feed
+
 abbrev pub learned_line : Trace → ServerId → Inst → Value → List ℕ
-learned_line w p i x = codes "learned " ++ decimal p ++ at_instance i ++ with_value w x ++ line_feed
+learned_line w p i x = value_line (codes "learned") w p i x
 
 abbrev pub executed_line : Trace → ServerId → Inst → Value → List ℕ
-executed_line w p i x = codes "executed " ++ decimal p ++ at_instance i ++ with_value w x ++ line_feed
+executed_line w p i x = value_line (codes "executed") w p i x
 
 abbrev pub front_line : ServerId → Inst → List ℕ
 front_line p front = codes "front " ++ decimal p ++ 32 ∷ decimal front ++ line_feed

@@ -1,25 +1,29 @@
 -- Which messages were heard or lost, by the stored events.
-use Rattle.std.specs.Prelude.{◌≡◌, ◌<◌, Bool, false, ◌==◌, ◌&&◌}
+use Rattle.std.specs.Prelude.{◌≡◌, ◌<◌, Bool, false, IfSome, Option, Some, None}
 use Rattle.std.specs.List.{list_any}
+use Rattle.std.specs.Option.{option_map_or}
 use Rattle.mencius_base.specs.Limits.{most_servers}
 use Rattle.mencius_base.specs.Numbers.{ServerId, MessageNo}
 use Rattle.mencius_base.specs.declared.event.Entry.{Entry}
 use Rattle.mencius_base.specs.declared.event.Entry.TheVariants.{Deliver, Lose}
 use Rattle.mencius_cluster.specs.Marks.{MarkTable, mark_in}
-use Rattle.mencius_model.specs.Trace.{Trace}
+use Rattle.mencius_model.specs.Trace.{Lost, Trace}
+use Rattle.mencius_model.specs.Next.{is_loss}
 use Rattle.mencius_trace.specs.Closing.{settles}
+
+-- the message that an event settles, and the server that hears or loses it
+abbrev pub settled_by : Entry → Option (MessageNo × ServerId)
+settled_by (Deliver message server) = Some (message, server)
+settled_by (Lose message server) = Some (message, server)
+settled_by _ = None
 
 -- by this event p heard or lost message k
 abbrev pub entry_settles : MessageNo → ServerId → Entry → Bool
-entry_settles k p (Deliver message server) = message == k && server == p
-entry_settles k p (Lose message server) = message == k && server == p
-entry_settles k p _ = false
+entry_settles k p x = option_map_or (λ pair. is_loss k p (Lost pair.0 pair.1)) (settled_by x) false
 
 -- the server that hears or loses is one that there may be
 abbrev pub IsOfServer : Entry → Type 0
-IsOfServer (Deliver message server) = server < most_servers
-IsOfServer (Lose message server) = server < most_servers
-IsOfServer _ = Unit {0}
+IsOfServer x = IfSome (settled_by x) (λ pair. pair.1 < most_servers)
 
 -- a mark stands where a server heard or lost a message, and nowhere else
 abbrev pub AreSettled : Trace → MarkTable → Type 0

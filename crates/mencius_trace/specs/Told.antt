@@ -1,5 +1,5 @@
 -- What is told of an event: w is the trace before it and v the trace after it.
-use Rattle.std.specs.Prelude.{true, false, ℕ, Bool, List, [], ◌∷◌, ◌++◌, codes, decimal, length, Option, Some, None, Result, Ok, Err, ◌==◌, ◌&&◌, if◌then◌else◌, slice_get}
+use Rattle.std.specs.Prelude.{true, false, ℕ, Bool, List, [], ◌++◌, codes, decimal, length, Option, Some, None, Result, Ok, Err, ◌==◌, ◌&&◌, if◌then◌else◌, slice_get}
 use Rattle.std.specs.List.{enumerate_from, flat_map}
 use Rattle.mencius_base.specs.Numbers.{ServerId, Inst, BallotNo, MessageNo}
 use Rattle.mencius_base.specs.declared.command.Command.{Command}
@@ -23,7 +23,7 @@ use Rattle.mencius_model.specs.Replying.{Reply, Is, NotYet, command_at, reply_of
 use Rattle.mencius_trace.specs.declared.hearing.Hearing.{Hearing}
 use Rattle.mencius_trace.specs.declared.hearing.Hearing.TheVariants.{Taken, Counted, Promised, Tries, Known, Proposed}
 use Rattle.mencius_trace.specs.Facts.{event_line, executed_line, front_line, learned_line, refused_line, sent_line, tally_line, value_text}
-use Rattle.mencius_trace.specs.Words.{former_text, id_text, line_feed}
+use Rattle.mencius_trace.specs.Words.{answer_line, line_feed}
 
 -- ---- what a server makes of a message
 
@@ -137,22 +137,22 @@ is_pending w None = false
 is_pending w (Some command) = is_not_yet (reply_of w command.id)
 
 abbrev pub given_line : CommandId → Option Reply → List ℕ
-given_line id (Some (Is former)) = codes "reply " ++ id_text id ++ 32 ∷ former_text former ++ line_feed
+given_line id (Some (Is former)) = answer_line id (Some (Is former))
 given_line id _ = []
 
 abbrev pub given_to : Trace → Option Command → List ℕ
 given_to v None = []
 given_to v (Some command) = given_line command.id (reply_of v command.id)
 
--- a reply that was not given before
-abbrev pub reply_lines : Trace → Trace → Value → List ℕ
-reply_lines w v Noop = []
-reply_lines w v (Ticket t) = if is_pending w (command_at w t) then given_to v (command_at v t) else []
-
 -- the reply, where the command was waiting for it
 abbrev pub awaited_lines : Trace → Bool → Value → List ℕ
 awaited_lines v is_awaited Noop = []
 awaited_lines v is_awaited (Ticket t) = if is_awaited then given_to v (command_at v t) else []
+
+-- a reply that was not given before
+abbrev pub reply_lines : Trace → Trace → Value → List ℕ
+reply_lines w v Noop = []
+reply_lines w v (Ticket t) = awaited_lines v (is_pending w (command_at w t)) (Ticket t)
 
 abbrev pub execution_of : Trace → Trace → ServerId → Inst → Option Value → List ℕ
 execution_of w v p i None = []

@@ -4,7 +4,8 @@ ghost use Rattle.std.specs.Prelude.{◌≡◌, ◌<◌, ◌++◌, IfOk, OnOk, is
 ghost use Rattle.mencius_base.specs.Limits.{instance_count};
 ghost use Rattle.mencius_cluster.specs.State.{trace_of};
 ghost use Rattle.mencius_model.specs.Server.{waiting, waiting_at};
-ghost use Rattle.mencius_trace.specs.Closing.{closing, progress_text, server_line, server_lines, ticket_in, tickets_text};
+ghost use Rattle.mencius_trace.specs.Closing.{closing, progress_text, server_line, server_lines, ticket_in};
+ghost use Rattle.mencius_trace.specs.Words.{tickets_text};
 
 use crate::unheard::push_unheard;
 use crate::words::push_ticket;
