@@ -199,15 +199,15 @@ suggest_learnings m w p q i false true = refl
 suggest_learnings m w p q i false false = refl
 
 -- the server after them
-suggest_world : (m : Membership) (w : Trace) (k p q i t : ℕ) → i < instance_count
+suggest_state : (m : Membership) (w : Trace) (k p q i t : ℕ) → i < instance_count
     → slice_get (sent w) k ≡ Some (Suggest q i t) → proposed w i 0 ≡ Some (Ticket t)
     → (a d : Bool) → ltb (front m w p) i ≡ a → leb (promised w p i) 0 ≡ d
     → with_slot_and_front (server_at m w p) i (cond d (with_ticket (slot_at m w p i) t) (slot_at m w p i))
     (cond a (first_owned m p (i + 1)) (front m w p))
     ≡ server_at m (followed_by (Heard k p ∷ w) (suggest_lines m w p q i a d)) p
-suggest_world m w k p q i t small e said true d ahead free =
+suggest_state m w k p q i t small e said true d ahead free =
     suggest_accepts m w _ p q i _ t (suggest_skips m w k p q i t small e true ahead) (rw said) d free
-suggest_world m w k p q i t small e said false d ahead free =
+suggest_state m w k p q i t small e said false d ahead free =
     suggest_accepts m w _ p q i _ t (suggest_skips m w k p q i t small e false ahead) (rw said) d free
 
 suggest_cases : (m : Membership) (w : Trace) (k p q i t : ℕ) → i < instance_count
@@ -225,7 +225,7 @@ suggest_cases m w k p q i t small e said a d ahead free = record {
       ∙ ap (λ (x : Bool). with_slot_and_front (server_at m w p) i
       (cond d (with_ticket (slot_at m w p i) t) (slot_at m w p i))
       (cond x (first_owned m p (i + 1)) (front m w p))) ahead
-      ∙ suggest_world m w k p q i t small e said a d ahead free;
+      ∙ suggest_state m w k p q i t small e said a d ahead free;
 }
 
 pub meets_suggest : (m : Membership) (w : Trace) (k p q i t : ℕ) → i < instance_count

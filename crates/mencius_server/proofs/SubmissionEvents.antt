@@ -55,16 +55,16 @@ head_retried m q p = record {
   still = refl;
 }
 
-suggest_world : (m : Membership) (w : Trace) (l : Line) (p t : ℕ) → IsHead m p l → IsSound m w → (o : Option ℕ)
+suggest_state : (m : Membership) (w : Trace) (l : Line) (p t : ℕ) → IsHead m p l → IsSound m w → (o : Option ℕ)
     → free_instance m w p ≡ o
     → after_submit_at (server_at m w p) t o ≡ server_at m (followed_by (l ∷ w) (suggestion p o t)) p
-suggest_world m w l p t first facts None none =
+suggest_state m w l p t first facts None none =
     server_unchanged m w (l ∷ w) p (greatest_still m w l p first)
     (λ j. slot_at-quiet m w l p j (first.quiet j) (first.deaf w))
   where
     greatest_still : (m : Membership) (w : Trace) (l : Line) (p : ℕ) → IsHead m p l → front m (l ∷ w) p ≡ front m w p
     greatest_still m w l p first = ap (max p) (greatest_quiet (front_by m p) l w first.still)
-suggest_world m w l p t first facts (Some i) found =
+suggest_state m w l p t first facts (Some i) found =
     let place : IsFound (is_free m w p) instance_count i = find-instances_found (is_free m w p) i found in
     let test = and_parts _ _ place.passes in
     let mine : owner m i ≡ p = eqb-true _ _ (and_parts _ _ test.0).0 in
@@ -109,7 +109,7 @@ submit_is_event w s c t at next =
       sent = ap (submit_sent s t) same ∙ ap messages_of row;
       state = ap (after_submit_at s t) same
           ∙ ap (λ (x : ServerState). after_submit_at x t (free_instance s.members w s.id)) at.state
-          ∙ suggest_world s.members w (Submitted c s.id) s.id t (head_submitted s.members c s.id s.id)
+          ∙ suggest_state s.members w (Submitted c s.id) s.id t (head_submitted s.members c s.id s.id)
           (sound s.members w at.reached) (free_instance s.members w s.id) refl
           ∙ ap (λ (ls : List Line). server_at s.members (followed_by (Submitted c s.id ∷ w) ls) s.id) row;
       refusal = λ o. ap (submit_cause o) same ∙ submit_causes w c s o (free_instance s.members w s.id) refl;
@@ -125,17 +125,17 @@ sends_again : (w : Trace) (s : ServerState) → free_at s ≡ free_instance s.me
 sends_again w s same None = refl
 sends_again w s same (Some t) = ap (submit_sent s t) same
 
-again_world : (w : Trace) (s : ServerState) → IsAt w s → (o : Option ℕ)
+again_state : (w : Trace) (s : ServerState) → IsAt w s → (o : Option ℕ)
     → after_retry s o ≡ server_at s.members (followed_by (Retried s.id ∷ w) (again s.members w s.id o)) s.id
-again_world w s at None =
+again_state w s at None =
     at.state ∙ server_unchanged s.members w (Retried s.id ∷ w) s.id
     (ap (max s.id) (greatest_quiet (front_by s.members s.id) (Retried s.id) w refl))
     (λ j. slot_at-quiet s.members w (Retried s.id) s.id j ((head_retried s.members s.id s.id).quiet j) refl)
-again_world w s at (Some t) =
+again_state w s at (Some t) =
     let same : free_at s ≡ free_instance s.members w s.id = ap free_at at.state ∙ free-server_at s.members w s.id in
     ap (after_submit_at s t) same
     ∙ ap (λ (x : ServerState). after_submit_at x t (free_instance s.members w s.id)) at.state
-    ∙ suggest_world s.members w (Retried s.id) s.id t (head_retried s.members s.id s.id)
+    ∙ suggest_state s.members w (Retried s.id) s.id t (head_retried s.members s.id s.id)
     (sound s.members w at.reached) (free_instance s.members w s.id) refl
 
 retry_causes : (w : Trace) (s : ServerState) (o : Outgoing) (x y : Option ℕ) → first_item (waiting w s.id) ≡ x
@@ -151,7 +151,7 @@ retry_is_event w s at =
     let first = first_waiting_at w s at in
     record {
       sent = ap (retry_sent s) first ∙ sends_again w s same (first_item (waiting w s.id));
-      state = ap (after_retry s) first ∙ again_world w s at (first_item (waiting w s.id));
+      state = ap (after_retry s) first ∙ again_state w s at (first_item (waiting w s.id));
       refusal = λ o. ap (retry_cause s o) first
           ∙ retry_causes w s o (first_item (waiting w s.id)) (free_instance s.members w s.id) refl same refl;
     }

@@ -208,8 +208,8 @@ module _ (m : Membership) (w : Trace) (p q : ℕ) (r : IsReached m w) (member : 
       ∙ ap (max p) (greatest_quiet (front_by m p) (Suspected p q) w refl) in
       rw (← ahead, e)
 
-  suspect_world : after_suspect (server_at m w p) q ≡ server_at m later p
-  suspect_world =
+  suspect_state : after_suspect (server_at m w p) q ≡ server_at m later p
+  suspect_state =
       same_state _
       (map-instances_same _ (slot_at m later p) (new_slot m)
       (λ j small. ap (slot_revoked m p q (front m w p) j) (slot-server_at m w p j small)
@@ -250,7 +250,7 @@ suspect_causes m w p q s o e r member =
 pub suspect_is_event : SuspectIsEvent
 suspect_is_event w s q at member = record {
   sent = ap (λ (x : ServerState). suspect_sent x q) at.state ∙ suspect_messages s.members w s.id q at.reached member;
-  state = ap (λ (x : ServerState). after_suspect x q) at.state ∙ suspect_world s.members w s.id q at.reached member;
+  state = ap (λ (x : ServerState). after_suspect x q) at.state ∙ suspect_state s.members w s.id q at.reached member;
   refusal = λ o. ap (λ (x : ServerState). suspect_cause x o q) at.state
       ∙ suspect_causes s.members w s.id q s o at.state at.reached member;
 }
