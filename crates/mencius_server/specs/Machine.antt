@@ -113,7 +113,7 @@ learned_on s (Skip from first stop) = given_count s from first stop
 learned_on s (Learn from inst value) = learnings (learning_lines s.id inst value (slot s inst).learned)
 learned_on s _ = 0
 
--- an own unlearned instance from the front on, and the least of them
+-- an own unlearned instance from the front on
 abbrev pub is_free_at : ServerState → Inst → Bool
 is_free_at s i = is_free_from s.members s.id s.front i (slot s i).learned
 
@@ -122,6 +122,7 @@ pub record IsFree (s : ServerState) (i : Inst) : Type 0 where
   pub small : i < instance_count
   pub free : is_free_at s i ≡ true
 
+-- the least of them
 abbrev pub free_at : ServerState → Option Inst
 free_at s = find (is_free_at s) instances
 
@@ -205,6 +206,7 @@ next_prepare m p i s = Prepare p i (ballot_after m p s)
 abbrev pub with_next_phase : Membership → ServerId → SlotState → SlotState
 with_next_phase m p s = after_begin s (ballot_after m p s)
 
+-- it is started where a suspicion of q covers the instance
 abbrev pub slot_revoked : Membership → ServerId → ServerId → Inst → Inst → SlotState → SlotState
 slot_revoked m p q front i s = if is_covered_in m q front i s then with_next_phase m p s else s
 

@@ -1,20 +1,13 @@
 //! What a server does on each message, Rule 2 among it.
 ghost use Rattle.mencius_base.specs.Limits.{instance_count};
-ghost use Rattle.coord_paxos.specs.Fresh.{new_slot};
-ghost use Rattle.coord_paxos.specs.Slot.{acceptance_answer};
-ghost use Rattle.mencius_base.specs.Members.{below, instances};
 ghost use Rattle.mencius_base.specs.Message.{is_for};
 ghost use Rattle.mencius_base.specs.Outbox.{outbox_full};
 ghost use Rattle.mencius_base.specs.Refusal.{IsRefusedFor};
 ghost use Rattle.mencius_base.specs.declared.message.Message.TheVariants.{Prepare};
-ghost use Rattle.mencius_base.specs.declared.message.Value.TheVariants.{Noop};
-ghost use Rattle.mencius_server.specs.Machine.{IsUndone, accepted_sent, after_accepted, after_hearing, after_learn_at, after_skip, given_count, is_given, slot_given, after_prepare_at, after_promise_at, after_propose, after_suggest, learned_on, decided_on, prepare_sent, promise_sent, propose_sent, sent_on, own_skip, suggest_sent, next_front};
-ghost use Rattle.mencius_model.specs.Trace.{messages_of};
+ghost use Rattle.mencius_server.specs.Machine.{IsUndone, accepted_sent, after_accepted, after_hearing, after_learn_at, after_skip, given_count, after_prepare_at, after_promise_at, after_propose, after_suggest, learned_on, decided_on, prepare_sent, promise_sent, propose_sent, sent_on, own_skip, suggest_sent, next_front};
 ghost use Rattle.mencius_model.specs.Next.{learnings};
-ghost use Rattle.mencius_model.specs.Rules.{decision_lines};
 ghost use Rattle.mencius_server.specs.State.{slot};
-ghost use Rattle.std.specs.List.{count_by};
-ghost use Rattle.std.specs.Prelude.{◌≡◌, ◌⊎◌, ◌+◌, ◌<◌, ◌≤◌, ◌++◌, ◌==◌, length, is_none, OnOk, OnErr, IfOk, IfErr, if◌then◌else◌, IsTrue, Some, ℕ, slice_get, slice_index_or, vec_len};
+ghost use Rattle.std.specs.Prelude.{◌≡◌, ◌+◌, ◌<◌, ◌++◌, ◌==◌, length, is_none, OnOk, OnErr, IfOk, if◌then◌else◌, IsTrue, Some};
 
 use crate::Server;
 use crate::change::Change;

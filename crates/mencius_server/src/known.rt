@@ -14,7 +14,7 @@ ghost use Rattle.mencius_server.specs.Tallies.{IsOpenStretch, IsSurvey, IsTally,
 ghost use Rattle.mencius_server.specs.declared.tally.Tally.{Tally};
 ghost use Rattle.std.specs.List.{count_by};
 ghost use Rattle.std.specs.Option.{option_map};
-ghost use Rattle.std.specs.Prelude.{◌≡◌, ℕ, ◌+◌, ◌<◌, ◌≤◌, ◌++◌, ◌||◌, [], false, true, None, Some, is_none, length, slice_index_or, IfErr, IfOk, OnErr, OnOk};
+ghost use Rattle.std.specs.Prelude.{◌≡◌, ℕ, ◌+◌, ◌<◌, ◌≤◌, ◌++◌, ◌||◌, [], false, true, None, Some, is_none, length, slice_index_or, IfOk, OnErr, OnOk};
 
 use crate::change::Change;
 use crate::glance::{Glance, glance_at};

@@ -1,11 +1,10 @@
 //! What a server notes of its own tickets, so that it need not search for them.
 ghost use Rattle.mencius_base.specs.Limits.{instance_count};
-ghost use Rattle.mencius_base.specs.Members.{Membership};
 ghost use Rattle.mencius_server.specs.Known.{known_slot};
 ghost use Rattle.mencius_server.specs.Machine.{is_ticket, suggested_in};
 ghost use Rattle.mencius_server.specs.Notes.{nothing_noted};
 ghost use Rattle.mencius_model.specs.Server.{ticket_of};
-ghost use Rattle.std.specs.Prelude.{◌≡◌, ℕ, ◌<◌, ◌≤◌, ◌⊎◌, ◌||◌, Some, false, length, min, slice_index_or, vec_len, IfErr, OnErr, OnOk};
+ghost use Rattle.std.specs.Prelude.{◌≡◌, ℕ, ◌<◌, ◌≤◌, ◌⊎◌, ◌||◌, Some, false, length, min, slice_index_or, vec_len, OnErr, OnOk};
 
 use crate::known::Known;
 use mencius_base::{INSTANCES, Members, NoMemory, Value};

@@ -4,7 +4,7 @@
 //! rise, and no two of them meet.
 ghost use Rattle.mencius_server.specs.Ranges.{IsRising, covers, joined, reach_of};
 ghost use Rattle.mencius_server.specs.declared.ranges.Span.{Span};
-ghost use Rattle.std.specs.Prelude.{◌≡◌, ℕ, ◌+◌, ◌<◌, ◌≤◌, [], true, false, length, slice_index_or, vec_capacity, vec_len, IfErr, IfOk, OnErr, OnOk};
+ghost use Rattle.std.specs.Prelude.{◌≡◌, ℕ, ◌+◌, ◌<◌, ◌≤◌, [], true, false, length, slice_index_or, vec_capacity, vec_len, IfOk, OnErr, OnOk};
 
 use mencius_base::NoMemory;
 use std::alloc::Global;

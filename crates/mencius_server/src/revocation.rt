@@ -1,15 +1,10 @@
 //! Rule 3: first phases at the instances of a server that is suspected.
 ghost use Rattle.mencius_base.specs.Limits.{greatest_round};
-ghost use Rattle.coord_paxos.specs.Fresh.{new_slot};
-ghost use Rattle.coord_paxos.specs.Slot.{after_begin};
-ghost use Rattle.mencius_base.specs.Members.{below, instances, owner};
 ghost use Rattle.mencius_base.specs.Refusal.{IsRefusedFor};
-ghost use Rattle.mencius_base.specs.declared.message.Message.TheVariants.{Prepare};
-ghost use Rattle.mencius_server.specs.Machine.{IsUndone, after_suspect, ballot_after, is_covered_at, is_covered_in, is_round_full, is_spent, round_after, slot_revoked, suspect_cause, suspect_sent};
+ghost use Rattle.mencius_server.specs.Machine.{IsUndone, after_suspect, is_spent, round_after, suspect_cause, suspect_sent};
 ghost use Rattle.mencius_server.specs.Slots.{begun, prepare_at};
 ghost use Rattle.mencius_server.specs.State.{slot};
-ghost use Rattle.std.specs.List.{count_by, filter, list_any};
-ghost use Rattle.std.specs.Prelude.{◌≡◌, false, is_none, min, ◌+◌, ◌<◌, ◌≤◌, [], ◌∷◌, ◌++◌, ◌==◌, OnOk, OnErr, IfErr, if◌then◌else◌, Some, ℕ, slice_index_or, map, true, ◌&&◌, vec_len};
+ghost use Rattle.std.specs.Prelude.{◌≡◌, false, is_none, ◌+◌, ◌<◌, ◌≤◌, ◌++◌, ◌==◌, OnOk, OnErr, if◌then◌else◌, Some, true};
 
 use crate::Server;
 use crate::tally::is_last;

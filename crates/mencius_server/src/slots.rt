@@ -1,14 +1,13 @@
 //! The slots that stand, by instance.
 ghost use Rattle.mencius_base.specs.Limits.{greatest_round, instance_count};
 ghost use Rattle.coord_paxos.specs.Fresh.{new_slot};
-ghost use Rattle.coord_paxos.specs.Slot.{after_begin, after_learn};
+ghost use Rattle.coord_paxos.specs.Slot.{after_learn};
 ghost use Rattle.coord_paxos.specs.SlotState.{SlotState};
 ghost use Rattle.mencius_base.specs.Members.{below, instances};
-ghost use Rattle.mencius_base.specs.declared.message.Message.TheVariants.{Prepare};
 ghost use Rattle.mencius_base.specs.declared.message.Value.TheVariants.{Noop};
 ghost use Rattle.mencius_server.specs.Known.{slotless};
 ghost use Rattle.mencius_server.specs.Lending.{LendsSlot};
-ghost use Rattle.mencius_server.specs.Machine.{ballot_after, is_spent, round_after};
+ghost use Rattle.mencius_server.specs.Machine.{is_spent, round_after};
 ghost use Rattle.mencius_server.specs.Places.{IsPlaced, standing};
 ghost use Rattle.mencius_server.specs.Ranges.{covers};
 ghost use Rattle.mencius_server.specs.Slots.{begun, begun_at, given, is_begun, is_lacking, is_learned, is_told, is_unlearned, prepare_at, prepare_of, stand_at, stood_at};
@@ -16,7 +15,7 @@ ghost use Rattle.mencius_server.specs.Stretches.{IsStretch};
 ghost use Rattle.std.specs.Borrow.{sem};
 ghost use Rattle.std.specs.List.{count_by, filter};
 ghost use Rattle.std.specs.Option.{option_map};
-ghost use Rattle.std.specs.Prelude.{◌≡◌, ℕ, ◌+◌, ◌<◌, ◌≤◌, ◌==◌, ◌++◌, ◌∷◌, [], ◌&&◌, not, false, true, is_none, is_some, length, map, slice_index_or, vec_capacity, vec_len, IfErr, IfNone, IfSome, IsSome, None, OnErr, OnOk, Some, if◌then◌else◌};
+ghost use Rattle.std.specs.Prelude.{◌≡◌, ℕ, ◌+◌, ◌<◌, ◌≤◌, ◌==◌, ◌++◌, ◌&&◌, not, false, true, is_none, is_some, length, map, slice_index_or, vec_capacity, vec_len, IfNone, IfSome, IsSome, None, OnErr, OnOk, Some, if◌then◌else◌};
 
 use crate::ranges::Ranges;
 use crate::revocation::begin_slot;

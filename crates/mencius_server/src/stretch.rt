@@ -2,7 +2,7 @@
 ghost use Rattle.mencius_base.specs.Limits.{greatest_front, most_servers};
 ghost use Rattle.mencius_base.specs.Members.{owner};
 ghost use Rattle.mencius_server.specs.Stretches.{IsStretch};
-ghost use Rattle.std.specs.Prelude.{◌≡◌, ℕ, ◌+◌, ◌<◌, ◌≤◌};
+ghost use Rattle.std.specs.Prelude.{◌≡◌, ℕ, ◌+◌, ◌≤◌};
 
 use mencius_base::Members;
 

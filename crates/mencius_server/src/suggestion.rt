@@ -3,12 +3,10 @@ ghost use Rattle.mencius_base.specs.Limits.{instance_count};
 ghost use Rattle.mencius_base.specs.Members.{instances, owner};
 ghost use Rattle.mencius_base.specs.Refusal.{IsRefusedFor};
 ghost use Rattle.mencius_base.specs.declared.message.Value.TheVariants.{Noop};
-ghost use Rattle.mencius_server.specs.Known.{known_slot};
-ghost use Rattle.mencius_server.specs.Machine.{IsFree, is_free_at, after_submit, suggested_in, IsUndone, after_submit_at, free_at, submit_cause, submit_sent, after_retry, first_waiting, is_suggested_past, is_ticket, retry_cause, retry_sent, suggested_at, waits_at};
-ghost use Rattle.mencius_model.specs.Server.{ticket_of};
+ghost use Rattle.mencius_server.specs.Machine.{IsFree, is_free_at, after_submit, IsUndone, after_submit_at, free_at, submit_cause, submit_sent, after_retry, first_waiting, is_suggested_past, retry_cause, retry_sent, suggested_at, waits_at};
 ghost use Rattle.mencius_server.specs.State.{slot};
 ghost use Rattle.std.specs.List.{list_any};
-ghost use Rattle.std.specs.Prelude.{◌≡◌, ℕ, IfOk, ◌⊎◌, ◌||◌, IfErr, IfNone, None, false, is_none, min, slice_index_or, true, vec_len, ◌+◌, ◌<◌, ◌≤◌, ◌++◌, ◌==◌, length, OnOk, OnErr, IfSome, Some, ◌&&◌};
+ghost use Rattle.std.specs.Prelude.{◌≡◌, ℕ, ◌||◌, IfNone, None, false, is_none, min, ◌+◌, ◌<◌, ◌++◌, OnOk, OnErr, IfSome, Some};
 
 use crate::Server;
 use crate::known::Known;

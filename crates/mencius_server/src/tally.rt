@@ -1,5 +1,5 @@
 //! How many instances a suspicion would revoke, counted while they change.
-ghost use Rattle.mencius_base.specs.Limits.{greatest_round, instance_count, most_servers};
+ghost use Rattle.mencius_base.specs.Limits.{instance_count, most_servers};
 ghost use Rattle.mencius_base.specs.Members.{owner};
 ghost use Rattle.mencius_base.specs.Refusal.{IsRefusedFor};
 ghost use Rattle.mencius_server.specs.Changes.{IsSaid, changed};
