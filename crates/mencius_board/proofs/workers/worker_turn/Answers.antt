@@ -1,9 +1,17 @@
 use denote.Enum.Bare.{same_false}
-use Rattle.std.proofs.Common.{sym, subst, inr}
+use Rattle.std.proofs.Common.{sym, subst, inl, inr}
 use Rattle.mencius_base.specs.contracts.refusal.Refusal.{the_type}
 use Rattle.mencius_cluster.specs.State.{ClusterState}
 use Rattle.mencius_choices.specs.Choices.{IsChosen}
 use Rattle.mencius_board.proofs.workers.worker_turn.Goals as goal
+
+pub returns-in-Ok-step-clause-turn : goal.returns-in-Ok-step-clause-turn
+returns-in-Ok-step-clause-turn c = record {
+  event = c.in-Ok.event;
+  chosen = subst (λ (x : ClusterState). IsChosen c.args.chooser.now x c.in-Ok.event c.choose.new.self)
+      c.cluster.ensures.cluster c.in-Ok.ensures;
+  stepped = inl (record { effect = _; stepped = c.in-Ok-step.ensures.effect; rest = c.step.ensures.rest });
+}
 
 pub returns-else-eq-clause-turn : goal.returns-else-eq-clause-turn
 returns-else-eq-clause-turn c = record {

@@ -1,4 +1,4 @@
-use Rattle.std.proofs.Common.{arith}
+use Rattle.std.proofs.Common.{arith, rules}
 use Rattle.mencius_board.proofs.BoardInvariant.{sound_new}
 use Rattle.mencius_board.proofs.board.Board.new.Goals as goal
 
@@ -12,3 +12,6 @@ invariant_of-result g c =
     })
     c.new-log.ensures c.mark-opening.ensures c.in-Ok.ensures.seen c.in-Ok.ensures.shown
     c.in-Ok.ensures.pending
+
+pub returns-clause-board : goal.returns-clause-board
+returns-clause-board g c = search rules
