@@ -1,9 +1,17 @@
-use denote.Enum.Bare.{same_false}
-use Rattle.std.proofs.Common.{sym, subst, inl, inr}
+use denote.Enum.Bare.{same_false, same_true}
+use Rattle.std.proofs.Common.{refl, rules, sym, subst, inl, inr}
 use Rattle.mencius_base.specs.contracts.refusal.Refusal.{the_type}
-use Rattle.mencius_cluster.specs.State.{ClusterState}
+use Rattle.mencius_cluster.specs.State.{ClusterState, IsRefusal}
 use Rattle.mencius_choices.specs.Choices.{IsChosen}
 use Rattle.mencius_board.proofs.workers.worker_turn.Goals as goal
+
+pub returns-then-eq-clause-turn : goal.returns-then-eq-clause-turn
+returns-then-eq-clause-turn c =
+    let chosen = subst (λ (x : ClusterState). IsChosen c.args.chooser.now x c.in-Ok.event c.choose.new.self)
+    c.cluster.ensures.cluster c.in-Ok.ensures in
+    let refusal = subst (IsRefusal c.args.board.now.cluster c.in-Ok.event)
+    (same_true the_type (search rules) _ _ (sym c.if-eq.ensures)) c.in-Err.ensures.refusal in
+    (refl, c.in-Err.ensures.err, inr (c.in-Ok.event, chosen, refusal))
 
 pub returns-in-Ok-step-clause-turn : goal.returns-in-Ok-step-clause-turn
 returns-in-Ok-step-clause-turn c = record {
