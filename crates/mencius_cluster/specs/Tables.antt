@@ -1,12 +1,9 @@
 -- What the tables of a cluster hold.
 use Rattle.std.specs.Prelude.{◌≡◌, ℕ, ◌≤◌, Bool, List, Option, Some, Ok, length, map, slice_get}
 use Rattle.std.specs.List.{filter_map, list_any}
-use Rattle.std.specs.Option.{option_map}
 use Rattle.mencius_base.specs.declared.command.Command.{Command}
 use Rattle.mencius_base.specs.declared.event.Entry.{Entry}
-use Rattle.mencius_base.specs.declared.event.Entry.TheVariants.{Submit as Submit_entry, Deliver as Deliver_entry, Lose as Lose_entry, Suspect as Suspect_entry, Retry as Retry_entry, Execute as Execute_entry}
 use Rattle.mencius_base.specs.declared.event.Event.{Event}
-use Rattle.mencius_base.specs.declared.event.Event.TheVariants.{Submit, Deliver, Lose, Suspect, Retry, Execute}
 use Rattle.mencius_base.specs.Limits.{most_servers}
 use Rattle.mencius_base.specs.Members.{Membership, below, most_events, most_messages}
 use Rattle.mencius_base.specs.Numbers.{ServerId, TicketNo, MessageNo}
@@ -17,7 +14,7 @@ use Rattle.mencius_model.specs.Next.{is_loss, replay, trace_or_none}
 use Rattle.mencius_server.specs.State.{ServerState}
 use Rattle.mencius_server.specs.Reached.{server_at}
 use Rattle.map_exec.specs.State.{ExecutorState}
-use Rattle.mencius_cluster.specs.State.{entries_of}
+use Rattle.mencius_cluster.specs.State.{entries_of, event_by}
 use Rattle.mencius_cluster.specs.Submissions.{Row}
 use Rattle.mencius_cluster.specs.Answers.{executor_at, bytes_in, submitted_in}
 use Rattle.mencius_model.specs.Replying.{reply_at}
@@ -32,13 +29,7 @@ submission_of r = submitted_in r.1
 
 -- the event of a stored entry, among these commands
 abbrev pub event_of : List Command → Entry → Option Event
-event_of commands (Submit_entry server ticket) =
-    option_map (λ command. Submit server command) (slice_get commands ticket)
-event_of commands (Deliver_entry message server) = Some (Deliver message server)
-event_of commands (Lose_entry message server) = Some (Lose message server)
-event_of commands (Suspect_entry server suspected) = Some (Suspect server suspected)
-event_of commands (Retry_entry server) = Some (Retry server)
-event_of commands (Execute_entry server) = Some (Execute server)
+event_of commands = event_by (slice_get commands)
 
 -- the events of the stored entries
 abbrev pub journal_of : List Row → List Entry → List Event
