@@ -4,14 +4,24 @@ use Rattle.std.specs.Io.KnownBytes.{Keeps}
 use Rattle.mencius_ends.specs.Ends.{HasFailed, TakesAtMost, WritesFront, most_bytes, most_failed_calls}
 use Rattle.mencius_ends.specs.declared.fault.AppFault.{AppFault}
 use Rattle.mencius_ends.specs.declared.fault.AppFault.TheVariants.{ReadFailed, WriteFailed}
-use Rattle.mencius_app.specs.Replay.{IsBadInput}
+use Rattle.mencius_app.specs.Input.{IsBadInput}
 
--- how much is asked, whatever comes of it, of a reader that had so many bytes and has these left, and of whose calls so
--- many had failed and now have; and of a writer, of whose calls so many had failed and now have
-pub record AsksLittle (had left : Option (List ℕ)) (reads reads_now writes writes_now : ℕ) : Type 0 where
+-- how much is asked, whatever comes of it, of a reader that had these bytes and has those left, and of whose calls so
+-- many had failed and now have
+pub record AsksReader (had left : Option (List ℕ)) (reads reads_now : ℕ) : Type 0 where
   pub taken : TakesAtMost (most_bytes + 1) had left
-  pub reads_tried : reads_now ≤ reads + most_failed_calls
-  pub writes_tried : writes_now ≤ writes + most_failed_calls
+  pub tried : reads_now ≤ reads + most_failed_calls
+
+-- and of a writer, of whose calls so many had failed and now have
+pub record AsksLittle (had left : Option (List ℕ)) (reads reads_now writes writes_now : ℕ) : Type 0 where
+  pub reader : AsksReader had left reads reads_now
+  pub tried : writes_now ≤ writes + most_failed_calls
+
+-- why there is no text to write: the input has the fault, more calls of the reader failed, or it is the program's own
+pub record IsReadingCause (IsInputFault : AppFault → Type 0) (reads reads_now : ℕ) (fault : AppFault) : Type 0 where
+  pub bad_input : IsBadInput fault → IsInputFault fault
+  pub read_failed : fault ≡ ReadFailed → HasFailed reads reads_now
+  pub no_writer : fault ≢ WriteFailed
 
 -- why a task ended at a fault: its input has it, or more calls of the reader or of the writer failed. Where the writer
 -- failed a front of a text of the task was written, and else nothing

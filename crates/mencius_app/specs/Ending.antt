@@ -9,11 +9,12 @@ use Rattle.mencius_ends.specs.declared.fault.AppFault.{AppFault}
 use Rattle.mencius_command_line.specs.CommandLine.{Asked, are_texts, asked, asked_check, asked_replay, asked_run, asked_trace, faults, line_of}
 use Rattle.mencius_ends.specs.Fault.{fault_name, fault_number}
 use Rattle.mencius_ends.specs.Status.{status_of}
-use Rattle.mencius_app.specs.Replay.{IsFaultOf, IsJudgedReplayOf}
+use Rattle.mencius_app.specs.Input.{IsFaultOf, IsPlanFaultOf}
+use Rattle.mencius_app.specs.Replay.{IsJudgedReplayOf}
 use Rattle.mencius_trace.specs.Words.{line_feed}
 use Rattle.mencius_app.specs.Check.{AreWordsOfInput, IsCheckOf}
 use Rattle.mencius_app.specs.Trace.{IsTraceOf}
-use Rattle.mencius_app.specs.Run.{IsPlanFaultOf, IsRunOf}
+use Rattle.mencius_app.specs.Run.{IsRunOf}
 use Rattle.mencius_app.specs.declared.checking.Finding.{Finding}
 use Rattle.mencius_app.specs.declared.ending.Ending.{Ending}
 use Rattle.mencius_app.specs.declared.ending.Ending.TheVariants.{Done, Refused, BadCommandLine, Failed, Explained}
@@ -29,11 +30,9 @@ status_of_ending (Explained fault words) = status_of fault
 
 -- the fault that a call ended at
 abbrev pub fault_in : Ending → Option AppFault
-fault_in Done = None
-fault_in Refused = None
-fault_in BadCommandLine = None
 fault_in (Failed fault) = Some fault
 fault_in (Explained fault words) = Some fault
+fault_in _ = None
 
 -- a fault's number and name
 abbrev pub fault_line : AppFault → List ℕ
@@ -46,11 +45,9 @@ is_explained _ = false
 
 -- what standard error says of the end: nothing but of a fault, and then what words there are for it
 abbrev pub lines_of_ending : Ending → List ℕ
-lines_of_ending Done = []
-lines_of_ending Refused = []
-lines_of_ending BadCommandLine = []
 lines_of_ending (Failed fault) = fault_line fault
 lines_of_ending (Explained fault words) = fault_line fault ++ string_bytes words
+lines_of_ending _ = []
 
 -- how a call ends whose work came to this
 abbrev pub ending_of : {T : Type 0} → Result T AppFault → Ending
@@ -120,10 +117,8 @@ IsAskedFor arguments known text =
 
 -- the input of a task is bad in this way, where it is known
 abbrev pub IsInputFaultOf : Asked → Option (List ℕ) → AppFault → Type 0
-IsInputFaultOf (asked_replay is_strict) known fault = IsFaultOf known fault
-IsInputFaultOf asked_trace known fault = IsFaultOf known fault
-IsInputFaultOf asked_check known fault = IsFaultOf known fault
 IsInputFaultOf (asked_run with_journal key) known fault = IsPlanFaultOf known fault
+IsInputFaultOf _ known fault = IsFaultOf known fault
 
 -- the arguments ask for a task, whose input is bad in this way
 abbrev pub IsFaultFor : List Text → Option (List ℕ) → AppFault → Type 0

@@ -1,14 +1,14 @@
 -- The text of a run, and which input it is of.
-use Rattle.std.specs.Prelude.{◌≡◌, ◌⊎◌, ℕ, Bool, true, nat_lt, if◌then◌else◌, IfSome, Result, Ok, Err, List, [], ◌∷◌, ◌++◌, length, codes, Option, Some, None}
+use Rattle.std.specs.Prelude.{◌≡◌, ◌⊎◌, ℕ, Bool, true, if◌then◌else◌, Ok, List, [], ◌∷◌, ◌++◌, codes, Option, Some, None}
 use Rattle.mencius_model.specs.Store.{value_at}
 use Rattle.mencius_model.specs.Next.{replay}
 use Rattle.mencius_model.specs.Replying.{longest_commands}
 use Rattle.mencius_cluster.specs.State.{ClusterState, trace_of}
 use Rattle.mencius_ends.specs.declared.fault.AppFault.{AppFault}
-use Rattle.mencius_ends.specs.declared.fault.AppFault.TheVariants.{BadLimit, BoardFailed, NoMemory}
-use Rattle.mencius_ends.specs.Ends.{most_bytes}
+use Rattle.mencius_ends.specs.declared.fault.AppFault.TheVariants.{BoardFailed, NoMemory}
+use Rattle.mencius_app.specs.Input.{Says, plan_input_of}
 use Rattle.mencius_app.specs.Journal.{ReadsBack, journal_text}
-use Rattle.mencius_input.specs.Plan.{WrittenPlan, plan}
+use Rattle.mencius_input.specs.Plan.{WrittenPlan}
 use Rattle.mencius_app.specs.Report.{report_text}
 use Rattle.mencius_trace.specs.Words.{former_text, line_feed}
 
@@ -44,16 +44,6 @@ abbrev pub IsFound : Option (List ℕ) → ClusterState → Option (List ℕ) �
 IsFound None x found = Unit {0}
 IsFound (Some key) x found = found ≡ held_at x key
 
--- ---- the input
-
--- what the input of a run says: a plan, or the fault of a bad one
-abbrev pub plan_input_of : List ℕ → Result WrittenPlan AppFault
-plan_input_of bytes = if nat_lt most_bytes (length bytes) then Err BadLimit else plan bytes
-
--- the fault is one that the input has, where it is known
-abbrev pub IsPlanFaultOf : Option (List ℕ) → AppFault → Type 0
-IsPlanFaultOf known fault = IfSome known (λ bytes. plan_input_of bytes ≡ Err fault)
-
 -- memory ran out, or the board failed: no fault of the input, the reader or the writer
 abbrev pub IsOwnFault : AppFault → Type 0
 IsOwnFault fault = (fault ≡ NoMemory) ⊎ (fault ≡ BoardFailed)
@@ -64,10 +54,8 @@ IsOwnFault fault = (fault ≡ NoMemory) ⊎ (fault ≡ BoardFailed)
 -- whose journal's line says it again
 pub record IsRunOf (known : Option (List ℕ)) (with_journal : Bool) (key : Option (List ℕ)) (text : List ℕ)
     : Type 0 where
-  pub bytes : List ℕ
-  pub whole : IfSome known (λ all. all ≡ bytes)
   pub written : WrittenPlan
-  pub says : plan_input_of bytes ≡ Ok written
+  pub says : Says plan_input_of known written
   pub cluster : ClusterState
   pub replays : replay cluster.members cluster.journal ≡ Ok (trace_of cluster)
   pub run : text ≡ run_text with_journal key cluster

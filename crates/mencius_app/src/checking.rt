@@ -1,12 +1,11 @@
 //! What a check of a scenario prints, and what it finds.
 
-ghost use Rattle.std.specs.Prelude.{ℕ, List, Ok, IfSome, ◌≡◌, ◌≢◌, ◌≤◌, ◌+◌, string_bytes, IfErr, IfOk, OnOk};
+ghost use Rattle.std.specs.Prelude.{ℕ, List, IfSome, ◌≡◌, ◌≢◌, string_bytes, IfErr, IfOk, OnOk};
 ghost use Rattle.std.specs.Io.KnownBytes.{Appends, IsAtEnd};
-ghost use Rattle.mencius_ends.specs.Ends.{HasFailed, TakesAtMost, most_bytes, most_failed_calls};
 ghost use Rattle.mencius_input.specs.Scenario.{written_in};
-ghost use Rattle.mencius_app.specs.Calls.{AsksLittle, IsCause};
+ghost use Rattle.mencius_app.specs.Calls.{AsksLittle, AsksReader, IsCause, IsReadingCause};
 ghost use Rattle.mencius_app.specs.Check.{AreWordsOf, AreWordsOfInput, IsCheckOf, ok_line};
-ghost use Rattle.mencius_app.specs.Replay.{IsBadInput, IsFaultOf, input_of};
+ghost use Rattle.mencius_app.specs.Input.{IsFaultOf, Says, input_of};
 
 use mencius_base::Members;
 use mencius_input::{
@@ -79,19 +78,14 @@ pub fn check<R: Source, W: Sink>(alloc: Global, source: &mut R, sink: &mut W) ->
 // The scenario that a reader has, or what is wrong with it.
 fn read_input<R: Source>(alloc: Global, source: &mut R) -> Result<Scenario, Finding>
     ensures end { OnOk result (IsAtEnd (R.remaining source.new)) }
-    ensures said { IfOk result (λ s. (bytes : List ℕ)
-        × IfSome (R.remaining source.old) (λ all. all ≡ bytes)
-        × (input_of bytes ≡ Ok (written_in s))) }
-    ensures bad_input { IfErr result (λ found. IsBadInput found.fault
-        → IsFaultOf (R.remaining source.old) found.fault) }
-    ensures read_failed { IfErr result (λ found. found.fault ≡ AppFault.ReadFailed
-        → HasFailed (R.failed source.old) (R.failed source.new)) }
-    ensures others { IfErr result (λ found.
-        (found.fault ≢ AppFault.WriteFailed) × (found.fault ≢ AppFault.BoardFailed)) }
+    ensures said { IfOk result (λ s. Says input_of (R.remaining source.old) (written_in s)) }
+    ensures fault { IfErr result (λ found. IsReadingCause (IsFaultOf (R.remaining source.old))
+        (R.failed source.old) (R.failed source.new) found.fault) }
+    ensures no_board { IfErr result (λ found. found.fault ≢ AppFault.BoardFailed) }
     ensures words { IfErr result (λ found. IfSome found.words (λ line.
         AreWordsOfInput (R.remaining source.old) found.fault (string_bytes line))) }
-    ensures taken { TakesAtMost (most_bytes + 1) (R.remaining source.old) (R.remaining source.new) }
-    ensures tried { R.failed source.new ≤ R.failed source.old + most_failed_calls }
+    ensures asked { AsksReader (R.remaining source.old) (R.remaining source.new)
+        (R.failed source.old) (R.failed source.new) }
 {
     let bytes = match read_all(alloc, source) {
         Ok(bytes) => bytes,

@@ -3,7 +3,7 @@
 ghost use Rattle.std.specs.Prelude.{ℕ, List, ◌≡◌, ◌≢◌, ◌++◌, [], string_bytes, IfErr, IfOk, OnOk};
 ghost use Rattle.std.specs.Io.KnownBytes.{Appends, IsAtEnd};
 ghost use Rattle.mencius_app.specs.Calls.{AsksLittle, IsCause};
-ghost use Rattle.mencius_app.specs.Replay.{IsFaultOf};
+ghost use Rattle.mencius_app.specs.Input.{IsFaultOf};
 ghost use Rattle.mencius_app.specs.Trace.{IsTraceOf};
 ghost use Rattle.mencius_cluster.specs.State.{trace_of};
 ghost use Rattle.mencius_trace.specs.Closing.{told_from, trace_text};

@@ -1,0 +1,227 @@
+-- What is read of an input, and why a task ended at a fault.
+use Rattle.std.proofs.Common.{◌≡◌, ◌≢◌, ◌≤◌, ◌<◌, ◌⊎◌, inl, inr, ℕ, Bool, true, false, cond, List, length, Option, Some, None, IfSome, IfOk, IfErr, Result, Ok, Err, refl, ap, sym, subst, ◌∙◌, arith, nat_lt}
+use Rattle.std.specs.Prelude.{OnOk, OnErr}
+use Rattle.std.specs.Result.{IsErrAnd}
+use Rattle.std.proofs.lemmas.Result.{err_from_is_err_and}
+use Rattle.std.specs.Io.KnownBytes.{Appends, Keeps}
+use Rattle.std.proofs.lemmas.Bool.Decides.{nat_tests}
+use Rattle.serde_json.specs.Data.{Data}
+use Rattle.mencius_ends.specs.declared.fault.AppFault.{AppFault}
+use Rattle.mencius_ends.specs.declared.fault.AppFault.TheVariants.{NotJson, BadShape, BadLimit, ReadFailed, WriteFailed, BoardFailed, NoMemory}
+use Rattle.mencius_ends.specs.Ends.{HasFailed, WritesFront, most_bytes}
+use Rattle.mencius_input.specs.Judged.{FailsBy, Gives, judged, seen}
+use Rattle.mencius_input.specs.Plan.{plan, plan_of, plan_within}
+use Rattle.mencius_input.specs.Scenario.{Written, json_of, or_not_json, read_there, scenario, within, written_of}
+use Rattle.mencius_app.specs.Calls.{IsCause, IsReadingCause}
+use Rattle.mencius_app.specs.Input.{HasFault, IsBadInput, Says, input_of, unless_long}
+use Rattle.mencius_app.specs.Replay.{IsMadeOf}
+use Rattle.mencius_app.specs.declared.checking.Finding.{Finding}
+use Rattle.mencius_base.specs.declared.event.Event.{Event}
+use Rattle.mencius_app.specs.Run.{IsOwnFault}
+
+-- ---- long inputs
+
+not_above : (most n : ℕ) → n ≤ most → nat_lt most n ≡ false
+not_above most n h = grind (arith, nat_tests)
+
+above : (most n : ℕ) → most < n → nat_lt most n ≡ true
+above most n h = grind (arith, nat_tests)
+
+-- an input that is not too long says what its bytes say
+pub says_by_bytes : {X : Type 0} (read : List ℕ → Result X AppFault) (bytes : List ℕ) → length bytes ≤ most_bytes
+    → unless_long read bytes ≡ read bytes
+says_by_bytes read bytes short =
+    ap (λ (a : Bool). cond a (Err BadLimit) (read bytes)) (not_above most_bytes (length bytes) short)
+
+-- one that is too long is past a limit
+long_fault : {X : Type 0} (read : List ℕ → Result X AppFault) (known : Option (List ℕ))
+    → IfSome known (λ bytes. most_bytes < length bytes) → HasFault (unless_long read) known BadLimit
+long_fault read None h = tt
+long_fault read (Some bytes) h =
+    ap (λ (a : Bool). cond a (Err BadLimit) (read bytes)) (above most_bytes (length bytes) h)
+
+-- ---- the faults of bad inputs
+
+-- what is judged has no other fault
+judged_bad : {X : Type 0} (fits : X → Bool) (o : Option X) (fault : AppFault) → judged fits o ≡ Err fault
+    → IsBadInput fault
+judged_bad fits None fault e = inr (inl (cc))
+judged_bad {X} fits (Some x) fault e = by_test (fits x) e where
+  by_test : (b : Bool) → cond b (Ok x) (Err BadLimit) ≡ Err fault → IsBadInput fault
+  by_test true e = absurd (cc)
+  by_test false e = inr (inr (cc))
+
+json_bad : {X : Type 0} (fits : X → Bool) (of : Data → Option X) (o : Option Data) (fault : AppFault)
+    → read_there (λ d. judged fits (of d)) (or_not_json o) ≡ Err fault → IsBadInput fault
+json_bad fits of None fault e = inl (cc)
+json_bad fits of (Some d) fault e = judged_bad fits (of d) fault e
+
+pub scenario_bad : (bytes : List ℕ) (fault : AppFault) → scenario bytes ≡ Err fault → IsBadInput fault
+scenario_bad bytes fault e = json_bad within written_of (json_of bytes) fault e
+
+pub plan_bad : (bytes : List ℕ) (fault : AppFault) → plan bytes ≡ Err fault → IsBadInput fault
+plan_bad bytes fault e = json_bad plan_within plan_of (json_of bytes) fault e
+
+-- a bad input is no failed reader or writer, and no failed board
+other_bad : (fault other : AppFault) → fault ≡ other → (other ≢ NotJson) × (other ≢ BadShape) × (other ≢ BadLimit)
+    → IsBadInput fault → ⊥
+other_bad fault other e none (inl h) = none.0 (sym e ∙ h)
+other_bad fault other e none (inr (inl h)) = none.1 (sym e ∙ h)
+other_bad fault other e none (inr (inr h)) = none.2 (sym e ∙ h)
+
+no_read : (fault : AppFault) → IsBadInput fault → fault ≢ ReadFailed
+no_read fault bad e = other_bad fault ReadFailed e (λ h. absurd (cc), λ h. absurd (cc), λ h. absurd (cc)) bad
+
+no_write : (fault : AppFault) → IsBadInput fault → fault ≢ WriteFailed
+no_write fault bad e = other_bad fault WriteFailed e (λ h. absurd (cc), λ h. absurd (cc), λ h. absurd (cc)) bad
+
+no_board : (fault : AppFault) → IsBadInput fault → fault ≢ BoardFailed
+no_board fault bad e = other_bad fault BoardFailed e (λ h. absurd (cc), λ h. absurd (cc), λ h. absurd (cc)) bad
+
+no_memory : (fault : AppFault) → IsBadInput fault → fault ≢ NoMemory
+no_memory fault bad e = other_bad fault NoMemory e (λ h. absurd (cc), λ h. absurd (cc), λ h. absurd (cc)) bad
+
+-- ---- reading
+
+-- what holds of the fault holds of the result that hands it on
+pub at_err : {T : Type 0} (r : Result T AppFault) (fault : AppFault) (P : AppFault → Type 0)
+    → IsErrAnd r (λ e. e ≡ fault) → P fault → IfErr r P
+at_err r fault P is h = let failed = err_from_is_err_and r is in rw (failed.1, failed.2) h
+
+-- memory ran out, or the board failed
+pub own_fault : {F : AppFault → Type 0} {reads reads_now : ℕ} {fault : AppFault} → IsOwnFault fault
+    → IsReadingCause F reads reads_now fault
+own_fault {F} {reads} {reads_now} {fault} (inl memory) = record {
+  bad_input = λ bad. absurd (no_memory fault bad memory);
+  read_failed = λ e. let same = sym memory ∙ e in absurd (cc);
+  no_writer = λ e. let same = sym memory ∙ e in absurd (cc);
+}
+own_fault {F} {reads} {reads_now} {fault} (inr board) = record {
+  bad_input = λ bad. absurd (no_board fault bad board);
+  read_failed = λ e. let same = sym board ∙ e in absurd (cc);
+  no_writer = λ e. let same = sym board ∙ e in absurd (cc);
+}
+
+-- a reader answered no bytes
+pub unread : {X : Type 0} (read : List ℕ → Result X AppFault) (known : Option (List ℕ)) (reads reads_now : ℕ)
+    (fault : AppFault) → (fault ≡ BadLimit) ⊎ (fault ≡ ReadFailed) ⊎ (fault ≡ NoMemory)
+    → (fault ≡ BadLimit → IfSome known (λ bytes. most_bytes < length bytes))
+    → (fault ≡ ReadFailed → HasFailed reads reads_now)
+    → IsReadingCause (HasFault (unless_long read) known) reads reads_now fault
+unread read known reads reads_now fault (inl limit) long failed = record {
+  bad_input = λ _. subst (HasFault (unless_long read) known) (sym limit) (long_fault read known (long limit));
+  read_failed = failed;
+  no_writer = λ e. let same = sym limit ∙ e in absurd (cc);
+}
+unread read known reads reads_now fault (inr (inl broken)) long failed = record {
+  bad_input = λ bad. absurd (no_read fault bad broken);
+  read_failed = failed;
+  no_writer = λ e. let same = sym broken ∙ e in absurd (cc);
+}
+unread read known reads reads_now fault (inr (inr memory)) long failed = own_fault (inl memory)
+
+flipped : (known : Option (List ℕ)) (bytes : List ℕ) → IfSome known (λ all. bytes ≡ all)
+    → IfSome known (λ all. all ≡ bytes)
+flipped None bytes h = tt
+flipped (Some all) bytes h = sym h
+
+failing : {Y : Type 0} (fault : AppFault) (answer : Result Y AppFault) → FailsBy fault answer
+    → (fault ≡ NoMemory) ⊎ (answer ≡ Err fault)
+failing NotJson answer h = inr h
+failing BadShape answer h = inr h
+failing BadLimit answer h = inr h
+failing ReadFailed answer h = inr h
+failing WriteFailed answer h = inr h
+failing NoMemory answer h = inl refl
+failing BoardFailed answer h = inr h
+
+bad_there : {Y : Type 0} (read : List ℕ → Result Y AppFault) (known : Option (List ℕ)) (bytes : List ℕ)
+    (fault : AppFault) → IfSome known (λ all. bytes ≡ all) → unless_long read bytes ≡ Err fault
+    → HasFault (unless_long read) known fault
+bad_there read None bytes fault same e = tt
+bad_there read (Some all) bytes fault same e = subst (λ input. unless_long read input ≡ Err fault) same e
+
+-- a slice is as short as its vector
+pub short : (length_of most : ℕ) {n : ℕ} → n ≡ length_of → length_of ≤ most → n ≤ most
+short length_of most same few = omega (arith, same, few)
+
+-- all bytes were read, which have these faults alone
+module _ {X Y : Type 0} (read : List ℕ → Result Y AppFault)
+    (bad : (bytes : List ℕ) (fault : AppFault) → read bytes ≡ Err fault → IsBadInput fault) (view : X → Y)
+    (known : Option (List ℕ)) (bytes text : List ℕ) (whole : IfSome known (λ all. bytes ≡ all))
+    (fits : length text ≤ most_bytes) (is : text ≡ bytes) where
+  pub said : (r : Result X AppFault) → Gives (seen view r) (read text)
+      → IfOk r (λ x. Says (unless_long read) known (view x))
+  said (Ok x) gives =
+      (bytes, flipped known bytes whole, ap (unless_long read) (sym is) ∙ says_by_bytes read text fits ∙ gives)
+  said (Err fault) gives = tt
+
+  pub misread : (reads reads_now : ℕ) (r : Result X AppFault) → Gives (seen view r) (read text)
+      → IfErr r (IsReadingCause (HasFault (unless_long read) known) reads reads_now)
+  misread reads reads_now (Ok x) gives = tt
+  misread reads reads_now (Err fault) gives = elim (failing fault (read text) gives) [
+    | inl memory ↦ own_fault (inl memory)
+    | inr e ↦ record {
+      bad_input = λ _. bad_there read known bytes fault whole
+          (ap (unless_long read) (sym is) ∙ says_by_bytes read text fits ∙ e);
+      read_failed = λ broken. absurd (no_read fault (bad text fault e) broken);
+      no_writer = no_write fault (bad text fault e);
+    }
+  ]
+
+  pub no_board_read : (r : Result X AppFault) → Gives (seen view r) (read text) → IfErr r (λ fault. fault ≢ BoardFailed)
+  no_board_read (Ok x) gives = tt
+  no_board_read (Err fault) gives = elim (failing fault (read text) gives) [
+    | inl memory ↦ λ e. (let same = sym memory ∙ e in absurd (cc))
+    | inr e ↦ no_board fault (bad text fault e)
+  ]
+
+-- ---- writing
+
+keeps : (known : Option (List ℕ)) → Keeps known known
+keeps None = tt
+keeps (Some bytes) = refl
+
+-- the fault came before anything was written
+pub unwritten : {F : AppFault → Type 0} {P : List ℕ → Type 0} {reads reads_now writes writes_now : ℕ}
+    {contents : Option (List ℕ)} {fault : AppFault} → IsReadingCause F reads reads_now fault
+    → IsCause F P reads reads_now writes writes_now contents contents fault
+unwritten {F} {P} {reads} {reads_now} {writes} {writes_now} {contents} {fault} h = record {
+  bad_input = h.bad_input;
+  read_failed = h.read_failed;
+  write_failed = λ e. absurd (h.no_writer e);
+  front = λ e. absurd (h.no_writer e);
+  nothing = λ _. keeps contents;
+}
+
+-- once there is a text, only its writing may fail
+pub unwritable : (F : AppFault → Type 0) (P : List ℕ → Type 0) (reads reads_now writes writes_now : ℕ)
+    (old new : Option (List ℕ)) {T : Type 0} (r : Result T AppFault) (made text : List ℕ) → P made → text ≡ made
+    → WritesFront old new text → IfErr r (λ fault. fault ≡ WriteFailed) → OnErr r (HasFailed writes writes_now)
+    → IfErr r (IsCause F P reads reads_now writes writes_now old new)
+unwritable F P reads reads_now writes writes_now old new (Ok x) made text is same front only failed = tt
+unwritable F P reads reads_now writes writes_now old new (Err fault) made text is same front only failed = record {
+  bad_input = λ bad. absurd (no_write fault bad only);
+  read_failed = λ e. let other = sym only ∙ e in absurd (cc);
+  write_failed = λ _. failed;
+  front = λ _. (text, subst P (sym same) is, front);
+  nothing = λ other. absurd (other only);
+}
+
+pub written : (P : List ℕ → Type 0) (old new : Option (List ℕ)) {T E : Type 0} (r : Result T E) (made text : List ℕ)
+    → P made → text ≡ made → OnOk r (Appends old new text)
+    → OnOk r ((whole : List ℕ) × P whole × Appends old new whole)
+written P old new (Ok x) made text is same h = (text, subst P (sym same) is, h)
+written P old new (Err fault) made text is same h = tt
+
+-- ---- a check
+
+-- the line of a check that a scenario's servers and events make
+pub made : (text_of : ℕ → List Event → List ℕ) (known : Option (List ℕ)) (said_there : Written) (text : List ℕ)
+    → Says input_of known said_there → text ≡ text_of said_there.servers said_there.events → IsMadeOf text_of known text
+made text_of known said_there text says is = record { written = said_there; says = says; is = is }
+
+-- what holds of the fault holds of what was found
+pub at_finding : {T : Type 0} (r : Result T Finding) (fault : AppFault) (P : AppFault → Type 0)
+    → IsErrAnd r (λ found. (found.fault ≡ fault) × (found.words ≡ None)) → P fault → IfErr r (λ found. P found.fault)
+at_finding r fault P is h = let failed = err_from_is_err_and r is in rw (failed.1, failed.2.0) h
