@@ -1,5 +1,5 @@
 -- The text of a report: every word is taken from the trace that a cluster's journal makes.
-use Rattle.std.specs.Prelude.{ℕ, List, [], ◌∷◌, ◌++◌, codes, decimal, length, Option, Some, None}
+use Rattle.std.specs.Prelude.{ℕ, List, [], ◌++◌, codes, decimal, length, Option, Some, None}
 use Rattle.std.specs.List.{flat_map, range_with_len}
 use Rattle.mencius_base.specs.declared.command.Command.{Command}
 use Rattle.mencius_model.specs.Trace.{Trace, events, sent, submitted}
@@ -8,27 +8,16 @@ use Rattle.mencius_base.specs.Numbers.{ServerId, TicketNo}
 use Rattle.mencius_model.specs.Server.{done, front}
 use Rattle.mencius_model.specs.Replying.{command_at, reply_of}
 use Rattle.mencius_model.specs.Executed.{executed}
-use Rattle.mencius_trace.specs.Words.{answer_text, id_text, line_feed}
-
--- the identity of a ticket's command, after a space
-abbrev pub spaced_id : Option Command → List ℕ
-spaced_id None = []
-spaced_id (Some command) = 32 ∷ id_text command.id
-
--- the identities of what was executed, or a dash
-abbrev pub history_text : Trace → List TicketNo → List ℕ
-history_text w [] = codes " -"
-history_text w (t ∷ ts) = flat_map (λ u. spaced_id (command_at w u)) (t ∷ ts)
+use Rattle.mencius_trace.specs.Words.{answer_line, line_feed, tickets_text}
 
 abbrev pub server_line : Membership → Trace → ServerId → List ℕ
 server_line m w p =
     codes "server " ++ decimal p ++ codes " front " ++ decimal (front m w p) ++ codes " done " ++ decimal (done w p)
-    ++ codes " history" ++ history_text w (executed w p) ++ line_feed
+    ++ codes " history" ++ tickets_text w (executed w p) ++ line_feed
 
 abbrev pub reply_of_command : Trace → Option Command → List ℕ
 reply_of_command w None = []
-reply_of_command w (Some command) =
-    codes "reply " ++ id_text command.id ++ 32 ∷ answer_text (reply_of w command.id) ++ line_feed
+reply_of_command w (Some command) = answer_line command.id (reply_of w command.id)
 
 -- what became of the command of a ticket
 abbrev pub reply_line : Trace → TicketNo → List ℕ

@@ -3,9 +3,10 @@
 ghost use Rattle.std.specs.Prelude.{ℕ, ◌≡◌, ◌<◌, ◌≤◌, ◌+◌, ◌⊎◌, ◌++◌, length, string_bytes, Some, IfErr, IsErrOf, OnOk, slice_get};
 ghost use Rattle.std.specs.Io.KnownBytes.{Appends};
 ghost use Rattle.mencius_ends.specs.Ends.{HasFailed, WritesFront, most_failed_calls};
-ghost use Rattle.mencius_app.specs.Report.{counts_line, history_text, reply_line, reply_lines, reply_of_command, report_text, server_line, server_lines, spaced_id};
+ghost use Rattle.mencius_app.specs.Report.{counts_line, reply_line, reply_lines, reply_of_command, report_text, server_line, server_lines};
 ghost use Rattle.mencius_model.specs.Trace.{submitted};
 ghost use Rattle.mencius_cluster.specs.State.{trace_of};
+ghost use Rattle.mencius_trace.specs.Words.{spaced_ticket, tickets_text};
 
 use mencius_cluster::{Cluster, laws};
 use mencius_input::{AppFault, Sink, write_all};
@@ -90,7 +91,7 @@ fn push_history(text: &mut String, cluster: &Cluster, tickets: &[u32]) -> Result
     requires { (n t : ℕ) → slice_get tickets.now n ≡ Some t
         → t < length (submitted (trace_of cluster.now)) }
     ensures { OnOk result (string_bytes text.new
-        ≡ string_bytes text.old ++ history_text (trace_of cluster.now) tickets.now) }
+        ≡ string_bytes text.old ++ tickets_text (trace_of cluster.now) tickets.now) }
 {
     if tickets.is_empty() {
         return text.push_str(" -");
