@@ -1,5 +1,5 @@
 -- What an execution does to a server's executor and to the stored commands.
-use Rattle.std.specs.Prelude.{◌≡◌, ℕ, List, Some, slice_get, ◌==◌, ◌<◌}
+use Rattle.std.specs.Prelude.{◌≡◌, List, Some, slice_get, ◌==◌}
 use Rattle.std.specs.FinMap as finite
 use Rattle.mencius_base.specs.Numbers.{ServerId, TicketNo}
 use Rattle.mencius_base.specs.declared.message.Value.{Value}
