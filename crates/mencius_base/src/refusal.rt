@@ -83,7 +83,7 @@ impl Refusal {
     }
 }
 
-/// Want of memory, where it is the only thing that can go wrong.
+/// Out of memory, where nothing else can go wrong.
 #[derive(Clone, Copy, Debug, PartialEq, Eq, Error)]
 #[error("memory ran out")]
 pub struct NoMemory;
