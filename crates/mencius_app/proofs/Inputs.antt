@@ -1,10 +1,10 @@
 -- What is read of an input, and why a task ended at a fault.
-use Rattle.std.proofs.Common.{◌≡◌, ◌≢◌, ◌≤◌, ◌<◌, ◌⊎◌, inl, inr, ℕ, Bool, true, false, cond, List, length, Option, Some, None, IfSome, IfOk, IfErr, Result, Ok, Err, refl, ap, sym, subst, ◌∙◌, arith, nat_lt}
+use Rattle.std.proofs.Common.{◌≡◌, ◌≢◌, ◌≤◌, ◌<◌, ◌⊎◌, inl, inr, ℕ, Bool, true, false, cond, List, length, Option, Some, None, IfSome, IfOk, IfErr, Result, Ok, Err, refl, ap, sym, subst, ◌∙◌, arith}
 use Rattle.std.specs.Prelude.{OnOk, OnErr}
 use Rattle.std.specs.Result.{IsErrAnd}
 use Rattle.std.proofs.lemmas.Result.{err_from_is_err_and}
 use Rattle.std.specs.Io.KnownBytes.{Appends, Keeps}
-use Rattle.std.proofs.lemmas.Bool.Decides.{nat_tests}
+use Rattle.std.proofs.lemmas.Bool.{le-ltb, lt-ltb}
 use Rattle.serde_json.specs.Data.{Data}
 use Rattle.mencius_ends.specs.declared.fault.AppFault.{AppFault}
 use Rattle.mencius_ends.specs.declared.fault.AppFault.TheVariants.{NotJson, BadShape, BadLimit, ReadFailed, WriteFailed, BoardFailed, NoMemory}
@@ -21,24 +21,18 @@ use Rattle.mencius_app.specs.Run.{IsOwnFault}
 
 -- ---- long inputs
 
-not_above : (most n : ℕ) → n ≤ most → nat_lt most n ≡ false
-not_above most n h = grind (arith, nat_tests)
-
-above : (most n : ℕ) → most < n → nat_lt most n ≡ true
-above most n h = grind (arith, nat_tests)
-
 -- an input that is not too long says what its bytes say
 pub says_by_bytes : {X : Type 0} (read : List ℕ → Result X AppFault) (bytes : List ℕ) → length bytes ≤ most_bytes
     → unless_long read bytes ≡ read bytes
 says_by_bytes read bytes short =
-    ap (λ (a : Bool). cond a (Err BadLimit) (read bytes)) (not_above most_bytes (length bytes) short)
+    ap (λ (a : Bool). cond a (Err BadLimit) (read bytes)) (le-ltb most_bytes (length bytes) short)
 
 -- one that is too long is past a limit
 long_fault : {X : Type 0} (read : List ℕ → Result X AppFault) (known : Option (List ℕ))
     → IfSome known (λ bytes. most_bytes < length bytes) → HasFault (unless_long read) known BadLimit
 long_fault read None h = tt
 long_fault read (Some bytes) h =
-    ap (λ (a : Bool). cond a (Err BadLimit) (read bytes)) (above most_bytes (length bytes) h)
+    ap (λ (a : Bool). cond a (Err BadLimit) (read bytes)) (lt-ltb most_bytes (length bytes) h)
 
 -- ---- the faults of bad inputs
 
@@ -47,7 +41,7 @@ judged_bad : {X : Type 0} (fits : X → Bool) (o : Option X) (fault : AppFault) 
     → IsBadInput fault
 judged_bad fits None fault e = inr (inl (cc))
 judged_bad {X} fits (Some x) fault e = by_test (fits x) e where
-  by_test : (b : Bool) → cond b (Ok x) (Err BadLimit) ≡ Err fault → IsBadInput fault
+  by_test : (a : Bool) → cond a (Ok x) (Err BadLimit) ≡ Err fault → IsBadInput fault
   by_test true e = absurd (cc)
   by_test false e = inr (inr (cc))
 
