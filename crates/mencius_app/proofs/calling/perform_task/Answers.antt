@@ -29,3 +29,6 @@ returns-in-Check-clause-words g c =
 
 pub returns-in-Run-clause-words : goal.returns-in-Run-clause-words
 returns-in-Run-clause-words g c = told_of_result _ c.run.result _ c.ending_of-in-Run.ensures
+
+pub returns-then-not-all_accepted-clause-done : goal.returns-then-not-all_accepted-clause-done
+returns-then-not-all_accepted-clause-done g c e = absurd (cc e)

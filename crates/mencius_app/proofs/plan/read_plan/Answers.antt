@@ -13,3 +13,6 @@ returns-in-None c =
     let lists : length c.in_ok-members.field-0.commands.items ≤ most_servers = subst (λ n. n ≤ most_servers)
     (length-map c.in_ok-members.field-0.commands.items (λ list. list.items)) fits.4 in
     absurd (search rules)
+
+pub returns-in-Some : goal.returns-in-Some
+returns-in-Some c = rw c.in-Some.ensures.plan c.in_ok-members.ensures

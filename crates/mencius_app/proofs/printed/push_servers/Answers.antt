@@ -1,3 +1,4 @@
+use Rattle.std.proofs.Common.{append-nil, sym}
 use Rattle.mencius_app.specs.Report.{server_line}
 use Rattle.mencius_cluster.specs.State.{trace_of}
 use Rattle.mencius_trace.proofs.TextLoops.{texts_further}
@@ -8,3 +9,6 @@ loop-server-preserved c =
     texts_further
     (server_line c.args.cluster.now.members
     (trace_of c.args.cluster.now)) c.loop-server.server _ _ _ c.loop-server.invariant c.in_ok-push_server.ensures
+
+pub loop-server-init : goal.loop-server-init
+loop-server-init c = sym (append-nil _)
