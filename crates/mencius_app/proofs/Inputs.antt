@@ -11,7 +11,8 @@ use Rattle.mencius_ends.specs.declared.fault.AppFault.TheVariants.{NotJson, BadS
 use Rattle.mencius_ends.specs.Ends.{HasFailed, WritesFront, most_bytes}
 use Rattle.mencius_input.specs.Judged.{FailsBy, Gives, judged, seen}
 use Rattle.mencius_input.specs.Plan.{plan, plan_of, plan_within}
-use Rattle.mencius_input.specs.Scenario.{Written, json_of, or_not_json, read_there, scenario, within, written_of}
+use Rattle.mencius_base.specs.Members.{Membership}
+use Rattle.mencius_input.specs.Scenario.{Written, json_of, members_of, or_not_json, read_there, scenario, within, written_of}
 use Rattle.mencius_app.specs.Calls.{IsCause, IsReadingCause}
 use Rattle.mencius_app.specs.Input.{HasFault, IsBadInput, Says, input_of, unless_long}
 use Rattle.mencius_app.specs.Replay.{IsMadeOf}
@@ -211,8 +212,8 @@ written P old new (Err fault) made text is same h = tt
 -- ---- a check
 
 -- the line of a check that a scenario's servers and events make
-pub made : (text_of : ℕ → List Event → List ℕ) (known : Option (List ℕ)) (said_there : Written) (text : List ℕ)
-    → Says input_of known said_there → text ≡ text_of said_there.servers said_there.events → IsMadeOf text_of known text
+pub made : (text_of : Membership → List Event → List ℕ) (known : Option (List ℕ)) (said_there : Written) (text : List ℕ)
+    → Says input_of known said_there → text ≡ text_of (members_of said_there) said_there.events → IsMadeOf text_of known text
 made text_of known said_there text says is = record { written = said_there; says = says; is = is }
 
 -- what holds of the fault holds of what was found

@@ -9,6 +9,7 @@ plan_in s = record {
   numbers = record {
     version = known_version;
     servers = s.members.count;
+    beta = s.members.beta;
     workers = s.plan.workers;
     seed = s.plan.seed;
     turns = s.plan.turns;

@@ -16,7 +16,7 @@ use Rattle.mencius_trace.specs.Words.{former_text, line_feed}
 
 -- the journal, as one line, where it is asked for
 abbrev pub journal_line : Bool → ClusterState → List ℕ
-journal_line asked x = if asked then journal_text x.members.count x.journal ++ line_feed else []
+journal_line asked x = if asked then journal_text x.members x.journal ++ line_feed else []
 
 -- what the commands of the longest history leave at a key
 abbrev pub held_at : ClusterState → List ℕ → Option (List ℕ)

@@ -117,7 +117,7 @@ fn words_of(alloc: Global, bytes: &[u8], fault: AppFault) -> Option<String>
 
 // What is printed of a scenario that is one.
 fn ok_line(alloc: Global, members: Members, events: &Events) -> Result<String, AllocError>
-    ensures { IfOk result (λ s. string_bytes s ≡ ok_line members.count events.now) }
+    ensures { IfOk result (λ s. string_bytes s ≡ ok_line members events.now) }
 {
     let servers = members.count();
     let count = events.len();

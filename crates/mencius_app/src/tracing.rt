@@ -46,7 +46,7 @@ pub fn trace<R: Source, W: Sink>(
 
 // The text of a trace.
 fn traced(alloc: Global, members: Members, events: Events) -> Result<String, NoMemory>
-    ensures text { IfOk result (λ s. string_bytes s ≡ trace_text members.count events) }
+    ensures text { IfOk result (λ s. string_bytes s ≡ trace_text members events) }
 {
     let Ok(mut cluster) = Cluster::new(alloc, members) else {
         return Err(NoMemory);
@@ -65,7 +65,7 @@ fn push_trace(
 ) -> Result<(), NoMemory>
     requires { cluster.old.journal ≡ [] }
     ensures { OnOk result (string_bytes text.new
-        ≡ string_bytes text.old ++ trace_text cluster.old.members.count events) }
+        ≡ string_bytes text.old ++ trace_text cluster.old.members events) }
 {
     let servers = cluster.members().count();
     writeln!(text, "servers {servers}")?;

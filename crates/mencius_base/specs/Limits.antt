@@ -21,6 +21,10 @@ greatest_round = 65535
 abbrev pub greatest_ballot : ℕ
 greatest_ballot = 458751
 
+-- the greatest beta of a membership
+abbrev pub greatest_beta : ℕ
+greatest_beta = 4095
+
 -- how many messages may be sent
 abbrev pub message_limit : ℕ
 message_limit = 262144

@@ -18,8 +18,9 @@ pub use ballot::Ballot;
 pub use command::{BadCommand, Command, CommandId, Key, Op, Text, is_name};
 pub use event::{Entry, Event};
 pub use limits::{
-    GREATEST_FRONT, GREATEST_LOSS, GREATEST_ROUND, INSTANCES, MOST_EVENTS, MOST_KEY_BYTES,
-    MOST_MESSAGES, MOST_READERS, MOST_SERVERS, MOST_TEXT_BYTES, MOST_TURNS, MOST_WORKERS,
+    GREATEST_BETA, GREATEST_FRONT, GREATEST_LOSS, GREATEST_ROUND, INSTANCES, MOST_EVENTS,
+    MOST_KEY_BYTES, MOST_MESSAGES, MOST_READERS, MOST_SERVERS, MOST_TEXT_BYTES, MOST_TURNS,
+    MOST_WORKERS,
 };
 pub use members::Members;
 pub use message::{Answer, Message, Value, Vote};

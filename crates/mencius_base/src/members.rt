@@ -1,41 +1,59 @@
-ghost use Rattle.mencius_base.specs.Limits.{greatest_front, most_servers};
+ghost use Rattle.mencius_base.specs.Limits.{greatest_beta, greatest_front, most_servers};
 ghost use Rattle.std.specs.Prelude.{◌≡◌, ℕ, ◌+◌, ◌<◌, ◌≤◌, ◌↔◌, IsSome, IfSome};
 ghost use Rattle.mencius_base.specs.Members.{first_owned, majority, owner};
 
-use crate::limits::MOST_SERVERS;
+use crate::limits::{GREATEST_BETA, MOST_SERVERS};
 use std::marker::Model;
 
 /// The servers of a cluster, numbered from 0. They own the instances in turn, round-robin, as in
-/// Mencius (Mao, Junqueira and Marzullo, OSDI 2008).
+/// Mencius (Mao, Junqueira and Marzullo, OSDI 2008). The members also agree on a constant beta: how far past its
+/// own front a server looks where it suspects another one.
 #[derive(Clone, Copy, Debug, PartialEq, Eq)]
 pub struct Members {
     count: u8,
+    beta: u16,
 }
 
 impl Model for Members {
     ghost use Rattle.std.specs.Prelude.{◌≤◌};
-    ghost use Rattle.mencius_base.specs.Limits.{most_servers};
+    ghost use Rattle.mencius_base.specs.Limits.{greatest_beta, most_servers};
     ghost use Rattle.mencius_base.specs.Members.{Membership};
 
     ghost Value = { Membership };
 
-    ghost view = { λ m. record { count = m.count } };
+    ghost view = { λ m. record { count = m.count; beta = m.beta } };
 
-    ghost invariant = { λ m. (1 ≤ m.count) × (m.count ≤ most_servers) };
+    ghost invariant = { λ m.
+        (1 ≤ m.count) × (m.count ≤ most_servers) × (m.beta ≤ greatest_beta) };
 
-    ghost inverse = { λ x. record { count = x.count } };
+    ghost inverse = { λ x. record { count = x.count; beta = x.beta } };
 }
 
 impl Members {
-    /// The members of a cluster of `n` servers; `None` unless `n` is 1 to 7.
+    /// The members of a cluster of `n` servers, with a beta of 0; `None` unless `n` is 1 to 7.
     pub fn new(n: u8) -> Option<Members>
         ensures valid { IsSome result ↔ ((1 ≤ n) × (n ≤ most_servers)) }
         ensures value { IfSome result (λ m. m.count ≡ n) }
+        ensures beta { IfSome result (λ m. m.beta ≡ 0) }
     {
-        if n < 1 || n > MOST_SERVERS {
+        Members::with_beta(n, 0)
+    }
+
+    /// The members of a cluster of `n` servers with this beta; `None` unless `n` is 1 to 7 and the
+    /// beta at most 4,095.
+    pub fn with_beta(n: u8, beta: u32) -> Option<Members>
+        ensures valid { IsSome result
+            ↔ ((1 ≤ n) × (n ≤ most_servers) × (beta ≤ greatest_beta)) }
+        ensures value { IfSome result (λ m. m.count ≡ n) }
+        ensures beta { IfSome result (λ m. m.beta ≡ beta) }
+    {
+        if n < 1 || n > MOST_SERVERS || beta > GREATEST_BETA {
             return None;
         }
-        Some(Members { count: n })
+        Some(Members {
+            count: n,
+            beta: beta as u16,
+        })
     }
 
     /// How many servers there are, 1 to 7.
@@ -45,6 +63,14 @@ impl Members {
         ensures few { result ≤ most_servers }
     {
         self.count
+    }
+
+    /// How far past its own front a server looks where it suspects another one, 0 to 4,095.
+    pub fn beta(self) -> u32
+        ensures beta { result ≡ self.beta }
+        ensures small { result ≤ greatest_beta }
+    {
+        u32::from(self.beta)
     }
 
     /// The least number of servers that is more than half of them.

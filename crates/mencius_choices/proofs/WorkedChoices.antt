@@ -17,7 +17,7 @@ get number = record { id = record { client = 1; number = number }; op = Get (97 
 -- ---- the table of choices
 
 abbrev three_after : List Event → ClusterState
-three_after journal = record { members = record { count = 3 }; journal = journal }
+three_after journal = record { members = record { count = 3; beta = 0 }; journal = journal }
 
 -- three servers, after a command that nobody suspects: four messages were sent
 abbrev after_one_command : ClusterState

@@ -12,8 +12,9 @@ use Rattle.serde_json.specs.Events.{members_len}
 use Rattle.serde_json.specs.Find.{get_member}
 use Rattle.serde_json.proofs.Views.{get_member-put, get_member-put_other}
 use Rattle.mencius_ends.specs.declared.fault.AppFault.TheVariants.{BadShape}
+use Rattle.mencius_input.specs.Fields.{beta_said}
 use Rattle.mencius_input.specs.Named.{all_said, AreNamed, Says, field, is_one_of, newest, these}
-use Rattle.mencius_input.specs.Scenario.{whole_in, whole_of}
+use Rattle.mencius_input.specs.Scenario.{beta_in, one_there, whole_in, whole_of}
 
 -- ---- names
 
@@ -316,7 +317,38 @@ named_count names true ms ordered h there =
     let many = room (o.0 ∷ names) ms (o.2, ordered_apart names ordered) ((o.1, o.3), there) in
     ne_eqb (members_len ms) (length names) (λ same. omega (arith, many, same))
 
+-- the same where one name more may be found or not
+pub named_count_but : (key : List ℕ) (names : List (List ℕ)) (has_other : Bool) (ms : Members)
+    → are_ordered (key ∷ names) ≡ true → AreNamed (key ∷ names) has_other ms
+    → AllFound names (λ n. get_member n ms)
+    → (members_len ms == length names + one_there (get_member key ms)) ≡ not has_other
+named_count_but key names has_other ms ordered h there = go (get_member key ms) refl
+  where
+    go : (o : Option Data) → get_member key ms ≡ o
+        → (members_len ms == length names + one_there o) ≡ not has_other
+    go (Some d) e =
+        let more : length names + 1 ≡ suc (length names) = omega arith in
+        ap (λ n. members_len ms == n) more ∙ named_count (key ∷ names) has_other ms ordered h ((d, e), there)
+    go None e =
+        let all : length names + 0 ≡ length names = omega arith in
+        let parts = and_parts (list_all (is_before key) names) (are_ordered names) ordered in
+        ap (λ n. members_len ms == n) all
+        ∙ named_count names has_other ms parts.1 (record {
+          only = λ none. h.only none ∙ ap (λ o. field key o (these names (λ name. get_member name ms))) e;
+          other = λ some. let o = h.other some in (
+            o.0,
+            o.1,
+            (or_parts (bytes_eq o.0 key) (is_one_of o.0 names) o.2).1,
+            o.3,
+          );
+        }) there
+
 -- ---- what the fields say
+
+-- the beta, in the two ways in which it is said
+pub beta_same : (o : Option Data) → beta_said (option_map whole_in o) ≡ beta_in o
+beta_same None = refl
+beta_same (Some d) = refl
 
 pub no_shape : {X : Type 0} (has_other : Bool) → all_said {X = X} has_other (Err BadShape) ≡ Err BadShape
 no_shape true = refl

@@ -1,5 +1,5 @@
 -- The scenario of a run, from its parts.
-use Rattle.std.proofs.Common.{nat_le, Vec, Global, ◌≡◌, ◌≤◌, ℕ, arith, ◌&&◌, ◌||◌, ◌==◌, Bool, true, false, not, cond, List, length, map, Option, Some, None, Result, Ok, Err, refl, ap, ap₂, sym, ◌∙◌, codes, option_and_then, option_map}
+use Rattle.std.proofs.Common.{nat_le, Vec, Global, ◌≡◌, ◌≤◌, ℕ, ◌+◌, ◌∷◌, arith, ◌&&◌, ◌||◌, ◌==◌, Bool, true, false, not, cond, List, length, map, Option, Some, None, Result, Ok, Err, refl, ap, ap₂, sym, ◌∙◌, codes, option_and_then, option_map}
 use Rattle.std.specs.Prelude.{if◌then◌else◌}
 use Rattle.std.specs.List.{list_all}
 use Rattle.std.specs.Str.{bytes_eq}
@@ -16,14 +16,15 @@ use Rattle.mencius_ends.specs.declared.fault.AppFault.{AppFault}
 use Rattle.mencius_ends.specs.declared.fault.AppFault.TheVariants.{BadLimit}
 use Rattle.mencius_input.specs.declared.plan.Fields as code
 use Rattle.mencius_input.specs.declared.plan.Numbers.{Numbers}
+use Rattle.mencius_input.specs.Fields.{beta_said}
 use Rattle.mencius_input.specs.Grammar.{command_within}
 use Rattle.mencius_input.specs.Judged.{judged, seen}
 use Rattle.mencius_input.specs.Named.{all_said, AreNamed, Says, is_one_of}
 use Rattle.mencius_input.specs.Plan.{WrittenPlan, commands_of, lists_fit, numbers_of, plan, plan_of, plan_within}
-use Rattle.mencius_input.specs.PlanFields.{AreFields, lists_of, lists_within, noted, numbers_in, plan_names, plan_said, there, whole_names}
-use Rattle.mencius_input.specs.Scenario.{◌>>=◌, all_of, json_of, or_not_json, read_there, whole_in, whole_of}
+use Rattle.mencius_input.specs.PlanFields.{AreFields, all_names, lists_of, lists_within, noted, numbers_in, plan_names, plan_said, there, whole_names}
+use Rattle.mencius_input.specs.Scenario.{◌>>=◌, all_of, beta_of, json_of, one_there, or_not_json, read_there, whole_in, whole_of}
 use Rattle.mencius_input.proofs.JudgedParts.{judged_ok}
-use Rattle.mencius_input.proofs.NamedFields.{AllFound, are_ordered, named_count, newest_says, no_names, no_shape, now_says, one_named, other_named, same_name, still_says, whole_field}
+use Rattle.mencius_input.proofs.NamedFields.{AllFound, are_ordered, beta_same, named_count_but, newest_says, no_names, no_shape, now_says, one_named, other_named, same_name, still_says, whole_field}
 
 abbrev written : Numbers → List (List Request) → WrittenPlan
 written n cs = record { numbers = n; commands = cs }
@@ -33,7 +34,7 @@ written n cs = record { numbers = n; commands = cs }
 abbrev lists_judged : Data → Result (List (List Request)) AppFault
 lists_judged d = judged lists_within (lists_of d)
 
-ordered : are_ordered plan_names ≡ true
+ordered : are_ordered all_names ≡ true
 ordered = refl
 
 pub no_plan_fields : AreFields
@@ -41,6 +42,7 @@ pub no_plan_fields : AreFields
       wholes = record {
         version = None;
         servers = None;
+        beta = None;
         workers = None;
         seed = None;
         turns = None;
@@ -50,9 +52,10 @@ pub no_plan_fields : AreFields
       commands = None;
     }) no_members
 no_plan_fields = record {
-  named = no_names plan_names;
+  named = no_names all_names;
   version = refl;
   servers = refl;
+  beta = refl;
   workers = refl;
   seed = refl;
   turns = refl;
@@ -67,9 +70,10 @@ module _ (f : code.Fields) (ms : Members) (d : Data) (h : AreFields f ms) where
       ≡ judged lists_within (lists_of d)
       → AreFields (record f { commands = Some lists }) (put name d ms)
   commands_set name lists same is = rw (same_name name (codes "commands") same) record {
-    named = one_named plan_names (codes "commands") d ms ordered f.wholes.has_other h.named refl;
+    named = one_named all_names (codes "commands") d ms ordered f.wholes.has_other h.named refl;
     version = still_says whole_in (codes "commands") d ms (codes "version") f.wholes.version refl h.version;
     servers = still_says whole_in (codes "commands") d ms (codes "servers") f.wholes.servers refl h.servers;
+    beta = still_says whole_in (codes "commands") d ms (codes "beta") f.wholes.beta refl h.beta;
     workers = still_says whole_in (codes "commands") d ms (codes "workers") f.wholes.workers refl h.workers;
     seed = still_says whole_in (codes "commands") d ms (codes "seed") f.wholes.seed refl h.seed;
     turns = still_says whole_in (codes "commands") d ms (codes "turns") f.wholes.turns refl h.turns;
@@ -80,9 +84,10 @@ module _ (f : code.Fields) (ms : Members) (d : Data) (h : AreFields f ms) where
   pub whole_set : (name : List ℕ) (whole : Option ℕ) → bytes_eq name (codes "commands") ≡ false → whole ≡ whole_in d
       → AreFields (record f { wholes = noted f.wholes name whole }) (put name d ms)
   whole_set name whole other is = record {
-    named = by_test (is_one_of name whole_names) refl;
+    named = by_test (is_one_of name (codes "beta" ∷ whole_names)) refl;
     version = newest_says whole_in name d ms (codes "version") whole f.wholes.version is h.version;
     servers = newest_says whole_in name d ms (codes "servers") whole f.wholes.servers is h.servers;
+    beta = newest_says whole_in name d ms (codes "beta") whole f.wholes.beta is h.beta;
     workers = newest_says whole_in name d ms (codes "workers") whole f.wholes.workers is h.workers;
     seed = newest_says whole_in name d ms (codes "seed") whole f.wholes.seed is h.seed;
     turns = newest_says whole_in name d ms (codes "turns") whole f.wholes.turns is h.turns;
@@ -90,15 +95,15 @@ module _ (f : code.Fields) (ms : Members) (d : Data) (h : AreFields f ms) where
     commands = still_says _ name d ms (codes "commands") _ other h.commands;
   }
     where
-      known : is_one_of name plan_names ≡ is_one_of name whole_names
-      known = ap (λ a. a || is_one_of name whole_names) other
+      known : is_one_of name all_names ≡ is_one_of name (codes "beta" ∷ whole_names)
+      known = ap (λ a. bytes_eq name (codes "beta") || (a || is_one_of name whole_names)) other
 
-      by_test : (a : Bool) → is_one_of name whole_names ≡ a
-          → AreNamed plan_names (f.wholes.has_other || not a) (put name d ms)
+      by_test : (a : Bool) → is_one_of name (codes "beta" ∷ whole_names) ≡ a
+          → AreNamed all_names (f.wholes.has_other || not a) (put name d ms)
       by_test true e =
           rw (or-false f.wholes.has_other)
-          (one_named plan_names name d ms ordered f.wholes.has_other h.named (known ∙ e))
-      by_test false e = rw (or-true f.wholes.has_other) (other_named plan_names name d ms (known ∙ e))
+          (one_named all_names name d ms ordered f.wholes.has_other h.named (known ∙ e))
+      by_test false e = rw (or-true f.wholes.has_other) (other_named all_names name d ms (known ∙ e))
 
 -- ---- what an object says, by its fields
 
@@ -126,6 +131,7 @@ numbers_said f ms h =
     rw (
       whole_there (codes "version") f.wholes.version ms h.version,
       whole_there (codes "servers") f.wholes.servers ms h.servers,
+      ap beta_said h.beta ∙ beta_same (get_member (codes "beta") ms),
       whole_there (codes "workers") f.wholes.workers ms h.workers,
       whole_there (codes "seed") f.wholes.seed ms h.seed,
       whole_there (codes "turns") f.wholes.turns ms h.turns,
@@ -135,25 +141,27 @@ numbers_said f ms h =
 abbrev IsThere : Option ℕ → Type 0
 IsThere o = (x : ℕ) × (o ≡ Some x)
 
-abbrev six : Option ℕ → Option ℕ → Option ℕ → Option ℕ → Option ℕ → Option ℕ → Option Numbers
-six version servers workers seed turns loss = do
+abbrev seven : Option ℕ → Option ℕ → Option ℕ → Option ℕ → Option ℕ → Option ℕ → Option ℕ → Option Numbers
+seven version servers beta workers seed turns loss = do
   version ← version
   s ← servers
+  x ← beta
   workers ← workers
   g ← seed
   turns ← turns
   l ← loss
-  Some (record { version = version; servers = s; workers = workers; seed = g; turns = turns; loss = l })
+  Some (record { version = version; servers = s; beta = x; workers = workers; seed = g; turns = turns; loss = l })
 
-all_there : (version s o g r l : Option ℕ) (n : Numbers) → six version s o g r l ≡ Some n
+all_there : (version s x o g r l : Option ℕ) (n : Numbers) → seven version s x o g r l ≡ Some n
     → IsThere version × IsThere s × IsThere o × IsThere g × IsThere r × IsThere l
-all_there None s o g r l n e = absurd (cc)
-all_there (Some version) None o g r l n e = absurd (cc)
-all_there (Some version) (Some s) None g r l n e = absurd (cc)
-all_there (Some version) (Some s) (Some o) None r l n e = absurd (cc)
-all_there (Some version) (Some s) (Some o) (Some g) None l n e = absurd (cc)
-all_there (Some version) (Some s) (Some o) (Some g) (Some r) None n e = absurd (cc)
-all_there (Some version) (Some s) (Some o) (Some g) (Some r) (Some l) n e =
+all_there None s x o g r l n e = absurd (cc)
+all_there (Some version) None x o g r l n e = absurd (cc)
+all_there (Some version) (Some s) None o g r l n e = absurd (cc)
+all_there (Some version) (Some s) (Some x) None g r l n e = absurd (cc)
+all_there (Some version) (Some s) (Some x) (Some o) None r l n e = absurd (cc)
+all_there (Some version) (Some s) (Some x) (Some o) (Some g) None l n e = absurd (cc)
+all_there (Some version) (Some s) (Some x) (Some o) (Some g) (Some r) None n e = absurd (cc)
+all_there (Some version) (Some s) (Some x) (Some o) (Some g) (Some r) (Some l) n e =
     ((version, refl), (s, refl), (o, refl), (g, refl), (r, refl), (l, refl))
 
 all_found : (ms : Members) (n : Numbers) (d : Data) → numbers_of (object ms) ≡ Some n
@@ -161,7 +169,8 @@ all_found : (ms : Members) (n : Numbers) (d : Data) → numbers_of (object ms) �
 unfolding numbers_of
 all_found ms n d e found =
     let whole = λ (key : List ℕ). whole_of key (object ms) in
-    let all = all_there (whole (codes "version")) (whole (codes "servers")) (whole (codes "workers"))
+    let all = all_there (whole (codes "version")) (whole (codes "servers")) (beta_of (object ms))
+    (whole (codes "workers"))
     (whole (codes "seed")) (whole (codes "turns")) (whole (codes "loss")) n e in (
       (d, found),
       (
@@ -191,7 +200,7 @@ bound seven numbers commands = do
   if seven then Some (written n all) else None
 
 plan_bound : (ms : Members) → plan_of (object ms)
-    ≡ bound (members_len ms == 7) (numbers_of (object ms)) (get_member (codes "commands") ms)
+    ≡ bound (members_len ms == 7 + one_there (get_member (codes "beta") ms)) (numbers_of (object ms)) (get_member (codes "commands") ms)
 unfolding plan_of
 plan_bound ms = refl
 
@@ -254,8 +263,8 @@ pub plan_fields_say : (f : code.Fields) (ms : Members) → AreFields f ms
     ≡ judged plan_within (plan_of (object ms))
 plan_fields_say f ms h =
     ap₂ (λ n x. all_said f.wholes.has_other (plan_said n x)) (numbers_said f ms h) h.commands
-    ∙ by_parts f.wholes.has_other (members_len ms == 7) (numbers_of (object ms)) (get_member (codes "commands") ms)
-    (λ n d e x. named_count plan_names f.wholes.has_other ms ordered h.named (all_found ms n d e x))
+    ∙ by_parts f.wholes.has_other (members_len ms == 7 + one_there (get_member (codes "beta") ms)) (numbers_of (object ms)) (get_member (codes "commands") ms)
+    (λ n d e x. named_count_but (codes "beta") plan_names f.wholes.has_other ms ordered h.named (all_found ms n d e x))
     ∙ ap (judged plan_within) (sym (plan_bound ms))
 
 -- what is no object is no scenario of a run

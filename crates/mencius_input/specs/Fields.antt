@@ -1,5 +1,5 @@
 -- The fields of a scenario that were read so far; for private clauses.
-use Rattle.std.specs.Prelude.{ℕ, List, [], ◌∷◌, codes, Option, Some, Result, Ok, Err, if◌then◌else◌}
+use Rattle.std.specs.Prelude.{ℕ, List, [], ◌∷◌, codes, Option, Some, None, Result, Ok, Err, if◌then◌else◌}
 use Rattle.std.specs.List.{list_all}
 use Rattle.std.specs.Str.{bytes_eq}
 use Rattle.serde_json.specs.Data.{Members}
@@ -8,7 +8,7 @@ use Rattle.mencius_ends.specs.declared.fault.AppFault.{AppFault}
 use Rattle.mencius_ends.specs.declared.fault.AppFault.TheVariants.{BadLimit, BadShape}
 use Rattle.mencius_input.specs.declared.scenario.Fields as code
 use Rattle.mencius_input.specs.declared.scenario.Name.{Name}
-use Rattle.mencius_input.specs.declared.scenario.Name.TheVariants.{Version, Servers, Events, Other}
+use Rattle.mencius_input.specs.declared.scenario.Name.TheVariants.{Version, Servers, Beta, Events, Other}
 use Rattle.mencius_input.specs.Grammar.{event_within}
 use Rattle.mencius_input.specs.Judged.{judged}
 use Rattle.mencius_input.specs.Named.{AreNamed, Says}
@@ -20,32 +20,43 @@ unfoldable pub named : List ℕ → Name
 named name =
     if bytes_eq name (codes "version") then Version
     else (if bytes_eq name (codes "servers") then Servers
+    else (if bytes_eq name (codes "beta") then Beta
     else (if bytes_eq name (codes "events") then Events
-    else Other))
+    else Other)))
 
--- the three names, in order
+-- the three names, in order, and the one that may be left out
 abbrev pub three_names : List (List ℕ)
 three_names = codes "events" ∷ codes "servers" ∷ codes "version" ∷ []
 
+abbrev pub all_names : List (List ℕ)
+all_names = codes "beta" ∷ three_names
+
 -- what was read of the fields, each as it was written last
 pub record AreFields (f : code.Fields) (ms : Members) : Type 0 where
-  pub named : AreNamed three_names f.has_other ms
+  pub named : AreNamed all_names f.has_other ms
   pub version : Says whole_in (codes "version") f.version ms
   pub servers : Says whole_in (codes "servers") f.servers ms
+  pub beta : Says whole_in (codes "beta") f.beta ms
   pub events : Says (λ d. judged (list_all event_within) (list_in d)) (codes "events") f.events ms
 
 -- a scenario within the limits
-abbrev pub fitted : ℕ → ℕ → List Event → Result Written AppFault
-fitted version servers events =
-    if cluster_within version servers then Ok (record { version = version; servers = servers; events = events })
+abbrev pub fitted : ℕ → ℕ → ℕ → List Event → Result Written AppFault
+fitted version servers beta events =
+    if cluster_within version servers beta
+    then Ok (record { version = version; servers = servers; beta = beta; events = events })
     else Err BadLimit
 
-abbrev pub fitted_events : ℕ → ℕ → Result (List Event) AppFault → Result Written AppFault
-fitted_events version servers (Ok events) = fitted version servers events
-fitted_events version servers (Err fault) = Err fault
+abbrev pub fitted_events : ℕ → ℕ → ℕ → Result (List Event) AppFault → Result Written AppFault
+fitted_events version servers beta (Ok events) = fitted version servers beta events
+fitted_events version servers beta (Err fault) = Err fault
 
--- what three fields say
-abbrev pub said : Option (Option ℕ) → Option (Option ℕ) → Option (Result (List Event) AppFault)
+-- the beta that was said, and 0 where none was
+abbrev pub beta_said : Option (Option ℕ) → Option ℕ
+beta_said None = Some 0
+beta_said (Some known) = known
+
+-- what the fields say
+abbrev pub said : Option (Option ℕ) → Option (Option ℕ) → Option ℕ → Option (Result (List Event) AppFault)
     → Result Written AppFault
-said (Some (Some version)) (Some (Some servers)) (Some events) = fitted_events version servers events
-said _ _ _ = Err BadShape
+said (Some (Some version)) (Some (Some servers)) (Some beta) (Some events) = fitted_events version servers beta events
+said _ _ _ _ = Err BadShape

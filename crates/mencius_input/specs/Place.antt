@@ -5,18 +5,19 @@ use Rattle.serde_json.specs.Find.{as_array, as_object, as_str, get, get_item}
 use Rattle.mencius_ends.specs.declared.fault.AppFault.{AppFault}
 use Rattle.mencius_ends.specs.declared.fault.AppFault.TheVariants.{BadLimit, BadShape}
 use Rattle.mencius_input.specs.declared.places.Field.{Field}
-use Rattle.mencius_input.specs.declared.places.Field.TheVariants.{Version, Servers, Events}
+use Rattle.mencius_input.specs.declared.places.Field.TheVariants.{Version, Servers, Beta, Events}
 use Rattle.mencius_input.specs.declared.places.Place.{Place}
 use Rattle.mencius_input.specs.declared.places.Place.TheVariants.{Whole, Unknown, Missing, Value, Event}
 use Rattle.mencius_input.specs.declared.places.Places.{Places}
 use Rattle.mencius_input.specs.declared.scenario.Name.TheVariants.{Other}
 use Rattle.mencius_input.specs.Fields.{named}
 use Rattle.mencius_input.specs.Judged.{judged}
-use Rattle.mencius_input.specs.Scenario.{are_servers, is_version, item_said, json_of, whole_in}
+use Rattle.mencius_input.specs.Scenario.{are_servers, is_beta, is_version, item_said, json_of, whole_in}
 
 abbrev pub field_name : Field → List ℕ
 field_name Version = codes "version"
 field_name Servers = codes "servers"
+field_name Beta = codes "beta"
 field_name Events = codes "events"
 
 -- no item before this index has the fault
@@ -36,6 +37,7 @@ pub record IsFirst (fault : AppFault) (items : Items) (index : ℕ) (text : Opti
 abbrev pub FieldFails : AppFault → Field → Data → Type 0
 FieldFails fault Version d = judged is_version (whole_in d) ≡ Err fault
 FieldFails fault Servers d = judged are_servers (whole_in d) ≡ Err fault
+FieldFails fault Beta d = judged is_beta (whole_in d) ≡ Err fault
 FieldFails fault Events d = (fault ≡ BadShape) × (as_array d ≡ None)
 
 -- the place has the fault
@@ -55,7 +57,7 @@ IsAt fault d (Event index text) =
 abbrev pub ArePlaces : AppFault → Data → Places → Type 0
 ArePlaces fault d places =
     IfSome places.version (λ place. IsAt fault d place) × IfSome places.servers (λ place. IsAt fault d place)
-    × IfSome places.events (λ place. IsAt fault d place)
+    × IfSome places.beta (λ place. IsAt fault d place) × IfSome places.events (λ place. IsAt fault d place)
 
 -- ---- the words that tell a place
 
@@ -65,6 +67,7 @@ value_words fault Events = codes "no list"
 value_words BadShape field = codes "no whole number"
 value_words fault Version = codes "not 1"
 value_words fault Servers = codes "not 1 to 7"
+value_words fault Beta = codes "not 0 to 4095"
 
 abbrev pub field_words : Field → List ℕ → List ℕ
 field_words field said = codes "the field \"" ++ (field_name field ++ (codes "\" is " ++ said))

@@ -1,5 +1,5 @@
 -- What the bytes of a run's scenario say: a cluster, and the plan that workers follow on it.
-use Rattle.std.specs.Prelude.{ℕ, ◌==◌, ◌&&◌, List, length, map, codes, Bool, Option, Some, None, option_and_then, Result, nat_le, if◌then◌else◌}
+use Rattle.std.specs.Prelude.{ℕ, ◌+◌, ◌==◌, ◌&&◌, List, length, map, codes, Bool, Option, Some, None, option_and_then, Result, nat_le, if◌then◌else◌}
 use Rattle.std.specs.List.{list_all}
 use Rattle.serde_json.specs.Data.{Data}
 use Rattle.serde_json.specs.Find.{as_object, as_array, get}
@@ -11,7 +11,7 @@ use Rattle.mencius_input.specs.declared.plan.Numbers.{Numbers}
 use Rattle.mencius_input.specs.declared.plan.RunInput as code
 use Rattle.mencius_input.specs.Judged.{judged}
 use Rattle.mencius_input.specs.Grammar.{command_of, command_within}
-use Rattle.mencius_input.specs.Scenario.{◌>>=◌, all_in, all_of, cluster_within, json_of, known_version, or_not_json, read_there, said_by, whole_of}
+use Rattle.mencius_input.specs.Scenario.{◌>>=◌, all_in, all_of, beta_of, betas, cluster_within, json_of, known_version, or_not_json, read_there, said_by, whole_of}
 
 -- the numbers, and a list of commands for each server
 pub record WrittenPlan : Type 0 where
@@ -24,30 +24,39 @@ unfoldable pub numbers_of : Data → Option Numbers
 numbers_of d = do
   version ← whole_of (codes "version") d
   servers ← whole_of (codes "servers") d
+  beta ← beta_of d
   workers ← whole_of (codes "workers") d
   seed ← whole_of (codes "seed") d
   turns ← whole_of (codes "turns") d
   loss ← whole_of (codes "loss") d
-  Some (record { version = version; servers = servers; workers = workers; seed = seed; turns = turns; loss = loss })
+  Some (record {
+    version = version;
+    servers = servers;
+    beta = beta;
+    workers = workers;
+    seed = seed;
+    turns = turns;
+    loss = loss;
+  })
 
 -- a list of texts, each a command's
 abbrev pub commands_of : Data → Option (List Request)
 commands_of d = all_in (said_by command_of) d
 
--- an object with these seven fields and no other
+-- an object with these seven fields, maybe a beta, and no other
 unfoldable pub plan_of : Data → Option WrittenPlan
 plan_of d = do
   fields ← as_object d
   numbers ← numbers_of d
   lists ← option_and_then as_array (get (codes "commands") d)
   commands ← all_of commands_of lists
-  if members_len fields == 7 then Some (record { numbers = numbers; commands = commands }) else None
+  if members_len fields == 7 + betas d then Some (record { numbers = numbers; commands = commands }) else None
 
 -- ---- the limits
 
 abbrev pub numbers_within : Numbers → Bool
 numbers_within n =
-    cluster_within n.version n.servers && (nat_le 1 n.workers && nat_le n.workers most_workers)
+    cluster_within n.version n.servers n.beta && (nat_le 1 n.workers && nat_le n.workers most_workers)
     && nat_le n.turns most_turns && nat_le n.loss greatest_loss
 
 -- and as many lists as there are servers
@@ -69,6 +78,7 @@ run_in s = record {
   numbers = record {
     version = known_version;
     servers = s.members.count;
+    beta = s.members.beta;
     workers = s.workers;
     seed = s.seed;
     turns = s.turns;

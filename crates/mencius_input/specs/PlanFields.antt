@@ -9,6 +9,7 @@ use Rattle.mencius_ends.specs.declared.fault.AppFault.TheVariants.{BadLimit, Bad
 use Rattle.mencius_input.specs.declared.plan.Fields as code
 use Rattle.mencius_input.specs.declared.plan.Wholes as code_wholes
 use Rattle.mencius_input.specs.declared.plan.Numbers.{Numbers}
+use Rattle.mencius_input.specs.Fields.{beta_said}
 use Rattle.mencius_input.specs.Grammar.{command_within}
 use Rattle.mencius_input.specs.Judged.{judged, seen}
 use Rattle.mencius_input.specs.Named.{AreNamed, Says, is_one_of, newest}
@@ -27,27 +28,32 @@ abbrev pub whole_names : List (List ℕ)
 whole_names =
     codes "loss" ∷ codes "seed" ∷ codes "servers" ∷ codes "turns" ∷ codes "version" ∷ codes "workers" ∷ []
 
--- the seven names, in order
+-- the seven names, in order, and the one that may be left out
 abbrev pub plan_names : List (List ℕ)
 plan_names = codes "commands" ∷ whole_names
+
+abbrev pub all_names : List (List ℕ)
+all_names = codes "beta" ∷ plan_names
 
 -- what was known, and then what the field of a name says
 abbrev pub noted : code_wholes.Wholes → List ℕ → Option ℕ → code_wholes.Wholes
 noted x name whole = record {
   version = newest (codes "version") name whole x.version;
   servers = newest (codes "servers") name whole x.servers;
+  beta = newest (codes "beta") name whole x.beta;
   workers = newest (codes "workers") name whole x.workers;
   seed = newest (codes "seed") name whole x.seed;
   turns = newest (codes "turns") name whole x.turns;
   loss = newest (codes "loss") name whole x.loss;
-  has_other = x.has_other || not (is_one_of name whole_names);
+  has_other = x.has_other || not (is_one_of name (codes "beta" ∷ whole_names));
 }
 
 -- what was read of the fields, each as it was written last
 pub record AreFields (f : code.Fields) (ms : Members) : Type 0 where
-  pub named : AreNamed plan_names f.wholes.has_other ms
+  pub named : AreNamed all_names f.wholes.has_other ms
   pub version : Says whole_in (codes "version") f.wholes.version ms
   pub servers : Says whole_in (codes "servers") f.wholes.servers ms
+  pub beta : Says whole_in (codes "beta") f.wholes.beta ms
   pub workers : Says whole_in (codes "workers") f.wholes.workers ms
   pub seed : Says whole_in (codes "seed") f.wholes.seed ms
   pub turns : Says whole_in (codes "turns") f.wholes.turns ms
@@ -64,11 +70,20 @@ abbrev pub numbers_in : code_wholes.Wholes → Option Numbers
 numbers_in x = do
   version ← there x.version
   servers ← there x.servers
+  beta ← beta_said x.beta
   workers ← there x.workers
   seed ← there x.seed
   turns ← there x.turns
   loss ← there x.loss
-  Some (record { version = version; servers = servers; workers = workers; seed = seed; turns = turns; loss = loss })
+  Some (record {
+    version = version;
+    servers = servers;
+    beta = beta;
+    workers = workers;
+    seed = seed;
+    turns = turns;
+    loss = loss;
+  })
 
 -- what the seven fields say
 abbrev pub plan_said : Option Numbers → Option (Result (List (List Request)) AppFault) → Result WrittenPlan AppFault

@@ -1,12 +1,13 @@
 -- What the bytes of a scenario say, or what is wrong with them.
-use Rattle.std.specs.Prelude.{ℕ, ◌==◌, ◌&&◌, List, [], ◌∷◌, codes, Bool, Option, Some, None, option_and_then, Result, Ok, Err, nat_le, if◌then◌else◌}
+use Rattle.std.specs.Prelude.{ℕ, ◌+◌, ◌==◌, ◌&&◌, List, [], ◌∷◌, codes, Bool, Option, Some, None, option_and_then, Result, Ok, Err, nat_le, if◌then◌else◌}
 use Rattle.std.specs.List.{list_all}
 use Rattle.std.specs.Str.{is_utf8}
 use Rattle.serde_json.specs.Data.{Data, Items, no_items, item}
 use Rattle.serde_json.specs.Find.{as_object, as_array, as_str, as_number, as_u64, get}
 use Rattle.serde_json.specs.Events.{members_len}
 use Rattle.serde_json.specs.Read.{read}
-use Rattle.mencius_base.specs.Limits.{most_servers}
+use Rattle.mencius_base.specs.Limits.{greatest_beta, most_servers}
+use Rattle.mencius_base.specs.Members.{Membership}
 use Rattle.mencius_base.specs.declared.event.Event.{Event}
 use Rattle.mencius_ends.specs.declared.fault.AppFault.{AppFault}
 use Rattle.mencius_ends.specs.declared.fault.AppFault.TheVariants.{NotJson}
@@ -19,10 +20,11 @@ infixl 10 ◌>>=◌
 abbrev pub ◌>>=◌ : {X Y : Type 0} → Option X → (X → Option Y) → Option Y
 o >>= f = option_and_then f o
 
--- a version, a number of servers, and events in order
+-- a version, a number of servers, a beta, and events in order
 pub record Written : Type 0 where
   pub version : ℕ
   pub servers : ℕ
+  pub beta : ℕ
   pub events : List Event
 
 -- ---- the shape
@@ -55,15 +57,33 @@ whole_in d = option_and_then as_u64 (as_number d)
 unfoldable pub whole_of : List ℕ → Data → Option ℕ
 whole_of name d = option_and_then whole_in (get name d)
 
--- an object with these three fields and no other
+-- the beta that a field says, and 0 where there is no such field
+abbrev pub beta_in : Option Data → Option ℕ
+beta_in None = Some 0
+beta_in (Some d) = whole_in d
+
+abbrev pub beta_of : Data → Option ℕ
+beta_of d = beta_in (get (codes "beta") d)
+
+-- how many fields that is
+abbrev pub one_there : Option Data → ℕ
+one_there None = 0
+one_there (Some d) = 1
+
+abbrev pub betas : Data → ℕ
+betas d = one_there (get (codes "beta") d)
+
+-- an object with these three fields, maybe a beta, and no other
 unfoldable pub written_of : Data → Option Written
 written_of d = do
   fields ← as_object d
   version ← whole_of (codes "version") d
   servers ← whole_of (codes "servers") d
+  beta ← beta_of d
   items ← option_and_then as_array (get (codes "events") d)
   events ← events_of items
-  if members_len fields == 3 then Some (record { version = version; servers = servers; events = events }) else None
+  if members_len fields == 3 + betas d
+      then Some (record { version = version; servers = servers; beta = beta; events = events }) else None
 
 -- ---- the limits
 
@@ -78,11 +98,15 @@ is_version version = version == known_version
 abbrev pub are_servers : ℕ → Bool
 are_servers servers = nat_le 1 servers && nat_le servers most_servers
 
-abbrev pub cluster_within : ℕ → ℕ → Bool
-cluster_within version servers = is_version version && are_servers servers
+-- and this beta
+abbrev pub is_beta : ℕ → Bool
+is_beta beta = nat_le beta greatest_beta
+
+abbrev pub cluster_within : ℕ → ℕ → ℕ → Bool
+cluster_within version servers beta = (is_version version && are_servers servers) && is_beta beta
 
 abbrev pub within : Written → Bool
-within x = cluster_within x.version x.servers && list_all event_within x.events
+within x = cluster_within x.version x.servers x.beta && list_all event_within x.events
 
 -- what an item of the events says, or its fault
 abbrev pub item_said : Data → Result Event AppFault
@@ -109,4 +133,9 @@ scenario bytes = read_there (λ d. judged within (written_of d)) (or_not_json (j
 
 -- what a scenario that was read says
 abbrev pub written_in : code.Scenario → Written
-written_in s = record { version = known_version; servers = s.members.count; events = s.events }
+written_in s =
+    record { version = known_version; servers = s.members.count; beta = s.members.beta; events = s.events }
+
+-- the members that it names
+abbrev pub members_of : Written → Membership
+members_of x = record { count = x.servers; beta = x.beta }

@@ -19,6 +19,7 @@ fn wrong_value(field: Field, fault: AppFault) -> &'static str
         (_, AppFault::BadShape) => "no whole number",
         (Field::Version, _) => "not 1",
         (Field::Servers, _) => "not 1 to 7",
+        (Field::Beta, _) => "not 0 to 4095",
     }
 }
 

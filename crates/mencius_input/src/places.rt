@@ -12,7 +12,7 @@ ghost use Rattle.mencius_input.specs.Place.{ArePlaces, IsAt, IsFirst, field_name
 ghost use Rattle.mencius_input.specs.Scenario.{item_said, json_of};
 
 use crate::event::parse_event;
-use crate::scenario::{Name, are_servers, is_version, named};
+use crate::scenario::{Name, are_servers, is_beta, is_version, named};
 use crate::tokens::Tokens;
 use crate::value::{MOST_DEPTH, next_name, pass};
 use json::Scratch;
@@ -26,6 +26,7 @@ use std::alloc::Global;
 pub enum Field {
     Version,
     Servers,
+    Beta,
     Events,
 }
 
@@ -37,6 +38,7 @@ impl Field {
         match self {
             Field::Version => "version",
             Field::Servers => "servers",
+            Field::Beta => "beta",
             Field::Events => "events",
         }
     }
@@ -178,6 +180,22 @@ fn place_in_servers(scenario: &Value, fault: AppFault) -> Option<Place>
     }
 }
 
+// The place in the field of the beta.
+fn place_in_beta(scenario: &Value, fault: AppFault) -> Option<Place>
+    ensures { IfSome result (λ x. IsAt fault (view scenario.now) x) }
+{
+    let value = scenario.get("beta")?;
+    match value.as_u64() {
+        None => amiss(Field::Beta, AppFault::BadShape, fault),
+        Some(beta) => {
+            if is_beta(beta) {
+                return None;
+            }
+            amiss(Field::Beta, AppFault::BadLimit, fault)
+        }
+    }
+}
+
 // The place of a field that no scenario has.
 fn place_of_unknown(
     alloc: Global,
@@ -205,6 +223,7 @@ fn place_of_unknown(
 struct Places {
     version: Option<Place>,
     servers: Option<Place>,
+    beta: Option<Place>,
     events: Option<Place>,
 }
 
@@ -215,6 +234,7 @@ fn places_in(alloc: Global, scenario: &Value, fault: AppFault) -> Result<Places,
     Ok(Places {
         version: place_in_version(scenario, fault),
         servers: place_in_servers(scenario, fault),
+        beta: place_in_beta(scenario, fault),
         events: place_in_events(alloc, scenario, fault)?,
     })
 }
@@ -235,6 +255,7 @@ fn place_named(
     match named(name) {
         Name::Version => Ok(places.version.take()),
         Name::Servers => Ok(places.servers.take()),
+        Name::Beta => Ok(places.beta.take()),
         Name::Events => Ok(places.events.take()),
         Name::Other => place_of_unknown(alloc, scenario, name, fault),
     }

@@ -14,6 +14,7 @@ use Rattle.mencius_base.specs.declared.message.Message.TheVariants.{Suggest, Ski
 use Rattle.mencius_base.specs.declared.message.Value.{Value}
 use Rattle.mencius_base.specs.declared.message.Value.TheVariants.{Noop, Ticket}
 use Rattle.mencius_base.specs.declared.message.Vote.{Vote}
+use Rattle.mencius_base.proofs.LeastOwned.{first_owned_owner}
 use Rattle.mencius_base.specs.Members.{Membership, owner, round, first_owned, instances, most_events, first_item}
 use Rattle.mencius_model.specs.Trace.{Line, Submitted, Heard, Suspected, Retried, Sent, Learned, Trace, followed_by, sent, submitted, events}
 use Rattle.mencius_model.specs.Instance.{promised, proposed, proposed_by, accepted, greater, vote, vote_of, vote_at, learned, trying, promisers, accepters, reported, are_majority, has_accepted}
@@ -154,8 +155,8 @@ suspect_may m w v p q (i ∷ xs) lt ne =
     ] where
       suspect_other : (i : ℕ) → is_covered m w p q i ≡ true → owner m i ≡ p → ⊥
       suspect_other i e mine =
-          let r = and_parts (eqb (owner m i) q && leb i (front m w p)) (is_none (learned w p i)) e in
-          let s = eqb-true (owner m i) q (and_parts (eqb (owner m i) q) (leb i (front m w p)) r.0).0 in
+          let r = and_parts _ (is_none (learned w p i)) e in
+          let s = eqb-true (owner m i) q (and_parts (eqb (owner m i) q) _ r.0).0 in
           let holds : eqb p q ≡ true = eq-eqb p q (sym mine ∙ s) in
           absurd (cc)
 
@@ -221,7 +222,7 @@ vote_heard w k q p i = go (accepted w p i) where
   go None = refl
   go (Some b) = ap (vote_at b) (earlier_right (proposed w i b))
 
-module _ (m : Membership) (w : Trace) (g : IsGrown m w) (k p : ℕ) where
+module _ (m : Membership) (w : Trace) (g : IsGrown m w) (k p : ℕ) (member : p < m.count) where
   suggest_lines : (q i t : ℕ) → IsIn (Sent (Suggest q i t)) w → (a d : Bool) → (d ≡ true → promised w p i ≡ 0)
       → AllMay m (Heard k p ∷ w)
       ((if a then Sent (Skip p (front m w p) (first_owned m p (i + 1))) ∷ [] else [])
@@ -231,7 +232,7 @@ module _ (m : Membership) (w : Trace) (g : IsGrown m w) (k p : ℕ) where
       let r = suggest_proposed w q i t h in
       let v = Heard k p ∷ w in
       let l = Sent (Skip p (front m w p) (first_owned m p (i + 1))) in (
-        omega arith,
+        (omega arith, first_owned_owner m p (i + 1) member),
         (
           record {
             asked = inl (refl, (t, inr (inr h)));
@@ -242,7 +243,7 @@ module _ (m : Membership) (w : Trace) (g : IsGrown m w) (k p : ℕ) where
           tt,
         ),
       )
-  suggest_lines q i t h true false each = (omega arith, tt)
+  suggest_lines q i t h true false each = ((omega arith, first_owned_owner m p (i + 1) member), tt)
   suggest_lines q i t h false true each =
       let z = each refl in
       let r = suggest_proposed w q i t h in (
@@ -408,7 +409,8 @@ step_ok w v (Some r) h = absurd (cc)
 pub step_may : (m : Membership) (w : Trace) (e : Event) → IsGrown m w → NoneHolds (causes m w e)
     → May m w (head e) × AllMay m (head e ∷ w) (lines m w e)
 step_may m w (Submit p command) grown h = (h.1.0, submit_may m w p command)
-step_may m w (Deliver k p) grown h = (tt, delivery_lines m w grown k p (slice_get (sent w) k) refl)
+step_may m w (Deliver k p) grown h =
+    (tt, delivery_lines m w grown k p (leb-false m.count p h.0) (slice_get (sent w) k) refl)
 step_may m w (Lose k p) grown h = (tt, tt)
 step_may m w (Suspect p q) grown h =
     let parts = or_parts (leb m.count p) (leb m.count q) h.0 in

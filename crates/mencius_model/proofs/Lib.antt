@@ -43,3 +43,5 @@ pub mod LineServers
 pub mod Outcomes
 pub mod Rounds
 pub mod WithinLimits
+pub mod FrontOwners
+pub mod BetaZero

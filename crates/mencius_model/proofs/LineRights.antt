@@ -81,7 +81,7 @@ pub record MayPropose (m : Membership) (w : Trace) (p : ServerId) (i : Inst) (b 
 
 abbrev pub MaySend : Membership → Trace → Message → Type 0
 MaySend m w (Suggest p i t) = MaySuggest m w p i t
-MaySend m w (Skip p first stop) = front m w p ≤ first
+MaySend m w (Skip p first stop) = (front m w p ≤ first) × (owner m stop ≡ p)
 MaySend m w (Accepted p to i b) = MayAccept w p to i b
 MaySend m w (Prepare p i b) = MayPrepare m p i b
 MaySend m w (Promise p to i b x) = MayPromise w p to i b x

@@ -165,6 +165,48 @@ pub find-instances_found : (test : ℕ → Bool) (m : ℕ) → find test instanc
 unfolding below instances
 find-instances_found test m e = find-range_found test 0 instance_count m e
 
+-- and nothing before it passes
+find-range_before : (test : ℕ → Bool) (a n m : ℕ) → find test (range_with_len a n) ≡ Some m → (j : ℕ) → a ≤ j → j < m
+    → test j ≡ false
+find-range_before test a zero m e j low less = absurd (cc)
+find-range_before test a (suc n) m e j low less =
+    go (test a) refl e (λ f above. find-range_before test (a + 1) n m f j above less)
+  where
+    go : (d : Bool) → test a ≡ d → cond d (Some a) (find test (range_with_len (a + 1) n)) ≡ Some m
+        → (find test (range_with_len (a + 1) n) ≡ Some m → a + 1 ≤ j → test j ≡ false) → test j ≡ false
+    go true here e rest = let same : a ≡ m = cc in absurd (omega (arith, same, low, less))
+    go false missed e rest =
+        ⊎_elim
+        (λ (at : a ≡ j). rw (← at) missed)
+        (λ (off : a ≡ j → ⊥). rest e (omega arith))
+        (cases_eq a j)
+
+pub find-instances_before : (test : ℕ → Bool) (m : ℕ) → find test instances ≡ Some m → (j : ℕ) → j < m
+    → test j ≡ false
+unfolding below instances
+find-instances_before test m e j less = find-range_before test 0 instance_count m e j (omega arith) less
+
+-- where nothing is found, nothing passes
+find-range_nothing : (test : ℕ → Bool) (a n : ℕ) → find test (range_with_len a n) ≡ None → (j : ℕ) → a ≤ j
+    → j < a + n → test j ≡ false
+find-range_nothing test a zero e j low less = absurd (omega arith)
+find-range_nothing test a (suc n) e j low less =
+    go (test a) refl e (λ f above. find-range_nothing test (a + 1) n f j above (omega arith))
+  where
+    go : (d : Bool) → test a ≡ d → cond d (Some a) (find test (range_with_len (a + 1) n)) ≡ None
+        → (find test (range_with_len (a + 1) n) ≡ None → a + 1 ≤ j → test j ≡ false) → test j ≡ false
+    go true here e rest = absurd (cc)
+    go false missed e rest =
+        ⊎_elim
+        (λ (at : a ≡ j). rw (← at) missed)
+        (λ (off : a ≡ j → ⊥). rest e (omega arith))
+        (cases_eq a j)
+
+pub find-instances_nothing : (test : ℕ → Bool) → find test instances ≡ None → (j : ℕ) → j < instance_count
+    → test j ≡ false
+unfolding below instances
+find-instances_nothing test e j small = find-range_nothing test 0 instance_count e j (omega arith) small
+
 pub map-instances_same : {X : Type 0} (f g : ℕ → X) (d : X) → ((m : ℕ) → m < instance_count → f m ≡ g m)
     → map f instances ≡ map g instances
 map-instances_same f g d e = rw instances-below (map-below_same f g instance_count d e)

@@ -55,10 +55,10 @@ module _ (m : Membership) where
   skip_free [] few grown p first stop q i t o le lt h also = h
   skip_free (l ∷ w) few grown p first stop q i t o le lt (inl e) (inl left) = absurd (cc)
   skip_free (l ∷ w) few grown p first stop q i t o le lt (inl e) (inr also) =
-      let may : front m w p ≤ first = rw (← e) at grown.1 in
+      let may : (front m w p ≤ first) × (owner m stop ≡ p) = rw (← e) at grown.1 in
       let same : q ≡ p = sym (suggest_owner w grown.0 q i t also) ∙ o in
       let ahead = suggest_front w q i t few also in
-      absurd (omega (arith, may, le, rw same at ahead))
+      absurd (omega (arith, may.0, le, rw same at ahead))
   skip_free (l ∷ w) few grown p first stop q i t o le lt (inr h) (inl e) =
       let may : MaySuggest m w q i t = rw (← e) at grown.1 in
       let same : q ≡ p = sym may.own ∙ o in

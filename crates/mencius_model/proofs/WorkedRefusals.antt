@@ -83,3 +83,25 @@ report-one_skip_over_three_instances : report three (Ok (outcome three [] one_sk
     ≡ (6, 7, (9, 0, []) ∷ (1, 1, []) ∷ (11, 0, []) ∷ [])
 unfolding below instances most_messages most_events most_rounds
 report-one_skip_over_three_instances = refl
+
+-- looking ahead: a suspicion reaches twice beta past the own front, from an instance below beta past it
+abbrev looking_ahead : Membership
+looking_ahead = record { count = 3; beta = 2 }
+
+abbrev suspicions_of_idle_servers : List Event
+suspicions_of_idle_servers = Suspect 1 0 ∷ Suspect 1 2 ∷ Suspect 0 1 ∷ Suspect 0 2 ∷ []
+
+answers-suspicions_looking_ahead : answers looking_ahead [] suspicions_of_idle_servers
+    ≡ None ∷ None ∷ None ∷ Some NothingToRevoke ∷ []
+unfolding below instances most_messages most_events most_rounds
+answers-suspicions_looking_ahead = refl
+
+report-suspicions_looking_ahead : report looking_ahead (Ok (outcome looking_ahead [] suspicions_of_idle_servers))
+    ≡ (6, 3, (0, 0, []) ∷ (1, 0, []) ∷ (2, 0, []) ∷ [])
+unfolding below instances most_messages most_events most_rounds
+report-suspicions_looking_ahead = refl
+
+answers-suspicions_to_the_front : answers three [] suspicions_of_idle_servers
+    ≡ None ∷ Some NothingToRevoke ∷ Some NothingToRevoke ∷ Some NothingToRevoke ∷ []
+unfolding below instances most_messages most_events most_rounds
+answers-suspicions_to_the_front = refl

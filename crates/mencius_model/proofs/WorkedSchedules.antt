@@ -18,10 +18,10 @@ use Rattle.mencius_model.specs.Executed.{executed}
 use Rattle.mencius_model.specs.Replying.{Reply, NotYet, Is, reply_of, longest_at}
 
 abbrev one : Membership
-one = record { count = 1 }
+one = record { count = 1; beta = 0 }
 
 abbrev pub three : Membership
-three = record { count = 3 }
+three = record { count = 3; beta = 0 }
 
 -- client 1 binds the key `a` to the text `x`
 abbrev pub set_a : Command

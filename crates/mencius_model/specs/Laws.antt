@@ -1,16 +1,21 @@
 -- What holds of every journal that replays, for every number of servers.
-use Rattle.std.specs.Prelude.{◌≡◌, ℕ, ◌<◌, ◌≤◌, List, ◌∷◌, ◌++◌, take, length, Option, Some, None, Ok, slice_get, IsTrue, ◌↔◌, Bool, false, ◌==◌, ◌&&◌, ◌≢◌, Contains}
-use Rattle.std.specs.List.{list_any, count_by}
+use Rattle.std.specs.Prelude.{◌≡◌, ℕ, ◌<◌, ◌≤◌, List, [], ◌∷◌, ◌++◌, take, length, map, nat_le, nat_lt, Option, Some, None, Ok, slice_get, IsTrue, ◌↔◌, Bool, false, ◌==◌, ◌&&◌, ◌||◌, ◌≢◌, Contains, is_none}
+use Rattle.std.specs.List.{list_any, count_by, filter}
 use Rattle.mencius_base.specs.Numbers.{ServerId, Inst, BallotNo, TicketNo}
 use Rattle.mencius_base.specs.declared.event.Event.{Event}
+use Rattle.mencius_base.specs.declared.event.Event.TheVariants.{Suspect}
+use Rattle.mencius_base.specs.declared.refusal.Refusal.{Refusal}
+use Rattle.mencius_base.specs.declared.refusal.Refusal.TheVariants.{BadServer, EventsFull, MessagesFull, NothingToRevoke, RoundsFull, SelfSuspect}
 use Rattle.mencius_base.specs.declared.command.Command.{Command}
 use Rattle.mencius_base.specs.declared.command.CommandId.{CommandId}
 use Rattle.mencius_base.specs.declared.message.Value.{Value}
-use Rattle.mencius_base.specs.Members.{Membership}
-use Rattle.mencius_model.specs.Trace.{Trace, submitted, sent, heard}
+use Rattle.mencius_base.specs.Members.{Membership, first_item, instances, most_events, most_messages, most_rounds, owner}
+use Rattle.mencius_base.specs.Outbox.{is_too_many}
+use Rattle.mencius_model.specs.Trace.{Line, Trace, events, submitted, sent, heard}
 use Rattle.mencius_model.specs.Instance.{learned, reported}
 use Rattle.mencius_model.specs.Store.{out}
-use Rattle.mencius_model.specs.Next.{replay, IsReached}
+use Rattle.mencius_model.specs.Server.{front}
+use Rattle.mencius_model.specs.Next.{first_cause, lines, next_round, preparation, refused, replay, IsReached}
 use Rattle.mencius_base.specs.Command.{is_same_id}
 use Rattle.mencius_model.specs.Decided.{IsDecided}
 use Rattle.mencius_model.specs.Executed.{executed, IsPrefix, IsComparable}
@@ -194,3 +199,37 @@ ReportedIsGreatest =
 abbrev pub ReportedWhereHeard : Type 0
 ReportedWhereHeard =
     (w : Trace) (p : ServerId) (i : Inst) (b : BallotNo) (z : Vote) → HearsReport w p i b z → reported w p i b ≢ None
+
+-- ---- suspicions where beta is 0
+
+-- an instance of q up to p's own front that p has not learned
+abbrev pub is_behind : Membership → Trace → ServerId → ServerId → Inst → Bool
+is_behind m w p q i = (owner m i == q && nat_le i (front m w p)) && is_none (learned w p i)
+
+abbrev pub all_behind : Membership → Trace → ServerId → ServerId → List Inst
+all_behind m w p q = filter (is_behind m w p q) instances
+
+-- a first phase at each of them, by rising instance
+abbrev pub lines_behind : Membership → Trace → ServerId → ServerId → List Line
+lines_behind m w p q = map (preparation m w p) (all_behind m w p q)
+
+-- and why it is refused, in order
+abbrev pub causes_behind : Membership → Trace → ServerId → ServerId → List (Bool × Refusal)
+causes_behind m w p q =
+    (nat_le most_events (events w), EventsFull)
+    ∷ (nat_le m.count p || nat_le m.count q, BadServer)
+    ∷ (p == q, SelfSuspect)
+    ∷ (is_none (first_item (all_behind m w p q)), NothingToRevoke)
+    ∷ (list_any (λ i. nat_lt most_rounds (next_round m w p i)) (all_behind m w p q), RoundsFull)
+    ∷ (is_too_many most_messages (length (sent w)) (length (all_behind m w p q)), MessagesFull) ∷ []
+
+-- with a beta of 0 a suspicion covers what lies up to the own front, and nothing is refused otherwise
+abbrev pub BetaZeroRefuses : Type 0
+BetaZeroRefuses =
+    (m : Membership) (w : Trace) → m.beta ≡ 0 → IsReached m w
+    → (p q : ServerId) → refused m w (Suspect p q) ≡ first_cause (causes_behind m w p q)
+
+abbrev pub BetaZeroSends : Type 0
+BetaZeroSends =
+    (m : Membership) (w : Trace) → m.beta ≡ 0 → IsReached m w
+    → (p q : ServerId) → refused m w (Suspect p q) ≡ None → lines m w (Suspect p q) ≡ lines_behind m w p q

@@ -1,6 +1,6 @@
 -- The rules of a server, each over the few facts that it asks: `Next` asks them of the list of lines, and whoever keeps
 -- what a server knows has them in its fields.
-use Rattle.std.specs.Prelude.{ℕ, ◌+◌, max, Bool, false, List, [], ◌∷◌, Option, Some, None, nat_lt, nat_le, if◌then◌else◌, ◌&&◌, ◌==◌, is_none, true, not, ◌||◌}
+use Rattle.std.specs.Prelude.{ℕ, ◌+◌, ◌*◌, max, Bool, false, List, [], ◌∷◌, Option, Some, None, nat_lt, nat_le, if◌then◌else◌, ◌&&◌, ◌==◌, is_none, true, not, ◌||◌}
 use Rattle.mencius_base.specs.Numbers.{ServerId, Inst, BallotNo, TicketNo}
 use Rattle.mencius_base.specs.Members.{Membership, owner, first_owned, round}
 use Rattle.mencius_base.specs.declared.message.Answer.{Answer}
@@ -124,9 +124,19 @@ learning_lines p i x learned = if may_learn learned then Learned p i x ∷ [] el
 
 -- ---- a suspicion
 
--- it covers the instances of q up to the own front of which nothing is learned
+-- an instance of q of which nothing is learned
+abbrev pub is_open_from : Membership → ServerId → Inst → Option Value → Bool
+is_open_from m q i learned = owner m i == q && is_none learned
+
+-- where the least of them is below beta past the own front, it covers those up to twice beta past the front; else it
+-- covers none: the place before which it covers them
+abbrev pub reach_from : Membership → Inst → Option Inst → Inst
+reach_from m front None = 0
+reach_from m front (Some i) = if nat_lt i (front + m.beta) then front + 2 * m.beta + 1 else 0
+
+-- it covers the instances of q before a place of which nothing is learned
 abbrev pub is_covered_from : Membership → ServerId → Inst → Inst → Option Value → Bool
-is_covered_from m q front i learned = (owner m i == q && nat_le i front) && is_none learned
+is_covered_from m q stop i learned = (owner m i == q && nat_lt i stop) && is_none learned
 
 -- one above the rounds of the ballots tried and promised
 abbrev pub round_above : Membership → BallotNo → BallotNo → ℕ

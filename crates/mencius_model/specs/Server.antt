@@ -8,7 +8,7 @@ use Rattle.mencius_base.specs.declared.message.Value.TheVariants.{Ticket}
 use Rattle.mencius_base.specs.Members.{Membership, instances}
 use Rattle.mencius_model.specs.Trace.{Line, Executed, Sent, Trace, greatest, oldest}
 use Rattle.mencius_model.specs.Instance.{learned}
-use Rattle.mencius_model.specs.Rules.{is_covered_from, is_free_from, waiting_ticket}
+use Rattle.mencius_model.specs.Rules.{is_covered_from, is_free_from, is_open_from, reach_from, waiting_ticket}
 
 -- how far a line takes p's front
 abbrev pub front_by : Membership → ServerId → Line → Inst
@@ -54,9 +54,21 @@ is_free m w p i = is_free_from m p (front m w p) i (learned w p i)
 abbrev pub free_instance : Membership → Trace → ServerId → Option Inst
 free_instance m w p = find (is_free m w p) instances
 
--- an instance of q up to p's own front that p has not learned: a suspicion of q by p covers it
+-- an instance of q that p has not learned
+abbrev pub is_open : Membership → Trace → ServerId → ServerId → Inst → Bool
+is_open m w p q i = is_open_from m q i (learned w p i)
+
+-- the least of them
+abbrev pub first_open : Membership → Trace → ServerId → ServerId → Option Inst
+first_open m w p q = find (is_open m w p q) instances
+
+-- how far a suspicion of q by p reaches
+abbrev pub reach : Membership → Trace → ServerId → ServerId → Inst
+reach m w p q = reach_from m (front m w p) (first_open m w p q)
+
+-- an instance of q so far that p has not learned: a suspicion of q by p covers it
 abbrev pub is_covered : Membership → Trace → ServerId → ServerId → Inst → Bool
-is_covered m w p q i = is_covered_from m q (front m w p) i (learned w p i)
+is_covered m w p q i = is_covered_from m q (reach m w p q) i (learned w p i)
 
 -- all that it covers
 abbrev pub covered_by : Membership → Trace → ServerId → ServerId → List Inst

@@ -13,6 +13,7 @@
 ghost use Rattle.mencius_model.specs.Held.{HoldsTheLastSet, HoldsNothingElse};
 ghost use Rattle.mencius_model.specs.WithinLimits.{CountsWithinLimits, LearnedWithinLimits, MessagesAddressed, MessagesWithinLimits};
 ghost use Rattle.mencius_model.specs.Laws.{DecidedValuesAgree, PendingWhereNotExecuted, HistoriesComparable, HistoriesGrow, LearnedIsDecided, LongestCommandsGrow, LongestHistoryGrows};
+ghost use Rattle.mencius_model.specs.Laws.{BetaZeroRefuses, BetaZeroSends};
 ghost use Rattle.mencius_model.specs.Laws.{ExecutedOnce, AtMostOnePropose, AtMostOneReply, AtMostOneSuggest, LaterCommandsStandBehind, ReplyWhereExecuted, ExecutedWasSubmitted, NoReplyWhereNotSubmitted};
 
 /// Any two decided values of an instance are equal, also at two different moments; whatever a
@@ -90,4 +91,13 @@ pub fn limits()
 pub fn holdings()
     ensures held { HoldsTheLastSet }
     ensures nothing { HoldsNothingElse }
+{}
+
+/// Where the members have a beta of 0, a suspicion is the one of the rule without it, in every trace
+/// that some journal makes: it sends a Prepare, by rising instance, for each instance of the suspected
+/// server up to the own front that the suspecting server has not learned, and it is refused where there
+/// is none, where a round would pass 65,535, or where there are too many messages.
+pub fn beta_zero()
+    ensures refuses { BetaZeroRefuses }
+    ensures sends { BetaZeroSends }
 {}

@@ -14,7 +14,7 @@ use Rattle.mencius_model.proofs.NumberLists.{any-filter, any-instances, count_by
 use Rattle.coord_paxos.specs.SlotState.{SlotState}
 use Rattle.coord_paxos.specs.Fresh.{new_slot}
 use Rattle.mencius_server.specs.State.{FitsAt, IsServer, ServerState, slot}
-use Rattle.mencius_server.specs.Machine.{after_suspect, ballot_after, is_covered_in, is_round_full, is_covered_at, prepare_for, round_after, slot_revoked, suspect_cause, suspect_sent, with_next_phase}
+use Rattle.mencius_server.specs.Machine.{after_suspect, ballot_after, is_covered_in, is_round_full, is_covered_at, prepare_for, reach_at, round_after, slot_revoked, suspect_cause, suspect_sent, with_next_phase}
 use Rattle.mencius_server.proofs.ServerInvariant.{FitsAt-slot, KeepsAt, KeepsAt-fits, KeepsAt-new}
 use Rattle.mencius_server.proofs.SlotFits.{FitsAt-cond}
 use Rattle.mencius_base.specs.Limits.{greatest_round, instance_count}
@@ -74,7 +74,7 @@ tried_below m p s some = above s.trying (s.promised / m.count) m.count p some wh
       omega arith
 
 abbrev slots_revoked : ServerState → ℕ → List SlotState
-slots_revoked s q = map (λ (j : ℕ). slot_revoked s.members s.id q s.front j (slot s j)) instances
+slots_revoked s q = map (λ (j : ℕ). slot_revoked s.members s.id q (reach_at s q) j (slot s j)) instances
 
 -- a server keeps what it keeps through a suspicion of another
 pub IsServer-suspect : (s : ServerState) (q : ℕ) → (s.id ≡ q → ⊥) → IsServer s → IsServer (after_suspect s q)
@@ -86,7 +86,7 @@ IsServer-suspect s q other kept = record {
   unsaid = λ i. (fits i).unsaid;
 }
   where
-    begun : (i : ℕ) → is_covered_in s.members q s.front i (slot s i) ≡ true
+    begun : (i : ℕ) → is_covered_in s.members q (reach_at s q) i (slot s i) ≡ true
         → FitsAt s s.front i (with_next_phase s.members s.id (slot s i))
     begun i e =
         let theirs : owner s.members i ≡ q = eqb-true _ _ (and_parts _ _ (and_parts _ _ e).0).0 in
@@ -98,8 +98,8 @@ IsServer-suspect s q other kept = record {
           unsaid = λ mine ahead. refl;
         }
 
-    given : (i : ℕ) → FitsAt s s.front i (slot_revoked s.members s.id q s.front i (slot s i))
-    given i = FitsAt-cond s s.front i (is_covered_in s.members q s.front i (slot s i)) _ (slot s i) (begun i)
+    given : (i : ℕ) → FitsAt s s.front i (slot_revoked s.members s.id q (reach_at s q) i (slot s i))
+    given i = FitsAt-cond s s.front i (is_covered_in s.members q (reach_at s q) i (slot s i)) _ (slot s i) (begun i)
         (FitsAt-slot s i kept)
 
     fits : (i : ℕ) → KeepsAt s s.front i (slot (after_suspect s q) i)
@@ -109,7 +109,7 @@ IsServer-suspect s q other kept = record {
         (sym (get_or-map-instances _ i (new_slot s.members) small)) (KeepsAt-fits s s.front i _ (given i)))
         (λ (past : instance_count ≤ i).
         let none : length (slots_revoked s q) ≤ i =
-        rw (length-map-instances (λ (j : ℕ). slot_revoked s.members s.id q s.front j (slot s j))) past in
+        rw (length-map-instances (λ (j : ℕ). slot_revoked s.members s.id q (reach_at s q) j (slot s j))) past in
         subst (KeepsAt s s.front i) (sym (get_or_past (slots_revoked s q) i (new_slot s.members) none))
         (KeepsAt-new s s.front i))
         (cases_lt i instance_count)

@@ -98,13 +98,13 @@ pub slot_kept : (m : Membership) (q first stop j : ℕ) (s : SlotState) → is_s
     → slot_given m q first stop j s ≡ s
 slot_kept m q first stop j s e = rw e
 
--- a suspicion covers what lies up to the front and is the suspected server's
-pub unrevoked_other : (m : Membership) (q front j : ℕ) (s : SlotState) → eqb (owner m j) q ≡ false
-    → is_covered_in m q front j s ≡ false
-unrevoked_other m q front j s e = and_left _ _ (and_left _ _ e)
+-- a suspicion covers what lies in its reach and is the suspected server's
+pub unrevoked_other : (m : Membership) (q reach j : ℕ) (s : SlotState) → eqb (owner m j) q ≡ false
+    → is_covered_in m q reach j s ≡ false
+unrevoked_other m q reach j s e = and_left _ _ (and_left _ _ e)
 
-pub unrevoked_past : (m : Membership) (q front j : ℕ) (s : SlotState) → front < j → is_covered_in m q front j s ≡ false
-unrevoked_past m q front j s past = and_left _ _ (and_right _ _ (lt-leb j front past))
+pub unrevoked_past : (m : Membership) (q reach j : ℕ) (s : SlotState) → reach ≤ j → is_covered_in m q reach j s ≡ false
+unrevoked_past m q reach j s past = and_left _ _ (and_right _ _ (le-ltb j reach past))
 
 -- what lies in the range and is the skipper's is given up
 pub skipped_here : (m : Membership) (q first stop j : ℕ) → owner m j ≡ q → first ≤ j → j < stop

@@ -2,12 +2,13 @@
 use Rattle.std.proofs.Common.{◌≡◌, ℕ, zero, suc, ◌+◌, ◌-◌, ◌<◌, ◌≤◌, Bool, true, false, cond, ◌&&◌, List, [], Option, None, Some, eqb, get_or, length, min, refl, sym, ◌∙◌, ap, subst, arith, inl, inr, ⊎_elim}
 use Rattle.std.specs.Prelude.{is_none, nat_lt, unwrap_or}
 use Rattle.std.specs.List.{count_by, list_any}
-use Rattle.std.proofs.lemmas.Bool.{and_left, and_right, cases_Bool, cases_eq, cases_lt, eq-eqb, le-leb, le-ltb, lt-ltb, ne_eqb}
+use Rattle.std.proofs.lemmas.Bool.{and_left, and_right, cases_Bool, cases_eq, cases_lt, eq-eqb, le-ltb, lt-ltb, ne_eqb}
 use Rattle.std.proofs.lemmas.List.{get_or_default}
 use Rattle.mencius_base.specs.Members.{Membership, below, instances, owner}
 use Rattle.mencius_model.proofs.NumberLists.{any-filter, any-instances, any-instances_found, count_by-below_le, count_by-below_more, count_by-below_none, count_by-below_zero, instances-below}
 use Rattle.coord_paxos.specs.SlotState.{SlotState}
 use Rattle.mencius_server.specs.Known.{IsSound, KnownState, is_open, is_passed, is_round_full_at, known_at, known_of, known_slot, slotless}
+use Rattle.mencius_server.specs.Lows.{low_of}
 use Rattle.mencius_server.specs.Ranges.{covers}
 use Rattle.mencius_server.specs.Slots.{known_by_slot, stand_at}
 use Rattle.mencius_server.specs.Tallies.{HasCounted, IsKnown, IsSurvey, IsTally, IsTallyFrom, IsTold, full_one, is_full_of, is_open_of, moved, no_tally, open_one, summed, tally_of, tallied, untallied}
@@ -452,19 +453,19 @@ tally_few m f q d h = (
 -- ---- what a suspicion would revoke
 
 module _ (m : Membership) (slots : List (Option SlotState)) (rs : List (List Span)) (now : KnownState)
-    (shown : known_of m slots rs ≡ now) (q front : ℕ) (d : Tally) (h : IsTally m (known_at m slots rs) q d)
-    (stop : d.stop ≡ min (front + 1) instance_count) where
+    (shown : known_of m slots rs ≡ now) (q reach : ℕ) (d : Tally) (h : IsTally m (known_at m slots rs) q d)
+    (stop : d.stop ≡ min reach instance_count) where
   same_members : m ≡ now.members
   same_members = ap (λ (x : KnownState). x.members) shown
 
-  open_at : (j : ℕ) → j < d.stop → is_open_of m (known_at m slots rs) q j ≡ is_open now q front j
+  open_at : (j : ℕ) → j < d.stop → is_open_of m (known_at m slots rs) q j ≡ is_open now q reach j
   open_at j l =
-      let reached : j ≤ front = omega (arith, stop) in
+      let reached : j < reach = omega (arith, stop) in
       let small : j < instance_count = omega (arith, stop) in
       ap (λ (s : SlotState). eqb (owner m j) q && is_none s.learned) (sym (seen m slots rs now shown j small))
       ∙ ap (λ n. eqb (owner n j) q && is_none (known_slot now j).learned) same_members
       ∙ ap (λ y. y && is_none (known_slot now j).learned)
-      (sym (ap (λ y. eqb (owner now.members j) q && y) (le-leb j front reached)
+      (sym (ap (λ y. eqb (owner now.members j) q && y) (lt-ltb j reach reached)
       ∙ and-true (eqb (owner now.members j) q)))
     where
       and-true : (y : Bool) → (y && true) ≡ y
@@ -472,12 +473,12 @@ module _ (m : Membership) (slots : List (Option SlotState)) (rs : List (List Spa
       and-true false = refl
 
   full_at : (j : ℕ) → j < d.stop
-      → is_full_of m (known_at m slots rs) q j ≡ (is_open now q front j && is_round_full_at now j)
+      → is_full_of m (known_at m slots rs) q j ≡ (is_open now q reach j && is_round_full_at now j)
   full_at j l =
       let small : j < instance_count = omega (arith, stop) in
       ap (λ y. y && is_spent m (known_at m slots rs j)) (open_at j l)
-      ∙ ap (λ (s : SlotState). is_open now q front j && is_spent m s) (sym (seen m slots rs now shown j small))
-      ∙ ap (λ n. is_open now q front j && is_spent n (known_slot now j)) same_members
+      ∙ ap (λ (s : SlotState). is_open now q reach j && is_spent m s) (sym (seen m slots rs now shown j small))
+      ∙ ap (λ n. is_open now q reach j && is_spent n (known_slot now j)) same_members
 
   count_all : (f g : ℕ → Bool) → ((j : ℕ) → j < d.stop → f j ≡ g j)
       → ((j : ℕ) → d.stop ≤ j → j < instance_count → g j ≡ false)
@@ -488,56 +489,61 @@ module _ (m : Membership) (slots : List (Option SlotState)) (rs : List (List Spa
       ∙ sym (ap (count_by g) instances-below ∙ ap (λ n. count_by g (below n)) (sym all)
       ∙ count_by-below_none g d.stop (instance_count - d.stop) (λ j low high. past j low (omega (arith, all))))
 
-  closed_past : (j : ℕ) → d.stop ≤ j → j < instance_count → is_open now q front j ≡ false
+  closed_past : (j : ℕ) → d.stop ≤ j → j < instance_count → is_open now q reach j ≡ false
   closed_past j low small =
-      unrevoked_past now.members q front j (known_slot now j) (omega (arith, stop))
+      unrevoked_past now.members q reach j (known_slot now j) (omega (arith, stop))
 
-  pub tally_survey : IsSurvey now q front d
+  pub tally_survey : IsSurvey now q reach d
   tally_survey = record {
     open_count =
-        h.open_count ∙ count_all (is_open_of m (known_at m slots rs) q) (is_open now q front) open_at closed_past;
+        h.open_count ∙ count_all (is_open_of m (known_at m slots rs) q) (is_open now q reach) open_at closed_past;
     full_count =
         ap (nat_lt 0) (h.full_count ∙ count_all (is_full_of m (known_at m slots rs) q)
-        (λ j. is_open now q front j && is_round_full_at now j) full_at
+        (λ j. is_open now q reach j && is_round_full_at now j) full_at
         (λ j low small. and_left _ _ (closed_past j low small)))
-        ∙ sym (any-filter (is_open now q front) (is_round_full_at now) instances
-        ∙ any_counted (λ j. is_open now q front j && is_round_full_at now j));
+        ∙ sym (any-filter (is_open now q reach) (is_round_full_at now) instances
+        ∙ any_counted (λ j. is_open now q reach j && is_round_full_at now j));
   }
 
 -- ---- the tallies of all servers
 
 -- where a change was refused
 pub unchanged : (m : Membership) (slots new : List (Option SlotState)) (rs : List (List Span)) (low : ℕ)
-    (tallies : List Tally) → new ≡ slots → IsKnown m slots rs low tallies
-    → IsKnown m new rs low tallies
-unchanged m slots new rs low tallies same h = subst (λ ss. IsKnown m ss rs low tallies) (sym same) h
+    (tallies : List Tally) (lows : List ℕ) → new ≡ slots → IsKnown m slots rs low tallies lows
+    → IsKnown m new rs low tallies lows
+unchanged m slots new rs low tallies lows same h = subst (λ ss. IsKnown m ss rs low tallies lows) (sym same) h
 
 -- nothing was counted
 pub uncounted : (m : Membership) (slots : List (Option SlotState)) (rs : List (List Span)) (low : ℕ)
-    (tallies : List Tally) → IsSound m slots rs low
-    → ((q : ℕ) → tally_of tallies q ≡ no_tally) → IsKnown m slots rs low tallies
-uncounted m slots rs low tallies sound none =
-    record { sound = sound; counted = λ q. tally_none m (known_at m slots rs) q _ (none q) }
+    (tallies : List Tally) (lows : List ℕ) → IsSound m slots rs low
+    → ((q : ℕ) → tally_of tallies q ≡ no_tally) → ((q : ℕ) → low_of lows q ≡ 0) → IsKnown m slots rs low tallies lows
+uncounted m slots rs low tallies lows sound none start = record {
+  sound = sound;
+  counted = λ q. tally_none m (known_at m slots rs) q _ (none q);
+  begun = λ j small less. absurd (omega (arith, less, start (owner m j)));
+}
 
 -- what is counted of each instance is as before
 pub counts_kept : (m : Membership) (slots new : List (Option SlotState)) (rs ranges : List (List Span)) (low next : ℕ)
-    (tallies : List Tally) → IsSound m new ranges next
+    (tallies : List Tally) (lows : List ℕ) → IsSound m new ranges next
     → ((j : ℕ) → j < instance_count → IsAlike m (known_at m slots rs j) (known_at m new ranges j))
-    → IsKnown m slots rs low tallies → IsKnown m new ranges next tallies
-counts_kept m slots new rs ranges low next tallies sound alike h = record {
+    → IsKnown m slots rs low tallies lows → IsKnown m new ranges next tallies lows
+counts_kept m slots new rs ranges low next tallies lows sound alike h = record {
   sound = sound;
   counted = λ q. tally_alike m (known_at m slots rs) (known_at m new ranges) q (tally_of tallies q)
       (λ j small own. alike j small) (h.counted q);
+  begun = λ j small less. sym (alike j small).open_count ∙ h.begun j small less;
 }
 
 -- one slot is another one
 pub counts_moved : (m : Membership) (slots new : List (Option SlotState)) (rs : List (List Span)) (low next i : ℕ)
-    (tallies more : List Tally) (s r : SlotState) → known_at m slots rs i ≡ s → known_at m new rs i ≡ r
+    (tallies more : List Tally) (lows : List ℕ) (s r : SlotState) → known_at m slots rs i ≡ s → known_at m new rs i ≡ r
     → ((j : ℕ) → (j ≡ i → ⊥) → known_at m slots rs j ≡ known_at m new rs j)
+    → (is_none s.learned ≡ false → is_none r.learned ≡ false)
     → ((q : ℕ) → tally_of more q
     ≡ cond (eqb q (owner m i)) (moved m i (tally_of tallies q) s r) (tally_of tallies q))
-    → IsSound m new rs next → IsKnown m slots rs low tallies → IsKnown m new rs next more
-counts_moved m slots new rs low next i tallies more s r was is rest moves sound h = record {
+    → IsSound m new rs next → IsKnown m slots rs low tallies lows → IsKnown m new rs next more lows
+counts_moved m slots new rs low next i tallies more lows s r was is rest stays moves sound h = record {
   sound = sound;
   counted = λ q. subst (IsTally m (known_at m new rs) q) (sym (moves q)) (⊎_elim
       (λ (own : owner m i ≡ q).
@@ -553,16 +559,27 @@ counts_moved m slots new rs low next i tallies more s r was is rest moves sound 
       (tally_alike m (known_at m slots rs) (known_at m new rs) q (tally_of tallies q)
       (λ j small own. alike_same m _ _ (rest j (λ e. other (ap (owner m) (sym e) ∙ own)))) (h.counted q)))
       (cases_eq (owner m i) q));
+  begun = λ j small less. ⊎_elim
+      (λ (at : j ≡ i).
+      let here : known_at m new rs j ≡ r = ap (known_at m new rs) at ∙ is in
+      let before : known_at m slots rs j ≡ s = ap (known_at m slots rs) at ∙ was in
+      ap (λ (x : SlotState). is_none x.learned) here
+      ∙ stays (sym (ap (λ (x : SlotState). is_none x.learned) before) ∙ h.begun j small less))
+      (λ (off : j ≡ i → ⊥).
+      sym (ap (λ (x : SlotState). is_none x.learned) (rest j off)) ∙ h.begun j small less)
+      (cases_eq j i);
 }
 
 -- one server's instances are counted anew, or further, and those of the others are as before
 pub counts_put : (m : Membership) (slots new : List (Option SlotState)) (rs ranges : List (List Span)) (low next : ℕ)
-    (tallies more : List Tally) (p : ℕ) → IsSound m new ranges next
+    (tallies more : List Tally) (lows : List ℕ) (p : ℕ) → IsSound m new ranges next
     → ((j : ℕ) → j < instance_count → (owner m j ≡ p → ⊥) → IsAlike m (known_at m slots rs j) (known_at m new ranges j))
+    → ((j : ℕ) → j < instance_count → is_none (known_at m slots rs j).learned ≡ false
+    → is_none (known_at m new ranges j).learned ≡ false)
     → IsTally m (known_at m new ranges) p (tally_of more p)
     → ((q : ℕ) → (q ≡ p → ⊥) → tally_of more q ≡ tally_of tallies q)
-    → IsKnown m slots rs low tallies → IsKnown m new ranges next more
-counts_put m slots new rs ranges low next tallies more p sound alike here rest h = record {
+    → IsKnown m slots rs low tallies lows → IsKnown m new ranges next more lows
+counts_put m slots new rs ranges low next tallies more lows p sound alike stays here rest h = record {
   sound = sound;
   counted = λ q. ⊎_elim
       (λ (at : q ≡ p). subst (λ q. IsTally m (known_at m new ranges) q (tally_of more q)) (sym at) here)
@@ -571,4 +588,26 @@ counts_put m slots new rs ranges low next tallies more p sound alike here rest h
       (tally_alike m (known_at m slots rs) (known_at m new ranges) q (tally_of tallies q)
       (λ j small own. alike j small (λ e. off (sym own ∙ e))) (h.counted q)))
       (cases_eq q p);
+  begun = λ j small less. stays j small (h.begun j small less);
+}
+
+-- one server's place moves on, over instances that are learned
+pub lows_put : (m : Membership) (slots : List (Option SlotState)) (rs : List (List Span)) (low : ℕ)
+    (tallies : List Tally) (lows more : List ℕ) (p first : ℕ)
+    → ((q : ℕ) → low_of more q ≡ cond (eqb q p) first (low_of lows q))
+    → ((j : ℕ) → j < first → owner m j ≡ p → j < instance_count → is_none (known_at m slots rs j).learned ≡ false)
+    → IsKnown m slots rs low tallies lows → IsKnown m slots rs low tallies more
+lows_put m slots rs low tallies lows more p first puts below h = record {
+  sound = h.sound;
+  counted = h.counted;
+  begun = λ j small less. ⊎_elim
+      (λ (at : owner m j ≡ p).
+      let here : low_of more (owner m j) ≡ first =
+      puts (owner m j) ∙ ap (λ bit. cond bit first (low_of lows (owner m j))) (eq-eqb (owner m j) p at) in
+      below j (omega (arith, less, here)) at small)
+      (λ (off : owner m j ≡ p → ⊥).
+      let here : low_of more (owner m j) ≡ low_of lows (owner m j) =
+      puts (owner m j) ∙ ap (λ bit. cond bit first (low_of lows (owner m j))) (ne_eqb (owner m j) p off) in
+      h.begun j small (omega (arith, less, here)))
+      (cases_eq (owner m j) p);
 }

@@ -9,7 +9,7 @@ use Rattle.mencius_server.specs.declared.change.Change.{Change}
 use Rattle.mencius_server.specs.declared.change.Change.TheVariants.{Prepare, Accept, CountPromise, CountAccept, Learn}
 use Rattle.mencius_server.specs.Changes.{IsSaid, changed}
 use Rattle.mencius_server.specs.Kept.{IsKept}
-use Rattle.mencius_server.specs.Known.{KnownState, known_after_skip, known_after_suggest, known_after_suspect, known_slot, with_known}
+use Rattle.mencius_server.specs.Known.{KnownState, known_after_skip, known_after_suggest, known_after_suspect, known_reach, known_slot, with_known}
 use Rattle.mencius_server.specs.Machine.{IsFree, after_skip, after_submit, after_suspect, is_free_at, is_ticket, suggested_in}
 use Rattle.mencius_server.specs.Notes.{Noted}
 use Rattle.mencius_server.specs.State.{FitsAt, ServerState, slot, with_slot_and_front}
@@ -95,12 +95,13 @@ module _ (m : Membership) (p f : ℕ) (s new : KnownState) (before after : Noted
       (skip_keeps (seen m p f s) s.members q first stop before l early lost kept))
 
   -- a suspicion of another server
-  pub suspect_kept : (q : ℕ) → (p ≡ q → ⊥) → new ≡ known_after_suspect s p q f → after ≡ before
+  pub suspect_kept : (q reach : ℕ) → reach ≡ known_reach s q f → (p ≡ q → ⊥)
+      → new ≡ known_after_suspect s p q reach → after ≡ before
       → IsKept (seen m p f new) new.members after
-  suspect_kept q other made noted =
+  suspect_kept q reach at other made noted =
       noted_as (seen m p f new) new.members before after noted
       (kept_as (seen m p f new) (after_suspect (seen m p f s) q) s.members new.members before
-      (suspect_shown m p f s (seen m p f s) q refl kept.members new made)
+      (suspect_shown m p f s (seen m p f s) q refl kept.members reach at new made)
       (ap (λ (x : KnownState). x.members) made)
       (suspect_keeps (seen m p f s) s.members q before other kept))
 

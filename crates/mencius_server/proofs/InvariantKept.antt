@@ -11,11 +11,11 @@ use Rattle.coord_paxos.specs.Fresh.{new_slot}
 use Rattle.coord_paxos.specs.Slot.{after_begin, after_learn}
 use Rattle.mencius_server.specs.Kept.{IsKept}
 use Rattle.mencius_server.specs.Notes.{Noted}
-use Rattle.mencius_server.specs.Machine.{IsFree, after_skip, after_submit, after_suspect, is_free_at, is_covered_in, is_round_full, is_skipped, is_covered_at, is_ticket, round_after, slot_given, slot_revoked, suggested_at, suggested_in}
+use Rattle.mencius_server.specs.Machine.{IsFree, after_skip, after_submit, after_suspect, is_free_at, is_covered_in, is_round_full, is_skipped, is_covered_at, is_ticket, next_prepare, reach_at, round_after, slot_given, slot_revoked, suggested_at, suggested_in, suspect_sent}
 use Rattle.mencius_model.specs.Server.{ticket_of}
 use Rattle.mencius_server.specs.State.{FitsAt, IsServer, ServerState, slot, with_slot_and_front}
-use Rattle.mencius_server.specs.Known.{KnownState, is_open, is_round_full_at, known_after_skip, known_after_suspect, known_slot, with_known}
-use Rattle.std.specs.List.{count_by, list_any}
+use Rattle.mencius_server.specs.Known.{KnownState, is_open, is_round_full_at, known_after_skip, known_after_suspect, known_reach, known_slot, prepares, with_known}
+use Rattle.std.specs.List.{count_by, find, list_any}
 use Rattle.std.proofs.lemmas.List.{get_or-set_other, get_or_past, length-set}
 use Rattle.mencius_server.proofs.FirstPhases.{IsServer-suspect}
 use Rattle.mencius_server.proofs.InstanceGaps.{free_facts, unrevoked_other}
@@ -24,7 +24,7 @@ use Rattle.mencius_server.proofs.WaitingTickets.{SaysSame, moved_later, past_sam
 use Rattle.mencius_server.proofs.SkipFromOutside.{IsServer-skip}
 use Rattle.mencius_server.proofs.SlotFits.{SameAttempt-cond, SameAttempt-learn, SameAttempt-self}
 use Rattle.mencius_base.specs.Limits.{greatest_front, greatest_round, instance_count, most_servers}
-use Rattle.mencius_model.specs.Rules.{is_noop}
+use Rattle.mencius_model.specs.Rules.{is_noop, is_open_from, reach_from}
 
 with_slots : (m : Membership) (p f : ℕ) (xs ys : List SlotState) → xs ≡ ys
     → ◌≡◌ {A = ServerState} (record { members = m; id = p; front = f; slots = xs })
@@ -196,16 +196,16 @@ skip_shown m p f old new now q first stop shown same made =
 
 -- a suspicion
 suspect_slot : (s : ServerState) (q j : ℕ) → j < instance_count
-    → slot (after_suspect s q) j ≡ slot_revoked s.members s.id q s.front j (slot s j)
+    → slot (after_suspect s q) j ≡ slot_revoked s.members s.id q (reach_at s q) j (slot s j)
 suspect_slot s q j small =
-    get_or-map-instances (λ (i : ℕ). slot_revoked s.members s.id q s.front i (slot s i)) j (new_slot s.members) small
+    get_or-map-instances (λ (i : ℕ). slot_revoked s.members s.id q (reach_at s q) i (slot s i)) j (new_slot s.members) small
 
 -- an own slot is not touched
 suspect_own : (s : ServerState) (q j : ℕ) → (s.id ≡ q → ⊥) → j < instance_count → owner s.members j ≡ s.id
     → slot (after_suspect s q) j ≡ slot s j
 suspect_own s q j other small mine =
     suspect_slot s q j small
-    ∙ rw (unrevoked_other s.members q s.front j (slot s j)
+    ∙ rw (unrevoked_other s.members q (reach_at s q) j (slot s j)
     (ne_eqb (owner s.members j) q (λ theirs. other (sym mine ∙ theirs)))) refl
 
 suspect_says : (s : ServerState) (q j : ℕ) → (s.id ≡ q → ⊥) → j < instance_count → (a : Bool)
@@ -233,29 +233,43 @@ suspect_keeps s m q n other kept =
     (record { same = λ j small. suspect_says s q j other small _ refl })
     (IsServer-suspect s q other kept.server)
     (length-map-instances
-    (λ (j : ℕ). slot_revoked s.members s.id q s.front j (slot s j))) kept.members (omega arith)
+    (λ (j : ℕ). slot_revoked s.members s.id q (reach_at s q) j (slot s j))) kept.members (omega arith)
     (omega arith) refl refl (λ j low noop. suspect_since s q j other (omega (arith, kept.early)) noop _ refl) refl
     (λ j small. unfree_stays s s.front _ j (omega arith)
     (λ known. ap (λ (x : SlotState). is_none x.learned) (suspect_slot s q j small)
-    ∙ revoked_learned (is_covered_in s.members q s.front j (slot s j)) (slot s j) _ known)) kept
+    ∙ revoked_learned (is_covered_in s.members q (reach_at s q) j (slot s j)) (slot s j) _ known)) kept
 
 -- a suspicion, as what the server knows has it
 module _ (m : Membership) (p f : ℕ) (y : KnownState) (now : ServerState) (q : ℕ)
-    (shown : record { members = m; id = p; front = f; slots = y.slots } ≡ now) (same : y.members ≡ m) where
-  pub open_shown : (j : ℕ) → is_open y q f j ≡ is_covered_at now q j
+    (shown : record { members = m; id = p; front = f; slots = y.slots } ≡ now) (same : y.members ≡ m)
+    (reach : ℕ) (at : reach ≡ known_reach y q f) where
+  -- what callers see, and how far the suspicion reaches by that
+  abbrev told : ServerState
+  told = record { members = m; id = p; front = f; slots = y.slots }
+
+  reach_told : reach ≡ reach_at told q
+  reach_told =
+      at
+      ∙ ap (λ (n : Membership). reach_from n f
+      (find (λ (j : ℕ). is_open_from n q j (get_or y.slots j (new_slot n)).learned) instances)) same
+
+  pub open_shown : (j : ℕ) → is_open y q reach j ≡ is_covered_at now q j
   open_shown j =
-      ap (λ (n : Membership). is_covered_in n q f j (get_or y.slots j (new_slot n))) same
+      ap (λ (r : ℕ). is_open y q r j) reach_told
+      ∙ ap (λ (n : Membership). is_covered_in n q (reach_at told q) j (get_or y.slots j (new_slot n))) same
       ∙ ap (λ (s : ServerState). is_covered_at s q j) shown
 
-  pub open_count : count_by (is_open y q f) instances ≡ count_by (is_covered_at now q) instances
+  pub open_count : count_by (is_open y q reach) instances ≡ count_by (is_covered_at now q) instances
   open_count =
-      ap (λ (n : Membership).
-      count_by (λ (j : ℕ). is_covered_in n q f j (get_or y.slots j (new_slot n))) instances) same
+      ap (λ (r : ℕ). count_by (is_open y q r) instances) reach_told
+      ∙ ap (λ (n : Membership).
+      count_by (λ (j : ℕ). is_covered_in n q (reach_at told q) j (get_or y.slots j (new_slot n))) instances) same
       ∙ ap (λ (s : ServerState). count_by (is_covered_at s q) instances) shown
 
   pub open_rounds : ((j : ℕ) → j < instance_count → is_covered_at now q j ≡ true
       → round_after now.members (slot now j) ≤ greatest_round)
-      → (j : ℕ) → j < instance_count → is_open y q f j ≡ true → round_after y.members (known_slot y j) ≤ greatest_round
+      → (j : ℕ) → j < instance_count → is_open y q reach j ≡ true
+      → round_after y.members (known_slot y j) ≤ greatest_round
   open_rounds rounds j small e =
       let there = rounds j small (sym (open_shown j) ∙ e) in
       let is : round_after y.members (known_slot y j) ≡ round_after now.members (slot now j) =
@@ -263,23 +277,32 @@ module _ (m : Membership) (p f : ℕ) (y : KnownState) (now : ServerState) (q : 
       ∙ ap (λ (s : ServerState). round_after s.members (slot s j)) shown in
       rw is there
 
-  pub full_shown : list_any (is_round_full_at y) (filter (is_open y q f) instances)
+  pub full_shown : list_any (is_round_full_at y) (filter (is_open y q reach) instances)
       ≡ list_any (is_round_full now) (filter (is_covered_at now q) instances)
   full_shown =
-      ap (λ (n : Membership). list_any
+      ap (λ (r : ℕ). list_any (is_round_full_at y) (filter (is_open y q r) instances)) reach_told
+      ∙ ap (λ (n : Membership). list_any
       (λ (j : ℕ). ltb greatest_round (round_after n (get_or y.slots j (new_slot n))))
-      (filter (λ (j : ℕ). is_covered_in n q f j (get_or y.slots j (new_slot n))) instances)) same
+      (filter (λ (j : ℕ). is_covered_in n q (reach_at told q) j (get_or y.slots j (new_slot n))) instances)) same
       ∙ ap (λ (s : ServerState). list_any (is_round_full s) (filter (is_covered_at s q) instances)) shown
 
-  pub suspect_shown : (new : KnownState) → new ≡ known_after_suspect y p q f
+  pub sent_shown : prepares y p q reach ≡ suspect_sent now q
+  sent_shown =
+      ap (λ (r : ℕ). prepares y p q r) reach_told
+      ∙ ap (λ (n : Membership). map (λ (j : ℕ). next_prepare n p j (get_or y.slots j (new_slot n)))
+      (filter (λ (j : ℕ). is_covered_in n q (reach_at told q) j (get_or y.slots j (new_slot n))) instances)) same
+      ∙ ap (λ (s : ServerState). suspect_sent s q) shown
+
+  pub suspect_shown : (new : KnownState) → new ≡ known_after_suspect y p q reach
       → record { members = m; id = p; front = f; slots = new.slots } ≡ after_suspect now q
   suspect_shown new made =
       subst (λ (s : ServerState). record { members = m; id = p; front = f; slots = new.slots }
       ≡ after_suspect s q) shown
       (with_slots m p f _ _
       (ap (λ (x : KnownState). x.slots) made
+      ∙ ap (λ (r : ℕ). map (λ (j : ℕ). slot_revoked y.members p q r j (known_slot y j)) instances) reach_told
       ∙ ap (λ (n : Membership). map
-      (λ (j : ℕ). slot_revoked n p q f j (get_or y.slots j (new_slot n))) instances) same))
+      (λ (j : ℕ). slot_revoked n p q (reach_at told q) j (get_or y.slots j (new_slot n))) instances) same))
 
 -- a suggestion
 pub place_keeps : (s : ServerState) (m : Membership) (i t : ℕ) (n : Noted) (next : ℕ) (marks : List Bool)

@@ -33,3 +33,4 @@ pub mod SuggestionCases
 pub mod Addresses
 pub mod InstanceTallies
 pub mod SkipTallies
+pub mod SuspicionReach

@@ -1,7 +1,7 @@
 -- The instances of a server at which a suspicion may begin.
 use Rattle.std.proofs.Common.{◌≡◌, ℕ, ◌+◌, ◌<◌, ◌≤◌, Bool, true, false, ◌&&◌, not, List, Option, None, Some, refl, sym, ◌∙◌, ap, subst, arith, ⊎_elim}
 use Rattle.std.specs.Prelude.{is_none}
-use Rattle.std.proofs.lemmas.Bool.{and_left, and_right, cases_eq, cases_lt, eq-eqb, le-leb, ne_eqb}
+use Rattle.std.proofs.lemmas.Bool.{and_left, and_right, cases_eq, cases_lt, eq-eqb, lt-ltb, ne_eqb}
 use Rattle.mencius_base.specs.Members.{Membership, owner}
 use Rattle.coord_paxos.specs.SlotState.{SlotState}
 use Rattle.mencius_server.specs.Machine.{is_covered_in}
@@ -18,17 +18,17 @@ use Rattle.mencius_base.specs.Limits.{instance_count}
 -- before a server's least instance from the least unlearned one on, none is open
 pub open_before : (m : Membership) (slots : List (Option SlotState))
     (rs : List (List Span)) (low : ℕ) (now : KnownState) → known_of m slots rs ≡ now → IsSound m slots rs low
-    → (q front first : ℕ) → ((i : ℕ) → low ≤ i → owner m i ≡ q → first ≤ i) → first < low + m.count
-    → (j : ℕ) → j < first → is_open now q front j ≡ false
-open_before m slots rs low now shown sound q front first least near j high =
+    → (q reach first : ℕ) → ((i : ℕ) → low ≤ i → owner m i ≡ q → first ≤ i) → first < low + m.count
+    → (j : ℕ) → j < first → is_open now q reach j ≡ false
+open_before m slots rs low now shown sound q reach first least near j high =
     let members : m ≡ now.members = ap (λ (x : KnownState). x.members) shown in
-    subst (λ n. is_covered_in n q front j (known_slot now j) ≡ false) members
+    subst (λ n. is_covered_in n q reach j (known_slot now j) ≡ false) members
     (⊎_elim
     (λ (before : j < low).
     let small : j < instance_count = omega (arith, sound.small) in
     and_right _ _ (ap (λ (s : SlotState). is_none s.learned) (seen m slots rs now shown j small)
     ∙ sound.known j before))
-    (λ (from : low ≤ j). unrevoked_other m q front j (known_slot now j) (unowned m q low first least j from high))
+    (λ (from : low ≤ j). unrevoked_other m q reach j (known_slot now j) (unowned m q low first least j from high))
     (cases_lt j low))
 
 -- where no slot stands, an instance is open unless a range has it
@@ -71,9 +71,9 @@ module _ (now : KnownState) (a : Stretch) (stretch : IsStretch a) (members : a.m
       (skipped_here a.members a.server a.first a.stop j (ap (λ n. owner n j) members ∙ own) low high)
 
 -- the instances of a stretch that are not learned are those that a suspicion covers
-pub open_same : (now : KnownState) (q front : ℕ) (a : Stretch) → IsOpenStretch now q front a → (j : ℕ)
-    → j < instance_count → is_open_in now a j ≡ is_open now q front j
-open_same now q front a h j small =
+pub open_same : (now : KnownState) (q reach : ℕ) (a : Stretch) → IsOpenStretch now q reach a → (j : ℕ)
+    → j < instance_count → is_open_in now a j ≡ is_open now q reach j
+open_same now q reach a h j small =
     ⊎_elim
     (λ (own : owner now.members j ≡ q).
     let theirs : owner now.members j ≡ a.server = own ∙ sym h.server in
@@ -81,15 +81,15 @@ open_same now q front a h j small =
     (λ (before : j < a.first). closed_before now a h.stretch h.members j before ∙ sym (h.before j before))
     (λ (from : a.first ≤ j). ⊎_elim
     (λ (within : j < a.stop).
-    let reached : j ≤ front = omega (arith, h.stop) in
+    let reached : j < reach = omega (arith, h.stop) in
     open_here now a h.stretch h.members j theirs from within
-    ∙ sym (rw (eq-eqb (owner now.members j) q own, le-leb j front reached) refl))
+    ∙ sym (rw (eq-eqb (owner now.members j) q own, lt-ltb j reach reached) refl))
     (λ (past : a.stop ≤ j).
-    let ahead : front < j = omega (arith, h.stop) in
-    closed_past now a h.stretch h.members j past ∙ sym (unrevoked_past now.members q front j (known_slot now j) ahead))
+    let ahead : reach ≤ j = omega (arith, h.stop) in
+    closed_past now a h.stretch h.members j past ∙ sym (unrevoked_past now.members q reach j (known_slot now j) ahead))
     (cases_lt j a.stop))
     (cases_lt j a.first))
     (λ (other : owner now.members j ≡ q → ⊥).
     closed_other now a h.stretch h.members j (λ e. other (e ∙ h.server))
-    ∙ sym (unrevoked_other now.members q front j (known_slot now j) (ne_eqb (owner now.members j) q other)))
+    ∙ sym (unrevoked_other now.members q reach j (known_slot now j) (ne_eqb (owner now.members j) q other)))
     (cases_eq (owner now.members j) q)

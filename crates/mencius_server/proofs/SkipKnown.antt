@@ -113,6 +113,11 @@ module _ (m : Membership) (a : Stretch) (members : a.members ≡ m) (slots new :
       → known_at m new (set rs a.server ys) j ≡ given a j (known_at m slots rs j)
   skip_given j small = skip_at j small (stand_at slots j) refl
 
+  -- what was learned stays learned
+  pub skip_stays : (j : ℕ) → j < instance_count → is_none (known_at m slots rs j).learned ≡ false
+      → is_none (known_at m new (set rs a.server ys) j).learned ≡ false
+  skip_stays j small h = rw (skip_given j small) (stays_learned a j (known_at m slots rs j) h)
+
   -- where nothing is given up, all that is known is as before
   pub skip_kept : (j : ℕ) → j < instance_count → (is_in a j && is_none (known_at m slots rs j).learned) ≡ false
       → known_at m new (set rs a.server ys) j ≡ known_at m slots rs j

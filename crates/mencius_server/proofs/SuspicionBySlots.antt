@@ -303,7 +303,7 @@ module _ (m : Membership) (slots : List (Option SlotState)) (rs : List (List Spa
                 (with_next_phase now.members p (known_slot now j)) (known_slot now j)) instances;
           }) shown
 
-      begun_learned : (j : ℕ) → j < instance_count
+      pub begun_learned : (j : ℕ) → j < instance_count
           → is_none (known_at m new rs j).learned ≡ is_none (known_at m slots rs j).learned
       begun_learned j l =
           ap (λ (s : SlotState). is_none s.learned) (begun_known j l (stand_at slots j) refl)
@@ -364,7 +364,7 @@ module _ (m : Membership) (slots : List (Option SlotState)) (rs : List (List Spa
 
 -- ---- the stretch of a suspicion
 
-module _ (now : KnownState) (q front : ℕ) (a : Stretch) (o : IsOpenStretch now q front a) where
+module _ (now : KnownState) (q reach : ℕ) (a : Stretch) (o : IsOpenStretch now q reach a) where
   low_stop : a.stop ≤ instance_count
   low_stop = omega (arith, o.stop)
 
@@ -381,19 +381,19 @@ module _ (now : KnownState) (q front : ℕ) (a : Stretch) (o : IsOpenStretch now
       ∙ count_by-below_none f a.stop (instance_count - a.stop) (λ j low high. past j low))
       ∙ count_same f g instance_count same ∙ ap (count_by g) (sym instances-below)
 
-  pub open_count : count_by (is_open_in now a) (below a.stop) ≡ count_by (is_open now q front) instances
-  open_count = count_all (is_open_in now a) (is_open now q front) past_closed (open_same now q front a o)
+  pub open_count : count_by (is_open_in now a) (below a.stop) ≡ count_by (is_open now q reach) instances
+  open_count = count_all (is_open_in now a) (is_open now q reach) past_closed (open_same now q reach a o)
 
-  pub open_sent : (p : ℕ) → prepares_in now p a ≡ prepares now p q front
+  pub open_sent : (p : ℕ) → prepares_in now p a ≡ prepares now p q reach
   open_sent p =
       ap (map (known_prepare now p))
       (sym (ap (λ n. filter (is_open_in now a) (below n)) (sym all_places)
       ∙ filter-below_none (is_open_in now a) a.stop (instance_count - a.stop) (λ j low high. past_closed j low)))
       ∙ sent_same (known_prepare now p)
-      (known_prepare now p) (is_open_in now a) (is_open now q front) instance_count
-      (open_same now q front a o) (λ j l d. refl)
+      (known_prepare now p) (is_open_in now a) (is_open now q reach) instance_count
+      (open_same now q reach a o) (λ j l d. refl)
       ∙ ap (λ xs. map (known_prepare now p)
-      (filter (is_open now q front) xs)) (sym instances-below)
+      (filter (is_open now q reach) xs)) (sym instances-below)
 
   pub stood_has : (j : ℕ) → j < instance_count → is_open_in now a j ≡ true → has_slot (known_stood now a) j ≡ true
   stood_has j l e =
@@ -404,15 +404,15 @@ module _ (now : KnownState) (q front : ℕ) (a : Stretch) (o : IsOpenStretch now
       or-true true = refl
       or-true false = refl
 
-  pub suspect_is : (p : ℕ) → known_begun (known_stood now a) p a ≡ known_after_suspect now p q front
+  pub suspect_is : (p : ℕ) → known_begun (known_stood now a) p a ≡ known_after_suspect now p q reach
   suspect_is p =
       same_known now.members
       (λ j. cond (is_open_in now a j)
       (with_next_phase now.members p (known_slot now j)) (known_slot now j))
-      (λ j. cond (is_open now q front j)
+      (λ j. cond (is_open now q reach j)
       (with_next_phase now.members p (known_slot now j)) (known_slot now j))
-      (λ j. has_slot now j || is_open_in now a j) (λ j. has_slot now j || is_open now q front j)
+      (λ j. has_slot now j || is_open_in now a j) (λ j. has_slot now j || is_open now q reach j)
       (λ j l. ap (λ d. cond d
       (with_next_phase now.members p (known_slot now j)) (known_slot now j))
-      (open_same now q front a o j l))
-      (λ j l. ap (λ d. has_slot now j || d) (open_same now q front a o j l))
+      (open_same now q reach a o j l))
+      (λ j l. ap (λ d. has_slot now j || d) (open_same now q reach a o j l))

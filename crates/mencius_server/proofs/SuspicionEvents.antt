@@ -13,9 +13,10 @@ use Rattle.mencius_base.specs.Members.{Membership, ballot_of, below, instances, 
 use Rattle.mencius_base.specs.Outbox.{Outgoing}
 use Rattle.mencius_model.specs.Trace.{Line, Sent, Suspected, Trace, followed_by, heard, messages_of}
 use Rattle.mencius_model.specs.Instance.{accepted, accepted_by, accepters, highest_vote, is_acceptance, is_promise, learned_by, promised_by, promisers, proposed, proposed_by, tried_by, trying, vote_of, vote_reported, IsUntried}
-use Rattle.mencius_model.specs.Server.{front, front_by, is_covered, covered_by}
+use Rattle.mencius_model.specs.Server.{front, front_by, is_covered, is_open, covered_by, reach}
 use Rattle.mencius_model.specs.Next.{IsReached, first_cause, found_by_server, next_round, preparation}
-use Rattle.mencius_model.proofs.NumberLists.{any-map, filter-instances_same, map-filter-instances_same, map-instances_same}
+use Rattle.mencius_model.specs.Rules.{is_open_from, reach_from}
+use Rattle.mencius_model.proofs.NumberLists.{any-map, filter-instances_same, find-instances_same, map-filter-instances_same, map-instances_same}
 use Rattle.mencius_model.proofs.OneMoreLine.{greater-none, greatest_quiet, oldest_quiet, vote_of_same}
 use Rattle.mencius_model.proofs.Lists.{IsIn}
 use Rattle.mencius_model.proofs.LineRights.{IsGrown}
@@ -29,8 +30,8 @@ use Rattle.coord_paxos.specs.Slot.{after_begin}
 use Rattle.coord_paxos.specs.Reached.{if_own, slot_at}
 use Rattle.coord_paxos.proofs.SlotTrace.{same_slot}
 use Rattle.coord_paxos.proofs.SlotLaws.{slot_trying, slot_untried}
-use Rattle.mencius_server.specs.State.{ServerState}
-use Rattle.mencius_server.specs.Machine.{after_suspect, is_covered_in, is_round_full, is_covered_at, next_prepare, prepare_for, round_after, slot_revoked, suspect_cause, suspect_sent}
+use Rattle.mencius_server.specs.State.{ServerState, slot}
+use Rattle.mencius_server.specs.Machine.{after_suspect, is_covered_in, is_round_full, is_covered_at, is_open_at, next_prepare, prepare_for, reach_at, round_after, slot_revoked, suspect_cause, suspect_sent}
 use Rattle.mencius_server.specs.Laws.{SuspectIsEvent}
 use Rattle.mencius_server.specs.Reached.{server_at}
 use Rattle.mencius_server.proofs.FirstPhases.{tried_below}
@@ -208,11 +209,23 @@ module _ (m : Membership) (w : Trace) (p q : ℕ) (r : IsReached m w) (member : 
       ∙ ap (max p) (greatest_quiet (front_by m p) (Suspected p q) w refl) in
       rw (← ahead, e)
 
+  reach_same : reach_at (server_at m w p) q ≡ reach m w p q
+  reach_same =
+      ap (reach_from m (front m w p))
+      (find-instances_same (is_open_at (server_at m w p) q) (is_open m w p q)
+      (λ j small. ap (λ (s : SlotState). is_open_from m q j s.learned) (slot-server_at m w p j small)))
+
+  pub covered_same : (j : ℕ) → j < instance_count → is_covered_at (server_at m w p) q j ≡ is_covered m w p q j
+  covered_same j small =
+      ap (λ (n : ℕ). is_covered_in m q n j (slot (server_at m w p) j)) reach_same
+      ∙ ap (λ (s : SlotState). is_covered_in m q (reach m w p q) j s) (slot-server_at m w p j small)
+
   suspect_state : after_suspect (server_at m w p) q ≡ server_at m later p
   suspect_state =
       same_state _
       (map-instances_same _ (slot_at m later p) (new_slot m)
-      (λ j small. ap (slot_revoked m p q (front m w p) j) (slot-server_at m w p j small)
+      (λ j small. ap (λ (n : ℕ). slot_revoked m p q n j (slot (server_at m w p) j)) reach_same
+      ∙ ap (slot_revoked m p q (reach m w p q) j) (slot-server_at m w p j small)
       ∙ sym (slot_after j small (is_covered m w p q j) refl)))
 
   suspect_messages : suspect_sent (server_at m w p) q ≡ messages_of (map (preparation m w p) covered)
@@ -220,7 +233,7 @@ module _ (m : Membership) (w : Trace) (p q : ℕ) (r : IsReached m w) (member : 
       map-filter-instances_same (prepare_for (server_at m w p)) (λ (j : ℕ). Prepare p j (ballot_for m w p j))
       (is_covered_at (server_at m w p) q) (is_covered m w p q)
       (λ j small. ap (next_prepare m p j) (slot-server_at m w p j small))
-      (λ j small. ap (λ (s : SlotState). is_covered_in m q (front m w p) j s) (slot-server_at m w p j small))
+      covered_same
       ∙ sends_prepared m w p covered
 
 same_causes : (a x b' y c' d d' : Bool) → x ≡ b' → y ≡ c' → d ≡ d'
@@ -245,7 +258,7 @@ suspect_causes m w p q s o e r member =
     (ap (λ (ms : List Message). ltb o.limit (length o.messages + length ms)) (suspect_messages m w p q r member))
   where
     covers : (j : ℕ) → j < instance_count → is_covered_at (server_at m w p) q j ≡ is_covered m w p q j
-    covers j small = ap (λ (x : SlotState). is_covered_in m q (front m w p) j x) (slot-server_at m w p j small)
+    covers j small = covered_same m w p q r member j small
 
 pub suspect_is_event : SuspectIsEvent
 suspect_is_event w s q at member = record {

@@ -1,12 +1,13 @@
 -- What a server knows of the instances, as it keeps it: slots where they stand, and ranges of skipped instances.
 use Rattle.std.specs.Prelude.{◌≡◌, ℕ, ◌<◌, ◌≤◌, Bool, true, false, List, [], Option, Some, if◌then◌else◌, ◌&&◌, ◌||◌, is_none, is_some, length, map, not, slice_index_or, slice_set, unwrap_or}
-use Rattle.std.specs.List.{count_by, filter}
+use Rattle.std.specs.List.{count_by, filter, find}
 use Rattle.mencius_base.specs.declared.message.Message.{Message}
 use Rattle.mencius_base.specs.declared.message.Value.TheVariants.{Noop, Ticket}
 use Rattle.mencius_base.specs.Members.{Membership, below, first_owned, owner, instances}
 use Rattle.coord_paxos.specs.SlotState.{SlotState}
 use Rattle.coord_paxos.specs.Slot.{after_learn}
 use Rattle.coord_paxos.specs.Fresh.{new_slot}
+use Rattle.mencius_model.specs.Rules.{is_open_from, reach_from}
 use Rattle.mencius_server.specs.Machine.{is_covered_in, is_given, is_spent, next_prepare, slot_given, slot_revoked, with_next_phase}
 use Rattle.mencius_server.specs.Ranges.{IsOwned, IsRising, covers}
 use Rattle.mencius_server.specs.Slots.{is_in, is_learned, stand_at}
@@ -98,9 +99,17 @@ known_given s q first stop = count_by (λ j. is_given s.members q first stop j (
 
 -- ---- a suspicion
 
--- nothing was learned at an instance of q, up to a front
+-- nothing was learned at an instance of q
+abbrev pub is_known_open : KnownState → ServerId → Inst → Bool
+is_known_open s q j = is_open_from s.members q j (known_slot s j).learned
+
+-- how far a suspicion of q reaches from a front
+abbrev pub known_reach : KnownState → ServerId → Inst → Inst
+known_reach s q front = reach_from s.members front (find (is_known_open s q) instances)
+
+-- nothing was learned at an instance of q so far
 abbrev pub is_open : KnownState → ServerId → Inst → Inst → Bool
-is_open s q front j = is_covered_in s.members q front j (known_slot s j)
+is_open s q reach j = is_covered_in s.members q reach j (known_slot s j)
 
 -- the same of an instance of a stretch
 abbrev pub is_open_in : KnownState → Stretch → Inst → Bool
@@ -128,11 +137,11 @@ abbrev pub is_round_full_at : KnownState → Inst → Bool
 is_round_full_at s j = is_spent s.members (known_slot s j)
 
 abbrev pub prepares : KnownState → ServerId → ServerId → Inst → List Message
-prepares s p q front = map (known_prepare s p) (filter (is_open s q front) instances)
+prepares s p q reach = map (known_prepare s p) (filter (is_open s q reach) instances)
 
 -- slots stand where first phases are started, and nowhere else
 abbrev pub known_after_suspect : KnownState → ServerId → ServerId → Inst → KnownState
-known_after_suspect s p q front = record s {
-  slots = map (λ j. slot_revoked s.members p q front j (known_slot s j)) instances;
-  stands = map (λ j. has_slot s j || is_open s q front j) instances;
+known_after_suspect s p q reach = record s {
+  slots = map (λ j. slot_revoked s.members p q reach j (known_slot s j)) instances;
+  stands = map (λ j. has_slot s j || is_open s q reach j) instances;
 }

@@ -17,7 +17,7 @@ use Rattle.mencius_base.specs.Outbox.{Outgoing, is_too_many, outbox_full}
 use Rattle.mencius_model.specs.Server.{ticket_of}
 use Rattle.mencius_model.specs.Trace.{Line, messages_of}
 use Rattle.mencius_model.specs.Next.{first_cause, learnings}
-use Rattle.mencius_model.specs.Rules.{acceptance_lines, answer_lines, decision_lines, front_past, gives_up, is_covered_from, is_free_from, is_given_up_from, is_past, learning_lines, proposal_lines, round_above, skip_lines, suggestion, waiting_ticket}
+use Rattle.mencius_model.specs.Rules.{acceptance_lines, answer_lines, decision_lines, front_past, gives_up, is_covered_from, is_free_from, is_given_up_from, is_open_from, is_past, learning_lines, proposal_lines, reach_from, round_above, skip_lines, suggestion, waiting_ticket}
 use Rattle.mencius_server.specs.State.{ServerState, slot, with_slot, with_slot_and_front}
 use Rattle.mencius_base.specs.Limits.{greatest_round, instance_count}
 use Rattle.mencius_base.specs.Numbers.{BallotNo, Inst, ServerId, TicketNo}
@@ -190,7 +190,7 @@ retry_cause s o (Some t) = submit_cause o (free_at s)
 
 -- a suspicion of q covers the instance, of which the server knows this
 abbrev pub is_covered_in : Membership → ServerId → Inst → Inst → SlotState → Bool
-is_covered_in m q front i s = is_covered_from m q front i s.learned
+is_covered_in m q reach i s = is_covered_from m q reach i s.learned
 
 -- one above the rounds that were tried and promised
 abbrev pub round_after : Membership → SlotState → ℕ
@@ -208,10 +208,21 @@ with_next_phase m p s = after_begin s (ballot_after m p s)
 
 -- it is started where a suspicion of q covers the instance
 abbrev pub slot_revoked : Membership → ServerId → ServerId → Inst → Inst → SlotState → SlotState
-slot_revoked m p q front i s = if is_covered_in m q front i s then with_next_phase m p s else s
+slot_revoked m p q reach i s = if is_covered_in m q reach i s then with_next_phase m p s else s
+
+-- an instance of q at which nothing was learned, and the least of them
+abbrev pub is_open_at : ServerState → ServerId → Inst → Bool
+is_open_at s q i = is_open_from s.members q i (slot s i).learned
+
+abbrev pub first_open_at : ServerState → ServerId → Option Inst
+first_open_at s q = find (is_open_at s q) instances
+
+-- how far the suspicion reaches
+abbrev pub reach_at : ServerState → ServerId → Inst
+reach_at s q = reach_from s.members s.front (first_open_at s q)
 
 abbrev pub is_covered_at : ServerState → ServerId → Inst → Bool
-is_covered_at s q i = is_covered_in s.members q s.front i (slot s i)
+is_covered_at s q i = is_covered_in s.members q (reach_at s q) i (slot s i)
 
 -- all that it covers
 abbrev pub covered_at : ServerState → ServerId → List Inst
@@ -224,7 +235,7 @@ abbrev pub suspect_sent : ServerState → ServerId → List Message
 suspect_sent s q = map (prepare_for s) (covered_at s q)
 
 abbrev pub after_suspect : ServerState → ServerId → ServerState
-after_suspect s q = record s { slots = map (λ i. slot_revoked s.members s.id q s.front i (slot s i)) instances }
+after_suspect s q = record s { slots = map (λ i. slot_revoked s.members s.id q (reach_at s q) i (slot s i)) instances }
 
 -- no round is left above them
 abbrev pub is_spent : Membership → SlotState → Bool

@@ -9,6 +9,7 @@ use Rattle.coord_paxos.specs.SlotState.{SlotState}
 use Rattle.mencius_model.specs.Next.{first_cause}
 use Rattle.mencius_server.specs.Machine.{is_spent, revocation_causes}
 use Rattle.mencius_server.specs.Known.{IsSound, KnownState, is_open, is_passed, is_round_full_at, known_at}
+use Rattle.mencius_server.specs.Lows.{low_of}
 use Rattle.mencius_server.specs.Stretches.{IsStretch}
 use Rattle.mencius_server.specs.declared.stretch.Stretch.{Stretch}
 use Rattle.mencius_server.specs.declared.ranges.Span.{Span}
@@ -81,25 +82,27 @@ pub record HasCounted (m : Membership) (d : Tally) (s : SlotState) : Type 0 wher
 abbrev pub moved : Membership → Inst → Tally → SlotState → SlotState → Tally
 moved m i x s new = if nat_lt i x.stop then tallied m (untallied m x s) new else x
 
--- what a suspicion of q would revoke, up to a front
-pub record IsSurvey (s : KnownState) (q : ServerId) (front : Inst) (d : Tally) : Type 0 where
-  pub open_count : d.open_count ≡ count_by (is_open s q front) instances
-  pub full_count : nat_lt 0 d.full_count ≡ list_any (is_round_full_at s) (filter (is_open s q front) instances)
+-- what a suspicion of q would revoke that reaches so far
+pub record IsSurvey (s : KnownState) (q : ServerId) (reach : Inst) (d : Tally) : Type 0 where
+  pub open_count : d.open_count ≡ count_by (is_open s q reach) instances
+  pub full_count : nat_lt 0 d.full_count ≡ list_any (is_round_full_at s) (filter (is_open s q reach) instances)
 
 -- why a suspicion of which this was counted is refused, running out of memory aside
 abbrev pub tally_cause : Tally → Outgoing → Option Refusal
 tally_cause x o = first_cause (revocation_causes (x.open_count == 0) (nat_lt 0 x.full_count) o x.open_count)
 
--- the instances of q from one on before which none is open, up to a front
-pub record IsOpenStretch (s : KnownState) (q : ServerId) (front : Inst) (a : Stretch) : Type 0 where
+-- the instances of q from one on before which none is open, so far
+pub record IsOpenStretch (s : KnownState) (q : ServerId) (reach : Inst) (a : Stretch) : Type 0 where
   pub stretch : IsStretch a
   pub members : a.members ≡ s.members
   pub server : a.server ≡ q
-  pub stop : a.stop ≡ min (front + 1) instance_count
-  pub before : (j : Inst) → j < a.first → is_open s q front j ≡ false
+  pub stop : a.stop ≡ min reach instance_count
+  pub before : (j : Inst) → j < a.first → is_open s q reach j ≡ false
 
--- what is known, and what was counted of it
+-- what is known, what was counted of it, and for each server a place below which all of its instances are learned
 pub record IsKnown (m : Membership) (slots : List (Option SlotState)) (rs : List (List Span)) (low : Inst)
-    (tallies : List Tally) : Type 0 where
+    (tallies : List Tally) (lows : List Inst) : Type 0 where
   pub sound : IsSound m slots rs low
   pub counted : (q : ServerId) → IsTally m (known_at m slots rs) q (tally_of tallies q)
+  pub begun : (j : Inst) → j < instance_count → j < low_of lows (owner m j)
+      → is_none (known_at m slots rs j).learned ≡ false

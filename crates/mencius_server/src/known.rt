@@ -5,7 +5,7 @@ ghost use Rattle.coord_paxos.specs.SlotState.{SlotState};
 ghost use Rattle.mencius_base.specs.Members.{below, first_owned, instances, owner};
 ghost use Rattle.mencius_server.specs.Changes.{IsSaid, changed};
 ghost use Rattle.mencius_server.specs.Glances.{glance_of};
-ghost use Rattle.mencius_server.specs.Known.{IsSorted, has_slot, is_given_in, is_open, is_open_in, is_passed, known_after_skip, known_after_suggest, known_after_suspect, known_at, known_begun, known_given, known_slot, known_standing, known_stood, new_known, prepares, prepares_in, slotless, with_known};
+ghost use Rattle.mencius_server.specs.Known.{IsSorted, has_slot, is_given_in, is_open, is_open_in, is_passed, known_after_skip, known_after_suggest, known_after_suspect, known_at, known_begun, known_given, known_reach, known_slot, known_standing, known_stood, new_known, prepares, prepares_in, slotless, with_known};
 ghost use Rattle.mencius_server.specs.Machine.{round_after};
 ghost use Rattle.mencius_server.specs.Ranges.{IsOwned, IsRising, covers, is_within};
 ghost use Rattle.mencius_server.specs.Slots.{given, known_by_slot, stand_at};
@@ -18,6 +18,7 @@ ghost use Rattle.std.specs.Prelude.{◌≡◌, ℕ, ◌+◌, ◌<◌, ◌≤◌,
 
 use crate::change::Change;
 use crate::glance::{Glance, glance_at};
+use crate::lows::Lows;
 use crate::ranges::Ranges;
 use crate::slots::{Slots, blank};
 use crate::stretch::{Stretch, next_owned};
@@ -41,6 +42,8 @@ pub(crate) struct Known {
     learned_below: u32,
     // What suspicions would revoke, as far as it was asked.
     tallies: Tallies,
+    // Where suspicions would begin, as far as it was asked.
+    lows: Lows,
 }
 
 impl Model for Known {
@@ -51,7 +54,7 @@ impl Model for Known {
 
     ghost view = { λ s. known_of s.members s.slots s.skipped.items };
 
-    ghost invariant = { λ s. IsKnown s.members s.slots s.skipped.items s.learned_below s.tallies };
+    ghost invariant = { λ s. IsKnown s.members s.slots s.skipped.items s.learned_below s.tallies s.lows };
 }
 
 impl Known {
@@ -66,6 +69,7 @@ impl Known {
             skipped,
             learned_below: 0,
             tallies: Tallies::new(),
+            lows: Lows::new(),
         })
     }
 
@@ -261,21 +265,51 @@ impl Known {
         Ok(learned)
     }
 
-    /// What a suspicion of a server would revoke, up to a front.
+    /// How far a suspicion of a server reaches from a front: to the place past twice beta from there, if its least
+    /// instance that is not learned is below beta from there, and else nowhere.
     ///
-    /// It counts on from the front of the last call, since whatever changed below that was counted when it changed. So
-    /// all calls together look at each instance once, and at none that a range has.
-    pub(crate) fn tally(&mut self, suspected: u8, front: u32) -> Tally
+    /// It looks for that instance from where the last call found it, since what was learned stays learned. So all calls
+    /// together look at each instance once, and each of them at one more.
+    pub(crate) fn reach(&mut self, suspected: u8, front: u32) -> u32
         requires suspected { suspected < self.old.members.count }
         requires near { front ≤ greatest_front }
-        ensures survey { IsSurvey self.old suspected front result }
+        ensures reach { result ≡ known_reach self.old suspected front }
         ensures same { self.new ≡ self.old }
     {
         let members = self.members;
         // The proof reads off the count that there are few members.
         let _few = members.count();
-        let stop = (front + 1).min(INSTANCES);
-        // A server's front never moves back, and then this is all that was counted.
+        let beta = members.beta();
+        let near = (front + beta).min(INSTANCES);
+        let low = self
+            .lows
+            .get(suspected)
+            .max(self.learned_below)
+            .min(INSTANCES);
+        let from = members.first_owned(suspected, low);
+        let first = open_from(&self.slots, &self.skipped, members, from, near);
+        self.lows.put(suspected, first);
+        if first < near {
+            front + 2 * beta + 1
+        } else {
+            0
+        }
+    }
+
+    /// What a suspicion of a server would revoke that reaches so far.
+    ///
+    /// It counts on from the reach of the last call, since whatever changed below that was counted when it changed. So
+    /// all calls together look at each instance once, and at none that a range has.
+    pub(crate) fn tally(&mut self, suspected: u8, reach: u32) -> Tally
+        requires { suspected < self.old.members.count }
+        ensures survey { IsSurvey self.old suspected reach result }
+        ensures same { self.new ≡ self.old }
+    {
+        let members = self.members;
+        // The proof reads off the count that there are few members.
+        let _few = members.count();
+        let stop = reach.min(INSTANCES);
+        // A server's front never moves back, and then this is all that was counted, unless the suspicion reaches nowhere.
         let start = self.tallies.up_to(suspected, stop);
         if start.stop == stop {
             return start;
@@ -287,32 +321,31 @@ impl Known {
         tally
     }
 
-    /// Starts a first phase at each instance of a server, up to a front, where nothing was learned.
+    /// Starts a first phase at each instance of a server before a place where nothing was learned.
     ///
     /// There is room for the Prepares, and there are at most so many of these instances.
     pub(crate) fn begin_all(
         &mut self,
         id: u8,
         suspected: u8,
-        front: u32,
+        reach: u32,
         open_count: u32,
         out: &mut Outbox,
     ) -> Result<(), NoMemory>
         requires id { id < self.old.members.count }
         requires suspected { suspected < self.old.members.count }
-        requires near { front ≤ greatest_front }
-        requires few { count_by (is_open self.old suspected front) instances ≤ open_count }
-        requires rounds { (j : ℕ) → j < instance_count → is_open self.old suspected front j ≡ true
+        requires few { count_by (is_open self.old suspected reach) instances ≤ open_count }
+        requires rounds { (j : ℕ) → j < instance_count → is_open self.old suspected reach j ≡ true
             → round_after self.old.members (known_slot self.old j) ≤ greatest_round }
-        requires room { count_by (is_open self.old suspected front) instances ≤ out.old.room }
+        requires room { count_by (is_open self.old suspected reach) instances ≤ out.old.room }
         ensures sent { OnOk result (out.new.messages
-            ≡ out.old.messages ++ prepares self.old id suspected front) }
-        ensures after { OnOk result (self.new ≡ known_after_suspect self.old id suspected front) }
+            ≡ out.old.messages ++ prepares self.old id suspected reach) }
+        ensures after { OnOk result (self.new ≡ known_after_suspect self.old id suspected reach) }
         ensures limit { out.new.limit ≡ out.old.limit }
         ensures same { OnErr result (self.new ≡ self.old) }
         ensures unsent { OnErr result (out.new ≡ out.old) }
     {
-        let stretch = self.open_stretch(suspected, front);
+        let stretch = self.open_stretch(suspected, reach);
         self.stand_open(&stretch, open_count)?;
         self.begin_open(&stretch, id, out);
         Ok(())
@@ -363,11 +396,10 @@ impl Known {
         );
     }
 
-    // A server's instances from the least on that may not be learned, up to a front.
-    fn open_stretch(&self, suspected: u8, front: u32) -> Stretch
-        requires suspected { suspected < self.now.members.count }
-        requires near { front ≤ greatest_front }
-        ensures { IsOpenStretch self.now suspected front result }
+    // A server's instances from the least on that may not be learned, before a place.
+    fn open_stretch(&self, suspected: u8, reach: u32) -> Stretch
+        requires { suspected < self.now.members.count }
+        ensures { IsOpenStretch self.now suspected reach result }
     {
         let members = self.members;
         let first = members.first_owned(suspected, self.learned_below);
@@ -375,7 +407,7 @@ impl Known {
             members,
             server: suspected,
             first,
-            stop: (front + 1).min(INSTANCES),
+            stop: reach.min(INSTANCES),
         }
     }
 
@@ -452,6 +484,25 @@ fn learned_from(slots: &Slots, skipped: &Vec<Ranges>, members: Members, from: u3
     let mut inst = from;
     while inst < INSTANCES && learned_at(slots, skipped, members, inst).is_some() {
         inst += 1;
+    }
+    inst
+}
+
+// A server's least instance from one of its own on that is not learned, or one that is not below the end.
+fn open_from(slots: &Slots, skipped: &Vec<Ranges>, members: Members, from: u32, stop: u32) -> u32
+    requires sorted { IsSorted members skipped.now.items }
+    requires near { from ≤ greatest_front }
+    requires small { stop ≤ instance_count }
+    ensures owned { owner members result ≡ owner members from }
+    ensures near { result ≤ greatest_front }
+    ensures known { (j : ℕ) → from ≤ j → j < result → owner members j ≡ owner members from
+        → j < instance_count → is_none (known_at members slots.now skipped.now.items j).learned ≡ false }
+    ensures least { result < stop
+        → is_none (known_at members slots.now skipped.now.items result).learned ≡ true }
+{
+    let mut inst = from;
+    while inst < stop && learned_at(slots, skipped, members, inst).is_some() {
+        inst = next_owned(members, inst);
     }
     inst
 }

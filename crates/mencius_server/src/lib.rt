@@ -34,6 +34,7 @@ mod delivery;
 mod glance;
 mod known;
 pub mod laws;
+mod lows;
 mod notes;
 mod ranges;
 mod revocation;

@@ -13,12 +13,13 @@ use mencius_base::{Ballot, Members, Message, Outbox, Refusal};
 
 impl Server {
     /// Revokes what a suspected server left open (Rule 3 of Mao, Junqueira and Marzullo, OSDI 2008,
-    /// section 4; that the range goes up to the own front is this project's choice).
+    /// section 4; the range is this project's choice).
     ///
-    /// One Prepare goes to `out`, by rising instance, for each instance of the suspected server that
-    /// is at most this server's front and that it has not learned. Its round is one above the greater
-    /// of the rounds that this server tried and promised there. A suspicion may be wrong: a command
-    /// that was chosen stays chosen.
+    /// Where the least instance of the suspected server that this server has not learned is below beta
+    /// past its front, one Prepare goes to `out`, by rising instance, for each instance of the suspected
+    /// server that is at most twice beta past the front and that this server has not learned. Its round
+    /// is one above the greater of the rounds that this server tried and promised there. A suspicion may
+    /// be wrong: a command that was chosen stays chosen.
     ///
     /// `suspected` is below the number of the members.
     ///
@@ -43,10 +44,11 @@ impl Server {
         if self.id == suspected {
             return Err(Refusal::SelfSuspect);
         }
-        let tally = self.known.tally(suspected, self.front);
+        let reach = self.known.reach(suspected, self.front);
+        let tally = self.known.tally(suspected, reach);
         tally.reserve(out)?;
         self.known
-            .begin_all(self.id, suspected, self.front, tally.open_count, out)?;
+            .begin_all(self.id, suspected, reach, tally.open_count, out)?;
         Ok(())
     }
 }

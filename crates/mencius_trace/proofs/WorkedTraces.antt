@@ -8,12 +8,19 @@ use Rattle.std.specs.Fmt.{digits}
 use Rattle.std.specs.List.{flat_map}
 use Rattle.mencius_base.specs.declared.command.Command.{Command}
 use Rattle.mencius_base.specs.declared.command.Op.TheVariants.{Set, Get}
+use Rattle.mencius_base.specs.Members.{Membership}
 use Rattle.mencius_base.specs.declared.event.Event.{Event}
 use Rattle.mencius_base.specs.declared.event.Event.TheVariants.{Submit, Deliver, Lose, Suspect, Retry, Execute}
 use Rattle.mencius_base.specs.Members.{below, instances, most_messages, most_events, most_rounds}
 use Rattle.mencius_model.specs.Store.{store_after}
 use Rattle.mencius_trace.specs.Words.{former_text, line_feed}
 use Rattle.mencius_trace.specs.Closing.{trace_text}
+
+abbrev three : Membership
+three = record { count = 3; beta = 0 }
+
+abbrev one : Membership
+one = record { count = 1; beta = 0 }
 
 -- lines, each with its end
 abbrev text_of : List (List ℕ) → List ℕ
@@ -88,7 +95,7 @@ text_wrong_suspicion reply = text_of
     ∷ codes "unheard 8 Learn to 2"
     ∷ [])
 
-text-wrong_suspicion : trace_text 3 wrong_suspicion ≡ text_wrong_suspicion (codes "none")
+text-wrong_suspicion : trace_text three wrong_suspicion ≡ text_wrong_suspicion (codes "none")
 unfolding below digits instances most_messages most_events most_rounds
 text-wrong_suspicion = ap (λ o. text_wrong_suspicion (former_text o)) nothing
 
@@ -98,7 +105,7 @@ late_suggestion =
     Suspect 1 0 ∷ Deliver 0 1 ∷ Deliver 0 2 ∷ Deliver 1 1 ∷ Deliver 2 1 ∷ Deliver 3 1 ∷ Deliver 3 2 ∷ Deliver 4 1
     ∷ Deliver 5 1 ∷ Submit 0 set_a ∷ Deliver 7 1 ∷ Deliver 7 2 ∷ Deliver 6 0 ∷ []
 
-text-late_suggestion : trace_text 3 late_suggestion ≡ text_of
+text-late_suggestion : trace_text three late_suggestion ≡ text_of
     (codes "servers 3"
     ∷ codes "event 0 suspect 1 0"
     ∷ codes "sent 0 Prepare from 1 to all instance 0 ballot 4"
@@ -233,7 +240,7 @@ text_suggested_again reply = text_of
     ∷ codes "unheard 14 Learn to 2"
     ∷ [])
 
-text-suggested_again : trace_text 3 suggested_again ≡ text_suggested_again (codes "none")
+text-suggested_again : trace_text three suggested_again ≡ text_suggested_again (codes "none")
 unfolding below digits instances most_messages most_events most_rounds
 text-suggested_again = ap (λ o. text_suggested_again (former_text o)) nothing
 
@@ -289,7 +296,7 @@ text_skip_before_a_suggestion reply = text_of
     ∷ codes "unheard 5 Learn to 2"
     ∷ [])
 
-text-skip_before_a_suggestion : trace_text 3 skip_before_a_suggestion ≡ text_skip_before_a_suggestion (codes "none")
+text-skip_before_a_suggestion : trace_text three skip_before_a_suggestion ≡ text_skip_before_a_suggestion (codes "none")
 unfolding below digits instances most_messages most_events most_rounds
 text-skip_before_a_suggestion = ap (λ o. text_skip_before_a_suggestion (former_text o)) nothing
 
@@ -300,7 +307,7 @@ duelling_revokers =
     ∷ Deliver 4 1 ∷ Deliver 1 1 ∷ Deliver 5 2 ∷ Deliver 7 2 ∷ Deliver 8 0 ∷ Deliver 8 1 ∷ Deliver 9 2 ∷ Deliver 10 2
     ∷ Deliver 11 1 ∷ Execute 1 ∷ Execute 2 ∷ []
 
-text-duelling_revokers : trace_text 3 duelling_revokers ≡ text_of
+text-duelling_revokers : trace_text three duelling_revokers ≡ text_of
     (codes "servers 3"
     ∷ codes "event 0 suspect 1 0"
     ∷ codes "sent 0 Prepare from 1 to all instance 0 ballot 4"
@@ -364,7 +371,7 @@ other_reasons =
     Suspect 1 0 ∷ Deliver 0 0 ∷ Deliver 0 1 ∷ Deliver 0 2 ∷ Deliver 1 1 ∷ Deliver 2 1 ∷ Deliver 3 1 ∷ Suspect 1 0
     ∷ Deliver 3 1 ∷ Lose 5 2 ∷ Deliver 5 2 ∷ []
 
-text-other_reasons : trace_text 3 other_reasons ≡ text_of
+text-other_reasons : trace_text three other_reasons ≡ text_of
     (codes "servers 3"
     ∷ codes "event 0 suspect 1 0"
     ∷ codes "sent 0 Prepare from 1 to all instance 0 ballot 4"
@@ -441,7 +448,7 @@ text_told_back first second = text_of
     ∷ codes "unheard 5 Learn to 0"
     ∷ [])
 
-text-told_back : trace_text 1 told_back ≡ text_told_back (codes "none") (codes "=x")
+text-told_back : trace_text one told_back ≡ text_told_back (codes "none") (codes "=x")
 unfolding below digits instances most_messages most_events most_rounds
 text-told_back =
     ap (λ o. text_told_back (former_text o) (former_text (finite.get (store_after (set_a ∷ [])) (97 ∷ [])))) nothing

@@ -68,7 +68,6 @@ abbrev pub told_from : Membership → Trace → ℕ → List Event → List ℕ
 told_from m w place [] = closing m w
 told_from m w place (e ∷ es) = event_lines m w place e ++ told_from m (trace_after w (next m w e)) (place + 1) es
 
--- the events of a scenario of so many servers
-abbrev pub trace_text : ℕ → List Event → List ℕ
-trace_text servers es =
-    codes "servers " ++ decimal servers ++ line_feed ++ told_from (record { count = servers }) [] 0 es
+-- the events of a scenario of these servers
+abbrev pub trace_text : Membership → List Event → List ℕ
+trace_text m es = codes "servers " ++ decimal m.count ++ line_feed ++ told_from m [] 0 es

@@ -1,5 +1,5 @@
 use Rattle.std.proofs.Common.{sym}
-use Rattle.mencius_input.proofs.ScenarioFields.{events_set, other_set, servers_set, version_set}
+use Rattle.mencius_input.proofs.ScenarioFields.{beta_set, events_set, other_set, servers_set, version_set}
 use Rattle.mencius_input.proofs.scenario.read_field.Goals as goal
 
 pub returns-in_ok-next_whole-in-Version-clause-ok : goal.returns-in_ok-next_whole-in-Version-clause-ok
@@ -18,6 +18,15 @@ returns-in_ok-next_whole-in-Servers-clause-ok c =
       done.1,
       λ ms h. servers_set c.args.fields.now ms c.args.name.now done.0 h _
           (sym c.in-Servers.ensures) done.2,
+    )
+
+pub returns-in_ok-next_whole-in-Beta-clause-ok : goal.returns-in_ok-next_whole-in-Beta-clause-ok
+returns-in_ok-next_whole-in-Beta-clause-ok c =
+    let done = c.in_ok-next_whole-in-Beta.ensures.ok in (
+      done.0,
+      done.1,
+      λ ms h. beta_set c.args.fields.now ms c.args.name.now done.0 h _
+          (sym c.in-Beta.ensures) done.2,
     )
 
 pub returns-in_ok-next_events-in-Events-clause-ok : goal.returns-in_ok-next_events-in-Events-clause-ok

@@ -9,7 +9,7 @@ returns c =
     record {
       stretch = record {
         member = omega
-            (arith, c.requires.suspected, ap (λ (s : KnownState). s.members.count) c.self.view_is);
+            (arith, c.requires, ap (λ (s : KnownState). s.members.count) c.self.view_is);
         own =
             c.first_owned-first.ensures.owned;
         small = omega (arith, c.min.ensures);
@@ -18,6 +18,6 @@ returns c =
       server = refl;
       stop = c.min.ensures;
       before = open_before _ _ _ _ _ c.self.view_is c.self.invariant.sound
-          c.args.suspected c.args.front c.first_owned-first.result c.first_owned-first.ensures.least
+          c.args.suspected c.args.reach c.first_owned-first.result c.first_owned-first.ensures.least
           c.first_owned-first.ensures.near;
     }

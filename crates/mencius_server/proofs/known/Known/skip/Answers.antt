@@ -10,7 +10,7 @@ use Rattle.coord_paxos.specs.SlotState.{SlotState}
 use Rattle.mencius_server.specs.Known.{IsSorted, KnownState, is_given_in, known_at, known_of}
 use Rattle.mencius_server.specs.Slots.{given}
 use Rattle.mencius_server.specs.declared.stretch.Stretch.{Stretch}
-use Rattle.mencius_server.proofs.SkipKnown.{IsAligned, news_is, skip_again, skip_given, skip_is, skip_shows, skip_sorted, skip_sound, skip_theirs}
+use Rattle.mencius_server.proofs.SkipKnown.{IsAligned, news_is, skip_again, skip_given, skip_is, skip_shows, skip_sorted, skip_sound, skip_stays, skip_theirs}
 use Rattle.mencius_server.specs.Tallies.{IsTally, tally_of}
 use Rattle.mencius_server.proofs.InstanceTallies.{alike_same, counts_put, sound_told, tally_alike}
 use Rattle.mencius_server.proofs.NewRanges.{old_news}
@@ -63,7 +63,8 @@ invariant_of-self-2 c =
     let covered = then_covered m c.args.from _ _ _ _ rs range c.in_ok-learned.ensures.covers in
     let stretch = skipped m c.args.from c.first_owned-first.result c.first_owned-stop.result in
     counts_put m c.self.inside.slots c.skip_stretch.new.slots rs (set rs c.args.from c.skip_stretch.new.ranges)
-    c.self.inside.learned_below c.learned_from-self-inside.result c.self.inside.tallies c.put.new.self c.args.from
+    c.self.inside.learned_below c.learned_from-self-inside.result c.self.inside.tallies c.put.new.self
+    c.self.inside.lows c.args.from
     (skip_sound m stretch refl c.self.inside.slots c.skip_stretch.new.slots rs member c.skip_stretch.new.ranges covered
     c.in_ok-learned.ensures.slots
     c.self.inside.learned_below c.learned_from-self-inside.result
@@ -74,6 +75,8 @@ invariant_of-self-2 c =
     c.learned_from-self-inside.ensures.least c.self.invariant.sound)
     (λ j small other. alike_same m _ _ (sym (skip_theirs m stretch refl c.self.inside.slots
     c.skip_stretch.new.slots rs member c.skip_stretch.new.ranges covered c.in_ok-learned.ensures.slots j small other)))
+    (skip_stays m stretch refl c.self.inside.slots c.skip_stretch.new.slots rs member c.skip_stretch.new.ranges covered
+    c.in_ok-learned.ensures.slots)
     (subst (IsTally m (known_at m c.skip_stretch.new.slots (set rs c.args.from c.skip_stretch.new.ranges)) c.args.from)
     (sym (c.put.ensures c.args.from
     ∙ ap (λ bit. cond bit c.tally_given-tally.result (tally_of c.self.inside.tallies c.args.from))

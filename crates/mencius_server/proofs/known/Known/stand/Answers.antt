@@ -14,7 +14,7 @@ returns-then-has-clause-there c =
     seen_stands _ _ _ _ c.self.view_is c.args.inst c.requires ∙ sym c.has.ensures ∙ c.if-has.true
 
 pub invariant_of-self : goal.invariant_of-self
-invariant_of-self c = unchanged _ _ _ _ _ _ c.in_err-stand.ensures.err c.self.invariant
+invariant_of-self c = unchanged _ _ _ _ _ _ _ c.in_err-stand.ensures.err c.self.invariant
 
 pub invariant_of-self-2 : goal.invariant_of-self-2
 invariant_of-self-2 c =
@@ -23,7 +23,7 @@ invariant_of-self-2 c =
     λ (j : ℕ). c.in_ok-stand.ensures.ok j
     ∙ ap (λ bit. cond (eqb j c.args.inst) (Some (slotless c.self.inside.members bit)) (stand_at c.self.inside.slots j))
     c.is_passed-was_skipped.ensures in
-    counts_kept _ _ _ _ _ _ _ _
+    counts_kept _ _ _ _ _ _ _ _ _
     (stood_sound _ _ _ _ _ gone stands c.self.inside.learned_below c.self.invariant.sound)
     (λ j small. alike_same _ _ _
     (sym (stood_at_same c.self.inside.members _ _ c.self.inside.skipped.items _ gone stands j)))

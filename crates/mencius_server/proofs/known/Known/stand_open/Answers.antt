@@ -11,7 +11,7 @@ stand_all-requires-clause-lacking c =
 
 pub invariant_of-self-2 : goal.invariant_of-self-2
 invariant_of-self-2 c =
-    counts_kept _ _ _ _ _ _ _ _
+    counts_kept _ _ _ _ _ _ _ _ _
     (stood_open_sound _ _ _ _ _ c.self.view_is c.self.invariant.sound c.args.stretch.now c.requires.members
     c.requires.small _ _ c.requires.stretch.member c.index-skipped.ensures _ c.in_ok-stand_all.ensures.ok)
     (λ j small. alike_same _ _ _
@@ -20,7 +20,7 @@ invariant_of-self-2 c =
     c.self.invariant
 
 pub invariant_of-self : goal.invariant_of-self
-invariant_of-self c = unchanged _ _ _ _ _ _ c.in_err-stand_all.ensures.err c.self.invariant
+invariant_of-self c = unchanged _ _ _ _ _ _ _ c.in_err-stand_all.ensures.err c.self.invariant
 
 pub returns-clause-ok : goal.returns-clause-ok
 returns-clause-ok c =
