@@ -1,13 +1,12 @@
 -- What the scenario of a run says, of which the plan was made that workers follow.
 use Rattle.mencius_app.specs.declared.plan.RunScenario as code
 use Rattle.mencius_input.specs.Plan.{WrittenPlan}
-use Rattle.mencius_input.specs.Scenario.{known_version}
 
 -- what a run's scenario that was read says
 abbrev pub plan_in : code.RunScenario → WrittenPlan
 plan_in s = record {
   numbers = record {
-    version = known_version;
+    version = s.version;
     servers = s.members.count;
     beta = s.members.beta;
     workers = s.plan.workers;

@@ -12,6 +12,8 @@ use std::alloc::Global;
 /// What a scenario of `run` says: a cluster, and what workers do on it.
 #[derive(Drop)]
 pub struct RunScenario {
+    /// The version in which it is written, 1 or 2.
+    pub version: u8,
     /// The servers of the cluster.
     pub members: Members,
     /// The workers, what their choices grow from, and a list of commands for each server.
@@ -20,12 +22,14 @@ pub struct RunScenario {
 
 /// The scenario of a run that a JSON text says. The shape is judged everywhere before any limit: a
 /// text that is not JSON is `NotJson`; a value that is no such scenario, anywhere in it, is
-/// `BadShape`; then another version than 1, a number past its range, a key of 0 or more than 64
-/// bytes, a text of more than 256 bytes, or another number of lists than of servers is `BadLimit`.
+/// `BadShape`; then another version than 1 and 2, a number past its range, a key of 0 or more than
+/// 64 bytes, a text of more than 256 bytes, or another number of lists than of servers is
+/// `BadLimit`.
 pub fn read_plan(alloc: Global, bytes: &[u8]) -> Result<RunScenario, AppFault>
     ensures { Gives (seen plan_in result) (plan bytes.now) }
 {
     let RunInput {
+        version,
         members,
         workers,
         seed,
@@ -34,7 +38,11 @@ pub fn read_plan(alloc: Global, bytes: &[u8]) -> Result<RunScenario, AppFault>
         commands,
     } = read_run_input(alloc, bytes)?;
     match Plan::new(workers, seed, turns, loss, commands) {
-        Some(plan) => Ok(RunScenario { members, plan }),
+        Some(plan) => Ok(RunScenario {
+            version,
+            members,
+            plan,
+        }),
         // The input is within the limits, so that there is a plan.
         None => Err(AppFault::BadLimit),
     }

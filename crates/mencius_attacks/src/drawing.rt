@@ -124,7 +124,8 @@ fn draw_command(alloc: Global, dice: &mut Dice, cluster: &Cluster) -> Result<Com
     ))
 }
 
-// A command at one of three keys. Every second one sets a text, which may be empty.
+// A command at one of three keys. Two of five set a text, which may be empty. One of five compares
+// and sets: the empty text, which is often there, or the text of the command before.
 fn draw_op(alloc: Global, dice: &mut Dice, number: u32) -> Result<Op, AllocError> {
     let name = match dice.below(3) {
         0 => "a",
@@ -132,7 +133,7 @@ fn draw_op(alloc: Global, dice: &mut Dice, number: u32) -> Result<Op, AllocError
         _ => "c",
     };
     let key = Key::new(String::from_str(alloc, name)?);
-    Ok(match dice.below(8) {
+    Ok(match dice.below(10) {
         0 => Op::Set {
             key,
             text: Text::new(String::new(alloc)),
@@ -142,6 +143,19 @@ fn draw_op(alloc: Global, dice: &mut Dice, number: u32) -> Result<Op, AllocError
             text: Text::new(format!(in alloc; "{number}")?),
         },
         4 | 5 => Op::Get { key },
-        _ => Op::Del { key },
+        6 | 7 => Op::Del { key },
+        8 => Op::Cas {
+            key,
+            held: Text::new(String::new(alloc)),
+            text: Text::new(format!(in alloc; "{number}")?),
+        },
+        _ => {
+            let former = number.saturating_sub(1);
+            Op::Cas {
+                key,
+                held: Text::new(format!(in alloc; "{former}")?),
+                text: Text::new(String::new(alloc)),
+            }
+        }
     })
 }

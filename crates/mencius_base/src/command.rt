@@ -86,6 +86,9 @@ pub enum Op {
     Get { key: Key },
     /// Removes the key. The reply is its former text.
     Del { key: Key },
+    /// Compares and sets: binds the key to the text only where its former text is exactly `held`. A
+    /// key that is not there stays so, also where `held` is empty. The reply is the former text.
+    Cas { key: Key, held: Text, text: Text },
 }
 
 /// Why an operation makes no command.
@@ -101,8 +104,8 @@ pub enum BadCommand {
     TextLength,
 }
 
-/// What a client asks for, once. Its key has 1 to 64 bytes and its text at most 256, each an ASCII
-/// letter, a digit, `_`, `-` or `.`.
+/// What a client asks for, once. Its key has 1 to 64 bytes and each of its texts at most 256, each an
+/// ASCII letter, a digit, `_`, `-` or `.`.
 #[derive(Clone, Debug, Drop)]
 pub struct Command {
     id: CommandId,
@@ -124,7 +127,7 @@ impl Model for Command {
 
 impl Command {
     /// The command of this identity and operation, or the first thing that is wrong with the
-    /// operation: a bad byte in the key or in the text, and then a bad length of either.
+    /// operation: a bad byte in the key or in a text, and then a bad length of the key or of a text.
     pub fn new(id: CommandId, op: Op) -> Result<Command, BadCommand>
         ensures command { MatchResult result (λ x. x ≡ record { id = id; op = op })
             (λ e. bad_op op ≡ Some e) }
@@ -157,25 +160,28 @@ fn find_fault(op: &Op) -> Option<BadCommand>
     ensures { result ≡ bad_op op.now }
 {
     match op {
-        Op::Set { key, text } => find_fault_of_entry(key.as_str(), text.as_str()),
-        Op::Get { key } | Op::Del { key } => find_fault_of_entry(key.as_str(), ""),
+        Op::Set { key, text } => find_fault_of_entry(key.as_str(), "", text.as_str()),
+        Op::Get { key } | Op::Del { key } => find_fault_of_entry(key.as_str(), "", ""),
+        Op::Cas { key, held, text } => {
+            find_fault_of_entry(key.as_str(), held.as_str(), text.as_str())
+        }
     }
 }
 
-// An empty text has no fault.
-fn find_fault_of_entry(key: &str, text: &str) -> Option<BadCommand>
-    ensures { result ≡ bad_entry key.now text.now }
+// Of a key and two texts. An empty text has no fault.
+fn find_fault_of_entry(key: &str, held: &str, text: &str) -> Option<BadCommand>
+    ensures { result ≡ bad_entry key.now held.now text.now }
 {
     if !is_name(key) {
         return Some(BadCommand::KeyByte);
     }
-    if !is_name(text) {
+    if !is_name(held) || !is_name(text) {
         return Some(BadCommand::TextByte);
     }
     if key.is_empty() || key.len() > MOST_KEY_BYTES {
         return Some(BadCommand::KeyLength);
     }
-    if text.len() > MOST_TEXT_BYTES {
+    if held.len() > MOST_TEXT_BYTES || text.len() > MOST_TEXT_BYTES {
         return Some(BadCommand::TextLength);
     }
     None

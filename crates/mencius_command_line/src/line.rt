@@ -64,13 +64,15 @@ const REPLAY_ABOUT: &str =
 const REPLAY_LONG_ABOUT: &str = "\
 Steps a new cluster through the scenario on standard input and prints a report
 
-The scenario is one JSON object: its version, which is 1, the number of servers, 1 to 7,
-and a list of events. Servers, messages and instances are numbered from 0, the messages
+The scenario is one JSON object: its version, 1 or 2, the number of servers, 1 to 7, and
+a list of events. Servers, messages and instances are numbered from 0, the messages
 in order of sending. A command's ID is CLIENT.NUMBER, two numbers that the client chose.
 
   submit S ID set KEY TEXT  a client asks server S to bind KEY to TEXT, which may be empty
   submit S ID get KEY       .. to look KEY up
   submit S ID del KEY       .. to remove KEY
+  submit S ID cas KEY OLD NEW
+                            .. to bind KEY to NEW where its text is OLD, in version 2 alone
   deliver K D               message K reaches server D, for the first time or again
   lose K D                  message K can no longer reach server D
   suspect P Q               server P suspects that Q has stopped, and revokes what Q left open
@@ -234,18 +236,19 @@ lose a message, suspect, retry or execute. The cluster takes the event or refuse
 
 The scenario on standard input is one JSON object with these fields and no other:
 
-  version   1
+  version   1 or 2
   servers   1 to 7
   workers   1 to 8
   seed      0 to 18446744073709551615, which the random words grow from
   turns     0 to 100000, for each worker
   loss      0 to 32: so many of 64 choices lose a message
   commands  a list for each server of the commands that are submitted there, each a text,
-            `ID set KEY TEXT`, `ID get KEY` or `ID del KEY`, as in a scenario of `replay`
+            `ID set KEY TEXT`, `ID get KEY` or `ID del KEY`, as in a scenario of `replay`,
+            or in version 2 `ID cas KEY OLD NEW`
 
 What is printed, in this order:
 
-  {\"events\":[..],\"servers\":N,\"version\":1}
+  {\"events\":[..],\"servers\":N,\"version\":V}
                             with --journal: the accepted events as a scenario of `replay`,
                             which prints the report again
   servers .., server .., reply ..

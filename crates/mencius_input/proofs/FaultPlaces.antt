@@ -27,15 +27,16 @@ same_item : (d e : Data) → ◌≡◌ {A = Option Data} (Some d) (Some e) → d
 same_item d e h = ap (λ o. unwrap_or o d) h
 
 -- one more item, which has not the fault
-pub none_further : (fault : AppFault) (items : Items) (index : ℕ) (d : Data) → get_item index items ≡ Some d
-    → (item_said d ≡ Err fault → ⊥) → NoneBefore fault items index → NoneBefore fault items (index + 1)
-none_further fault items index d there fine before other earlier less is fails =
+pub none_further : (fault : AppFault) (version : ℕ) (items : Items) (index : ℕ) (d : Data)
+    → get_item index items ≡ Some d → (item_said version d ≡ Err fault → ⊥) → NoneBefore fault version items index
+    → NoneBefore fault version items (index + 1)
+none_further fault version items index d there fine before other earlier less is fails =
     elim (cases_Bool (nat_lt other index)) [
       | inl e ↦ let below : other < index = grind (arith, nat_tests) in before other earlier below is fails
       | inr e ↦
           let at : other ≡ index = grind (arith, nat_tests) in
           let same : d ≡ earlier = same_item d earlier (sym there ∙ ap (λ n. get_item n items) (sym at) ∙ is) in
-          fine (ap item_said same ∙ fails)
+          fine (ap (item_said version) same ∙ fails)
     ]
 
 -- a place in the value is a place in what the bytes are

@@ -16,6 +16,7 @@ pub mod TokenKinds
 pub mod FirstTokens
 pub mod NotedItems
 pub mod NamedFields
+pub mod CasWords
 pub mod ScenarioFields
 pub mod RunFields
 pub mod StepsAndCommands

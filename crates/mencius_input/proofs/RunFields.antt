@@ -1,5 +1,5 @@
 -- The scenario of a run, from its parts.
-use Rattle.std.proofs.Common.{nat_le, Vec, Global, ◌≡◌, ◌≤◌, ℕ, ◌+◌, ◌∷◌, arith, ◌&&◌, ◌||◌, ◌==◌, Bool, true, false, not, cond, List, length, map, Option, Some, None, Result, Ok, Err, refl, ap, ap₂, sym, ◌∙◌, codes, option_and_then, option_map}
+use Rattle.std.proofs.Common.{nat_le, Vec, Global, ◌≡◌, ◌≤◌, ℕ, ◌+◌, ◌∷◌, arith, ◌&&◌, ◌||◌, ◌==◌, Bool, true, false, not, cond, List, length, Option, Some, None, Ok, Err, refl, ap, ap₂, sym, ◌∙◌, codes, option_and_then, option_map}
 use Rattle.std.specs.Prelude.{if◌then◌else◌}
 use Rattle.std.specs.List.{list_all}
 use Rattle.std.specs.Str.{bytes_eq}
@@ -12,27 +12,25 @@ use Rattle.serde_json.specs.Find.{as_array, as_object, get_member}
 use Rattle.mencius_base.specs.Limits.{greatest_loss, most_servers, most_turns, most_workers}
 use Rattle.mencius_base.specs.declared.command.Command.{Command}
 use Rattle.mencius_base.specs.Request.{Request}
-use Rattle.mencius_ends.specs.declared.fault.AppFault.{AppFault}
 use Rattle.mencius_ends.specs.declared.fault.AppFault.TheVariants.{BadLimit}
+use Rattle.mencius_input.specs.declared.newest.Newest.{Newest}
 use Rattle.mencius_input.specs.declared.plan.Fields as code
 use Rattle.mencius_input.specs.declared.plan.Numbers.{Numbers}
 use Rattle.mencius_input.specs.Fields.{beta_said}
 use Rattle.mencius_input.specs.Grammar.{command_within}
-use Rattle.mencius_input.specs.Judged.{judged, seen}
+use Rattle.mencius_input.specs.Judged.{judged}
 use Rattle.mencius_input.specs.Named.{all_said, AreNamed, Says, is_one_of}
 use Rattle.mencius_input.specs.Plan.{WrittenPlan, commands_of, lists_fit, numbers_of, plan, plan_of, plan_within}
-use Rattle.mencius_input.specs.PlanFields.{AreFields, all_names, lists_of, lists_within, noted, numbers_in, plan_names, plan_said, there, whole_names}
+use Rattle.mencius_input.specs.PlanFields.{AreFields, all_names, fitted_lists, lists_in, lists_kept, lists_within, noted, numbers_in, plan_names, plan_said, there, whole_names}
 use Rattle.mencius_input.specs.Scenario.{◌>>=◌, all_of, beta_of, json_of, one_there, or_not_json, read_there, whole_in, whole_of}
 use Rattle.mencius_input.proofs.JudgedParts.{judged_ok}
+use Rattle.mencius_input.proofs.CasWords.{lists_said_in}
 use Rattle.mencius_input.proofs.NamedFields.{AllFound, are_ordered, beta_same, named_count_but, newest_says, no_names, no_shape, now_says, one_named, other_named, same_name, still_says, whole_field}
 
 abbrev written : Numbers → List (List Request) → WrittenPlan
 written n cs = record { numbers = n; commands = cs }
 
 -- ---- the fields, one after the other
-
-abbrev lists_judged : Data → Result (List (List Request)) AppFault
-lists_judged d = judged lists_within (lists_of d)
 
 ordered : are_ordered all_names ≡ true
 ordered = refl
@@ -64,10 +62,8 @@ no_plan_fields = record {
 }
 
 module _ (f : code.Fields) (ms : Members) (d : Data) (h : AreFields f ms) where
-  pub commands_set : (name : List ℕ) (lists : Result (Vec (Vec Command Global) Global) AppFault)
-      → bytes_eq name (codes "commands") ≡ true
-      → seen (λ (x : Vec (Vec Command Global) Global). map (λ l. l.items) x.items) lists
-      ≡ judged lists_within (lists_of d)
+  pub commands_set : (name : List ℕ) (lists : Newest (Vec (Vec Command Global) Global))
+      → bytes_eq name (codes "commands") ≡ true → lists_kept lists ≡ lists_in d
       → AreFields (record f { commands = Some lists }) (put name d ms)
   commands_set name lists same is = rw (same_name name (codes "commands") same) record {
     named = one_named all_names (codes "commands") d ms ordered f.wholes.has_other h.named refl;
@@ -78,7 +74,7 @@ module _ (f : code.Fields) (ms : Members) (d : Data) (h : AreFields f ms) where
     seed = still_says whole_in (codes "commands") d ms (codes "seed") f.wholes.seed refl h.seed;
     turns = still_says whole_in (codes "commands") d ms (codes "turns") f.wholes.turns refl h.turns;
     loss = still_says whole_in (codes "commands") d ms (codes "loss") f.wholes.loss refl h.loss;
-    commands = now_says lists_judged (codes "commands") d ms _ is;
+    commands = now_says lists_in (codes "commands") d ms _ is;
   }
 
   pub whole_set : (name : List ℕ) (whole : Option ℕ) → bytes_eq name (codes "commands") ≡ false → whole ≡ whole_in d
@@ -196,7 +192,7 @@ abbrev bound : Bool → Option Numbers → Option Data → Option WrittenPlan
 bound seven numbers commands = do
   n ← numbers
   lists ← option_and_then as_array commands
-  all ← all_of commands_of lists
+  all ← all_of (commands_of n.version) lists
   if seven then Some (written n all) else None
 
 plan_bound : (ms : Members) → plan_of (object ms)
@@ -210,7 +206,7 @@ too_many : (n : Numbers) (many : ℕ) → nat_le many most_servers ≡ false
 too_many n many e = grind (arith, nat_tests)
 
 by_list : (n : Numbers) (all : List (List Request)) (l few : Bool) → nat_le (length all) most_servers ≡ few
-    → plan_said (Some n) (Some (cond (l && few) (Ok all) (Err BadLimit)))
+    → fitted_lists n (cond (l && few) (Ok all) (Err BadLimit))
     ≡ cond (lists_fit n (length all) && l) (Ok (written n all)) (Err BadLimit)
 by_list n all true true e =
     let fits = lists_fit n (length all) in
@@ -222,30 +218,35 @@ by_list n all false few e =
     ap (λ bit. cond bit (Ok (written n all)) (Err BadLimit)) (sym (and-false fits))
 
 with_all : (n : Numbers) (o : Option (List (List Request)))
-    → plan_said (Some n) (Some (judged lists_within o))
+    → fitted_lists n (judged lists_within o)
     ≡ judged plan_within (option_and_then (λ all. Some (written n all)) o)
 with_all n None = refl
 with_all n (Some all) = by_list n all (list_all (list_all command_within) all) (nat_le (length all) most_servers) refl
 
-with_lists : (n : Numbers) (o : Option Items)
-    → plan_said (Some n) (Some (judged lists_within (option_and_then (all_of commands_of) o)))
+with_items : (n : Numbers) (o : Option Items)
+    → fitted_lists n (judged lists_within (option_and_then (all_of (commands_of n.version)) o))
     ≡ judged plan_within
-    (option_and_then (λ ds. option_and_then (λ all. Some (written n all)) (all_of commands_of ds)) o)
-with_lists n None = refl
-with_lists n (Some ds) = with_all n (all_of commands_of ds)
+    (option_and_then (λ ds. option_and_then (λ all. Some (written n all)) (all_of (commands_of n.version) ds)) o)
+with_items n None = refl
+with_items n (Some ds) = with_all n (all_of (commands_of n.version) ds)
+
+with_lists : (n : Numbers) (d : Data) → plan_said (Some n) (Some (lists_in d))
+    ≡ judged plan_within
+    (option_and_then (λ ds. option_and_then (λ all. Some (written n all)) (all_of (commands_of n.version) ds)) (as_array d))
+with_lists n d = ap (fitted_lists n) (lists_said_in n.version lists_within d) ∙ with_items n (as_array d)
 
 unsaid : (o : Option (List (List Request))) → option_and_then {U = WrittenPlan} (λ all. None) o ≡ None
 unsaid None = refl
 unsaid (Some all) = refl
 
 with_more : (n : Numbers) (o : Option Items)
-    → option_and_then {U = WrittenPlan} (λ ds. option_and_then (λ all. None) (all_of commands_of ds)) o ≡ None
+    → option_and_then {U = WrittenPlan} (λ ds. option_and_then (λ all. None) (all_of (commands_of n.version) ds)) o ≡ None
 with_more n None = refl
-with_more n (Some ds) = unsaid (all_of commands_of ds)
+with_more n (Some ds) = unsaid (all_of (commands_of n.version) ds)
 
 by_parts : (has_other seven : Bool) (numbers : Option Numbers) (commands : Option Data)
     → ((n : Numbers) (d : Data) → numbers ≡ Some n → commands ≡ Some d → seven ≡ not has_other)
-    → all_said has_other (plan_said numbers (option_map lists_judged commands))
+    → all_said has_other (plan_said numbers (option_map lists_in commands))
     ≡ judged plan_within (bound seven numbers commands)
 by_parts other seven None commands h = no_shape other
 by_parts other seven (Some n) None h = no_shape other
@@ -253,13 +254,13 @@ by_parts true seven (Some n) (Some d) h =
     sym (ap (λ s. judged plan_within (bound s (Some n) (Some d))) (h n d refl refl)
     ∙ ap (judged plan_within) (with_more n (as_array d)))
 by_parts false seven (Some n) (Some d) h =
-    with_lists n (as_array d)
+    with_lists n d
     ∙ sym (ap (λ s. judged plan_within (bound s (Some n) (Some d))) (h n d refl refl))
 
 -- the answer
 pub plan_fields_say : (f : code.Fields) (ms : Members) → AreFields f ms
     → all_said f.wholes.has_other (plan_said (numbers_in f.wholes)
-    (option_map (seen (λ (lists : Vec (Vec Command Global) Global). map (λ l. l.items) lists.items)) f.commands))
+    (option_map lists_kept f.commands))
     ≡ judged plan_within (plan_of (object ms))
 plan_fields_say f ms h =
     ap₂ (λ n x. all_said f.wholes.has_other (plan_said n x)) (numbers_said f ms h) h.commands

@@ -1,5 +1,5 @@
 -- The fields of a scenario, read one after the other.
-use Rattle.std.proofs.Common.{◌≡◌, ℕ, ◌+◌, ◌==◌, ◌&&◌, List, Bool, true, false, not, cond, codes, Option, Some, None, option_map, option_and_then, Result, Ok, Err, refl, subst, sym, ap, ap₂, ◌∙◌}
+use Rattle.std.proofs.Common.{◌≡◌, ℕ, ◌+◌, ◌==◌, ◌&&◌, List, Bool, true, false, not, cond, codes, Option, Some, None, option_map, option_and_then, Ok, Err, refl, subst, sym, ap, ap₂, ◌∙◌}
 use Rattle.std.specs.Prelude.{if◌then◌else◌}
 use Rattle.std.specs.List.{list_all}
 use Rattle.std.specs.Str.{bytes_eq}
@@ -9,17 +9,17 @@ use Rattle.serde_json.specs.Data.{Data, Items, Members, no_members, object, put}
 use Rattle.serde_json.specs.Events.{members_len}
 use Rattle.serde_json.specs.Find.{as_array, as_object, get_member}
 use Rattle.mencius_base.specs.declared.event.Event.{Event}
-use Rattle.mencius_ends.specs.declared.fault.AppFault.{AppFault}
 use Rattle.mencius_ends.specs.declared.fault.AppFault.TheVariants.{BadLimit, BadShape}
 use Rattle.mencius_input.specs.declared.scenario.Fields as code
 use Rattle.mencius_input.specs.declared.scenario.Name.{Name}
 use Rattle.mencius_input.specs.declared.scenario.Name.TheVariants.{Version, Servers, Beta, Events, Other}
-use Rattle.mencius_input.specs.Fields.{AreFields, all_names, beta_said, fitted_events, named, said, three_names}
+use Rattle.mencius_input.specs.declared.newest.Newest.{Newest}
+use Rattle.mencius_input.specs.Fields.{AreFields, all_names, beta_said, events_in, fitted_events, named, said, three_names}
 use Rattle.mencius_input.specs.Grammar.{event_within}
 use Rattle.mencius_input.specs.Judged.{judged}
 use Rattle.mencius_input.specs.Named.{all_said, is_one_of}
-use Rattle.mencius_input.specs.Noted.{list_in}
 use Rattle.mencius_input.specs.Scenario.{◌>>=◌, Written, beta_in, cluster_within, one_there, events_of, whole_in, within, written_of}
+use Rattle.mencius_input.proofs.CasWords.{events_said_in}
 use Rattle.mencius_input.proofs.NamedFields.{are_ordered, beta_same, named_count_but, no_names, no_shape, now_says, one_named, other_named, same_name, still_says, whole_field}
 
 ordered : are_ordered all_names ≡ true
@@ -52,9 +52,6 @@ is_named name n e =
 
 -- ---- what a field more leaves
 
-abbrev events_judged : Data → Result (List Event) AppFault
-events_judged d = judged (list_all event_within) (list_in d)
-
 module _ (f : code.Fields) (ms : Members) (name : List ℕ) (d : Data) (h : AreFields f ms) where
   pub version_set : (o : Option ℕ) → named name ≡ Version → o ≡ whole_in d
       → AreFields (record f { version = Some o }) (put name d ms)
@@ -63,7 +60,7 @@ module _ (f : code.Fields) (ms : Members) (name : List ℕ) (d : Data) (h : AreF
     version = now_says whole_in (codes "version") d ms o e;
     servers = still_says whole_in (codes "version") d ms (codes "servers") f.servers refl h.servers;
     beta = still_says whole_in (codes "version") d ms (codes "beta") f.beta refl h.beta;
-    events = still_says events_judged (codes "version") d ms (codes "events") _ refl h.events;
+    events = still_says events_in (codes "version") d ms (codes "events") _ refl h.events;
   }
 
   pub servers_set : (o : Option ℕ) → named name ≡ Servers → o ≡ whole_in d
@@ -73,7 +70,7 @@ module _ (f : code.Fields) (ms : Members) (name : List ℕ) (d : Data) (h : AreF
     version = still_says whole_in (codes "servers") d ms (codes "version") f.version refl h.version;
     servers = now_says whole_in (codes "servers") d ms o e;
     beta = still_says whole_in (codes "servers") d ms (codes "beta") f.beta refl h.beta;
-    events = still_says events_judged (codes "servers") d ms (codes "events") _ refl h.events;
+    events = still_says events_in (codes "servers") d ms (codes "events") _ refl h.events;
   }
 
   pub beta_set : (o : Option ℕ) → named name ≡ Beta → o ≡ whole_in d
@@ -83,18 +80,17 @@ module _ (f : code.Fields) (ms : Members) (name : List ℕ) (d : Data) (h : AreF
     version = still_says whole_in (codes "beta") d ms (codes "version") f.version refl h.version;
     servers = still_says whole_in (codes "beta") d ms (codes "servers") f.servers refl h.servers;
     beta = now_says whole_in (codes "beta") d ms o e;
-    events = still_says events_judged (codes "beta") d ms (codes "events") _ refl h.events;
+    events = still_says events_in (codes "beta") d ms (codes "events") _ refl h.events;
   }
 
-  pub events_set : (es : Result (List Event) AppFault) → named name ≡ Events
-      → es ≡ judged (list_all event_within) (list_in d)
+  pub events_set : (es : Newest (List Event)) → named name ≡ Events → es ≡ events_in d
       → AreFields (record f { events = Some es }) (put name d ms)
   events_set es is e = rw (is_named name Events is) record {
     named = one_named all_names (codes "events") d ms ordered f.has_other h.named refl;
     version = still_says whole_in (codes "events") d ms (codes "version") f.version refl h.version;
     servers = still_says whole_in (codes "events") d ms (codes "servers") f.servers refl h.servers;
     beta = still_says whole_in (codes "events") d ms (codes "beta") f.beta refl h.beta;
-    events = now_says events_judged (codes "events") d ms _ e;
+    events = now_says events_in (codes "events") d ms _ e;
   }
 
   pub other_set : named name ≡ Other → AreFields (record f { has_other = true }) (put name d ms)
@@ -109,7 +105,7 @@ module _ (f : code.Fields) (ms : Members) (name : List ℕ) (d : Data) (h : AreF
         version = still_says whole_in name d ms (codes "version") f.version last.0 h.version;
         servers = still_says whole_in name d ms (codes "servers") f.servers more.0 h.servers;
         beta = still_says whole_in name d ms (codes "beta") f.beta start.0 h.beta;
-        events = still_says events_judged name d ms (codes "events") _ parts.0 h.events;
+        events = still_says events_in name d ms (codes "events") _ parts.0 h.events;
       }
 
 pub no_fields : AreFields (record { version = None; servers = None; beta = None; events = None; has_other = false }) no_members
@@ -132,7 +128,7 @@ bound all version servers beta items = do
   s ← servers
   x ← beta
   ds ← items
-  es ← events_of ds
+  es ← events_of version ds
   if all then Some (written version s x es) else None
 
 written_bound : (ms : Members) → written_of (object ms)
@@ -144,7 +140,7 @@ written_bound : (ms : Members) → written_of (object ms)
 unfolding written_of
 written_bound ms = rw (← whole_field (codes "version") ms, ← whole_field (codes "servers") ms) refl
 
-no_servers : (ov ox : Option ℕ) (x : Option (Result (List Event) AppFault)) → said (Some ov) None ox x ≡ Err BadShape
+no_servers : (ov ox : Option ℕ) (x : Option (Newest (List Event))) → said (Some ov) None ox x ≡ Err BadShape
 no_servers None ox x = refl
 no_servers (Some version) ox x = refl
 
@@ -173,7 +169,7 @@ with_more None os ox oi = refl
 with_more (Some version) None ox oi = refl
 with_more (Some version) (Some s) None oi = refl
 with_more (Some version) (Some s) (Some x) None = refl
-with_more (Some version) (Some s) (Some x) (Some ds) = unsaid (events_of ds)
+with_more (Some version) (Some s) (Some x) (Some ds) = unsaid (events_of version ds)
 
 -- the limits of the cluster, and then those of the events
 by_limits : (version s x : ℕ) (es : List Event) (fits : Bool)
@@ -185,29 +181,35 @@ by_limits version s x es false =
     ap (λ bit. cond bit (Ok (written version s x es)) (Err BadLimit)) (sym (and-false (cluster_within version s x)))
 
 with_events : (version s x : ℕ) (o : Option (List Event))
-    → said (Some (Some version)) (Some (Some s)) (Some x) (Some (judged (list_all event_within) o))
+    → fitted_events version s x (judged (list_all event_within) o)
     ≡ judged within (option_and_then (λ es. Some (written version s x es)) o)
 with_events version s x None = refl
 with_events version s x (Some es) =
     by_limits version s x es (list_all event_within es)
 
-all_three : (ov os ox : Option ℕ) (oi : Option Items)
-    → said (Some ov) (Some os) ox (Some (judged (list_all event_within) (option_and_then events_of oi)))
-    ≡ judged within (bound true ov os ox oi)
-all_three None os ox oi = refl
-all_three (Some version) None ox oi = refl
-all_three (Some version) (Some s) None oi = refl
-all_three (Some version) (Some s) (Some x) None = refl
-all_three (Some version) (Some s) (Some x) (Some ds) = with_events version s x (events_of ds)
+with_items : (version s x : ℕ) (oi : Option Items)
+    → fitted_events version s x (judged (list_all event_within) (option_and_then (events_of version) oi))
+    ≡ judged within (bound true (Some version) (Some s) (Some x) oi)
+with_items version s x None = refl
+with_items version s x (Some ds) = with_events version s x (events_of version ds)
+
+all_three : (ov os ox : Option ℕ) (de : Data)
+    → said (Some ov) (Some os) ox (Some (events_in de)) ≡ judged within (bound true ov os ox (as_array de))
+all_three None os ox de = refl
+all_three (Some version) None ox de = refl
+all_three (Some version) (Some s) None de = refl
+all_three (Some version) (Some s) (Some x) de =
+    ap (fitted_events version s x) (events_said_in version (list_all event_within) de)
+    ∙ with_items version s x (as_array de)
 
 by_parts : (has_other all : Bool) (x s e : Option Data) (ox : Option ℕ)
     → ((dv ds de : Data) → x ≡ Some dv → s ≡ Some ds → e ≡ Some de → all ≡ not has_other)
-    → all_said has_other (said (option_map whole_in x) (option_map whole_in s) ox (option_map events_judged e))
+    → all_said has_other (said (option_map whole_in x) (option_map whole_in s) ox (option_map events_in e))
     ≡ judged within
     (bound all (option_and_then whole_in x) (option_and_then whole_in s) ox (option_and_then as_array e))
 by_parts other all None s e ox h = no_shape other
 by_parts other all (Some dv) None e ox h =
-    ap (all_said other) (no_servers (whole_in dv) ox (option_map events_judged e)) ∙ no_shape other
+    ap (all_said other) (no_servers (whole_in dv) ox (option_map events_in e)) ∙ no_shape other
     ∙ sym (ap (judged within) (without_servers all (whole_in dv) ox (option_and_then as_array e)))
 by_parts other all (Some dv) (Some ds) None ox h =
     ap (all_said other) (no_events (whole_in dv) (whole_in ds) ox) ∙ no_shape other
@@ -217,7 +219,7 @@ by_parts true all (Some dv) (Some ds) (Some de) ox h =
     (h dv ds de refl refl refl)
     ∙ ap (judged within) (with_more (whole_in dv) (whole_in ds) ox (as_array de)))
 by_parts false all (Some dv) (Some ds) (Some de) ox h =
-    all_three (whole_in dv) (whole_in ds) ox (as_array de)
+    all_three (whole_in dv) (whole_in ds) ox de
     ∙ sym (ap (λ told. judged within (bound told (whole_in dv) (whole_in ds) ox (as_array de)))
     (h dv ds de refl refl refl))
 

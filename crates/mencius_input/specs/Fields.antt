@@ -2,16 +2,18 @@
 use Rattle.std.specs.Prelude.{ℕ, List, [], ◌∷◌, codes, Option, Some, None, Result, Ok, Err, if◌then◌else◌}
 use Rattle.std.specs.List.{list_all}
 use Rattle.std.specs.Str.{bytes_eq}
-use Rattle.serde_json.specs.Data.{Members}
+use Rattle.serde_json.specs.Data.{Data, Members}
 use Rattle.mencius_base.specs.declared.event.Event.{Event}
 use Rattle.mencius_ends.specs.declared.fault.AppFault.{AppFault}
 use Rattle.mencius_ends.specs.declared.fault.AppFault.TheVariants.{BadLimit, BadShape}
+use Rattle.mencius_input.specs.declared.newest.Newest.{Newest}
 use Rattle.mencius_input.specs.declared.scenario.Fields as code
 use Rattle.mencius_input.specs.declared.scenario.Name.{Name}
 use Rattle.mencius_input.specs.declared.scenario.Name.TheVariants.{Version, Servers, Beta, Events, Other}
 use Rattle.mencius_input.specs.Grammar.{event_within}
 use Rattle.mencius_input.specs.Judged.{judged}
 use Rattle.mencius_input.specs.Named.{AreNamed, Says}
+use Rattle.mencius_input.specs.Newest.{any_in, has_event_cas, in_version}
 use Rattle.mencius_input.specs.Noted.{list_in}
 use Rattle.mencius_input.specs.Scenario.{Written, cluster_within, whole_in}
 
@@ -31,13 +33,17 @@ three_names = codes "events" ∷ codes "servers" ∷ codes "version" ∷ []
 abbrev pub all_names : List (List ℕ)
 all_names = codes "beta" ∷ three_names
 
+-- what is read of the events
+abbrev pub events_in : Data → Newest (List Event)
+events_in d = record { said = judged (list_all event_within) (list_in d); has_cas = any_in has_event_cas d }
+
 -- what was read of the fields, each as it was written last
 pub record AreFields (f : code.Fields) (ms : Members) : Type 0 where
   pub named : AreNamed all_names f.has_other ms
   pub version : Says whole_in (codes "version") f.version ms
   pub servers : Says whole_in (codes "servers") f.servers ms
   pub beta : Says whole_in (codes "beta") f.beta ms
-  pub events : Says (λ d. judged (list_all event_within) (list_in d)) (codes "events") f.events ms
+  pub events : Says events_in (codes "events") f.events ms
 
 -- a scenario within the limits
 abbrev pub fitted : ℕ → ℕ → ℕ → List Event → Result Written AppFault
@@ -56,7 +62,8 @@ beta_said None = Some 0
 beta_said (Some known) = known
 
 -- what the fields say
-abbrev pub said : Option (Option ℕ) → Option (Option ℕ) → Option ℕ → Option (Result (List Event) AppFault)
+abbrev pub said : Option (Option ℕ) → Option (Option ℕ) → Option ℕ → Option (Newest (List Event))
     → Result Written AppFault
-said (Some (Some version)) (Some (Some servers)) (Some beta) (Some events) = fitted_events version servers beta events
+said (Some (Some version)) (Some (Some servers)) (Some beta) (Some events) =
+    fitted_events version servers beta (in_version version events)
 said _ _ _ _ = Err BadShape

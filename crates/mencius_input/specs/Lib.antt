@@ -6,6 +6,7 @@ pub mod Sources
 pub mod Grammar
 pub mod Scenario
 pub mod Plan
+pub mod Newest
 pub mod Next
 pub mod Noted
 pub mod Named

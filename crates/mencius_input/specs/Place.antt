@@ -1,5 +1,5 @@
 -- Where the value of a scenario has a fault.
-use Rattle.std.specs.Prelude.{ℕ, ◌≡◌, ◌≢◌, ◌⊎◌, ◌<◌, ◌++◌, List, ◌∷◌, codes, decimal, Option, Some, None, option_map, IfSome, Err, string_bytes}
+use Rattle.std.specs.Prelude.{ℕ, ◌≡◌, ◌≢◌, ◌⊎◌, ◌<◌, ◌++◌, List, ◌∷◌, codes, decimal, Option, Some, None, option_map, unwrap_or, IfSome, Err, string_bytes}
 use Rattle.serde_json.specs.Data.{Data, Items, Members}
 use Rattle.serde_json.specs.Find.{as_array, as_object, as_str, get, get_item}
 use Rattle.mencius_ends.specs.declared.fault.AppFault.{AppFault}
@@ -11,8 +11,9 @@ use Rattle.mencius_input.specs.declared.places.Place.TheVariants.{Whole, Unknown
 use Rattle.mencius_input.specs.declared.places.Places.{Places}
 use Rattle.mencius_input.specs.declared.scenario.Name.TheVariants.{Other}
 use Rattle.mencius_input.specs.Fields.{named}
+use Rattle.mencius_input.specs.Grammar.{newest_version}
 use Rattle.mencius_input.specs.Judged.{judged}
-use Rattle.mencius_input.specs.Scenario.{are_servers, is_beta, is_version, item_said, json_of, whole_in}
+use Rattle.mencius_input.specs.Scenario.{are_servers, is_beta, is_version, item_said, json_of, whole_in, whole_of}
 
 abbrev pub field_name : Field → List ℕ
 field_name Version = codes "version"
@@ -20,17 +21,21 @@ field_name Servers = codes "servers"
 field_name Beta = codes "beta"
 field_name Events = codes "events"
 
+-- the version in which the events are judged: that of the scenario, and where it says none, the newest
+abbrev pub version_of : Data → ℕ
+version_of d = unwrap_or (whole_of (codes "version") d) newest_version
+
 -- no item before this index has the fault
-abbrev pub NoneBefore : AppFault → Items → ℕ → Type 0
-NoneBefore fault items index =
-    (n : ℕ) (earlier : Data) → n < index → get_item n items ≡ Some earlier → item_said earlier ≢ Err fault
+abbrev pub NoneBefore : AppFault → ℕ → Items → ℕ → Type 0
+NoneBefore fault version items index =
+    (n : ℕ) (earlier : Data) → n < index → get_item n items ≡ Some earlier → item_said version earlier ≢ Err fault
 
 -- the item at the index is the first that has the fault, and this is its text
-pub record IsFirst (fault : AppFault) (items : Items) (index : ℕ) (text : Option (List ℕ)) : Type 0 where
+pub record IsFirst (fault : AppFault) (version : ℕ) (items : Items) (index : ℕ) (text : Option (List ℕ)) : Type 0 where
   pub event : Data
   pub there : get_item index items ≡ Some event
-  pub fails : item_said event ≡ Err fault
-  pub first : NoneBefore fault items index
+  pub fails : item_said version event ≡ Err fault
+  pub first : NoneBefore fault version items index
   pub said : text ≡ as_str event
 
 -- the value of a field has the fault
@@ -51,7 +56,7 @@ IsAt fault d (Value field) =
     (value : Data) × (get (field_name field) d ≡ Some value) × FieldFails fault field value
 IsAt fault d (Event index text) =
     (value : Data) × (get (codes "events") d ≡ Some value) × (items : Items) × (as_array value ≡ Some items)
-    × IsFirst fault items index (option_map string_bytes text)
+    × IsFirst fault (version_of d) items index (option_map string_bytes text)
 
 -- those that there are have the fault
 abbrev pub ArePlaces : AppFault → Data → Places → Type 0
@@ -65,7 +70,7 @@ ArePlaces fault d places =
 abbrev pub value_words : AppFault → Field → List ℕ
 value_words fault Events = codes "no list"
 value_words BadShape field = codes "no whole number"
-value_words fault Version = codes "not 1"
+value_words fault Version = codes "not 1 or 2"
 value_words fault Servers = codes "not 1 to 7"
 value_words fault Beta = codes "not 0 to 4095"
 

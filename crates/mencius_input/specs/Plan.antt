@@ -11,7 +11,7 @@ use Rattle.mencius_input.specs.declared.plan.Numbers.{Numbers}
 use Rattle.mencius_input.specs.declared.plan.RunInput as code
 use Rattle.mencius_input.specs.Judged.{judged}
 use Rattle.mencius_input.specs.Grammar.{command_of, command_within}
-use Rattle.mencius_input.specs.Scenario.{◌>>=◌, all_in, all_of, beta_of, betas, cluster_within, json_of, known_version, or_not_json, read_there, said_by, whole_of}
+use Rattle.mencius_input.specs.Scenario.{◌>>=◌, all_in, all_of, beta_of, betas, cluster_within, json_of, or_not_json, read_there, said_by, whole_of}
 
 -- the numbers, and a list of commands for each server
 pub record WrittenPlan : Type 0 where
@@ -39,9 +39,9 @@ numbers_of d = do
     loss = loss;
   })
 
--- a list of texts, each a command's
-abbrev pub commands_of : Data → Option (List Request)
-commands_of d = all_in (said_by command_of) d
+-- a list of texts, each a command's, as a version has them
+abbrev pub commands_of : ℕ → Data → Option (List Request)
+commands_of version d = all_in (said_by (command_of version)) d
 
 -- an object with these seven fields, maybe a beta, and no other
 unfoldable pub plan_of : Data → Option WrittenPlan
@@ -49,7 +49,7 @@ plan_of d = do
   fields ← as_object d
   numbers ← numbers_of d
   lists ← option_and_then as_array (get (codes "commands") d)
-  commands ← all_of commands_of lists
+  commands ← all_of (commands_of numbers.version) lists
   if members_len fields == 7 + betas d then Some (record { numbers = numbers; commands = commands }) else None
 
 -- ---- the limits
@@ -76,7 +76,7 @@ plan bytes = read_there (λ d. judged plan_within (plan_of d)) (or_not_json (jso
 abbrev pub run_in : code.RunInput → WrittenPlan
 run_in s = record {
   numbers = record {
-    version = known_version;
+    version = s.version;
     servers = s.members.count;
     beta = s.members.beta;
     workers = s.workers;

@@ -1,24 +1,28 @@
 -- The fields of a run's scenario that were read so far; for private clauses.
 use Rattle.std.specs.Prelude.{ℕ, ◌&&◌, ◌||◌, List, [], ◌∷◌, length, map, codes, not, Option, Some, option_and_then, option_map, Result, Ok, Err, Bool, nat_le, if◌then◌else◌}
 use Rattle.std.specs.List.{list_all}
+use Rattle.std.proofs.Common.{Global, Vec}
 use Rattle.serde_json.specs.Data.{Data, Members}
 use Rattle.mencius_base.specs.Limits.{most_servers}
+use Rattle.mencius_base.specs.declared.command.Command.{Command}
 use Rattle.mencius_base.specs.Request.{Request}
 use Rattle.mencius_ends.specs.declared.fault.AppFault.{AppFault}
 use Rattle.mencius_ends.specs.declared.fault.AppFault.TheVariants.{BadLimit, BadShape}
+use Rattle.mencius_input.specs.declared.newest.Newest.{Newest}
 use Rattle.mencius_input.specs.declared.plan.Fields as code
 use Rattle.mencius_input.specs.declared.plan.Wholes as code_wholes
 use Rattle.mencius_input.specs.declared.plan.Numbers.{Numbers}
 use Rattle.mencius_input.specs.Fields.{beta_said}
-use Rattle.mencius_input.specs.Grammar.{command_within}
+use Rattle.mencius_input.specs.Grammar.{command_within, newest_version}
 use Rattle.mencius_input.specs.Judged.{judged, seen}
 use Rattle.mencius_input.specs.Named.{AreNamed, Says, is_one_of, newest}
+use Rattle.mencius_input.specs.Newest.{any_in, has_command_cas, in_version}
 use Rattle.mencius_input.specs.Plan.{WrittenPlan, commands_of, lists_fit}
 use Rattle.mencius_input.specs.Scenario.{◌>>=◌, all_in, whole_in}
 
--- a list of lists of texts
+-- a list of lists of texts, in the newest version
 abbrev pub lists_of : Data → Option (List (List Request))
-lists_of d = all_in commands_of d
+lists_of d = all_in (commands_of newest_version) d
 
 -- no command past a limit, and no more lists than there may be servers
 abbrev pub lists_within : List (List Request) → Bool
@@ -48,6 +52,14 @@ noted x name whole = record {
   has_other = x.has_other || not (is_one_of name (codes "beta" ∷ whole_names));
 }
 
+-- what is read of the commands
+abbrev pub lists_in : Data → Newest (List (List Request))
+lists_in d = record { said = judged lists_within (lists_of d); has_cas = any_in (any_in has_command_cas) d }
+
+-- the same of the lists that were kept
+abbrev pub lists_kept : Newest (Vec (Vec Command Global) Global) → Newest (List (List Request))
+lists_kept x = record { said = seen (λ lists. map (λ list. list.items) lists.items) x.said; has_cas = x.has_cas }
+
 -- what was read of the fields, each as it was written last
 pub record AreFields (f : code.Fields) (ms : Members) : Type 0 where
   pub named : AreNamed all_names f.wholes.has_other ms
@@ -58,8 +70,7 @@ pub record AreFields (f : code.Fields) (ms : Members) : Type 0 where
   pub seed : Says whole_in (codes "seed") f.wholes.seed ms
   pub turns : Says whole_in (codes "turns") f.wholes.turns ms
   pub loss : Says whole_in (codes "loss") f.wholes.loss ms
-  pub commands : Says (λ d. judged lists_within (lists_of d)) (codes "commands")
-      (option_map (seen (λ list. map (λ l. l.items) list.items)) f.commands) ms
+  pub commands : Says lists_in (codes "commands") (option_map lists_kept f.commands) ms
 
 -- a field that is there, and is a whole number
 abbrev pub there : Option (Option ℕ) → Option ℕ
@@ -85,9 +96,13 @@ numbers_in x = do
     loss = loss;
   })
 
--- what the seven fields say
-abbrev pub plan_said : Option Numbers → Option (Result (List (List Request)) AppFault) → Result WrittenPlan AppFault
-plan_said (Some n) (Some (Ok lists)) =
+-- a plan within the limits
+abbrev pub fitted_lists : Numbers → Result (List (List Request)) AppFault → Result WrittenPlan AppFault
+fitted_lists n (Ok lists) =
     if lists_fit n (length lists) then Ok (record { numbers = n; commands = lists }) else Err BadLimit
-plan_said (Some n) (Some (Err fault)) = Err fault
+fitted_lists n (Err fault) = Err fault
+
+-- what the seven fields say
+abbrev pub plan_said : Option Numbers → Option (Newest (List (List Request))) → Result WrittenPlan AppFault
+plan_said (Some n) (Some lists) = fitted_lists n (in_version n.version lists)
 plan_said _ _ = Err BadShape

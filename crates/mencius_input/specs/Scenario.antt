@@ -1,5 +1,5 @@
 -- What the bytes of a scenario say, or what is wrong with them.
-use Rattle.std.specs.Prelude.{ℕ, ◌+◌, ◌==◌, ◌&&◌, List, [], ◌∷◌, codes, Bool, Option, Some, None, option_and_then, Result, Ok, Err, nat_le, if◌then◌else◌}
+use Rattle.std.specs.Prelude.{ℕ, ◌+◌, ◌==◌, ◌&&◌, ◌||◌, List, [], ◌∷◌, codes, Bool, Option, Some, None, option_and_then, Result, Ok, Err, nat_le, if◌then◌else◌}
 use Rattle.std.specs.List.{list_all}
 use Rattle.std.specs.Str.{is_utf8}
 use Rattle.serde_json.specs.Data.{Data, Items, no_items, item}
@@ -14,7 +14,7 @@ use Rattle.mencius_ends.specs.declared.fault.AppFault.TheVariants.{NotJson}
 use Rattle.mencius_input.specs.declared.scenario.Scenario as code
 use Rattle.mencius_input.specs.Judged.{judged}
 use Rattle.mencius_input.specs.Words.{words}
-use Rattle.mencius_input.specs.Grammar.{event_of, event_within}
+use Rattle.mencius_input.specs.Grammar.{event_of, event_within, newest_version}
 
 infixl 10 ◌>>=◌
 abbrev pub ◌>>=◌ : {X Y : Type 0} → Option X → (X → Option Y) → Option Y
@@ -45,9 +45,9 @@ all_in read d = option_and_then (all_of read) (as_array d)
 abbrev pub said_by : {X : Type 0} → (List (List ℕ) → Option X) → Data → Option X
 said_by read d = option_and_then (λ text. read (words text)) (as_str d)
 
--- texts, each an event's
-abbrev pub events_of : Items → Option (List Event)
-events_of = all_of (said_by event_of)
+-- texts, each an event's, as a version has them
+abbrev pub events_of : ℕ → Items → Option (List Event)
+events_of version = all_of (said_by (event_of version))
 
 -- the whole number that a value is
 abbrev pub whole_in : Data → Option ℕ
@@ -81,18 +81,18 @@ written_of d = do
   servers ← whole_of (codes "servers") d
   beta ← beta_of d
   items ← option_and_then as_array (get (codes "events") d)
-  events ← events_of items
+  events ← events_of version items
   if members_len fields == 3 + betas d
       then Some (record { version = version; servers = servers; beta = beta; events = events }) else None
 
 -- ---- the limits
 
--- the one version there is
-abbrev pub known_version : ℕ
-known_version = 1
+-- the versions that there are
+abbrev pub first_version : ℕ
+first_version = 1
 
 abbrev pub is_version : ℕ → Bool
-is_version version = version == known_version
+is_version version = version == first_version || version == newest_version
 
 -- a cluster may have so many servers
 abbrev pub are_servers : ℕ → Bool
@@ -108,9 +108,9 @@ cluster_within version servers beta = (is_version version && are_servers servers
 abbrev pub within : Written → Bool
 within x = cluster_within x.version x.servers x.beta && list_all event_within x.events
 
--- what an item of the events says, or its fault
-abbrev pub item_said : Data → Result Event AppFault
-item_said d = judged event_within (said_by event_of d)
+-- what an item of the events says in a version, or its fault
+abbrev pub item_said : ℕ → Data → Result Event AppFault
+item_said version d = judged event_within (said_by (event_of version) d)
 
 -- ---- the bytes
 
@@ -134,7 +134,7 @@ scenario bytes = read_there (λ d. judged within (written_of d)) (or_not_json (j
 -- what a scenario that was read says
 abbrev pub written_in : code.Scenario → Written
 written_in s =
-    record { version = known_version; servers = s.members.count; beta = s.members.beta; events = s.events }
+    record { version = s.version; servers = s.members.count; beta = s.members.beta; events = s.events }
 
 -- the members that it names
 abbrev pub members_of : Written → Membership

@@ -17,7 +17,7 @@ fn wrong_value(field: Field, fault: AppFault) -> &'static str
     match (field, fault) {
         (Field::Events, _) => "no list",
         (_, AppFault::BadShape) => "no whole number",
-        (Field::Version, _) => "not 1",
+        (Field::Version, _) => "not 1 or 2",
         (Field::Servers, _) => "not 1 to 7",
         (Field::Beta, _) => "not 0 to 4095",
     }

@@ -7,6 +7,7 @@ mod event;
 mod events;
 mod explaining;
 mod judged;
+mod newest;
 mod places;
 mod plain;
 mod plan;

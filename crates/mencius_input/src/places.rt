@@ -1,6 +1,6 @@
 //! Where a scenario has a fault.
 
-ghost use Rattle.std.specs.Prelude.{◌≡◌, ◌≢◌, Err, IfOk, IfSome, Some, option_map, string_bytes};
+ghost use Rattle.std.specs.Prelude.{◌≡◌, ◌≢◌, ◌&&◌, Err, IfOk, IfSome, Some, codes, not, option_map, string_bytes};
 ghost use Rattle.std.specs.Bool.{MatchBool};
 ghost use Rattle.std.specs.Result.{result_err};
 ghost use Rattle.serde_json.specs.Data.{Data};
@@ -8,10 +8,13 @@ ghost use Rattle.serde_json.specs.Find.{as_str};
 ghost use Rattle.serde_json.specs.View.{items_view, view};
 ghost use Rattle.mencius_input.specs.declared.scenario.Name.TheVariants.{Other};
 ghost use Rattle.mencius_input.specs.Fields.{named};
-ghost use Rattle.mencius_input.specs.Place.{ArePlaces, IsAt, IsFirst, field_name};
-ghost use Rattle.mencius_input.specs.Scenario.{item_said, json_of};
+ghost use Rattle.mencius_input.specs.Grammar.{newest_version, takes_cas};
+ghost use Rattle.mencius_input.specs.Newest.{has_event_cas};
+ghost use Rattle.mencius_input.specs.Place.{ArePlaces, IsAt, IsFirst, field_name, version_of};
+ghost use Rattle.mencius_input.specs.Scenario.{item_said, json_of, whole_of};
 
-use crate::event::parse_event;
+use crate::event::{event_is_cas, parse_event};
+use crate::newest::{NEWEST_VERSION, takes_cas};
 use crate::scenario::{Name, are_servers, is_beta, is_version, named};
 use crate::tokens::Tokens;
 use crate::value::{MOST_DEPTH, next_name, pass};
@@ -59,9 +62,45 @@ pub enum Place {
     Event { index: usize, text: Option<String> },
 }
 
+// The version that the scenario says.
+#[tactic(auto, unfolding(crate::specs::Scenario::whole_of))]
+fn said_version(scenario: &Value) -> Option<u64>
+    ensures { result ≡ whole_of (codes "version") (view scenario.now) }
+{
+    scenario.get("version")?.as_u64()
+}
+
+// The version in which the events are judged: that of the scenario, and where it says none, the
+// newest.
+fn version_of(scenario: &Value) -> u64
+    ensures { result ≡ version_of (view scenario.now) }
+{
+    said_version(scenario).unwrap_or(NEWEST_VERSION)
+}
+
+// Whether an item of the events is a `cas` in a version that has none.
+fn is_cas_too_many(version: u64, item: &Value) -> bool
+    ensures { result ≡ (has_event_cas (view item.now) && not (takes_cas version)) }
+{
+    match item.as_str() {
+        Some(text) => event_is_cas(text) && !takes_cas(version),
+        None => false,
+    }
+}
+
 // The fault of an item of the events.
-fn fault_of_item(alloc: Global, item: &Value) -> Result<Option<AppFault>, NoMemory>
-    ensures { IfOk result (λ o. o ≡ result_err (item_said (view item.now))) }
+fn fault_of_item(alloc: Global, version: u64, item: &Value) -> Result<Option<AppFault>, NoMemory>
+    ensures { IfOk result (λ o. o ≡ result_err (item_said version (view item.now))) }
+{
+    if is_cas_too_many(version, item) {
+        return Ok(Some(AppFault::BadShape));
+    }
+    newest_fault_of_item(alloc, item)
+}
+
+// The fault that an item of the events has in the newest version.
+fn newest_fault_of_item(alloc: Global, item: &Value) -> Result<Option<AppFault>, NoMemory>
+    ensures { IfOk result (λ o. o ≡ result_err (item_said newest_version (view item.now))) }
 {
     let Some(text) = item.as_str() else {
         return Ok(Some(AppFault::BadShape));
@@ -74,11 +113,11 @@ fn fault_of_item(alloc: Global, item: &Value) -> Result<Option<AppFault>, NoMemo
 }
 
 // Whether an item of the events has the fault.
-fn has_fault(alloc: Global, item: &Value, fault: AppFault) -> Result<bool, NoMemory>
-    ensures { IfOk result (λ x. MatchBool x (item_said (view item.now) ≡ Err fault)
-        (item_said (view item.now) ≢ Err fault)) }
+fn has_fault(alloc: Global, version: u64, item: &Value, fault: AppFault) -> Result<bool, NoMemory>
+    ensures { IfOk result (λ x. MatchBool x (item_said version (view item.now) ≡ Err fault)
+        (item_said version (view item.now) ≢ Err fault)) }
 {
-    match fault_of_item(alloc, item)? {
+    match fault_of_item(alloc, version, item)? {
         Some(found) => {
             if found == fault {
                 return Ok(true);
@@ -102,14 +141,15 @@ fn text_of_item(alloc: Global, item: &Value) -> Result<Option<String>, NoMemory>
 // The first of the events that has the fault.
 fn first_event(
     alloc: Global,
+    version: u64,
     items: &[Value],
     fault: AppFault,
 ) -> Result<Option<(usize, Option<String>)>, NoMemory>
     ensures { IfOk result (λ o. IfSome o (λ x.
-        IsFirst fault (items_view items.now) x.0 (option_map string_bytes x.1))) }
+        IsFirst fault version (items_view items.now) x.0 (option_map string_bytes x.1))) }
 {
     for (index, item) in items.iter().enumerate() {
-        if has_fault(alloc, item, fault)? {
+        if has_fault(alloc, version, item, fault)? {
             let text = text_of_item(alloc, item)?;
             return Ok(Some((index, text)));
         }
@@ -142,7 +182,7 @@ fn place_in_events(
     let Some(items) = events.as_array() else {
         return Ok(amiss(Field::Events, AppFault::BadShape, fault));
     };
-    match first_event(alloc, items.as_slice(), fault)? {
+    match first_event(alloc, version_of(scenario), items.as_slice(), fault)? {
         Some((index, text)) => Ok(Some(Place::Event { index, text })),
         None => Ok(None),
     }

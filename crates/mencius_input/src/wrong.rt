@@ -1,6 +1,6 @@
 //! Which word of an event is wrong, in a person's words. Each word is judged by what reads it.
 
-use crate::event::parse_id;
+use crate::event::{event_is_cas, parse_id};
 use crate::words::{cut, parse_u8, parse_u32};
 use mencius_base::{BadCommand, Command, CommandId, Key, NoMemory, Op, Text};
 use mencius_ends::AppFault;
@@ -18,6 +18,8 @@ enum Part {
     Id,
     Key,
     Text,
+    HeldText,
+    NewText,
 }
 
 // What a word is called.
@@ -29,6 +31,8 @@ fn name_of(part: Part) -> &'static str {
         Part::Id => "the command ID",
         Part::Key => "the key",
         Part::Text => "the text",
+        Part::HeldText => "the old text",
+        Part::NewText => "the new text",
     }
 }
 
@@ -48,6 +52,7 @@ fn operands_of(operation: &str) -> Option<&'static [Part]> {
     match operation {
         "set" => Some(&[Part::Key, Part::Text]),
         "get" | "del" => Some(&[Part::Key]),
+        "cas" => Some(&[Part::Key, Part::HeldText, Part::NewText]),
         _ => None,
     }
 }
@@ -195,7 +200,7 @@ fn wrong_word(
         Part::Message => wrong_u32(alloc, name_of(part), word, fault),
         Part::Id => wrong_id(alloc, word, fault),
         Part::Key => wrong_key(alloc, word, fault),
-        Part::Text => wrong_text(alloc, word, fault),
+        Part::Text | Part::HeldText | Part::NewText => wrong_text(alloc, word, fault),
     }
 }
 
@@ -210,7 +215,7 @@ fn empty(alloc: Global, name: &str, is_last: bool) -> Result<String, NoMemory> {
 // What is said of a word that is not there.
 fn missing(alloc: Global, part: Part) -> Result<String, NoMemory> {
     let name = name_of(part);
-    if let Part::Text = part {
+    if let Part::Text | Part::HeldText | Part::NewText = part {
         return Ok(format!(in alloc; "{name} is missing: an empty one has a space before it")?);
     }
     Ok(format!(in alloc; "{name} is missing")?)
@@ -252,7 +257,7 @@ fn wrong_operation(
     }
     let Some(operands) = operands_of(operation) else {
         let word = shown(alloc, operation)?;
-        return Ok(Some(format!(in alloc; "{name} is none of set, get and del: {word}")?));
+        return Ok(Some(format!(in alloc; "{name} is none of set, get, del and cas: {word}")?));
     };
     wrong_words(alloc, operands, left, fault)
 }
@@ -297,6 +302,9 @@ pub(crate) fn wrong_event(alloc: Global, text: &str, fault: AppFault) -> Result<
         if let Some(words) = wrong_operation(alloc, &mut left, fault)? {
             return Ok(words);
         }
+    }
+    if left.is_none() && event_is_cas(text) {
+        return Ok(String::from_str(alloc, "only version 2 has the operation cas")?);
     }
     left_over(alloc, &mut left)
 }

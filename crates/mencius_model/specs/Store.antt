@@ -1,28 +1,35 @@
 -- A map from keys to texts, and what commands make of it.
-use Rattle.std.specs.Prelude.{ℕ, List, Option}
+use Rattle.std.specs.Prelude.{ℕ, Bool, false, List, Option, Some, None, bytes_eq, if◌then◌else◌}
 use Rattle.std.specs.List.{fold}
 use Rattle.std.specs.Ordering.{nat_cmp}
 use Rattle.std.specs.Cmp.Lexicographic.{slice_cmp}
 use Rattle.std.specs.FinMap as finite
 use Rattle.mencius_base.specs.declared.command.Command.{Command}
 use Rattle.mencius_base.specs.declared.command.Op.{Op}
-use Rattle.mencius_base.specs.declared.command.Op.TheVariants.{Set, Get, Del}
+use Rattle.mencius_base.specs.declared.command.Op.TheVariants.{Set, Get, Del, Cas}
 
 -- texts by the bytes of their keys
 abbrev pub Store : Type 0
 Store = finite.FinMap (slice_cmp nat_cmp) (List ℕ)
 
--- Set binds the key, Del removes it, Get changes nothing
+-- whether a key has a text, and it is exactly this one
+abbrev pub is_held : Option (List ℕ) → List ℕ → Bool
+is_held None held = false
+is_held (Some former) held = bytes_eq former held
+
+-- Set binds the key, Del removes it, Get changes nothing, and Cas binds the key where it held the text that it expects
 abbrev pub apply : Store → Op → Store
 apply store (Set key text) = finite.insert store key text
 apply store (Get key) = store
 apply store (Del key) = finite.remove store key
+apply store (Cas key held text) = if is_held (finite.get store key) held then finite.insert store key text else store
 
 -- the key that an operation is about
 abbrev pub key_of : Op → List ℕ
 key_of (Set key text) = key
 key_of (Get key) = key
 key_of (Del key) = key
+key_of (Cas key held text) = key
 
 -- what these commands make of the empty map
 abbrev pub store_after : List Command → Store

@@ -10,7 +10,7 @@
 //! fixed. Nothing is said of progress: no theorem says that a command is ever decided. The proof is
 //! explained in `docs/AGREEMENT.md`.
 
-ghost use Rattle.mencius_model.specs.Held.{HoldsTheLastSet, HoldsNothingElse};
+ghost use Rattle.mencius_model.specs.Held.{HoldsTheLastBound, HoldsNothingElse};
 ghost use Rattle.mencius_model.specs.WithinLimits.{CountsWithinLimits, LearnedWithinLimits, MessagesAddressed, MessagesWithinLimits};
 ghost use Rattle.mencius_model.specs.Laws.{DecidedValuesAgree, PendingWhereNotExecuted, HistoriesComparable, HistoriesGrow, LearnedIsDecided, LongestCommandsGrow, LongestHistoryGrows};
 ghost use Rattle.mencius_model.specs.Laws.{BetaZeroRefuses, BetaZeroSends};
@@ -86,10 +86,12 @@ pub fn limits()
     ensures addressed { MessagesAddressed }
 {}
 
-/// What a map holds after a list of commands: at each key the text of the last `Set` of that key,
-/// where no `Del` of it follows, and nothing elsewhere.
+/// What a map holds after a list of commands: at each key the text of the last command that bound
+/// it, where no `Del` of it follows, and nothing elsewhere. A `Set` binds its key. A `Cas` does where
+/// the map of the commands before it held exactly the text that it expects, and else it changes
+/// nothing.
 pub fn holdings()
-    ensures held { HoldsTheLastSet }
+    ensures held { HoldsTheLastBound }
     ensures nothing { HoldsNothingElse }
 {}
 

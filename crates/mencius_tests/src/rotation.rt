@@ -33,6 +33,19 @@ fn left_at(alloc: Global, commands: &[Command], key: &str) -> Result<Option<Stri
                     left = None;
                 }
             }
+            Op::Cas {
+                key: name,
+                held,
+                text,
+            } => {
+                let is_held = match &left {
+                    Some(former) => former.as_str() == held.as_str(),
+                    None => false,
+                };
+                if name.as_str() == key && is_held {
+                    left = Some(String::from_str(alloc, text.as_str())?);
+                }
+            }
             Op::Get { .. } => {}
         }
     }

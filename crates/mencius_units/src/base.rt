@@ -41,6 +41,52 @@ fn commands_have_limits(rt: HostRuntime) -> Result<(), Fail> {
     Ok(())
 }
 
+// The fault of the same command where it compares and sets.
+fn fault_of_cas(
+    alloc: Global,
+    key: &str,
+    held: &str,
+    text: &str,
+) -> Result<Option<BadCommand>, Fail> {
+    let id = CommandId {
+        client: 1,
+        number: 0,
+    };
+    let op = Op::Cas {
+        key: Key::new(String::from_str(alloc, key)?),
+        held: Text::new(String::from_str(alloc, held)?),
+        text: Text::new(String::from_str(alloc, text)?),
+    };
+    Ok(Command::new(id, op).err())
+}
+
+// Both texts are judged alike: a bad byte of either comes before the key's length.
+#[test]
+fn both_texts_have_limits(rt: HostRuntime) -> Result<(), Fail> {
+    let alloc = rt.alloc();
+    let most_text = "t".repeat(alloc, 256)?;
+    let most_text = most_text.as_str();
+    let long_text = "t".repeat(alloc, 257)?;
+    let long_text = long_text.as_str();
+    assert_eq!(rt; fault_of_cas(alloc, "a", "", "")?, None);
+    assert_eq!(rt; fault_of_cas(alloc, "a", most_text, most_text)?, None);
+    let byte = Some(BadCommand::TextByte);
+    assert_eq!(rt;
+        fault_of_cas(alloc, "a b", "x y", "")?,
+        Some(BadCommand::KeyByte)
+    );
+    assert_eq!(rt; fault_of_cas(alloc, "", "x y", "")?, byte);
+    assert_eq!(rt; fault_of_cas(alloc, "", "", "x y")?, byte);
+    let length = Some(BadCommand::TextLength);
+    assert_eq!(rt;
+        fault_of_cas(alloc, "", long_text, "")?,
+        Some(BadCommand::KeyLength)
+    );
+    assert_eq!(rt; fault_of_cas(alloc, "a", long_text, "")?, length);
+    assert_eq!(rt; fault_of_cas(alloc, "a", "", long_text)?, length);
+    Ok(())
+}
+
 fn suggest(inst: u32, ticket: u32) -> Message {
     Message::Suggest {
         from: 0,

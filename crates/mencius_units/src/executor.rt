@@ -12,6 +12,7 @@ enum Deed {
     Set(&'static str),
     Get,
     Del,
+    Cas(&'static str, &'static str),
 }
 
 fn make_command(alloc: Global, deed: Deed) -> Option<Command> {
@@ -23,6 +24,11 @@ fn make_command(alloc: Global, deed: Deed) -> Option<Command> {
         },
         Deed::Get => Op::Get { key },
         Deed::Del => Op::Del { key },
+        Deed::Cas(held, text) => Op::Cas {
+            key,
+            held: Text::new(String::from_str(alloc, held).ok()?),
+            text: Text::new(String::from_str(alloc, text).ok()?),
+        },
     };
     let id = CommandId {
         client: 1,
@@ -66,5 +72,22 @@ fn empty_text_del_and_get(rt: HostRuntime) -> Result<(), Fail> {
     assert_deed(&rt, alloc, &mut executor, Deed::Del, 2, empty, None)?;
     assert_deed(&rt, alloc, &mut executor, Deed::Get, 3, None, None)?;
     assert_eq!(rt; executor.history(), [0, 1, 2, 3].as_slice());
+    Ok(())
+}
+
+// A key that is not there is not bound, also where an empty text is expected. A text is changed only
+// where it is the expected one, and the former one is answered either way.
+#[test]
+fn compare_and_set(rt: HostRuntime) -> Result<(), Fail> {
+    let alloc = rt.alloc();
+    let mut executor = Executor::new(alloc);
+    let (x, empty) = (Some("x"), Some(""));
+    assert_deed(&rt, alloc, &mut executor, Deed::Cas("", "x"), 0, None, None)?;
+    assert_deed(&rt, alloc, &mut executor, Deed::Set("x"), 1, None, x)?;
+    assert_deed(&rt, alloc, &mut executor, Deed::Cas("y", "z"), 2, x, x)?;
+    assert_deed(&rt, alloc, &mut executor, Deed::Cas("x", ""), 3, x, empty)?;
+    assert_deed(&rt, alloc, &mut executor, Deed::Cas("", "x"), 4, empty, x)?;
+    assert_deed(&rt, alloc, &mut executor, Deed::Cas("x", "x"), 5, x, x)?;
+    assert_eq!(rt; executor.history(), [0, 1, 2, 3, 4, 5].as_slice());
     Ok(())
 }

@@ -210,5 +210,19 @@ fn change(
             None => Ok(None),
         },
         Op::Del { key } => Ok(texts.remove(key.as_str())),
+        Op::Cas { key, held, text } => {
+            let former = match texts.get(key.as_str()) {
+                Some(former) => String::from_str(alloc, former.as_str())?,
+                None => return Ok(None),
+            };
+            if former.as_str() == held.as_str() {
+                let key = String::from_str(alloc, key.as_str())?;
+                let text = String::from_str(alloc, text.as_str())?;
+                if texts.insert(key, text).is_err() {
+                    return Err(AllocError);
+                }
+            }
+            Ok(Some(former))
+        }
     }
 }

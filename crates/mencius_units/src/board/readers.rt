@@ -1,7 +1,7 @@
 //! Readers find what was shown, told or not, also beside a thread that steps.
 ghost use Rattle.std.specs.Prelude.{◌≡◌};
 
-use super::fixtures::{decide, new_cluster, set_number, set_x};
+use super::fixtures::{cas_a, decide, new_cluster, set_number, set_x};
 use mencius_board::{Board, BoardFault, News, Reader};
 use std::alloc::Global;
 use std::panic::Expect;
@@ -87,6 +87,36 @@ fn two_readers_find_what_is_shown(rt: HostRuntime) -> Result<(), Fail> {
     let cluster = board.end(&rt);
     answer?;
     assert_eq!(rt; (cluster.commands(), cluster.events()), (1, 4));
+    Ok(())
+}
+
+// After commands that compare and set, of which the last one empties the text.
+fn told_of_the_last_change<R: Wait + Abort>(
+    rt: &R,
+    alloc: Global,
+    board: &mut Board,
+) -> Result<(), BoardFault> {
+    let mut reader = board.reader()?;
+    decide(rt, board, cas_a(rt, alloc, 1, "", "x"));
+    decide(rt, board, set_x(rt, alloc));
+    decide(rt, board, cas_a(rt, alloc, 2, "y", "z"));
+    decide(rt, board, cas_a(rt, alloc, 3, "x", ""));
+    let news = board.show(rt, alloc)?;
+    let (_, found, count) = learn_and_look(alloc, &mut reader, news)?;
+    assert_eq!(rt; count, 4);
+    assert!(rt; is_text(&found, ""));
+    Ok(())
+}
+
+#[test]
+fn a_reader_finds_what_was_compared_and_set(rt: HostRuntime) -> Result<(), Fail> {
+    let alloc = rt.alloc();
+    let cluster = new_cluster(&rt, alloc, 1);
+    let mut board = Board::new(&rt, alloc, cluster, 1)?;
+    let answer = told_of_the_last_change(&rt, alloc, &mut board);
+    let cluster = board.end(&rt);
+    answer?;
+    assert_eq!(rt; (cluster.commands(), cluster.events()), (4, 16));
     Ok(())
 }
 

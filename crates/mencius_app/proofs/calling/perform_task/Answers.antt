@@ -1,5 +1,6 @@
-use Rattle.std.proofs.Common.{Err, false, refl}
+use Rattle.std.proofs.Common.{◌≡◌, arith, Err, false, refl, true}
 use Rattle.std.proofs.lemmas.Result.{IfErr-weaker}
+use Rattle.mencius_app.specs.Ending.{tells_of_refusals}
 use Rattle.mencius_app.proofs.EndingCauses.{as_text, of_check, of_result, text_of_replay, text_of_run}
 use Rattle.mencius_app.proofs.CheckWords.{told_of_check, told_of_result}
 use Rattle.mencius_app.proofs.calling.perform_task.Goals as goal
@@ -32,3 +33,9 @@ returns-in-Run-clause-words g c = told_of_result _ c.run.result _ c.ending_of-in
 
 pub returns-then-not-all_accepted-clause-done : goal.returns-then-not-all_accepted-clause-done
 returns-then-not-all_accepted-clause-done g c e = absurd (cc e)
+
+pub returns-then-not-all_accepted-clause-refused : goal.returns-then-not-all_accepted-clause-refused
+returns-then-not-all_accepted-clause-refused g c e =
+    let done = c.in-Ok.ensures.done in
+    let told : true ≡ tells_of_refusals c.in-Replay.is_strict c.in-Ok.all_accepted = grind arith in
+    rw c.in-Replay.is (done.0, (c.in-Ok.all_accepted, done.1, told), done.2)

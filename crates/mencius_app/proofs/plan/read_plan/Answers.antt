@@ -8,11 +8,11 @@ use Rattle.mencius_app.proofs.plan.read_plan.Goals as goal
 -- what was read is in the range of plans
 pub returns-in-None : goal.returns-in-None
 returns-in-None c =
-    let said : plan c.args.bytes.now ≡ Ok (run_in c.in_ok-members.field-0) = search rules in
+    let said : plan c.args.bytes.now ≡ Ok (run_in c.in_ok-version.field-0) = search rules in
     let fits = plan_in_range c.args.bytes.now _ said in
-    let lists : length c.in_ok-members.field-0.commands.items ≤ most_servers = subst (λ n. n ≤ most_servers)
-    (length-map c.in_ok-members.field-0.commands.items (λ list. list.items)) fits.4 in
+    let lists : length c.in_ok-version.field-0.commands.items ≤ most_servers = subst (λ n. n ≤ most_servers)
+    (length-map c.in_ok-version.field-0.commands.items (λ list. list.items)) fits.4 in
     absurd (search rules)
 
 pub returns-in-Some : goal.returns-in-Some
-returns-in-Some c = rw c.in-Some.ensures.plan c.in_ok-members.ensures
+returns-in-Some c = rw c.in-Some.ensures.plan c.in_ok-version.ensures

@@ -1,14 +1,17 @@
-use Rattle.std.proofs.Common.{◌≡◌, None, Ok, refl, ap, ◌∙◌, arith}
+use Rattle.std.proofs.Common.{◌≡◌, None, Ok, refl, ap, ◌∙◌, ◌||◌, arith}
 use Rattle.std.specs.List.{list_all}
 use Rattle.json.specs.Json.{after_end_array}
-use Rattle.mencius_input.specs.Grammar.{command_of, command_within}
+use Rattle.mencius_input.specs.Grammar.{command_of, command_within, newest_version}
+use Rattle.mencius_input.specs.Newest.{has_command_cas}
 use Rattle.mencius_input.specs.Scenario.{said_by}
 use Rattle.mencius_input.proofs.NextValues.{stops_at, stops_whole}
 use Rattle.mencius_input.proofs.NotedItems.{answer_known, list_close, list_further, list_start, list_stop}
 use Rattle.mencius_input.proofs.commands.commands_in.Goals as goal
 
 pub items-init : goal.items-init
-items-init c = list_start (said_by command_of) (list_all command_within) _ _ _ refl (ap Ok c.new-commands.ensures.items)
+items-init c =
+    list_start (said_by (command_of newest_version)) (list_all command_within) has_command_cas _ _ _ refl
+    (ap Ok c.new-commands.ensures.items)
 
 pub returns-in_err-command-clause-err : goal.returns-in_err-command-clause-err
 returns-in_err-command-clause-err c =
@@ -22,11 +25,12 @@ items-preserved c =
     let l = c.items in
     let going : (after_end_array l.reader ≡ None) × (c.take_end_array.new.self ≡ l.reader) = grind arith in
     let done = c.in_ok-command.ensures in
-    list_further command_within l.invariant going.0 _ done.ok.0 _ _ (rw (← going.1) done.shorter)
+    list_further command_within l.invariant going.0 _ done.ok.0 _ _ _ (rw (← going.1) done.shorter)
     (rw (← going.1) done.ok.1)
+    (ap (λ bit. l.has_cas || bit) done.ok.3)
     (answer_known _ _ c.in-Ok.ensures.known done.ok.2) c.in-Ok.ensures.noted
 
 pub returns-clause-ok : goal.returns-clause-ok
 returns-clause-ok c =
     let read = list_close c.items.invariant c.take_end_array.new.self (grind arith) in
-    (read.0, read.1, c.told.ensures ∙ read.2)
+    (read.0, read.1, c.told.ensures ∙ read.2, read.3)

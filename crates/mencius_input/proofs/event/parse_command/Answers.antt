@@ -1,6 +1,6 @@
 use Rattle.std.proofs.Common.{Ok, Err, Some, None, ◌∙◌, ap, sym}
 use Rattle.mencius_input.specs.Words.{words}
-use Rattle.mencius_input.specs.Grammar.{command_within, command_of}
+use Rattle.mencius_input.specs.Grammar.{command_within, command_of, newest_version}
 use Rattle.mencius_input.proofs.JudgedParts.{passed_on, shapeless}
 use Rattle.mencius_input.proofs.EventWords.{command_one, command_pair, command_cut, command_fault}
 use Rattle.mencius_input.proofs.event.parse_command.Goals as goal
@@ -8,7 +8,7 @@ use Rattle.mencius_input.proofs.event.parse_command.Goals as goal
 pub returns-in_err-id : goal.returns-in_err-id
 returns-in_err-id c =
     passed_on _ _ _ c.from_residual.ensures.1
-    (shapeless command_within (command_of (words c.args.text.now)) _ c.in_err-id.ensures.0
+    (shapeless command_within (command_of newest_version (words c.args.text.now)) _ c.in_err-id.ensures.0
     (rw c.in_err-id.ensures.1 (command_one c.args.text.now)))
 
 pub returns-in_err-id-2 : goal.returns-in_err-id-2

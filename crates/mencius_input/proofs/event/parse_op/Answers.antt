@@ -2,19 +2,22 @@ use Rattle.std.proofs.Common.{Ok, Err, refl}
 use Rattle.mencius_base.specs.declared.command.Op.TheVariants.{Get, Del}
 use Rattle.mencius_input.specs.Judged.{unlimited}
 use Rattle.mencius_input.specs.Words.{name_of, words}
-use Rattle.mencius_input.specs.Grammar.{op_of}
+use Rattle.mencius_input.specs.Grammar.{op_of, newest_version}
 use Rattle.mencius_input.proofs.JudgedParts.{passed_on, shapeless, made_given}
-use Rattle.mencius_input.proofs.EventWords.{op_one, op_set, op_get, op_del, op_other}
+use Rattle.mencius_input.proofs.EventWords.{op_one, op_set, op_get, op_del, op_cas, op_other}
 use Rattle.mencius_input.proofs.event.parse_op.Goals as goal
 
 pub returns-in_err-word : goal.returns-in_err-word
 returns-in_err-word c =
     passed_on _ _ _ c.from_residual.ensures.1
-    (shapeless unlimited (op_of (words c.args.text.now)) _ c.in_err-word.ensures.0
+    (shapeless unlimited (op_of newest_version (words c.args.text.now)) _ c.in_err-word.ensures.0
     (rw c.in_err-word.ensures.1 (op_one c.args.text.now)))
 
 pub returns-in-set : goal.returns-in-set
 returns-in-set c = rw (c.in_ok-word.ensures, c.in-set.is, op_set) c.parse_set.ensures
+
+pub returns-in-cas : goal.returns-in-cas
+returns-in-cas c = rw (c.in_ok-word.ensures, c.in-cas.is, op_cas) c.parse_cas.ensures
 
 pub returns-in_ok-key-in-get : goal.returns-in_ok-key-in-get
 returns-in_ok-key-in-get c =
@@ -47,5 +50,6 @@ returns-in_default c =
     rw (
       c.in_ok-word.ensures,
       op_other c.in_ok-word.word.now
-          (words c.in_ok-word.rest.now) c.in_default.not-set c.in_default.not-get c.in_default.not-del,
+          (words c.in_ok-word.rest.now) c.in_default.not-set c.in_default.not-get c.in_default.not-del
+          c.in_default.not-cas,
     ) refl

@@ -17,6 +17,6 @@ returns-then-branch c =
 pub loop-index-preserved : goal.loop-index-preserved
 loop-index-preserved c =
     let item = c.index-items-index.result in
-    none_further c.args.fault (items_view c.args.items.now) c.loop-index.index (view item)
+    none_further c.args.fault c.args.version (items_view c.args.items.now) c.loop-index.index (view item)
     (item_there c.args.items.now c.loop-index.index item c.index-items-index.is (omega arith))
     (rw c.if-branch.false at c.in_ok-has_fault.ensures) c.loop-index.invariant

@@ -3,4 +3,4 @@ use Rattle.mencius_input.specs.Place.{NoneBefore}
 use Rattle.mencius_input.proofs.places.first_event.Given as goal
 
 abbrev pub invariant-loop-index : goal.invariant-loop-index
-invariant-loop-index l = NoneBefore l.fault (items_view l.items) l.index
+invariant-loop-index l = NoneBefore l.fault l.version (items_view l.items) l.index

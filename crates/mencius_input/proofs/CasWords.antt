@@ -1,0 +1,220 @@
+-- What a version other than the newest makes of a text: the same, but of a `cas` nothing.
+use Rattle.std.proofs.Common.{◌≡◌, ℕ, ◌+◌, ◌==◌, ◌&&◌, ◌||◌, List, [], ◌∷◌, ◌++◌, take, drop, Bool, true, false, not, cond, Option, Some, None, option_map, option_and_then, Result, Err, refl, sym, ap, ap₂, ◌∙◌, codes}
+use Rattle.std.specs.Option.{option_zip}
+use Rattle.std.specs.List.{position}
+use Rattle.std.specs.Str.{bytes_eq}
+use Rattle.std.proofs.Math.Bool.{and-false}
+use Rattle.std.proofs.lemmas.Bool.{eqb-true}
+use Rattle.serde_json.specs.Data.{Data, Items, no_items, item}
+use Rattle.serde_json.specs.Find.{as_array, as_str}
+use Rattle.mencius_base.specs.Request.{Request}
+use Rattle.mencius_base.specs.declared.event.Event.{Event}
+use Rattle.mencius_base.specs.declared.event.Event.TheVariants.{Submit}
+use Rattle.mencius_ends.specs.declared.fault.AppFault.{AppFault}
+use Rattle.mencius_ends.specs.declared.fault.AppFault.TheVariants.{BadShape}
+use Rattle.mencius_input.specs.Grammar.{command_of, event_of, event_within, id_of, newest_version, op_of, submit_of, takes_cas}
+use Rattle.mencius_input.specs.Judged.{judged}
+use Rattle.mencius_input.specs.Newest.{any_in, any_of, any_of_these, command_is_cas, event_is_cas, has_command_cas, has_event_cas, in_version, op_is_cas, submit_is_cas, text_is, unless}
+use Rattle.mencius_input.specs.Plan.{commands_of}
+use Rattle.mencius_input.specs.Scenario.{all_in, all_of, item_said, said_by}
+use Rattle.mencius_input.specs.Words.{number_of, words}
+use Rattle.mencius_input.proofs.CutWords.{found_parts, lacking_parts, not_first}
+use Rattle.mencius_input.proofs.EventWords.{other_text}
+use Rattle.mencius_input.proofs.NamedFields.{same_name}
+
+-- ---- what is left out is left out of the whole
+
+map_unless : {X Y : Type 0} (f : X → Y) (left_out : Bool) (o : Option X)
+    → option_map f (unless left_out o) ≡ unless left_out (option_map f o)
+map_unless f true o = refl
+map_unless f false o = refl
+
+zip_unless : {X Y : Type 0} (left_out : Bool) (o : Option X) (s : Option Y)
+    → option_zip o (unless left_out s) ≡ unless left_out (option_zip o s)
+zip_unless true None s = refl
+zip_unless true (Some x) s = refl
+zip_unless false o s = refl
+
+made_unless : {X Y Z : Type 0} (make : X × Y → Z) (left_out : Bool) (x : Option X) (o s : Option Y)
+    → o ≡ unless left_out s → option_map make (option_zip x o) ≡ unless left_out (option_map make (option_zip x s))
+made_unless make left_out x o s e =
+    ap (λ y. option_map make (option_zip x y)) e ∙ ap (option_map make) (zip_unless left_out x s)
+    ∙ map_unless make left_out (option_zip x s)
+
+-- ---- words
+
+-- two words are one
+one_word : (word a d : List ℕ) → bytes_eq a d ≡ false → bytes_eq word a ≡ true → bytes_eq word d ≡ true → ⊥
+one_word word a d apart is same =
+    let e = sym (ap (λ l. bytes_eq l d) (same_name word a is)) in
+    let both = sym same ∙ sym e ∙ apart in absurd (cc)
+
+op_in : (version : ℕ) (ws : List (List ℕ)) → takes_cas version ≡ false
+    → op_of version ws ≡ unless (op_is_cas ws) (op_of newest_version ws)
+unfolding op_of
+op_in version [] old = refl
+op_in version (word ∷ ws) old =
+    by_tests _ _ _ _ (bytes_eq word (codes "set")) (bytes_eq word (codes "get")) (bytes_eq word (codes "del"))
+    (bytes_eq word (codes "cas")) (one_word word (codes "set") (codes "cas") refl)
+    (one_word word (codes "get") (codes "cas") refl) (one_word word (codes "del") (codes "cas") refl)
+  where
+    by_tests : {X : Type 0} (put read remove change : Option X) (a z d x : Bool) → (a ≡ true → x ≡ true → ⊥)
+        → (z ≡ true → x ≡ true → ⊥) → (d ≡ true → x ≡ true → ⊥)
+        → cond a put (cond z read (cond d remove (cond (x && takes_cas version) change None)))
+        ≡ unless x (cond a put (cond z read (cond d remove (cond (x && takes_cas newest_version) change None))))
+    by_tests put read remove change true z d true h k l = absurd (h refl refl)
+    by_tests put read remove change true z d false h k l = refl
+    by_tests put read remove change false true d true h k l = absurd (k refl refl)
+    by_tests put read remove change false true d false h k l = refl
+    by_tests put read remove change false false true true h k l = absurd (l refl refl)
+    by_tests put read remove change false false true false h k l = refl
+    by_tests put read remove change false false false true h k l = ap (λ bit. cond bit change None) old
+    by_tests put read remove change false false false false h k l = refl
+
+command_in : (version : ℕ) (ws : List (List ℕ)) → takes_cas version ≡ false
+    → command_of version ws ≡ unless (command_is_cas ws) (command_of newest_version ws)
+unfolding command_of
+command_in version [] old = refl
+command_in version (id ∷ ws) old =
+    made_unless (λ pair. record { id = pair.0; op = pair.1 }) (op_is_cas ws) (id_of id) (op_of version ws)
+    (op_of newest_version ws) (op_in version ws old)
+
+submit_in : (version : ℕ) (ws : List (List ℕ)) → takes_cas version ≡ false
+    → submit_of version ws ≡ unless (submit_is_cas ws) (submit_of newest_version ws)
+unfolding submit_of
+submit_in version [] old = refl
+submit_in version (server ∷ ws) old =
+    made_unless (λ pair. Submit pair.0 pair.1) (command_is_cas ws) (number_of server) (command_of version ws)
+    (command_of newest_version ws) (command_in version ws old)
+
+event_in : (version : ℕ) (ws : List (List ℕ)) → takes_cas version ≡ false
+    → event_of version ws ≡ unless (event_is_cas ws) (event_of newest_version ws)
+unfolding event_of
+event_in version [] old = refl
+event_in version (word ∷ ws) old = by_test _ (bytes_eq word (codes "submit"))
+  where
+    by_test : (other : Option Event) (a : Bool)
+        → cond a (submit_of version ws) other
+        ≡ unless (a && submit_is_cas ws) (cond a (submit_of newest_version ws) other)
+    by_test other true = submit_in version ws old
+    by_test other false = refl
+
+-- what does not begin as a submission is no `cas`
+pub no_submission : (text : List ℕ) → ((rest : List ℕ) → text ≡ codes "submit" ++ 32 ∷ rest → ⊥)
+    → event_is_cas (words text) ≡ false
+no_submission text none = by_place (position (λ byte. byte == 32) text) refl
+  where
+    by_place : (o : Option ℕ) → position (λ byte. byte == 32) text ≡ o → event_is_cas (words text) ≡ false
+    by_place None is = ap event_is_cas (lacking_parts 32 text is) ∙ and-false (bytes_eq text (codes "submit"))
+    by_place (Some n) is =
+        ap event_is_cas (found_parts 32 text n is)
+        ∙ ap (λ bit. bit && submit_is_cas (words (drop (n + 1) text)))
+        (other_text (take n text) (codes "submit") (not_first (codes "submit") text n is none))
+
+-- ---- texts, items and lists
+
+module _ {X : Type 0} (read newest : List (List ℕ) → Option X) (test : List (List ℕ) → Bool)
+    (h : (ws : List (List ℕ)) → read ws ≡ unless (test ws) (newest ws)) where
+  text_in : (o : Option (List ℕ)) → option_and_then (λ text. read (words text)) o
+      ≡ unless (text_is test o) (option_and_then (λ text. newest (words text)) o)
+  text_in None = refl
+  text_in (Some text) = h (words text)
+
+module _ {X : Type 0} (read newest : Data → Option X) (test : Data → Bool)
+    (h : (d : Data) → read d ≡ unless (test d) (newest d)) where
+  both_unless : (a d : Bool) (o : Option X) (s : Option (List X))
+      → option_and_then (λ x. option_and_then (λ xs. Some (x ∷ xs)) (unless d s)) (unless a o)
+      ≡ unless (a || d) (option_and_then (λ x. option_and_then (λ xs. Some (x ∷ xs)) s) o)
+  both_unless true d o s = refl
+  both_unless false true None s = refl
+  both_unless false true (Some x) s = refl
+  both_unless false false o s = refl
+
+  items_in : (ds : Items) → all_of read ds ≡ unless (any_of test ds) (all_of newest ds)
+  unfolding all_of any_of
+  items_in no_items = refl
+  items_in (item d ds) =
+      ap₂ (λ o s. option_and_then (λ x. option_and_then (λ xs. Some (x ∷ xs)) s) o) (h d) (items_in ds)
+      ∙ both_unless (test d) (any_of test ds) (newest d) (all_of newest ds)
+
+  these_in : (o : Option Items) → option_and_then (all_of read) o
+      ≡ unless (any_of_these test o) (option_and_then (all_of newest) o)
+  these_in None = refl
+  these_in (Some ds) = items_in ds
+
+  list_in : (d : Data) → all_in read d ≡ unless (any_in test d) (all_in newest d)
+  list_in d = these_in (as_array d)
+
+command_said : (version : ℕ) → takes_cas version ≡ false → (d : Data)
+    → said_by (command_of version) d ≡ unless (has_command_cas d) (said_by (command_of newest_version) d)
+command_said version old d =
+    text_in (command_of version) (command_of newest_version) command_is_cas (λ ws. command_in version ws old) (as_str d)
+
+pub event_said : (version : ℕ) → takes_cas version ≡ false → (d : Data)
+    → said_by (event_of version) d ≡ unless (has_event_cas d) (said_by (event_of newest_version) d)
+event_said version old d =
+    text_in (event_of version) (event_of newest_version) event_is_cas (λ ws. event_in version ws old) (as_str d)
+
+-- ---- what was judged before the version was known
+
+judged_unless : {X : Type 0} (within : X → Bool) (left_out : Bool) (o : Option X)
+    → cond left_out (Err BadShape) (judged within o) ≡ judged within (unless left_out o)
+judged_unless within true o = refl
+judged_unless within false o = refl
+
+-- the newest version is the one that takes a `cas`
+newest : (version : ℕ) → takes_cas version ≡ true → version ≡ newest_version
+newest version e = eqb-true version newest_version e
+
+module _ {X : Type 0} (within : X → Bool) (has_cas : Bool) (read : ℕ → Option X)
+    (h : (version : ℕ) → takes_cas version ≡ false → read version ≡ unless has_cas (read newest_version)) where
+  read_in_version : (version : ℕ)
+      → in_version version (record { said = judged within (read newest_version); has_cas = has_cas })
+      ≡ judged within (read version)
+  read_in_version version = by_test (takes_cas version) refl
+    where
+      by_tests : (a d : Bool) (r : Result X AppFault)
+          → takes_cas version ≡ d
+          → in_version version (record { said = r; has_cas = a }) ≡ cond (cond d false a) (Err BadShape) r
+      by_tests true true r e = ap (λ bit. cond (not bit) (Err BadShape) r) e
+      by_tests true false r e = ap (λ bit. cond (not bit) (Err BadShape) r) e
+      by_tests false true r e = refl
+      by_tests false false r e = refl
+
+      by_test : (d : Bool) → takes_cas version ≡ d
+          → in_version version (record { said = judged within (read newest_version); has_cas = has_cas })
+          ≡ judged within (read version)
+      by_test true e =
+          by_tests has_cas true (judged within (read newest_version)) e
+          ∙ ap (λ n. judged within (read n)) (sym (newest version e))
+      by_test false e =
+          by_tests has_cas false (judged within (read newest_version)) e
+          ∙ judged_unless within has_cas (read newest_version) ∙ ap (judged within) (sym (h version e))
+
+-- so a list that was read before its version is what that version makes of it
+pub events_said_in : (version : ℕ) (within : List Event → Bool) (d : Data)
+    → in_version version (record {
+      said = judged within (all_in (said_by (event_of newest_version)) d);
+      has_cas = any_in has_event_cas d;
+    }) ≡ judged within (all_in (said_by (event_of version)) d)
+events_said_in version within d =
+    read_in_version within (any_in has_event_cas d) (λ n. all_in (said_by (event_of n)) d)
+    (λ n old. list_in (said_by (event_of n)) (said_by (event_of newest_version)) has_event_cas (event_said n old) d)
+    version
+
+pub lists_said_in : (version : ℕ) (within : List (List Request) → Bool) (d : Data)
+    → in_version version (record {
+      said = judged within (all_in (commands_of newest_version) d);
+      has_cas = any_in (any_in has_command_cas) d;
+    }) ≡ judged within (all_in (commands_of version) d)
+lists_said_in version within d =
+    read_in_version within (any_in (any_in has_command_cas) d) (λ n. all_in (commands_of n) d)
+    (λ n old. list_in (commands_of n) (commands_of newest_version) (any_in has_command_cas)
+    (list_in (said_by (command_of n)) (said_by (command_of newest_version)) has_command_cas (command_said n old)) d)
+    version
+
+pub item_said_in : (version : ℕ) (d : Data)
+    → in_version version (record { said = item_said newest_version d; has_cas = has_event_cas d })
+    ≡ item_said version d
+item_said_in version d =
+    read_in_version event_within (has_event_cas d) (λ n. said_by (event_of n) d) (λ n old. event_said n old d) version

@@ -1,0 +1,66 @@
+-- What is read of a list before the version is known: what it says in the newest version, and whether a `cas` stands
+-- in it, which no other version has; for private clauses.
+use Rattle.std.specs.Prelude.{ℕ, ◌&&◌, ◌||◌, List, [], ◌∷◌, Bool, true, false, not, codes, Option, Some, None, Result, Err, if◌then◌else◌}
+use Rattle.std.specs.Str.{bytes_eq}
+use Rattle.serde_json.specs.Data.{Data, Items, no_items, item}
+use Rattle.serde_json.specs.Find.{as_array, as_str}
+use Rattle.mencius_ends.specs.declared.fault.AppFault.{AppFault}
+use Rattle.mencius_ends.specs.declared.fault.AppFault.TheVariants.{BadShape}
+use Rattle.mencius_input.specs.declared.newest.Newest.{Newest}
+use Rattle.mencius_input.specs.Grammar.{takes_cas}
+use Rattle.mencius_input.specs.Words.{words}
+
+-- ---- by the place of the word, whatever else is wrong
+
+abbrev pub op_is_cas : List (List ℕ) → Bool
+op_is_cas [] = false
+op_is_cas (word ∷ ws) = bytes_eq word (codes "cas")
+
+abbrev pub command_is_cas : List (List ℕ) → Bool
+command_is_cas [] = false
+command_is_cas (id ∷ ws) = op_is_cas ws
+
+abbrev pub submit_is_cas : List (List ℕ) → Bool
+submit_is_cas [] = false
+submit_is_cas (server ∷ ws) = command_is_cas ws
+
+abbrev pub event_is_cas : List (List ℕ) → Bool
+event_is_cas [] = false
+event_is_cas (word ∷ ws) = bytes_eq word (codes "submit") && submit_is_cas ws
+
+-- ---- in what is read
+
+abbrev pub text_is : (List (List ℕ) → Bool) → Option (List ℕ) → Bool
+text_is test None = false
+text_is test (Some text) = test (words text)
+
+-- a text that is a command's, or an event's
+abbrev pub has_command_cas : Data → Bool
+has_command_cas d = text_is command_is_cas (as_str d)
+
+abbrev pub has_event_cas : Data → Bool
+has_event_cas d = text_is event_is_cas (as_str d)
+
+-- one of some items passes
+unfoldable pub any_of : (Data → Bool) → Items → Bool
+any_of test no_items = false
+any_of test (item d ds) = test d || any_of test ds
+
+abbrev pub any_of_these : (Data → Bool) → Option Items → Bool
+any_of_these test None = false
+any_of_these test (Some ds) = any_of test ds
+
+-- one of the items of a list
+abbrev pub any_in : (Data → Bool) → Data → Bool
+any_in test d = any_of_these test (as_array d)
+
+-- ---- once the version is known
+
+-- what is said, unless there is a `cas` too many
+abbrev pub unless : {X : Type 0} → Bool → Option X → Option X
+unless true o = None
+unless false o = o
+
+-- what is said in a version
+abbrev pub in_version : {X : Type 0} → ℕ → Newest X → Result X AppFault
+in_version version x = if x.has_cas && not (takes_cas version) then Err BadShape else x.said
