@@ -8,7 +8,7 @@ use Rattle.mencius_base.specs.Members.{Membership, below, instances, owner}
 use Rattle.mencius_model.proofs.NumberLists.{any-filter, any-instances, any-instances_found, count_by-below_le, count_by-below_more, count_by-below_none, count_by-below_zero, instances-below}
 use Rattle.coord_paxos.specs.SlotState.{SlotState}
 use Rattle.mencius_server.specs.Known.{IsSound, KnownState, is_open, is_passed, is_round_full_at, known_at, known_of, known_slot, slotless}
-use Rattle.mencius_server.specs.Lows.{low_of}
+use Rattle.mencius_server.specs.Runs.{AreRuns, run_end}
 use Rattle.mencius_server.specs.Ranges.{covers}
 use Rattle.mencius_server.specs.Slots.{known_by_slot, stand_at}
 use Rattle.mencius_server.specs.Tallies.{HasCounted, IsKnown, IsSurvey, IsTally, IsTallyFrom, IsTold, full_one, is_full_of, is_open_of, moved, no_tally, open_one, summed, tally_of, tallied, untallied}
@@ -17,6 +17,7 @@ use Rattle.mencius_server.specs.declared.tally.Tally.{Tally}
 use Rattle.mencius_server.proofs.RangeCounts.{bit, count_same}
 use Rattle.mencius_server.proofs.InstanceGaps.{count_gap, count_to, unrevoked_past}
 use Rattle.mencius_server.proofs.KnownInstances.{seen}
+use Rattle.mencius_server.proofs.LearnedRuns.{no_runs, runs_stay}
 use Rattle.mencius_server.proofs.SkipLoop.{IsCountUpTo, count_more}
 use Rattle.mencius_base.specs.Limits.{instance_count}
 use Rattle.mencius_server.specs.Machine.{is_spent}
@@ -509,41 +510,41 @@ module _ (m : Membership) (slots : List (Option SlotState)) (rs : List (List Spa
 
 -- where a change was refused
 pub unchanged : (m : Membership) (slots new : List (Option SlotState)) (rs : List (List Span)) (low : ℕ)
-    (tallies : List Tally) (lows : List ℕ) → new ≡ slots → IsKnown m slots rs low tallies lows
-    → IsKnown m new rs low tallies lows
-unchanged m slots new rs low tallies lows same h = subst (λ ss. IsKnown m ss rs low tallies lows) (sym same) h
+    (tallies : List Tally) (ends : List ℕ) → new ≡ slots → IsKnown m slots rs low tallies ends
+    → IsKnown m new rs low tallies ends
+unchanged m slots new rs low tallies ends same h = subst (λ ss. IsKnown m ss rs low tallies ends) (sym same) h
 
 -- nothing was counted
 pub uncounted : (m : Membership) (slots : List (Option SlotState)) (rs : List (List Span)) (low : ℕ)
-    (tallies : List Tally) (lows : List ℕ) → IsSound m slots rs low
-    → ((q : ℕ) → tally_of tallies q ≡ no_tally) → ((q : ℕ) → low_of lows q ≡ 0) → IsKnown m slots rs low tallies lows
-uncounted m slots rs low tallies lows sound none start = record {
+    (tallies : List Tally) (ends : List ℕ) → IsSound m slots rs low
+    → ((q : ℕ) → tally_of tallies q ≡ no_tally) → ((i : ℕ) → run_end ends i ≡ 0) → IsKnown m slots rs low tallies ends
+uncounted m slots rs low tallies ends sound none start = record {
   sound = sound;
   counted = λ q. tally_none m (known_at m slots rs) q _ (none q);
-  begun = λ j small less. absurd (omega (arith, less, start (owner m j)));
+  runs = no_runs m _ ends start;
 }
 
 -- what is counted of each instance is as before
 pub counts_kept : (m : Membership) (slots new : List (Option SlotState)) (rs ranges : List (List Span)) (low next : ℕ)
-    (tallies : List Tally) (lows : List ℕ) → IsSound m new ranges next
+    (tallies : List Tally) (ends : List ℕ) → IsSound m new ranges next
     → ((j : ℕ) → j < instance_count → IsAlike m (known_at m slots rs j) (known_at m new ranges j))
-    → IsKnown m slots rs low tallies lows → IsKnown m new ranges next tallies lows
-counts_kept m slots new rs ranges low next tallies lows sound alike h = record {
+    → IsKnown m slots rs low tallies ends → IsKnown m new ranges next tallies ends
+counts_kept m slots new rs ranges low next tallies ends sound alike h = record {
   sound = sound;
   counted = λ q. tally_alike m (known_at m slots rs) (known_at m new ranges) q (tally_of tallies q)
       (λ j small own. alike j small) (h.counted q);
-  begun = λ j small less. sym (alike j small).open_count ∙ h.begun j small less;
+  runs = runs_stay m _ _ ends (λ j small closed. sym (alike j small).open_count ∙ closed) h.runs;
 }
 
 -- one slot is another one
 pub counts_moved : (m : Membership) (slots new : List (Option SlotState)) (rs : List (List Span)) (low next i : ℕ)
-    (tallies more : List Tally) (lows : List ℕ) (s r : SlotState) → known_at m slots rs i ≡ s → known_at m new rs i ≡ r
+    (tallies more : List Tally) (ends : List ℕ) (s r : SlotState) → known_at m slots rs i ≡ s → known_at m new rs i ≡ r
     → ((j : ℕ) → (j ≡ i → ⊥) → known_at m slots rs j ≡ known_at m new rs j)
     → (is_none s.learned ≡ false → is_none r.learned ≡ false)
     → ((q : ℕ) → tally_of more q
     ≡ cond (eqb q (owner m i)) (moved m i (tally_of tallies q) s r) (tally_of tallies q))
-    → IsSound m new rs next → IsKnown m slots rs low tallies lows → IsKnown m new rs next more lows
-counts_moved m slots new rs low next i tallies more lows s r was is rest stays moves sound h = record {
+    → IsSound m new rs next → IsKnown m slots rs low tallies ends → IsKnown m new rs next more ends
+counts_moved m slots new rs low next i tallies more ends s r was is rest stays moves sound h = record {
   sound = sound;
   counted = λ q. subst (IsTally m (known_at m new rs) q) (sym (moves q)) (⊎_elim
       (λ (own : owner m i ≡ q).
@@ -559,27 +560,27 @@ counts_moved m slots new rs low next i tallies more lows s r was is rest stays m
       (tally_alike m (known_at m slots rs) (known_at m new rs) q (tally_of tallies q)
       (λ j small own. alike_same m _ _ (rest j (λ e. other (ap (owner m) (sym e) ∙ own)))) (h.counted q)))
       (cases_eq (owner m i) q));
-  begun = λ j small less. ⊎_elim
+  runs = runs_stay m _ _ ends (λ j small closed. ⊎_elim
       (λ (at : j ≡ i).
       let here : known_at m new rs j ≡ r = ap (known_at m new rs) at ∙ is in
       let before : known_at m slots rs j ≡ s = ap (known_at m slots rs) at ∙ was in
       ap (λ (x : SlotState). is_none x.learned) here
-      ∙ stays (sym (ap (λ (x : SlotState). is_none x.learned) before) ∙ h.begun j small less))
+      ∙ stays (sym (ap (λ (x : SlotState). is_none x.learned) before) ∙ closed))
       (λ (off : j ≡ i → ⊥).
-      sym (ap (λ (x : SlotState). is_none x.learned) (rest j off)) ∙ h.begun j small less)
-      (cases_eq j i);
+      sym (ap (λ (x : SlotState). is_none x.learned) (rest j off)) ∙ closed)
+      (cases_eq j i)) h.runs;
 }
 
 -- one server's instances are counted anew, or further, and those of the others are as before
 pub counts_put : (m : Membership) (slots new : List (Option SlotState)) (rs ranges : List (List Span)) (low next : ℕ)
-    (tallies more : List Tally) (lows : List ℕ) (p : ℕ) → IsSound m new ranges next
+    (tallies more : List Tally) (ends : List ℕ) (p : ℕ) → IsSound m new ranges next
     → ((j : ℕ) → j < instance_count → (owner m j ≡ p → ⊥) → IsAlike m (known_at m slots rs j) (known_at m new ranges j))
     → ((j : ℕ) → j < instance_count → is_none (known_at m slots rs j).learned ≡ false
     → is_none (known_at m new ranges j).learned ≡ false)
     → IsTally m (known_at m new ranges) p (tally_of more p)
     → ((q : ℕ) → (q ≡ p → ⊥) → tally_of more q ≡ tally_of tallies q)
-    → IsKnown m slots rs low tallies lows → IsKnown m new ranges next more lows
-counts_put m slots new rs ranges low next tallies more lows p sound alike stays here rest h = record {
+    → IsKnown m slots rs low tallies ends → IsKnown m new ranges next more ends
+counts_put m slots new rs ranges low next tallies more ends p sound alike stays here rest h = record {
   sound = sound;
   counted = λ q. ⊎_elim
       (λ (at : q ≡ p). subst (λ q. IsTally m (known_at m new ranges) q (tally_of more q)) (sym at) here)
@@ -588,26 +589,11 @@ counts_put m slots new rs ranges low next tallies more lows p sound alike stays 
       (tally_alike m (known_at m slots rs) (known_at m new ranges) q (tally_of tallies q)
       (λ j small own. alike j small (λ e. off (sym own ∙ e))) (h.counted q)))
       (cases_eq q p);
-  begun = λ j small less. stays j small (h.begun j small less);
+  runs = runs_stay m _ _ ends stays h.runs;
 }
 
--- one server's place moves on, over instances that are learned
-pub lows_put : (m : Membership) (slots : List (Option SlotState)) (rs : List (List Span)) (low : ℕ)
-    (tallies : List Tally) (lows more : List ℕ) (p first : ℕ)
-    → ((q : ℕ) → low_of more q ≡ cond (eqb q p) first (low_of lows q))
-    → ((j : ℕ) → j < first → owner m j ≡ p → j < instance_count → is_none (known_at m slots rs j).learned ≡ false)
-    → IsKnown m slots rs low tallies lows → IsKnown m slots rs low tallies more
-lows_put m slots rs low tallies lows more p first puts below h = record {
-  sound = h.sound;
-  counted = h.counted;
-  begun = λ j small less. ⊎_elim
-      (λ (at : owner m j ≡ p).
-      let here : low_of more (owner m j) ≡ first =
-      puts (owner m j) ∙ ap (λ bit. cond bit first (low_of lows (owner m j))) (eq-eqb (owner m j) p at) in
-      below j (omega (arith, less, here)) at small)
-      (λ (off : owner m j ≡ p → ⊥).
-      let here : low_of more (owner m j) ≡ low_of lows (owner m j) =
-      puts (owner m j) ∙ ap (λ bit. cond bit first (low_of lows (owner m j))) (ne_eqb (owner m j) p off) in
-      h.begun j small (omega (arith, less, here)))
-      (cases_eq (owner m j) p);
-}
+-- other runs are kept
+pub runs_kept : (m : Membership) (slots : List (Option SlotState)) (rs : List (List Span)) (low : ℕ)
+    (tallies : List Tally) (ends more : List ℕ) → AreRuns m (λ j. is_none (known_at m slots rs j).learned) more
+    → IsKnown m slots rs low tallies ends → IsKnown m slots rs low tallies more
+runs_kept m slots rs low tallies ends more runs h = record { sound = h.sound; counted = h.counted; runs = runs }

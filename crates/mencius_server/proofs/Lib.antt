@@ -33,4 +33,6 @@ pub mod SuggestionCases
 pub mod Addresses
 pub mod InstanceTallies
 pub mod SkipTallies
+pub mod LearnedRuns
+pub mod FirstPhaseLoop
 pub mod SuspicionReach

@@ -1,7 +1,7 @@
 -- The instances of a server at which a suspicion may begin.
-use Rattle.std.proofs.Common.{◌≡◌, ℕ, ◌+◌, ◌<◌, ◌≤◌, Bool, true, false, ◌&&◌, not, List, Option, None, Some, refl, sym, ◌∙◌, ap, subst, arith, ⊎_elim}
+use Rattle.std.proofs.Common.{◌≡◌, ℕ, ◌<◌, ◌≤◌, Bool, true, false, ◌&&◌, not, List, Option, None, Some, refl, sym, ◌∙◌, ap, subst, arith, ⊎_elim}
 use Rattle.std.specs.Prelude.{is_none}
-use Rattle.std.proofs.lemmas.Bool.{and_left, and_right, cases_eq, cases_lt, eq-eqb, lt-ltb, ne_eqb}
+use Rattle.std.proofs.lemmas.Bool.{and_left, cases_eq, cases_lt, eq-eqb, lt-ltb, ne_eqb}
 use Rattle.mencius_base.specs.Members.{Membership, owner}
 use Rattle.coord_paxos.specs.SlotState.{SlotState}
 use Rattle.mencius_server.specs.Machine.{is_covered_in}
@@ -12,24 +12,17 @@ use Rattle.mencius_server.specs.Tallies.{IsOpenStretch}
 use Rattle.mencius_server.specs.declared.ranges.Span.{Span}
 use Rattle.mencius_server.specs.declared.stretch.Stretch.{Stretch}
 use Rattle.mencius_server.proofs.InstanceGaps.{skipped_here, unowned, unrevoked_other, unrevoked_past, unskipped_before, unskipped_other, unskipped_past}
-use Rattle.mencius_server.proofs.KnownInstances.{seen, seen_none, seen_some}
+use Rattle.mencius_server.proofs.KnownInstances.{seen_none, seen_some}
 use Rattle.mencius_base.specs.Limits.{instance_count}
 
--- before a server's least instance from the least unlearned one on, none is open
-pub open_before : (m : Membership) (slots : List (Option SlotState))
-    (rs : List (List Span)) (low : ℕ) (now : KnownState) → known_of m slots rs ≡ now → IsSound m slots rs low
-    → (q reach first : ℕ) → ((i : ℕ) → low ≤ i → owner m i ≡ q → first ≤ i) → first < low + m.count
+-- before a server's least instance none is open
+pub open_before : (m : Membership) (slots : List (Option SlotState)) (rs : List (List Span)) (now : KnownState)
+    → known_of m slots rs ≡ now → (q reach first : ℕ) → ((i : ℕ) → 0 ≤ i → owner m i ≡ q → first ≤ i)
     → (j : ℕ) → j < first → is_open now q reach j ≡ false
-open_before m slots rs low now shown sound q reach first least near j high =
+open_before m slots rs now shown q reach first least j high =
     let members : m ≡ now.members = ap (λ (x : KnownState). x.members) shown in
     subst (λ n. is_covered_in n q reach j (known_slot now j) ≡ false) members
-    (⊎_elim
-    (λ (before : j < low).
-    let small : j < instance_count = omega (arith, sound.small) in
-    and_right _ _ (ap (λ (s : SlotState). is_none s.learned) (seen m slots rs now shown j small)
-    ∙ sound.known j before))
-    (λ (from : low ≤ j). unrevoked_other m q reach j (known_slot now j) (unowned m q low first least j from high))
-    (cases_lt j low))
+    (unrevoked_other m q reach j (known_slot now j) (unowned m q 0 first least j (omega arith) high))
 
 -- where no slot stands, an instance is open unless a range has it
 pub open_slotless : (m : Membership) (a : Bool) → is_none (slotless m a).learned ≡ not a

@@ -5,6 +5,7 @@ use Rattle.std.specs.List.{count_by}
 use Rattle.std.specs.Option.{option_map}
 use Rattle.std.proofs.lemmas.Bool.{cases_Bool, cases_eq, cases_lt, eq-eqb, ne_eqb, and_left, and_right}
 use Rattle.mencius_base.specs.declared.message.Value.TheVariants.{Noop}
+use Rattle.mencius_base.specs.Limits.{instance_count}
 use Rattle.mencius_base.specs.Members.{below, owner}
 use Rattle.mencius_model.proofs.NumberLists.{count_by-below_le, count_by-below_more}
 use Rattle.coord_paxos.specs.SlotState.{SlotState}
@@ -37,6 +38,21 @@ out_between a i next own least j low high =
     unskipped_other a.members a.server a.first a.stop j
     (unowned a.members a.server (i + 1) next (λ j l mine. least j l (mine ∙ sym own)) j low high)
 
+-- whatever fails outside of a stretch, and at a server's instances from one of them up to a place, fails up to there
+pub along_run : (a : Stretch) (i end : ℕ) (test : ℕ → Bool) → ((j : ℕ) → is_in a j ≡ false → test j ≡ false)
+    → owner a.members i ≡ a.server → a.stop ≤ instance_count
+    → ((j : ℕ) → i ≤ j → j < end → owner a.members j ≡ owner a.members i → j < instance_count → test j ≡ false)
+    → (j : ℕ) → i ≤ j → j < end → test j ≡ false
+along_run a i end test outside own small along j from less = ⊎_elim
+    (λ (mine : owner a.members j ≡ owner a.members i). ⊎_elim
+    (λ (within : j < a.stop). along j from less mine (omega (arith, within, small)))
+    (λ (past : a.stop ≤ j). outside j (out_past a j past))
+    (cases_lt j a.stop))
+    (λ (other : owner a.members j ≡ owner a.members i → ⊥).
+    outside j (unskipped_other a.members a.server a.first a.stop j
+    (ne_eqb (owner a.members j) a.server (λ e. other (e ∙ sym own)))))
+    (cases_eq (owner a.members j) (owner a.members i))
+
 -- ---- what a loop makes of the slots
 
 -- at the instances before i the slots are as f makes them, and from there on they are the old ones
@@ -61,6 +77,16 @@ module _ (f : ℕ → Option SlotState → Option SlotState) (old : ℕ → Opti
         (cases_eq j i))
         (cases_lt j i);
     rest = λ j low. let from : i ≤ j = omega arith in away j (λ at. absurd (omega arith)) ∙ h.rest j from;
+  }
+
+  pub walked_on : (now : ℕ → Option SlotState) (i next : ℕ) → i ≤ next
+      → ((j : ℕ) → i ≤ j → j < next → f j (old j) ≡ old j) → IsWalked f old now i → IsWalked f old now next
+  walked_on now i next ahead none h = record {
+    done = λ j less. ⊎_elim
+        (λ (low : j < i). h.done j low)
+        (λ (from : i ≤ j). h.rest j from ∙ sym (none j from less))
+        (cases_lt j i);
+    rest = λ j low. h.rest j (omega (arith, ahead, low));
   }
 
   pub walked_all : (new : ℕ → Option SlotState) (i : ℕ) → ((j : ℕ) → i ≤ j → f j (old j) ≡ old j)
@@ -206,6 +232,18 @@ pub made_no : {X : Type 0} (a d : Bool) (x y : X) → d ≡ false → y ≡ cond
 made_no true d x y e = rw e refl
 made_no false d x y e = refl
 
+-- past instances at which none is lacking
+pub leapt : (a : Stretch) (rs : List Span) (old now : List (Option SlotState)) (i next : ℕ) → i ≤ next
+    → ((j : ℕ) → i ≤ j → j < next → is_lacking a rs old j ≡ false)
+    → IsWalked (stood_at a rs) (stand_at old) (stand_at now) i
+    → (room : ℕ) → HasRoomFrom (is_lacking a rs old) a.stop room i
+    → IsWalked (stood_at a rs) (stand_at old) (stand_at now) next × HasRoomFrom (is_lacking a rs old) a.stop room next
+leapt a rs old now i next ahead none walked room has = (
+  walked_on (stood_at a rs) (stand_at old) (stand_at now) i next ahead
+      (λ j l h. stood_none a rs old j (none j l h)) walked,
+  room_gap (is_lacking a rs old) a.stop room i next ahead none has,
+)
+
 module _ (a : Stretch) (rs : List Span) (old : List (Option SlotState)) (now : List (Option SlotState)) (i next : ℕ)
     (own : owner a.members i ≡ a.server) (low : a.first ≤ i) (high : i < a.stop) (ahead : i + 1 ≤ next)
     (least : (j : ℕ) → i + 1 ≤ j → owner a.members j ≡ owner a.members i → next ≤ j)
@@ -260,21 +298,12 @@ module _ (a : Stretch) (rs : List Span) (old : List (Option SlotState)) (now : L
   pub stands_whole : is_none (stand_at now i) ≡ false → is_lacking a rs old i ≡ false
   stands_whole some = and_right (is_in a i) _ (and_right (not (covers rs i)) _ (ap is_none (sym start) ∙ some))
 
-  module _ (whole : is_lacking a rs old i ≡ false) where
-    passed_walked : IsWalked (stood_at a rs) (stand_at old) (stand_at now) next
-    passed_walked = walked_more (stood_at a rs) (stand_at old) (stand_at now) (stand_at now) i next ahead between
-        (start ∙ sym (stood_none a rs old i whole) ∙ ap (stood_at a rs i) (sym start)) (λ j off. refl) walked
-
-    passed_room : HasRoomFrom (is_lacking a rs old) a.stop (cap - len) next
-    passed_room = room_gap (is_lacking a rs old) a.stop (cap - len) i next (omega arith)
-        (λ j l h. ⊎_elim
-        (λ (at : j ≡ i). ap (is_lacking a rs old) at ∙ whole)
-        (λ (off : j ≡ i → ⊥). gap j (omega arith) h)
-        (cases_eq j i)) room
-
-    pub passed : IsWalked (stood_at a rs) (stand_at old) (stand_at now) next
-        × HasRoomFrom (is_lacking a rs old) a.stop (cap - len) next
-    passed = (passed_walked, passed_room)
+  pub passed : is_lacking a rs old i ≡ false → IsWalked (stood_at a rs) (stand_at old) (stand_at now) next
+      × HasRoomFrom (is_lacking a rs old) a.stop (cap - len) next
+  passed whole = leapt a rs old now i next (omega (arith, ahead)) (λ j l h. ⊎_elim
+      (λ (at : j ≡ i). ap (is_lacking a rs old) at ∙ whole)
+      (λ (off : j ≡ i → ⊥). gap j (omega (arith, l, off)) h)
+      (cases_eq j i)) walked (cap - len) room
 
 -- a count of none
 pub none_of_all : (test : ℕ → Bool) (n : ℕ) → count_by test (below n) ≤ 0 → (j : ℕ) → j < n → test j ≡ false

@@ -13,7 +13,8 @@ use Rattle.coord_paxos.specs.SlotState.{SlotState}
 use Rattle.coord_paxos.specs.Fresh.{new_slot}
 use Rattle.mencius_server.specs.Machine.{is_spent, next_prepare, round_after, with_next_phase}
 use Rattle.mencius_server.specs.Ranges.{covers}
-use Rattle.mencius_server.specs.Slots.{begun, begun_at, is_begun, is_in, is_lacking, is_unlearned, prepare_of, stand_at, stood_at}
+use Rattle.mencius_server.specs.Runs.{AreRuns}
+use Rattle.mencius_server.specs.Slots.{PassesRuns, begun, begun_at, is_begun, is_in, is_lacking, is_unlearned, prepare_of, stand_at, stood_at}
 use Rattle.mencius_server.specs.Known.{IsSound, KnownState, has_slot, is_open, is_open_in, is_passed, known_after_suspect, known_at, known_begun, known_of, known_prepare, known_slot, known_stood, prepares, prepares_in, slotless}
 use Rattle.mencius_server.specs.Tallies.{IsOpenStretch}
 use Rattle.mencius_server.specs.declared.ranges.Span.{Span}
@@ -23,6 +24,8 @@ use Rattle.mencius_server.proofs.InstanceGaps.{unskipped_other, unskipped_past}
 use Rattle.mencius_server.proofs.KnownInstances.{known_there, same_known, seen, seen_none, seen_some, seen_stands}
 use Rattle.mencius_server.proofs.OpenInstances.{open_same, open_slotless}
 use Rattle.mencius_server.proofs.InstanceTallies.{IsAlike, alike_same, count_less}
+use Rattle.mencius_server.proofs.LearnedRuns.{runs_of, runs_stay}
+use Rattle.mencius_server.proofs.SuspicionReach.{clash}
 use Rattle.mencius_base.specs.Limits.{greatest_round, instance_count}
 
 -- what lies in a stretch is its server's, and below its end
@@ -31,10 +34,6 @@ in_own a j e = sym (eqb-true _ _ (and_parts _ _ (and_parts _ _ e).0).0)
 
 in_low : (a : Stretch) (j : ℕ) → is_in a j ≡ true → j < a.stop
 in_low a j e = ltb-true j a.stop (and_parts _ _ e).1
-
-clash : (a : Bool) → a ≡ true → a ≡ false → ⊥
-clash true e fails = cc
-clash false e fails = cc
 
 -- messages for the instances that pass, where tests and messages are the same
 sent_same : (f g : ℕ → Message) (a test : ℕ → Bool) (n : ℕ) → ((j : ℕ) → j < n → a j ≡ test j)
@@ -103,6 +102,19 @@ module _ (m : Membership) (slots : List (Option SlotState)) (rs : List (List Spa
         sym (open_bare j l e) ∙ ap (λ z. z && not (covers r j)) parts.0 ∙ clear
     lacking_open j l (Some s) e h =
         absurd (clash (is_none (stand_at slots j)) (and_parts _ _ (and_parts _ _ h).1).1 (ap is_none e))
+
+    -- nowhere along runs of learned instances one is lacking
+    pub lacking_runs : (ends : List ℕ) → AreRuns m (λ j. is_none (known_at m slots rs j).learned) ends
+        → AreRuns a.members (is_lacking a r slots) ends
+    lacking_runs ends known = runs_stay _ _ _ _ whole (runs_of _ _ _ _ (sym members) known)
+      where
+        whole : (j : ℕ) → j < instance_count → is_none (known_at m slots rs j).learned ≡ false
+            → is_lacking a r slots j ≡ false
+        whole j l learned = elim (cases_Bool (is_lacking a r slots j)) [
+          | inl lacks ↦ absurd (clash _ (and_parts _ _ (lacking_open j l (stand_at slots j) refl lacks)).1
+              (ap (λ (s : SlotState). is_none s.learned) (seen m slots rs now shown j l) ∙ learned))
+          | inr none ↦ none
+        ]
 
     pub lacking_count : count_by (is_lacking a r slots) (below a.stop) ≤ count_by (is_open_in now a) (below a.stop)
     lacking_count =
@@ -197,6 +209,17 @@ module _ (m : Membership) (slots : List (Option SlotState)) (rs : List (List Spa
           | inl z ↦ absurd (clash (has_slot now j) (stand j l z) (seen_stands m slots rs now shown j l ∙ ap is_some e))
           | inr z ↦ z
         ])
+
+    -- where something was learned, none is started
+    closed_known : (j : ℕ) → j < instance_count → is_none (known_at m slots rs j).learned ≡ false
+        → is_begun a slots j ≡ false
+    closed_known j l learned =
+        begun_is j l (stand_at slots j) refl
+        ∙ and_right _ _ (ap (λ (s : SlotState). is_none s.learned) (seen m slots rs now shown j l) ∙ learned)
+
+    pub begun_runs : (ends : List ℕ) → AreRuns m (λ j. is_none (known_at m slots rs j).learned) ends
+        → AreRuns a.members (is_begun a slots) ends
+    begun_runs ends known = runs_stay _ _ _ _ closed_known (runs_of _ _ _ _ (sym members) known)
 
     pub begun_count : count_by (is_begun a slots) (below a.stop) ≡ count_by (is_open_in now a) (below a.stop)
     begun_count =
@@ -315,6 +338,26 @@ module _ (m : Membership) (slots : List (Option SlotState)) (rs : List (List Spa
               ≡ is_none (known_slot now j).learned
           kept true = refl
           kept false = refl
+
+      -- the runs that were passed are of learned instances
+      pub begun_passed : (old ends : List ℕ) → PassesRuns a slots old ends
+          → AreRuns m (λ j. is_none (known_at m slots rs j).learned) old
+          → AreRuns m (λ j. is_none (known_at m new rs j).learned) ends
+      begun_passed old ends passes known =
+          runs_of _ _ opens ends members
+          (passes opens (runs_of _ _ opens old (sym members)
+          (runs_stay _ _ opens old (λ j l learned. begun_learned j l ∙ learned) known)) closed)
+        where
+          opens : ℕ → Bool
+          opens j = is_none (known_at m new rs j).learned
+
+          closed : (j : ℕ) → is_in a j ≡ true → is_unlearned (stand_at slots j) ≡ false
+              → is_none (known_at m new rs j).learned ≡ false
+          closed j inside off =
+              let l = in_small j inside in
+              begun_learned j l ∙ ap (λ (s : SlotState). is_none s.learned) (sym (seen m slots rs now shown j l))
+              ∙ ap (λ bit. bit && is_none (known_slot now j).learned) (sym inside)
+              ∙ sym (begun_is j l (stand_at slots j) refl) ∙ and_right _ _ off
 
       -- where no first phase is in the last round, as many instances are open, and none of them is spent
       module _ (rounds : (j : ℕ) → j < instance_count → is_open_in now a j ≡ true

@@ -1,5 +1,5 @@
 -- How far a suspicion reaches, by the least instance that is not learned.
-use Rattle.std.proofs.Common.{◌≡◌, ℕ, ◌+◌, ◌*◌, ◌<◌, ◌≤◌, Bool, true, false, ◌&&◌, List, Option, None, Some, min, refl, sym, ◌∙◌, ap, subst, arith, ⊎_elim}
+use Rattle.std.proofs.Common.{◌≡◌, ℕ, ◌+◌, ◌*◌, ◌<◌, ◌≤◌, Bool, true, false, List, Option, None, Some, min, refl, sym, ◌∙◌, ap, arith, ⊎_elim}
 use Rattle.std.specs.Prelude.{is_none}
 use Rattle.std.specs.List.{find}
 use Rattle.std.proofs.lemmas.Bool.{and_left, and_right, cases_eq, cases_lt, eq-eqb, le-ltb, lt-ltb, ne_eqb}
@@ -12,7 +12,7 @@ use Rattle.mencius_server.specs.Known.{KnownState, is_known_open, known_at, know
 use Rattle.mencius_server.specs.declared.ranges.Span.{Span}
 use Rattle.mencius_server.proofs.KnownInstances.{seen}
 
-clash : (a : Bool) → a ≡ true → a ≡ false → ⊥
+pub clash : (a : Bool) → a ≡ true → a ≡ false → ⊥
 clash true e fails = cc
 clash false e fails = cc
 

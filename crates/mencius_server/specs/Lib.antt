@@ -8,7 +8,7 @@ pub mod Laws
 pub mod Ranges
 pub mod Stretches
 pub mod Places
-pub mod Lows
+pub mod Runs
 pub mod Slots
 pub mod Lending
 pub mod Changes

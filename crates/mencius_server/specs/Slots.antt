@@ -1,5 +1,5 @@
 -- What the calls on the slots that stand make of them: a is a stretch, rs are ranges, and ss slots by instance.
-use Rattle.std.specs.Prelude.{Bool, false, List, [], ◌∷◌, Option, None, Some, if◌then◌else◌, ◌&&◌, is_none, not, slice_index_or, unwrap_or}
+use Rattle.std.specs.Prelude.{◌≡◌, Bool, true, false, List, [], ◌∷◌, Option, None, Some, if◌then◌else◌, ◌&&◌, is_none, not, slice_index_or, unwrap_or}
 use Rattle.std.specs.Option.{option_map}
 use Rattle.mencius_base.specs.declared.message.Message.{Message}
 use Rattle.mencius_base.specs.Members.{Membership}
@@ -8,6 +8,7 @@ use Rattle.coord_paxos.specs.SlotState.{SlotState}
 use Rattle.coord_paxos.specs.Fresh.{new_slot}
 use Rattle.mencius_server.specs.Machine.{is_skipped, next_prepare, slot_given, with_next_phase}
 use Rattle.mencius_server.specs.Ranges.{covers}
+use Rattle.mencius_server.specs.Runs.{AreRuns}
 use Rattle.mencius_server.specs.declared.ranges.Span.{Span}
 use Rattle.mencius_server.specs.declared.stretch.Stretch.{Stretch}
 
@@ -44,6 +45,14 @@ stood_at a rs j None = if is_in a j && not (covers rs j) then Some (new_slot a.m
 -- one of a stretch at which a slot stands that has learned nothing
 abbrev pub is_begun : Stretch → List (Option SlotState) → Inst → Bool
 is_begun a ss j = is_in a j && is_unlearned (stand_at ss j)
+
+-- runs that lead over no more than runs did before, but for instances of a stretch at which no slot stands that has
+-- learned nothing
+abbrev pub PassesRuns : Stretch → List (Option SlotState) → List Inst → List Inst → Type 0
+PassesRuns a ss old new =
+    (opens : Inst → Bool) → AreRuns a.members opens old
+    → ((j : Inst) → is_in a j ≡ true → is_unlearned (stand_at ss j) ≡ false → opens j ≡ false)
+    → AreRuns a.members opens new
 
 -- a first phase is started where nothing was learned
 abbrev pub begun : Membership → ServerId → SlotState → SlotState

@@ -9,7 +9,7 @@ use Rattle.coord_paxos.specs.SlotState.{SlotState}
 use Rattle.mencius_model.specs.Next.{first_cause}
 use Rattle.mencius_server.specs.Machine.{is_spent, revocation_causes}
 use Rattle.mencius_server.specs.Known.{IsSound, KnownState, is_open, is_passed, is_round_full_at, known_at}
-use Rattle.mencius_server.specs.Lows.{low_of}
+use Rattle.mencius_server.specs.Runs.{AreRuns}
 use Rattle.mencius_server.specs.Stretches.{IsStretch}
 use Rattle.mencius_server.specs.declared.stretch.Stretch.{Stretch}
 use Rattle.mencius_server.specs.declared.ranges.Span.{Span}
@@ -99,10 +99,9 @@ pub record IsOpenStretch (s : KnownState) (q : ServerId) (reach : Inst) (a : Str
   pub stop : a.stop ≡ min reach instance_count
   pub before : (j : Inst) → j < a.first → is_open s q reach j ≡ false
 
--- what is known, what was counted of it, and for each server a place below which all of its instances are learned
+-- what is known, what was counted of it, and runs of learned instances
 pub record IsKnown (m : Membership) (slots : List (Option SlotState)) (rs : List (List Span)) (low : Inst)
-    (tallies : List Tally) (lows : List Inst) : Type 0 where
+    (tallies : List Tally) (ends : List Inst) : Type 0 where
   pub sound : IsSound m slots rs low
   pub counted : (q : ServerId) → IsTally m (known_at m slots rs) q (tally_of tallies q)
-  pub begun : (j : Inst) → j < instance_count → j < low_of lows (owner m j)
-      → is_none (known_at m slots rs j).learned ≡ false
+  pub runs : AreRuns m (λ j. is_none (known_at m slots rs j).learned) ends

@@ -8,21 +8,21 @@ ghost use Rattle.mencius_server.specs.Glances.{glance_of};
 ghost use Rattle.mencius_server.specs.Known.{IsSorted, has_slot, is_given_in, is_open, is_open_in, is_passed, known_after_skip, known_after_suggest, known_after_suspect, known_at, known_begun, known_given, known_reach, known_slot, known_standing, known_stood, new_known, prepares, prepares_in, slotless, with_known};
 ghost use Rattle.mencius_server.specs.Machine.{round_after};
 ghost use Rattle.mencius_server.specs.Ranges.{IsOwned, IsRising, covers, is_within};
-ghost use Rattle.mencius_server.specs.Slots.{given, known_by_slot, stand_at};
+ghost use Rattle.mencius_server.specs.Runs.{AreRuns};
+ghost use Rattle.mencius_server.specs.Slots.{given, stand_at};
 ghost use Rattle.mencius_server.specs.Stretches.{IsStretch};
-ghost use Rattle.mencius_server.specs.Tallies.{IsOpenStretch, IsSurvey, IsTally, IsTallyFrom, IsTold, tallied, tally_of};
-ghost use Rattle.mencius_server.specs.declared.tally.Tally.{Tally};
+ghost use Rattle.mencius_server.specs.Tallies.{IsOpenStretch, IsSurvey};
 ghost use Rattle.std.specs.List.{count_by};
 ghost use Rattle.std.specs.Option.{option_map};
 ghost use Rattle.std.specs.Prelude.{◌≡◌, ℕ, ◌+◌, ◌<◌, ◌≤◌, ◌++◌, ◌||◌, [], false, true, None, Some, is_none, length, slice_index_or, IfOk, OnErr, OnOk};
 
 use crate::change::Change;
 use crate::glance::{Glance, glance_at};
-use crate::lows::Lows;
 use crate::ranges::Ranges;
+use crate::runs::Runs;
 use crate::slots::{Slots, blank};
 use crate::stretch::{Stretch, next_owned};
-use crate::tally::{Tallies, Tally};
+use crate::tally::{Tallies, Tally, retally_changed, tally_from, tally_given};
 use coord_paxos::{Answer, Slot};
 use mencius_base::{Ballot, INSTANCES, Members, NoMemory, Outbox, Value, Vote};
 use std::alloc::Global;
@@ -42,8 +42,8 @@ pub(crate) struct Known {
     learned_below: u32,
     // What suspicions would revoke, as far as it was asked.
     tallies: Tallies,
-    // Where suspicions would begin, as far as it was asked.
-    lows: Lows,
+    // Runs of learned instances, as far as suspicions passed them.
+    runs: Runs,
 }
 
 impl Model for Known {
@@ -54,7 +54,7 @@ impl Model for Known {
 
     ghost view = { λ s. known_of s.members s.slots s.skipped.items };
 
-    ghost invariant = { λ s. IsKnown s.members s.slots s.skipped.items s.learned_below s.tallies s.lows };
+    ghost invariant = { λ s. IsKnown s.members s.slots s.skipped.items s.learned_below s.tallies s.runs };
 }
 
 impl Known {
@@ -63,13 +63,14 @@ impl Known {
         ensures ok { IfOk result (λ s. s ≡ new_known members) }
     {
         let skipped = no_ranges(alloc, members)?;
+        let runs = Runs::new(alloc)?;
         Ok(Known {
             members,
             slots: Slots::new(alloc),
             skipped,
             learned_below: 0,
             tallies: Tallies::new(),
-            lows: Lows::new(),
+            runs,
         })
     }
 
@@ -268,8 +269,8 @@ impl Known {
     /// How far a suspicion of a server reaches from a front: to the place past twice beta from there, if its least
     /// instance that is not learned is below beta from there, and else nowhere.
     ///
-    /// It looks for that instance from where the last call found it, since what was learned stays learned. So all calls
-    /// together look at each instance once, and each of them at one more.
+    /// It leaps over the run of learned instances that the last call found, since what was learned stays learned. So
+    /// all calls together look at each instance once, and each of them at one more.
     pub(crate) fn reach(&mut self, suspected: u8, front: u32) -> u32
         requires suspected { suspected < self.old.members.count }
         requires near { front ≤ greatest_front }
@@ -281,14 +282,9 @@ impl Known {
         let _few = members.count();
         let beta = members.beta();
         let near = (front + beta).min(INSTANCES);
-        let low = self
-            .lows
-            .get(suspected)
-            .max(self.learned_below)
-            .min(INSTANCES);
-        let from = members.first_owned(suspected, low);
-        let first = open_from(&self.slots, &self.skipped, members, from, near);
-        self.lows.put(suspected, first);
+        let from = members.first_owned(suspected, 0);
+        let runs = &mut self.runs;
+        let first = open_from(&self.slots, &self.skipped, runs, members, from, near);
         if first < near {
             front + 2 * beta + 1
         } else {
@@ -363,7 +359,8 @@ impl Known {
     {
         let server = stretch.server;
         let skipped = &self.skipped[server as usize];
-        self.slots.stand_all(*stretch, skipped, open_count)?;
+        self.slots
+            .stand_all(*stretch, skipped, &self.runs, open_count)?;
         Ok(())
     }
 
@@ -385,7 +382,7 @@ impl Known {
     {
         let members = self.members;
         let server = stretch.server;
-        let is_last = self.slots.begin_all(*stretch, id, out);
+        let is_last = self.slots.begin_all(*stretch, id, &mut self.runs, out);
         retally_changed(
             &self.slots,
             &self.skipped,
@@ -396,13 +393,13 @@ impl Known {
         );
     }
 
-    // A server's instances from the least on that may not be learned, before a place.
+    // A server's instances before a place.
     fn open_stretch(&self, suspected: u8, reach: u32) -> Stretch
         requires { suspected < self.now.members.count }
         ensures { IsOpenStretch self.now suspected reach result }
     {
         let members = self.members;
-        let first = members.first_owned(suspected, self.learned_below);
+        let first = members.first_owned(suspected, 0);
         Stretch {
             members,
             server: suspected,
@@ -489,141 +486,37 @@ fn learned_from(slots: &Slots, skipped: &Vec<Ranges>, members: Members, from: u3
 }
 
 // A server's least instance from one of its own on that is not learned, or one that is not below the end.
-fn open_from(slots: &Slots, skipped: &Vec<Ranges>, members: Members, from: u32, stop: u32) -> u32
+//
+// It leaps over the runs of learned instances that are known, and keeps the one that it finds.
+fn open_from(
+    slots: &Slots,
+    skipped: &Vec<Ranges>,
+    runs: &mut Runs,
+    members: Members,
+    from: u32,
+    stop: u32,
+) -> u32
     requires sorted { IsSorted members skipped.now.items }
     requires near { from ≤ greatest_front }
     requires small { stop ≤ instance_count }
+    requires runs { AreRuns members
+        (λ j. is_none (known_at members slots.now skipped.now.items j).learned) runs.old }
     ensures owned { owner members result ≡ owner members from }
-    ensures near { result ≤ greatest_front }
     ensures known { (j : ℕ) → from ≤ j → j < result → owner members j ≡ owner members from
         → j < instance_count → is_none (known_at members slots.now skipped.now.items j).learned ≡ false }
     ensures least { result < stop
         → is_none (known_at members slots.now skipped.now.items result).learned ≡ true }
+    ensures runs { AreRuns members
+        (λ j. is_none (known_at members slots.now skipped.now.items j).learned) runs.new }
 {
     let mut inst = from;
     while inst < stop && learned_at(slots, skipped, members, inst).is_some() {
-        inst = next_owned(members, inst);
+        inst = runs.past(inst, next_owned(members, inst));
+    }
+    if from < stop {
+        runs.put(from, inst);
     }
     inst
-}
-
-// Counts a server's instances between two places.
-//
-// It jumps over the ranges, and goes from one instance to the next where there is none.
-fn tally_from(
-    slots: &Slots,
-    skipped: &Vec<Ranges>,
-    members: Members,
-    server: u8,
-    first: u32,
-    stop: u32,
-) -> Tally
-    requires sorted { IsSorted members skipped.now.items }
-    requires told { IsTold members slots.now skipped.now.items }
-    requires member { server < members.count }
-    requires ahead { first ≤ stop }
-    requires small { stop ≤ instance_count }
-    ensures counted { IsTallyFrom members (known_at members slots.now skipped.now.items)
-        server first result }
-    ensures stop { result.stop ≡ stop }
-{
-    let ranges = &skipped[server as usize];
-    let mut tally = Tally {
-        stop: first,
-        open_count: 0,
-        full_count: 0,
-    };
-    while tally.stop < stop {
-        let past = ranges.past(tally.stop).min(stop);
-        let end = ranges.clear_to(past, stop);
-        tally = tally.plus(tally_slots(slots, members, server, past, end));
-    }
-    tally
-}
-
-// Counts a server's instances between two places where no range has any.
-fn tally_slots(slots: &Slots, members: Members, server: u8, first: u32, stop: u32) -> Tally
-    requires member { server < members.count }
-    requires ahead { first ≤ stop }
-    requires small { stop ≤ instance_count }
-    ensures counted { IsTallyFrom members (known_by_slot members slots.now) server first result }
-    ensures stop { result.stop ≡ stop }
-{
-    let mut tally = Tally {
-        stop,
-        open_count: 0,
-        full_count: 0,
-    };
-    let mut inst = members.first_owned(server, first);
-    while inst < stop {
-        tally = tally_slot(slots, members, inst, tally);
-        inst = next_owned(members, inst);
-    }
-    tally
-}
-
-// Counts one instance more, which no range has.
-fn tally_slot(slots: &Slots, members: Members, inst: u32, tally: Tally) -> Tally
-    requires small { inst < instance_count }
-    requires few { tally.open_count ≤ instance_count }
-    requires fewer { tally.full_count ≤ instance_count }
-    ensures { result ≡ tallied members tally (known_by_slot members slots.now inst) }
-{
-    match slots.get(inst) {
-        Some(slot) => tally.with_slot(members, slot),
-        None => tally.with_bare(),
-    }
-}
-
-// What was counted of a server's instances, once no-op is learned at those of a stretch.
-//
-// It counts only those of them that were counted.
-fn tally_given(slots: &Slots, skipped: &Vec<Ranges>, stretch: &Stretch, tally: Tally) -> Tally
-    requires sorted { IsSorted stretch.now.members skipped.now.items }
-    requires told { IsTold stretch.now.members slots.now skipped.now.items }
-    requires member { stretch.now.server < stretch.now.members.count }
-    requires counted { IsTally stretch.now.members
-        (known_at stretch.now.members slots.now skipped.now.items) stretch.now.server tally }
-    ensures { IsTally stretch.now.members
-        (λ j. given stretch.now j (known_at stretch.now.members slots.now skipped.now.items j))
-        stretch.now.server result }
-{
-    let first = stretch.first;
-    let stop = stretch.stop.min(tally.stop);
-    if first >= stop {
-        return tally;
-    }
-    let given = tally_from(slots, skipped, stretch.members, stretch.server, first, stop);
-    tally.without(given)
-}
-
-// Counts a server's instances anew, if many may have changed.
-fn retally_changed(
-    slots: &Slots,
-    skipped: &Vec<Ranges>,
-    members: Members,
-    server: u8,
-    is_changed: bool,
-    tallies: &mut Tallies,
-)
-    requires sorted { IsSorted members skipped.now.items }
-    requires told { IsTold members slots.now skipped.now.items }
-    requires member { server < members.count }
-    requires small { (tally_of tallies.old server).stop ≤ instance_count }
-    requires quiet { is_changed ≡ false
-        → IsTally members (known_at members slots.now skipped.now.items) server
-        (tally_of tallies.old server) }
-    ensures here { IsTally members (known_at members slots.now skipped.now.items) server
-        (tally_of tallies.new server) }
-    ensures rest { (q : ℕ) → (q ≡ server → ⊥) → tally_of tallies.new q ≡ tally_of tallies.old q }
-{
-    if is_changed {
-        // The proof reads off the count that there are few members.
-        let _few = members.count();
-        let stop = tallies.get(server).stop;
-        let tally = tally_from(slots, skipped, members, server, 0, stop);
-        tallies.put(server, tally);
-    }
 }
 
 // Learns no-op at a stretch of a server's instances, and counts those that were not learned.

@@ -4,7 +4,7 @@ ghost use Rattle.mencius_base.specs.Refusal.{IsRefusedFor};
 ghost use Rattle.mencius_server.specs.Machine.{IsUndone, after_suspect, is_spent, round_after, suspect_cause, suspect_sent};
 ghost use Rattle.mencius_server.specs.Slots.{begun, prepare_at};
 ghost use Rattle.mencius_server.specs.State.{slot};
-ghost use Rattle.std.specs.Prelude.{◌≡◌, false, is_none, ◌+◌, ◌<◌, ◌≤◌, ◌++◌, ◌==◌, OnOk, OnErr, if◌then◌else◌, Some, true};
+ghost use Rattle.std.specs.Prelude.{◌≡◌, false, is_none, is_some, ◌+◌, ◌<◌, ◌≤◌, ◌++◌, ◌==◌, OnOk, OnErr, if◌then◌else◌, Some, true};
 
 use crate::Server;
 use crate::tally::is_last;
@@ -63,14 +63,15 @@ pub(crate) fn round_after(members: Members, slot: &Slot) -> u32
     tried.max(promised) + 1
 }
 
-// Starts a first phase at a slot where nothing was learned: whether it is in the last round.
+// Starts a first phase at a slot where nothing was learned: whether it is in the last round. Where something was
+// learned it starts none.
 pub(crate) fn begin_slot(
     slot: &mut Slot,
     members: Members,
     id: u8,
     inst: u32,
     out: &mut Outbox,
-) -> bool
+) -> Option<bool>
     requires member { id < members.count }
     requires rounds { is_none slot.old.learned ≡ true
         → round_after members slot.old ≤ greatest_round }
@@ -80,11 +81,11 @@ pub(crate) fn begin_slot(
         ≡ out.old.messages ++ prepare_at members id inst (Some slot.old) }
     ensures room { out.new.room + (if is_none slot.old.learned then 1 else 0) ≡ out.old.room }
     ensures limit { out.new.limit ≡ out.old.limit }
-    ensures last { result ≡ false → is_none slot.old.learned ≡ true
-        → is_spent members slot.new ≡ false }
+    ensures begun { is_some result ≡ is_none slot.old.learned }
+    ensures last { result ≡ Some false → is_spent members slot.new ≡ false }
 {
     if slot.learned().is_some() {
-        return false;
+        return None;
     }
     let round = round_after(members, slot);
     if let Some(ballot) = Ballot::new(members, round, id) {
@@ -95,5 +96,5 @@ pub(crate) fn begin_slot(
             ballot,
         });
     }
-    is_last(members, slot)
+    Some(is_last(members, slot))
 }

@@ -10,7 +10,8 @@ ghost use Rattle.mencius_server.specs.Lending.{LendsSlot};
 ghost use Rattle.mencius_server.specs.Machine.{is_spent, round_after};
 ghost use Rattle.mencius_server.specs.Places.{IsPlaced, standing};
 ghost use Rattle.mencius_server.specs.Ranges.{covers};
-ghost use Rattle.mencius_server.specs.Slots.{begun, begun_at, given, is_begun, is_lacking, is_learned, is_told, is_unlearned, prepare_at, prepare_of, stand_at, stood_at};
+ghost use Rattle.mencius_server.specs.Runs.{AreRuns};
+ghost use Rattle.mencius_server.specs.Slots.{PassesRuns, begun, begun_at, given, is_begun, is_lacking, is_learned, is_told, is_unlearned, prepare_at, prepare_of, stand_at, stood_at};
 ghost use Rattle.mencius_server.specs.Stretches.{IsStretch};
 ghost use Rattle.std.specs.Borrow.{sem};
 ghost use Rattle.std.specs.List.{count_by, filter};
@@ -19,6 +20,7 @@ ghost use Rattle.std.specs.Prelude.{◌≡◌, ℕ, ◌+◌, ◌<◌, ◌≤◌,
 
 use crate::ranges::Ranges;
 use crate::revocation::begin_slot;
+use crate::runs::Runs;
 use crate::stretch::{Stretch, next_owned};
 use coord_paxos::Slot;
 use mencius_base::{INSTANCES, Members, NoMemory, Outbox, Value};
@@ -126,10 +128,12 @@ impl Slots {
         &mut self,
         stretch: Stretch,
         skipped: &Ranges,
+        runs: &Runs,
         lacking: u32,
     ) -> Result<(), NoMemory>
         requires stretch { IsStretch stretch }
         requires small { stretch.stop ≤ instance_count }
+        requires runs { AreRuns stretch.members (is_lacking stretch skipped.now self.old) runs.now }
         requires lacking { count_by (is_lacking stretch skipped.now self.old) (below stretch.stop)
             ≤ lacking }
         ensures ok { OnOk result ((j : ℕ) → stand_at self.new j
@@ -141,14 +145,20 @@ impl Slots {
         }
         self.slots.reserve(lacking as usize)?;
         widen(&mut self.places, stretch.stop as usize)?;
-        push_lacking(&mut self.places, &mut self.slots, stretch, skipped);
+        push_lacking(&mut self.places, &mut self.slots, stretch, skipped, runs);
         Ok(())
     }
 
     /// Starts a first phase at each slot of a stretch that has learned nothing: whether any is in the last round.
     ///
     /// There is room for the Prepares.
-    pub(crate) fn begin_all(&mut self, stretch: Stretch, id: u8, out: &mut Outbox) -> bool
+    pub(crate) fn begin_all(
+        &mut self,
+        stretch: Stretch,
+        id: u8,
+        runs: &mut Runs,
+        out: &mut Outbox,
+    ) -> bool
         requires stretch { IsStretch stretch }
         requires small { stretch.stop ≤ instance_count }
         requires id { id < stretch.members.count }
@@ -156,6 +166,7 @@ impl Slots {
             → stand_at self.old j ≡ Some s
             → round_after stretch.members s ≤ greatest_round }
         requires room { count_by (is_begun stretch self.old) (below stretch.stop) ≤ out.old.room }
+        requires runs { AreRuns stretch.members (is_begun stretch self.old) runs.old }
         ensures slots { (j : ℕ) → stand_at self.new j
             ≡ begun_at stretch id j (stand_at self.old j) }
         ensures sent { out.new.messages
@@ -165,22 +176,34 @@ impl Slots {
         ensures limit { out.new.limit ≡ out.old.limit }
         ensures last { result ≡ false → (j : ℕ) (s : SlotState) → is_begun stretch self.old j ≡ true
             → stand_at self.new j ≡ Some s → is_spent stretch.members s ≡ false }
+        ensures runs { PassesRuns stretch self.old runs.old runs.new }
     {
         let members = stretch.members;
         let stop = stretch.stop;
         let mut is_last = false;
         let mut inst = stretch.first;
         while inst < stop {
-            let is_last_here = self.begin(members, id, inst, out);
-            is_last = is_last || is_last_here;
-            inst = next_owned(members, inst);
+            match self.begin(members, id, inst, out) {
+                Some(is_last_here) => {
+                    is_last = is_last || is_last_here;
+                    inst = next_owned(members, inst);
+                }
+                None => {
+                    let mut end = inst;
+                    while end < stop && !self.is_unlearned(end) {
+                        end = runs.past(end, next_owned(members, end));
+                    }
+                    runs.put(inst, end);
+                    inst = end;
+                }
+            }
         }
         is_last
     }
 
     // Starts a first phase at an instance where a slot stands that has learned nothing: whether it is in the last
-    // round.
-    fn begin(&mut self, members: Members, id: u8, inst: u32, out: &mut Outbox) -> bool
+    // round. Elsewhere it starts none.
+    fn begin(&mut self, members: Members, id: u8, inst: u32, out: &mut Outbox) -> Option<bool>
         requires small { inst < instance_count }
         requires member { id < members.count }
         requires rounds { (s : SlotState) → stand_at self.old inst ≡ Some s
@@ -196,14 +219,25 @@ impl Slots {
         ensures room { out.new.room + (if is_unlearned (stand_at self.old inst) then 1 else 0)
             ≡ out.old.room }
         ensures limit { out.new.limit ≡ out.old.limit }
-        ensures last { result ≡ false → (s : SlotState)
-            → is_unlearned (stand_at self.old inst) ≡ true
+        ensures begun { is_some result ≡ is_unlearned (stand_at self.old inst) }
+        ensures last { result ≡ Some false → (s : SlotState)
             → stand_at self.new inst ≡ Some s → is_spent members s ≡ false }
     {
         if self.has(inst) {
             begin_slot(self.at(inst), members, id, inst, out)
         } else {
-            false
+            None
+        }
+    }
+
+    // Whether a slot stands at an instance that has learned nothing.
+    fn is_unlearned(&self, inst: u32) -> bool
+        requires { inst < instance_count }
+        ensures { result ≡ is_unlearned (stand_at self.now inst) }
+    {
+        match self.get(inst) {
+            Some(slot) => slot.learned().is_none(),
+            None => false,
         }
     }
 
@@ -323,6 +357,7 @@ fn push_lacking(
     slots: &mut Vec<Slot>,
     stretch: Stretch,
     skipped: &Ranges,
+    runs: &Runs,
 )
     requires stretch { IsStretch stretch }
     requires wide { stretch.stop ≤ vec_len places.old }
@@ -331,6 +366,8 @@ fn push_lacking(
         + count_by (is_lacking stretch skipped.now (standing places.old.items slots.old.items))
         (below stretch.stop)
         ≤ vec_capacity slots.old }
+    requires runs { AreRuns stretch.members
+        (is_lacking stretch skipped.now (standing places.old.items slots.old.items)) runs.now }
     ensures placed { IsPlaced places.new.items (vec_len slots.new) }
     ensures stand { (j : ℕ) → stand_at (standing places.new.items slots.new.items) j
         ≡ stood_at stretch skipped.now j (stand_at (standing places.old.items slots.old.items) j) }
@@ -339,11 +376,16 @@ fn push_lacking(
     let stop = stretch.stop;
     let mut inst = stretch.first;
     while inst < stop {
+        let next = next_owned(members, inst);
         // The table needs no search, so it is asked first.
-        if places[inst as usize].is_none() && !skipped.covers(inst) {
+        if places[inst as usize].is_some() {
+            inst = next;
+        } else if skipped.covers(inst) {
+            inst = runs.past(inst, next);
+        } else {
             push_at(places, slots, members, inst);
+            inst = next;
         }
-        inst = next_owned(members, inst);
     }
 }
 

@@ -3,13 +3,18 @@ ghost use Rattle.mencius_base.specs.Limits.{instance_count, most_servers};
 ghost use Rattle.mencius_base.specs.Members.{owner};
 ghost use Rattle.mencius_base.specs.Refusal.{IsRefusedFor};
 ghost use Rattle.mencius_server.specs.Changes.{IsSaid, changed};
+ghost use Rattle.mencius_server.specs.Known.{IsSorted, known_at};
 ghost use Rattle.mencius_server.specs.Machine.{is_spent};
-ghost use Rattle.mencius_server.specs.Tallies.{HasCounted, lessened, moved, no_tally, summed, tallied, tally_cause, tally_of, untallied};
+ghost use Rattle.mencius_server.specs.Slots.{given, known_by_slot};
+ghost use Rattle.mencius_server.specs.Tallies.{HasCounted, IsTally, IsTallyFrom, IsTold, lessened, moved, no_tally, summed, tallied, tally_cause, tally_of, untallied};
 ghost use Rattle.mencius_server.specs.declared.tally.Tally.{Tally};
-ghost use Rattle.std.specs.Prelude.{◌≡◌, ℕ, ◌+◌, ◌<◌, ◌≤◌, ◌==◌, ◌⊎◌, OnOk, if◌then◌else◌, is_none};
+ghost use Rattle.std.specs.Prelude.{◌≡◌, ℕ, ◌+◌, ◌<◌, ◌≤◌, ◌==◌, ◌⊎◌, OnOk, false, if◌then◌else◌, is_none};
 
 use crate::change::Change;
+use crate::ranges::Ranges;
 use crate::revocation::round_after;
+use crate::slots::Slots;
+use crate::stretch::{Stretch, next_owned};
 use coord_paxos::Slot;
 use mencius_base::{GREATEST_ROUND, MOST_SERVERS, Members, Outbox, Refusal};
 use std::marker::Model;
@@ -210,5 +215,129 @@ impl Tallies {
         let others = tally.without_slot(members, slot);
         change.make(slot);
         self.put(owner, others.with_slot(members, slot));
+    }
+}
+
+// Counts a server's instances between two places.
+//
+// It jumps over the ranges, and goes from one instance to the next where there is none.
+pub(crate) fn tally_from(
+    slots: &Slots,
+    skipped: &Vec<Ranges>,
+    members: Members,
+    server: u8,
+    first: u32,
+    stop: u32,
+) -> Tally
+    requires sorted { IsSorted members skipped.now.items }
+    requires told { IsTold members slots.now skipped.now.items }
+    requires member { server < members.count }
+    requires ahead { first ≤ stop }
+    requires small { stop ≤ instance_count }
+    ensures counted { IsTallyFrom members (known_at members slots.now skipped.now.items)
+        server first result }
+    ensures stop { result.stop ≡ stop }
+{
+    let ranges = &skipped[server as usize];
+    let mut tally = Tally {
+        stop: first,
+        open_count: 0,
+        full_count: 0,
+    };
+    while tally.stop < stop {
+        let past = ranges.past(tally.stop).min(stop);
+        let end = ranges.clear_to(past, stop);
+        tally = tally.plus(tally_slots(slots, members, server, past, end));
+    }
+    tally
+}
+
+// Counts a server's instances between two places where no range has any.
+fn tally_slots(slots: &Slots, members: Members, server: u8, first: u32, stop: u32) -> Tally
+    requires member { server < members.count }
+    requires ahead { first ≤ stop }
+    requires small { stop ≤ instance_count }
+    ensures counted { IsTallyFrom members (known_by_slot members slots.now) server first result }
+    ensures stop { result.stop ≡ stop }
+{
+    let mut tally = Tally {
+        stop,
+        open_count: 0,
+        full_count: 0,
+    };
+    let mut inst = members.first_owned(server, first);
+    while inst < stop {
+        tally = tally_slot(slots, members, inst, tally);
+        inst = next_owned(members, inst);
+    }
+    tally
+}
+
+// Counts one instance more, which no range has.
+fn tally_slot(slots: &Slots, members: Members, inst: u32, tally: Tally) -> Tally
+    requires small { inst < instance_count }
+    requires few { tally.open_count ≤ instance_count }
+    requires fewer { tally.full_count ≤ instance_count }
+    ensures { result ≡ tallied members tally (known_by_slot members slots.now inst) }
+{
+    match slots.get(inst) {
+        Some(slot) => tally.with_slot(members, slot),
+        None => tally.with_bare(),
+    }
+}
+
+// What was counted of a server's instances, once no-op is learned at those of a stretch.
+//
+// It counts only those of them that were counted.
+pub(crate) fn tally_given(
+    slots: &Slots,
+    skipped: &Vec<Ranges>,
+    stretch: &Stretch,
+    tally: Tally,
+) -> Tally
+    requires sorted { IsSorted stretch.now.members skipped.now.items }
+    requires told { IsTold stretch.now.members slots.now skipped.now.items }
+    requires member { stretch.now.server < stretch.now.members.count }
+    requires counted { IsTally stretch.now.members
+        (known_at stretch.now.members slots.now skipped.now.items) stretch.now.server tally }
+    ensures { IsTally stretch.now.members
+        (λ j. given stretch.now j (known_at stretch.now.members slots.now skipped.now.items j))
+        stretch.now.server result }
+{
+    let first = stretch.first;
+    let stop = stretch.stop.min(tally.stop);
+    if first >= stop {
+        return tally;
+    }
+    let given = tally_from(slots, skipped, stretch.members, stretch.server, first, stop);
+    tally.without(given)
+}
+
+// Counts a server's instances anew, if many may have changed.
+pub(crate) fn retally_changed(
+    slots: &Slots,
+    skipped: &Vec<Ranges>,
+    members: Members,
+    server: u8,
+    is_changed: bool,
+    tallies: &mut Tallies,
+)
+    requires sorted { IsSorted members skipped.now.items }
+    requires told { IsTold members slots.now skipped.now.items }
+    requires member { server < members.count }
+    requires small { (tally_of tallies.old server).stop ≤ instance_count }
+    requires quiet { is_changed ≡ false
+        → IsTally members (known_at members slots.now skipped.now.items) server
+        (tally_of tallies.old server) }
+    ensures here { IsTally members (known_at members slots.now skipped.now.items) server
+        (tally_of tallies.new server) }
+    ensures rest { (q : ℕ) → (q ≡ server → ⊥) → tally_of tallies.new q ≡ tally_of tallies.old q }
+{
+    if is_changed {
+        // The proof reads off the count that there are few members.
+        let _few = members.count();
+        let stop = tallies.get(server).stop;
+        let tally = tally_from(slots, skipped, members, server, 0, stop);
+        tallies.put(server, tally);
     }
 }

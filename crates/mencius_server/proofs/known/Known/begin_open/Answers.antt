@@ -1,8 +1,8 @@
 use Rattle.std.proofs.Common.{◌++◌, ap, arith, sym, ◌∙◌}
 use Rattle.mencius_server.specs.Known.{known_at}
 use Rattle.mencius_server.specs.Tallies.{tally_of}
-use Rattle.mencius_server.proofs.SuspicionBySlots.{begun_count, begun_learned, begun_rounds, begun_sent, begun_shows, begun_sound, begun_alike, begun_theirs}
-use Rattle.mencius_server.proofs.InstanceTallies.{alike_same, counts_put, sound_told, tally_alike}
+use Rattle.mencius_server.proofs.SuspicionBySlots.{begun_count, begun_learned, begun_passed, begun_rounds, begun_runs, begun_sent, begun_shows, begun_sound, begun_alike, begun_theirs}
+use Rattle.mencius_server.proofs.InstanceTallies.{alike_same, counts_put, runs_kept, sound_told, tally_alike}
 use Rattle.mencius_server.proofs.known.Known.begin_open.Goals as goal
 
 pub begin_all-is_last-requires-clause-rounds : goal.begin_all-is_last-requires-clause-rounds
@@ -16,9 +16,18 @@ begin_all-is_last-requires-clause-room c =
     c.requires.small c.requires.stand in
     omega (arith, c.requires.room, fewer)
 
+pub begin_all-is_last-requires-clause-runs : goal.begin_all-is_last-requires-clause-runs
+begin_all-is_last-requires-clause-runs c =
+    begun_runs _ _ _ _ _ c.self.view_is c.self.invariant.sound c.args.stretch.now c.requires.members
+    c.requires.small c.requires.stand _ c.self.invariant.runs
+
 pub invariant_of-self : goal.invariant_of-self
 invariant_of-self c =
-    counts_put _ _ _ _ _ _ _ _ _ _ _
+    runs_kept _ _ _ _ _ _ _
+    (begun_passed _ _ _ _ _ c.self.view_is c.self.invariant.sound c.args.stretch.now c.requires.members
+    c.requires.small c.requires.stand c.args.id _ c.begin_all-is_last.ensures.slots _ _
+    c.begin_all-is_last.ensures.runs c.self.invariant.runs)
+    (counts_put _ _ _ _ _ _ _ _ _ _ _
     (begun_sound _ _ _ _ _ c.self.view_is c.self.invariant.sound c.args.stretch.now c.requires.members
     c.requires.small c.requires.stand c.args.id _ c.begin_all-is_last.ensures.slots)
     (λ j small other. alike_same _ _ _
@@ -27,7 +36,7 @@ invariant_of-self c =
     j small other)))
     (λ j small h. begun_learned _ _ _ _ _ c.self.view_is c.self.invariant.sound c.args.stretch.now c.requires.members
     c.requires.small c.requires.stand c.args.id _ c.begin_all-is_last.ensures.slots j small ∙ h)
-    c.retally_changed.ensures.here c.retally_changed.ensures.rest c.self.invariant
+    c.retally_changed.ensures.here c.retally_changed.ensures.rest c.self.invariant)
 
 pub returns-clause-after : goal.returns-clause-after
 returns-clause-after c =

@@ -53,14 +53,14 @@ change-requires-clause-counted c = λ less.
 
 -- what is known, and what was counted of it, with the slot that is written
 kept : (m : Membership) (slots : List (Option SlotState)) (rs : List (List Span)) (low next i : ℕ)
-    (tallies more : List Tally) (lows : List ℕ) (s x : SlotState) → stand_at slots i ≡ Some s
+    (tallies more : List Tally) (ends : List ℕ) (s x : SlotState) → stand_at slots i ≡ Some s
     → (is_none s.learned ≡ false → is_none x.learned ≡ false)
     → ((q : ℕ) → tally_of more q
     ≡ cond (eqb q (owner m i)) (moved m i (tally_of tallies q) s x) (tally_of tallies q))
-    → IsSound m (set slots i (Some x)) rs next → IsKnown m slots rs low tallies lows
-    → IsKnown m (set slots i (Some x)) rs next more lows
-kept m slots rs low next i tallies more lows s x there stays moves sound h =
-    counts_moved m slots (set slots i (Some x)) rs low next i tallies more lows s x
+    → IsSound m (set slots i (Some x)) rs next → IsKnown m slots rs low tallies ends
+    → IsKnown m (set slots i (Some x)) rs next more ends
+kept m slots rs low next i tallies more ends s x there stays moves sound h =
+    counts_moved m slots (set slots i (Some x)) rs low next i tallies more ends s x
     (known_there m slots rs i s there)
     (at_here m slots (set slots i (Some x)) rs i s x there refl i refl)
     (λ j off. sym (at_off m slots (set slots i (Some x)) rs i s x there refl j off)) stays moves sound h
@@ -68,7 +68,7 @@ kept m slots rs low next i tallies more lows s x there stays moves sound h =
 pub invariant_of-self : goal.invariant_of-self
 invariant_of-self c =
     kept c.self.inside.members c.self.inside.slots c.self.inside.skipped.items c.self.inside.learned_below _ c.args.inst
-    c.self.inside.tallies c.change.new.self c.self.inside.lows c.at-slot.result.now c.change.new.slot
+    c.self.inside.tallies c.change.new.self c.self.inside.runs c.at-slot.result.now c.change.new.slot
     c.at-slot.ensures.value
     (stays c.at-slot.result.now c.change.new.slot c.args.change c.change.ensures.slot) c.change.ensures.counted
     (written_sound_from c.self.inside.members c.self.inside.slots
@@ -83,7 +83,7 @@ invariant_of-self c =
 pub invariant_of-self-else-inst-self : goal.invariant_of-self-else-inst-self
 invariant_of-self-else-inst-self c =
     kept c.self.inside.members c.self.inside.slots c.self.inside.skipped.items c.self.inside.learned_below _ c.args.inst
-    c.self.inside.tallies c.change.new.self c.self.inside.lows c.at-slot.result.now c.change.new.slot
+    c.self.inside.tallies c.change.new.self c.self.inside.runs c.at-slot.result.now c.change.new.slot
     c.at-slot.ensures.value
     (stays c.at-slot.result.now c.change.new.slot c.args.change c.change.ensures.slot) c.change.ensures.counted
     (written_sound c.self.inside.members c.self.inside.slots

@@ -17,7 +17,6 @@ returns c =
       members = members;
       server = refl;
       stop = c.min.ensures;
-      before = open_before _ _ _ _ _ c.self.view_is c.self.invariant.sound
-          c.args.suspected c.args.reach c.first_owned-first.result c.first_owned-first.ensures.least
-          c.first_owned-first.ensures.near;
+      before = open_before _ _ _ _ c.self.view_is c.args.suspected c.args.reach c.first_owned-first.result
+          c.first_owned-first.ensures.least;
     }

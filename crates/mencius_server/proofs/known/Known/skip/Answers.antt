@@ -64,7 +64,7 @@ invariant_of-self-2 c =
     let stretch = skipped m c.args.from c.first_owned-first.result c.first_owned-stop.result in
     counts_put m c.self.inside.slots c.skip_stretch.new.slots rs (set rs c.args.from c.skip_stretch.new.ranges)
     c.self.inside.learned_below c.learned_from-self-inside.result c.self.inside.tallies c.put.new.self
-    c.self.inside.lows c.args.from
+    c.self.inside.runs c.args.from
     (skip_sound m stretch refl c.self.inside.slots c.skip_stretch.new.slots rs member c.skip_stretch.new.ranges covered
     c.in_ok-learned.ensures.slots
     c.self.inside.learned_below c.learned_from-self-inside.result

@@ -1,5 +1,5 @@
 use Rattle.std.proofs.Common.{arith, sym}
-use Rattle.mencius_server.proofs.SuspicionBySlots.{lacking_count, stood_open_known, stood_open_shows, stood_open_sound}
+use Rattle.mencius_server.proofs.SuspicionBySlots.{lacking_count, lacking_runs, stood_open_known, stood_open_shows, stood_open_sound}
 use Rattle.mencius_server.proofs.InstanceTallies.{alike_same, counts_kept, unchanged}
 use Rattle.mencius_server.proofs.known.Known.stand_open.Goals as goal
 
@@ -8,6 +8,11 @@ stand_all-requires-clause-lacking c =
     let fewer = lacking_count _ _ _ _ _ c.self.view_is c.self.invariant.sound c.args.stretch.now c.requires.members
     c.requires.small _ _ c.requires.stretch.member c.index-skipped.ensures in
     omega (arith, c.requires.few, fewer)
+
+pub stand_all-requires-clause-runs : goal.stand_all-requires-clause-runs
+stand_all-requires-clause-runs c =
+    lacking_runs _ _ _ _ _ c.self.view_is c.self.invariant.sound c.args.stretch.now c.requires.members
+    c.requires.small _ _ c.requires.stretch.member c.index-skipped.ensures _ c.self.invariant.runs
 
 pub invariant_of-self-2 : goal.invariant_of-self-2
 invariant_of-self-2 c =

@@ -36,10 +36,10 @@ alike m s x t e = rw e (record { open_count = refl; full_count = refl })
 
 -- what is known, and what was counted of it, with the slot that is written
 kept : (m : Membership) (slots : List (Option SlotState)) (rs : List (List Span)) (low i t : ℕ) (tallies : List Tally)
-    (lows : List ℕ) (x y : SlotState) → i < instance_count → stand_at slots i ≡ Some x → y ≡ record x { proposal = Some (Ticket t) }
-    → IsKnown m slots rs low tallies lows → IsKnown m (set slots i (Some y)) rs low tallies lows
-kept m slots rs low i t tallies lows x y small there is h =
-    counts_kept m slots (set slots i (Some y)) rs rs low low tallies lows
+    (ends : List ℕ) (x y : SlotState) → i < instance_count → stand_at slots i ≡ Some x → y ≡ record x { proposal = Some (Ticket t) }
+    → IsKnown m slots rs low tallies ends → IsKnown m (set slots i (Some y)) rs low tallies ends
+kept m slots rs low i t tallies ends x y small there is h =
+    counts_kept m slots (set slots i (Some y)) rs rs low low tallies ends
     (written_quiet m slots (set slots i (Some y)) rs i x y there refl low small
     (ap (λ (s : SlotState). s.learned) is) h.sound)
     (λ j l. ⊎_elim
@@ -55,7 +55,7 @@ kept m slots rs low i t tallies lows x y small there is h =
 pub invariant_of-self : goal.invariant_of-self
 invariant_of-self c =
     kept c.self.inside.members c.self.inside.slots c.self.inside.skipped.items c.self.inside.learned_below c.args.inst
-    c.args.ticket c.self.inside.tallies c.self.inside.lows c.at.result.now c.suggest.new.self c.requires.small c.at.ensures.value
+    c.args.ticket c.self.inside.tallies c.self.inside.runs c.at.result.now c.suggest.new.self c.requires.small c.at.ensures.value
     c.suggest.ensures c.self.invariant
 
 pub returns-clause-ok : goal.returns-clause-ok

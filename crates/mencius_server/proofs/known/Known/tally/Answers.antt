@@ -21,11 +21,11 @@ started m f q tallies start counted either =
 
 -- where all between is known, the count from there on makes it longer
 counted_on : (m : Membership) (slots : List (Option SlotState)) (rs : List (List Span)) (low q first : ℕ)
-    (tallies : List Tally) (lows : List ℕ) (start further : Tally) → IsKnown m slots rs low tallies lows
+    (tallies : List Tally) (ends : List ℕ) (start further : Tally) → IsKnown m slots rs low tallies ends
     → (start ≡ tally_of tallies q) ⊎ (start ≡ no_tally)
     → start.stop ≤ first → first ≤ max start.stop low → IsTallyFrom m (known_at m slots rs) q first further
     → IsTally m (known_at m slots rs) q (summed start further)
-counted_on m slots rs low q first tallies lows start further known was ahead past counted =
+counted_on m slots rs low q first tallies ends start further known was ahead past counted =
     tally_further m (known_at m slots rs) q first start further ahead
     (λ j after before. known.sound.known j (omega (arith, after, before, past)))
     (started m (known_at m slots rs) q tallies start known.counted was) counted
@@ -44,7 +44,7 @@ plus-tally-requires-clause-few c =
     let known = known_at c.self.inside.members c.self.inside.slots c.self.inside.skipped.items in
     (tally_few c.self.inside.members known c.args.suspected _
     (counted_on c.self.inside.members c.self.inside.slots c.self.inside.skipped.items _ c.args.suspected
-    c.min-first.result c.self.inside.tallies c.self.inside.lows c.up_to-start.result _ c.self.invariant c.up_to-start.ensures.was
+    c.min-first.result c.self.inside.tallies c.self.inside.runs c.up_to-start.result _ c.self.invariant c.up_to-start.ensures.was
     (omega (arith, c.max.ensures, c.min-first.ensures, c.min-stop.ensures, c.up_to-start.ensures.low))
     (omega (arith, c.max.ensures, c.min-first.ensures)) c.tally_from-further.ensures.counted)).0
 
@@ -53,7 +53,7 @@ plus-tally-requires-clause-fewer c =
     let known = known_at c.self.inside.members c.self.inside.slots c.self.inside.skipped.items in
     (tally_few c.self.inside.members known c.args.suspected _
     (counted_on c.self.inside.members c.self.inside.slots c.self.inside.skipped.items _ c.args.suspected
-    c.min-first.result c.self.inside.tallies c.self.inside.lows c.up_to-start.result _ c.self.invariant c.up_to-start.ensures.was
+    c.min-first.result c.self.inside.tallies c.self.inside.runs c.up_to-start.result _ c.self.invariant c.up_to-start.ensures.was
     (omega (arith, c.max.ensures, c.min-first.ensures, c.min-stop.ensures, c.up_to-start.ensures.low))
     (omega (arith, c.max.ensures, c.min-first.ensures)) c.tally_from-further.ensures.counted)).1
 
@@ -62,14 +62,14 @@ invariant_of-self c =
     let known = known_at c.self.inside.members c.self.inside.slots c.self.inside.skipped.items in
     counts_put c.self.inside.members c.self.inside.slots c.self.inside.slots c.self.inside.skipped.items
     c.self.inside.skipped.items c.self.inside.learned_below c.self.inside.learned_below c.self.inside.tallies
-    c.put.new.self c.self.inside.lows c.args.suspected c.self.invariant.sound
+    c.put.new.self c.self.inside.runs c.args.suspected c.self.invariant.sound
     (λ j small other. alike_same c.self.inside.members _ _ refl) (λ j small known. known)
     (subst (IsTally c.self.inside.members known c.args.suspected)
     (sym (c.put.ensures c.args.suspected
     ∙ ap (λ bit. cond bit c.plus-tally.result (tally_of c.self.inside.tallies c.args.suspected))
     (eq-eqb c.args.suspected c.args.suspected refl) ∙ c.plus-tally.ensures))
     (counted_on c.self.inside.members c.self.inside.slots c.self.inside.skipped.items _ c.args.suspected
-    c.min-first.result c.self.inside.tallies c.self.inside.lows c.up_to-start.result _ c.self.invariant c.up_to-start.ensures.was
+    c.min-first.result c.self.inside.tallies c.self.inside.runs c.up_to-start.result _ c.self.invariant c.up_to-start.ensures.was
     (omega (arith, c.max.ensures, c.min-first.ensures, c.min-stop.ensures, c.up_to-start.ensures.low))
     (omega (arith, c.max.ensures, c.min-first.ensures)) c.tally_from-further.ensures.counted))
     (λ q other. c.put.ensures q
@@ -83,7 +83,7 @@ returns-clause-survey c =
     c.args.suspected c.args.reach c.plus-tally.result
     (subst (IsTally c.self.inside.members known c.args.suspected) (sym c.plus-tally.ensures)
     (counted_on c.self.inside.members c.self.inside.slots c.self.inside.skipped.items _ c.args.suspected
-    c.min-first.result c.self.inside.tallies c.self.inside.lows c.up_to-start.result _ c.self.invariant c.up_to-start.ensures.was
+    c.min-first.result c.self.inside.tallies c.self.inside.runs c.up_to-start.result _ c.self.invariant c.up_to-start.ensures.was
     (omega (arith, c.max.ensures, c.min-first.ensures, c.min-stop.ensures, c.up_to-start.ensures.low))
     (omega (arith, c.max.ensures, c.min-first.ensures)) c.tally_from-further.ensures.counted))
     (ap (λ (x : Tally). x.stop) c.plus-tally.ensures ∙ c.tally_from-further.ensures.stop ∙ c.min-stop.ensures)

@@ -4,6 +4,7 @@ use Rattle.std.proofs.lemmas.Bool.{cases_lt}
 use Rattle.mencius_server.specs.Ranges.{covers}
 use Rattle.mencius_server.specs.Places.{standing}
 use Rattle.mencius_server.specs.Slots.{is_in, is_lacking, stand_at, stood_at}
+use Rattle.mencius_server.proofs.LearnedRuns.{runs_stay}
 use Rattle.mencius_server.proofs.RangeCounts.{count_same}
 use Rattle.mencius_server.proofs.PlaceTable.{placed_wider, stand_wider}
 use Rattle.mencius_server.proofs.StretchLoops.{lacking_out, none_of_all, out_past, stood_none}
@@ -26,6 +27,17 @@ push_lacking-requires-clause-placed c =
     omega (arith, c.widen.ensures.few, c.widen.new.places.ok.0) in
     rw c.reserve.ensures.len (placed_wider c.self.inside.places.items c.widen.new.places.items _ few
     c.widen.ensures.same c.self.invariant)
+
+pub push_lacking-requires-clause-runs : goal.push_lacking-requires-clause-runs
+push_lacking-requires-clause-runs c =
+    let few : length c.widen.new.places.items ≤ instance_count =
+    omega (arith, c.widen.ensures.few, c.widen.new.places.ok.0) in
+    runs_stay _ _ _ _
+    (λ j small whole. ap (λ o. is_in c.args.stretch j && (not (covers c.args.skipped.now j) && is_none o))
+    (stand_wider c.self.inside.places.items c.widen.new.places.items c.self.inside.slots.items
+    c.reserve.new.self.items c.self.invariant.few few c.widen.ensures.same c.reserve.ensures.items j
+    ∙ ap (λ ss. stand_at ss j) c.self.view_is) ∙ whole)
+    c.requires.runs
 
 pub push_lacking-requires-clause-room : goal.push_lacking-requires-clause-room
 push_lacking-requires-clause-room c =

@@ -3,7 +3,7 @@ use Rattle.mencius_server.specs.Known.{known_at}
 use Rattle.mencius_server.specs.Tallies.{IsTallyFrom}
 use Rattle.mencius_server.specs.declared.tally.Tally.{Tally}
 use Rattle.mencius_server.proofs.InstanceTallies.{from_few, from_gap, from_start}
-use Rattle.mencius_server.proofs.known.tally_from.Goals as goal
+use Rattle.mencius_server.proofs.tally.tally_from.Goals as goal
 
 pub loop-tally-init : goal.loop-tally-init
 loop-tally-init c = record {

@@ -1,7 +1,7 @@
 use Rattle.std.proofs.Common.{◌-◌, ◌≤◌}
 use Rattle.mencius_server.specs.Known.{known_at}
 use Rattle.mencius_server.specs.Tallies.{IsTallyFrom}
-use Rattle.mencius_server.proofs.known.tally_from.Given as goal
+use Rattle.mencius_server.proofs.tally.tally_from.Given as goal
 
 abbrev pub invariant-loop-tally : goal.invariant-loop-tally
 invariant-loop-tally l = record {
