@@ -1,4 +1,5 @@
-//! Values from outside: which operations make a command, and what an outbox does at its limit.
+//! Values from outside: which operations make a command, which numbers make members, and what an outbox does at its
+//! limit.
 use mencius_base::{
     BadCommand, Ballot, Command, CommandId, Key, Members, Message, Op, Outbox, Refusal, Text,
 };
@@ -60,30 +61,54 @@ fn fault_of_cas(
     Ok(Command::new(id, op).err())
 }
 
-// Both texts are judged alike: a bad byte of either comes before the key's length.
+// Both texts are judged alike: a bad byte of either comes before any length, and the key before both.
 #[test]
 fn both_texts_have_limits(rt: HostRuntime) -> Result<(), Fail> {
     let alloc = rt.alloc();
-    let most_text = "t".repeat(alloc, 256)?;
-    let most_text = most_text.as_str();
-    let long_text = "t".repeat(alloc, 257)?;
-    let long_text = long_text.as_str();
-    assert_eq!(rt; fault_of_cas(alloc, "a", "", "")?, None);
-    assert_eq!(rt; fault_of_cas(alloc, "a", most_text, most_text)?, None);
-    let byte = Some(BadCommand::TextByte);
-    assert_eq!(rt;
-        fault_of_cas(alloc, "a b", "x y", "")?,
-        Some(BadCommand::KeyByte)
-    );
-    assert_eq!(rt; fault_of_cas(alloc, "", "x y", "")?, byte);
-    assert_eq!(rt; fault_of_cas(alloc, "", "", "x y")?, byte);
-    let length = Some(BadCommand::TextLength);
-    assert_eq!(rt;
-        fault_of_cas(alloc, "", long_text, "")?,
-        Some(BadCommand::KeyLength)
-    );
-    assert_eq!(rt; fault_of_cas(alloc, "a", long_text, "")?, length);
-    assert_eq!(rt; fault_of_cas(alloc, "a", "", long_text)?, length);
+    let most = "t".repeat(alloc, 256)?;
+    let most = most.as_str();
+    let long = "t".repeat(alloc, 257)?;
+    let long = long.as_str();
+    for (key, held, text, fault) in [
+        ("a", "", "", None),
+        ("a", most, most, None),
+        ("a b", "x y", "", Some(BadCommand::KeyByte)),
+        ("a b", "", "x y", Some(BadCommand::KeyByte)),
+        ("", "x y", "", Some(BadCommand::TextByte)),
+        ("", "", "x y", Some(BadCommand::TextByte)),
+        ("a", long, "x y", Some(BadCommand::TextByte)),
+        ("a", "x y", long, Some(BadCommand::TextByte)),
+        ("", long, "", Some(BadCommand::KeyLength)),
+        ("", "", long, Some(BadCommand::KeyLength)),
+        ("a", long, "", Some(BadCommand::TextLength)),
+        ("a", "", long, Some(BadCommand::TextLength)),
+    ] {
+        assert_eq!(rt; fault_of_cas(alloc, key, held, text)?, fault);
+    }
+    Ok(())
+}
+
+// The beta of so many servers, where there may be such members.
+fn beta_of(servers: u8, beta: u32) -> Option<u32> {
+    let members = Members::with_beta(servers, beta)?;
+    Some(members.beta())
+}
+
+#[test]
+fn members_have_limits(rt: HostRuntime) -> Result<(), Fail> {
+    for (servers, beta, want) in [
+        (1, 0, Some(0)),
+        (7, 4095, Some(4095)),
+        (0, 0, None),
+        (8, 0, None),
+        (3, 4096, None),
+        // Two, once its upper bits are cut off.
+        (3, 65_538, None),
+    ] {
+        assert_eq!(rt; beta_of(servers, beta), want, "{servers} servers, {beta}");
+    }
+    let three = Members::new(3).ok_or("three servers")?;
+    assert_eq!(rt; (three.count(), three.beta()), (3, 0));
     Ok(())
 }
 

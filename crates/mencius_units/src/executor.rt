@@ -91,3 +91,20 @@ fn compare_and_set(rt: HostRuntime) -> Result<(), Fail> {
     assert_eq!(rt; executor.history(), [0, 1, 2, 3, 4, 5].as_slice());
     Ok(())
 }
+
+// The text that is expected is the whole text at the key: no part of it, nothing longer, and none that was removed.
+#[test]
+fn compare_and_set_by_whole_texts(rt: HostRuntime) -> Result<(), Fail> {
+    let alloc = rt.alloc();
+    let mut executor = Executor::new(alloc);
+    let xy = Some("xy");
+    assert_deed(&rt, alloc, &mut executor, Deed::Set("xy"), 0, None, xy)?;
+    for (ticket, expected) in [(1, "x"), (2, "xyz"), (3, "")] {
+        let deed = Deed::Cas(expected, "z");
+        assert_deed(&rt, alloc, &mut executor, deed, ticket, xy, xy)?;
+    }
+    assert_deed(&rt, alloc, &mut executor, Deed::Del, 4, xy, None)?;
+    let again = Deed::Cas("xy", "z");
+    assert_deed(&rt, alloc, &mut executor, again, 5, None, None)?;
+    Ok(())
+}

@@ -2,6 +2,8 @@
 
 ghost use Rattle.std.specs.Prelude.{◌<◌};
 
+mod ahead;
+
 use mencius_base::{Ballot, Members, Message, Outbox, Refusal, Value, Vote};
 use mencius_server::Server;
 use std::alloc::Global;

@@ -90,7 +90,7 @@ fn two_readers_find_what_is_shown(rt: HostRuntime) -> Result<(), Fail> {
     Ok(())
 }
 
-// After commands that compare and set, of which the last one empties the text.
+// After commands that compare and set: one finds no key, the next another text, and the last one empties the text.
 fn told_of_the_last_change<R: Wait + Abort>(
     rt: &R,
     alloc: Global,
@@ -98,6 +98,8 @@ fn told_of_the_last_change<R: Wait + Abort>(
 ) -> Result<(), BoardFault> {
     let mut reader = board.reader()?;
     decide(rt, board, cas_a(rt, alloc, 1, "", "x"));
+    reader.learn(board.show(rt, alloc)?);
+    assert_lacks(rt, alloc, &mut reader, "a");
     decide(rt, board, set_x(rt, alloc));
     decide(rt, board, cas_a(rt, alloc, 2, "y", "z"));
     decide(rt, board, cas_a(rt, alloc, 3, "x", ""));
