@@ -124,8 +124,7 @@ fn draw_command(alloc: Global, dice: &mut Dice, cluster: &Cluster) -> Result<Com
     ))
 }
 
-// A command at one of three keys. Two of five set a text, which may be empty. One of five compares
-// and sets: the empty text, which is often there, or the text of the command before.
+// A command at one of three keys. Four of ten set a text, and three compare and set.
 fn draw_op(alloc: Global, dice: &mut Dice, number: u32) -> Result<Op, AllocError> {
     let name = match dice.below(3) {
         0 => "a",
@@ -134,28 +133,30 @@ fn draw_op(alloc: Global, dice: &mut Dice, number: u32) -> Result<Op, AllocError
     };
     let key = Key::new(String::from_str(alloc, name)?);
     Ok(match dice.below(10) {
-        0 => Op::Set {
-            key,
-            text: Text::new(String::new(alloc)),
-        },
-        1 | 2 | 3 => Op::Set {
+        0 | 1 => Op::Set {
             key,
             text: Text::new(format!(in alloc; "{number}")?),
+        },
+        2 | 3 => Op::Set {
+            key,
+            text: draw_text(alloc, dice)?,
         },
         4 | 5 => Op::Get { key },
-        6 | 7 => Op::Del { key },
-        8 => Op::Cas {
+        6 => Op::Del { key },
+        _ => Op::Cas {
             key,
-            held: Text::new(String::new(alloc)),
-            text: Text::new(format!(in alloc; "{number}")?),
+            held: draw_text(alloc, dice)?,
+            text: draw_text(alloc, dice)?,
         },
-        _ => {
-            let former = number.saturating_sub(1);
-            Op::Cas {
-                key,
-                held: Text::new(format!(in alloc; "{former}")?),
-                text: Text::new(String::new(alloc)),
-            }
-        }
     })
+}
+
+// One of few texts, so that a command which compares often finds the same.
+fn draw_text(alloc: Global, dice: &mut Dice) -> Result<Text, AllocError> {
+    let text = match dice.below(3) {
+        0 => "",
+        1 => "x",
+        _ => "y",
+    };
+    Ok(Text::new(String::from_str(alloc, text)?))
 }

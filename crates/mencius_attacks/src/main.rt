@@ -1,15 +1,16 @@
 //! Steps clusters through schedules that are drawn at random, and asks the laws of their answers after each event.
 //!
-//! Standard input has two numbers, a seed and a count. Of that many schedules each has a cluster of 1 to 7 servers and
-//! 60 to 360 events that are drawn by numbers of its own. Then, to half of the clusters, each message comes once more
-//! in order, so that what was begun is ended. At the end the journal makes a second cluster with the same answers and
-//! the same report.
+//! Standard input has two numbers, a seed and a count. Of that many schedules each has a cluster of 1 to 7 servers, which
+//! mostly look ahead where they suspect, and 60 to 360 events that are drawn by numbers of its own. Then, to half of the
+//! clusters, each message comes once more in order, so that what was begun is ended. At the end the journal makes a
+//! second cluster with the same answers and the same report.
 //!
 //! Or standard input is a scenario of a replay. Then its events are taken in place of drawn ones, and its journal is
 //! judged; then each message that it sent comes again, from the last to the first, twice over, and all is judged again.
 //!
 //! It ends with status 0, with 2 where standard input has anything else, with 6 where memory ran out, and with 9 where
-//! something is wrong, also where no schedule had a loss, a suspicion, a repeat or a retry, or none executed a command.
+//! something is wrong, also where no schedule had a loss, a suspicion, one that looks ahead, a repeat or a retry, where
+//! none executed a command, or where of the commands that compare and set each found what it expected, or none did.
 //! Standard error then says what, and else what happened.
 #![tactic(auto)]
 
@@ -25,7 +26,7 @@ use crate::given::{follow, send_again};
 use crate::mail::Mail;
 use crate::tally::Tally;
 use mencius_app::report;
-use mencius_base::{Event, Members};
+use mencius_base::{Event, GREATEST_BETA, Members};
 use mencius_cluster::Cluster;
 use mencius_input::{AppFault, Scenario, Std, read_all, read_scenario, write_all};
 use mencius_watch::again::again;
@@ -87,20 +88,40 @@ fn settle(walk: &mut Walk) -> Result<(), Stop> {
     walk.execute_all()
 }
 
+// The members, which mostly look a few instances ahead, now and then none or some more, and seldom any number of them.
+fn draw_members(dice: &mut Dice) -> Option<Members> {
+    let count = dice.below(7) as u8 + 1;
+    let beta = match dice.below(64) {
+        0 => dice.below(GREATEST_BETA + 1),
+        1 | 2 | 3 => dice.below(FAR + 1),
+        row if row < 20 => 0,
+        _ => dice.below(3) + 1,
+    };
+    Members::with_beta(count, beta)
+}
+
+// How far a server looks ahead at most where what was begun is ended. Beyond that there are too many answers to look at.
+const FAR: u32 = 12;
+
 // A cluster that was attacked by one schedule.
 fn attack(alloc: Global, dice: &mut Dice) -> Result<Walk, Stop> {
-    let count = dice.below(7) as u8 + 1;
-    let Some(members) = Members::new(count) else {
-        return Err(Stop::Broken("a bad number of servers is drawn"));
+    let Some(members) = draw_members(dice) else {
+        return Err(Stop::Broken("bad members are drawn"));
     };
     let mut walk = Walk::new(alloc, members)?;
     attack_with(alloc, dice, &mut walk)?;
     Ok(walk)
 }
 
+// So many events has a schedule at least.
+const FEW: u32 = 60;
+
 // One schedule for a new cluster.
 fn attack_with(alloc: Global, dice: &mut Dice, walk: &mut Walk) -> Result<(), Stop> {
-    let events = dice.below(301).saturating_add(60);
+    if walk.cluster().members().beta() > FAR {
+        return wander(alloc, dice, walk, FEW);
+    }
+    let events = dice.below(301).saturating_add(FEW);
     wander(alloc, dice, walk, events)?;
     if dice.below(2) == 0 {
         settle(walk)?;

@@ -1,11 +1,12 @@
 //! What happened in all schedules together.
 
-use mencius_base::Entry;
-use mencius_cluster::Cluster;
+use mencius_base::{Entry, Op};
+use mencius_cluster::{Answered, Cluster};
 use std::alloc::{AllocError, Global};
 
-/// How often each kind of event was accepted, how many deliveries repeated an earlier one, and how many commands the
-/// longest histories have.
+/// How often each kind of event was accepted, how many deliveries repeated an earlier one, how many suspicions were
+/// such as look ahead, how many commands the longest histories have, and how many commands that compare and set were
+/// answered, with and without the text that they expected.
 #[derive(Clone, Copy, Debug)]
 pub struct Tally {
     events: u64,
@@ -14,8 +15,11 @@ pub struct Tally {
     repeats: u64,
     losses: u64,
     suspicions: u64,
+    ahead: u64,
     retries: u64,
     executed: u64,
+    bound: u64,
+    unbound: u64,
 }
 
 impl Tally {
@@ -28,8 +32,11 @@ impl Tally {
             repeats: 0,
             losses: 0,
             suspicions: 0,
+            ahead: 0,
             retries: 0,
             executed: 0,
+            bound: 0,
+            unbound: 0,
         }
     }
 
@@ -42,15 +49,19 @@ impl Tally {
     ) -> Result<(), AllocError> {
         let mut heard = Vec::new(alloc);
         heard.resize((cluster.messages() as usize).saturating_mul(SERVERS), false)?;
+        let looks_ahead = cluster.members().beta() > 0;
         for entry in cluster.journal() {
             count(&mut self.events);
-            self.add_entry(*entry, &mut heard);
+            self.add_entry(*entry, looks_ahead, &mut heard);
+        }
+        for ticket in 0..cluster.commands() {
+            self.add_comparison(cluster, ticket);
         }
         self.executed = self.executed.saturating_add(executed as u64);
         Ok(())
     }
 
-    fn add_entry(&mut self, entry: Entry, heard: &mut Vec<bool>) {
+    fn add_entry(&mut self, entry: Entry, looks_ahead: bool, heard: &mut Vec<bool>) {
         match entry {
             Entry::Submit { .. } => count(&mut self.submissions),
             Entry::Deliver { message, server } => {
@@ -60,9 +71,30 @@ impl Tally {
                 }
             }
             Entry::Lose { .. } => count(&mut self.losses),
-            Entry::Suspect { .. } => count(&mut self.suspicions),
+            Entry::Suspect { .. } => {
+                count(&mut self.suspicions);
+                if looks_ahead {
+                    count(&mut self.ahead);
+                }
+            }
             Entry::Retry { .. } => count(&mut self.retries),
             Entry::Execute { .. } => {}
+        }
+    }
+
+    // Counts a command that compares and sets, once it has a reply.
+    fn add_comparison(&mut self, cluster: &Cluster, ticket: u32) {
+        let Some(command) = cluster.command(ticket) else {
+            return;
+        };
+        let Some(Answered::Given(found)) = cluster.reply(command.id()) else {
+            return;
+        };
+        if let Op::Cas { held, .. } = command.op() {
+            match found {
+                Some(text) if text.as_str() == held.as_str() => count(&mut self.bound),
+                _ => count(&mut self.unbound),
+            }
         }
     }
 
@@ -72,8 +104,17 @@ impl Tally {
             (self.repeats, "no message came twice"),
             (self.losses, "no message was lost"),
             (self.suspicions, "no server was suspected"),
+            (self.ahead, "no suspicion looked ahead"),
             (self.retries, "no command was suggested again"),
             (self.executed, "no command was executed"),
+            (
+                self.bound,
+                "no command found the text that it compared with",
+            ),
+            (
+                self.unbound,
+                "each command found the text that it compared with",
+            ),
         ] {
             if times == 0 {
                 return Some(words);
@@ -92,17 +133,23 @@ impl Tally {
             repeats,
             losses,
             suspicions,
+            ahead,
             retries,
             executed,
+            bound,
+            unbound,
         } = *self;
         write!(text, "{events} events: {submissions} submissions, ")?;
         write!(
             text,
             "{deliveries} deliveries, {repeats} of them repeats, {losses} losses, "
         )?;
+        write!(text, "{suspicions} suspicions, {ahead} of them ahead, ")?;
+        write!(text, "{retries} retries; {executed} commands executed; ")?;
         write!(
             text,
-            "{suspicions} suspicions, {retries} retries; {executed} commands executed"
+            "{bound} of {} compared and set",
+            bound.saturating_add(unbound)
         )?;
         Ok(text)
     }

@@ -1,6 +1,6 @@
 //! The laws, asked of a running cluster's answers.
 
-use mencius_base::{Command, Op, Value};
+use mencius_base::{Command, INSTANCES, Op, Value};
 use mencius_cluster::{Answered, Cluster};
 use std::alloc::{AllocError, Global};
 use std::collections::BTreeMap;
@@ -114,13 +114,13 @@ impl Observed {
         Ok(())
     }
 
-    // No server learned anything at an instance past all fronts.
+    // No server learned anything at an instance past what any could reach.
     fn see_values(
         &mut self,
         cluster: &Cluster,
         server: u8,
     ) -> Result<Option<&'static str>, AllocError> {
-        let end = greatest_front(cluster);
+        let end = reach(cluster);
         for _ in self.values.len()..end as usize {
             self.values.push(None)?;
         }
@@ -176,6 +176,16 @@ impl Observed {
             _ => Some("a reply is not what one map finds"),
         }
     }
+}
+
+// Past all instances that a server suggested at or skipped, which are below its front, and past all that it revoked, of
+// which the last is twice beta past its front then.
+fn reach(cluster: &Cluster) -> u32 {
+    let ahead = cluster.members().beta().saturating_mul(2);
+    let end = greatest_front(cluster)
+        .saturating_add(ahead)
+        .saturating_add(1);
+    end.min(INSTANCES)
 }
 
 fn greatest_front(cluster: &Cluster) -> u32 {
