@@ -3,7 +3,7 @@
 use crate::courses::{
     GET_AT_ANOTHER_SERVER, REVOKED_AND_SUGGESTED_AGAIN, cluster_after, new_cluster, scenario_of,
 };
-use mencius_base::{CommandId, Entry, Message, Value};
+use mencius_base::{CommandId, Entry, Event, Members, Message, Value};
 use mencius_cluster::{Answered, Cluster, Effect};
 use std::alloc::Global;
 use std::process::Abort;
@@ -86,6 +86,32 @@ fn servers_answer(rt: HostRuntime) {
     let cluster = cluster_after(&rt, rt.alloc(), GET_AT_ANOTHER_SERVER);
     assert_servers(&rt, &cluster);
     assert_learned(&rt, &cluster);
+}
+
+// Server 1 suspects server 0, where servers look ahead by two or not: how many Prepares it sends, at 0 and at 3.
+fn assert_sends_ahead<R: Abort>(rt: &R, alloc: Global, beta: u32, sent: u32) -> Result<(), Fail> {
+    let members = Members::with_beta(3, beta).ok_or("three servers")?;
+    let mut cluster = new_cluster(rt, alloc, members);
+    assert_eq!(rt; cluster.members().beta(), beta);
+    let effect = Effect {
+        first: 0,
+        sent,
+        learned: 0,
+    };
+    let suspicion = Event::Suspect {
+        server: 1,
+        suspected: 0,
+    };
+    assert!(rt; cluster.step(suspicion) == Ok(effect));
+    assert_eq!(rt; cluster.members().beta(), beta);
+    Ok(())
+}
+
+#[test]
+fn members_keep_their_beta(rt: HostRuntime) -> Result<(), Fail> {
+    let alloc = rt.alloc();
+    assert_sends_ahead(&rt, alloc, 0, 1)?;
+    assert_sends_ahead(&rt, alloc, 2, 2)
 }
 
 fn assert_counts<R: Abort>(rt: &R, cluster: &Cluster) {

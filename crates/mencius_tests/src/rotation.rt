@@ -4,9 +4,9 @@ ghost use Rattle.std.specs.Prelude.{◌≡◌};
 
 use crate::courses::new_cluster;
 use mencius_app::read_plan;
-use mencius_base::{Command, Op};
+use mencius_base::{Command, CommandId, Op};
 use mencius_board::{Board, BoardFault, Chooser, Plan, Reader, worker_turn};
-use mencius_cluster::Cluster;
+use mencius_cluster::{Answered, Cluster};
 use std::alloc::{AllocError, Global};
 use std::marker::Model;
 use std::process::Abort;
@@ -152,24 +152,48 @@ fn rotated<R: Wait>(
     }
 }
 
-// So many commands has the longest history after all turns.
-fn assert_finds<R: Abort + Wait>(rt: &R, alloc: Global, scenario: &str) -> Result<usize, Fail> {
+// The cluster after all turns, during which the reader always finds what it is to find.
+fn assert_finds<R: Abort + Wait>(rt: &R, alloc: Global, scenario: &str) -> Result<Cluster, Fail> {
     let scenario = read_plan(alloc, scenario.as_bytes()).map_err(|_| "a plan")?;
     let cluster = new_cluster(rt, alloc, scenario.members);
     let (finds, cluster) = rotated(rt, alloc, &scenario.plan, cluster)?;
     assert!(rt; finds);
-    let longest = cluster.history(cluster.longest()).ok_or("a history")?;
-    Ok(longest.len())
+    Ok(cluster)
 }
 
 // Three servers and eight workers, and few choices lose a message.
 const FEW_LOSSES: &str = "{\"version\":1,\"servers\":3,\"workers\":8,\"seed\":7,\"turns\":2000,\
     \"loss\":1,\"commands\":[[\"1.0 set a x\",\"1.1 get a\"],[\"2.0 set a y\"],[\"3.0 del a\"]]}";
 
+// The same where servers look ahead, and where only client 1 changes `a`: first to `x`, and once that is there, to `y`.
+const COMPARED: &str =
+    "{\"version\":2,\"servers\":3,\"beta\":2,\"workers\":8,\"seed\":7,\"turns\":2000,\
+    \"loss\":1,\"commands\":[[\"1.0 set a x\",\"1.1 cas a x y\"],[\"2.0 cas b  z\"],[\"3.0 cas a z x\"]]}";
+
 #[test]
 fn told_reader_beside_workers_in_rotation(rt: HostRuntime) -> Result<(), Fail> {
     assert_finds(&rt, rt.alloc(), EIGHT_WORKERS)?;
-    let executed = assert_finds(&rt, rt.alloc(), FEW_LOSSES)?;
-    assert!(rt; 0 < executed);
+    let cluster = assert_finds(&rt, rt.alloc(), FEW_LOSSES)?;
+    let longest = cluster.history(cluster.longest()).ok_or("a history")?;
+    assert!(rt; 0 < longest.len());
+    Ok(())
+}
+
+// The text that client 1's second command found.
+fn found_by_cas(cluster: &Cluster) -> Option<&str> {
+    let second = CommandId {
+        client: 1,
+        number: 1,
+    };
+    match cluster.reply(second) {
+        Some(Answered::Given(Some(text))) => Some(text.as_str()),
+        _ => None,
+    }
+}
+
+#[test]
+fn told_reader_beside_workers_that_compare_and_set(rt: HostRuntime) -> Result<(), Fail> {
+    let cluster = assert_finds(&rt, rt.alloc(), COMPARED)?;
+    assert_eq!(rt; found_by_cas(&cluster), Some("x"));
     Ok(())
 }
