@@ -4,7 +4,7 @@ use Rattle.std.specs.List.{range_with_len}
 use Rattle.mencius_base.specs.Numbers.{ServerId, Inst, BallotNo}
 use Rattle.mencius_base.specs.Limits.{event_limit, greatest_round, instance_count, message_limit}
 
--- the servers of a cluster, and how far past the own front a suspicion looks
+-- the servers of a cluster, and what sets how far past the own front a suspicion looks
 pub record Membership : Type 0 where
   pub count : ℕ
   pub beta : ℕ

@@ -12,7 +12,7 @@ pub const GREATEST_FRONT: u32 = 4102;
 /// The greatest round of a ballot.
 pub const GREATEST_ROUND: u32 = 65_535;
 
-/// The greatest beta of a membership: how far past the own front a suspicion looks.
+/// The greatest beta of a membership, which sets how far past the own front a suspicion looks.
 pub const GREATEST_BETA: u32 = 4095;
 
 /// How many messages may be sent.

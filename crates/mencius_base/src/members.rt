@@ -6,8 +6,8 @@ use crate::limits::{GREATEST_BETA, MOST_SERVERS};
 use std::marker::Model;
 
 /// The servers of a cluster, numbered from 0. They own the instances in turn, round-robin, as in
-/// Mencius (Mao, Junqueira and Marzullo, OSDI 2008). The members also agree on a constant beta: how far past its
-/// own front a server looks where it suspects another one.
+/// Mencius (Mao, Junqueira and Marzullo, OSDI 2008). Beside their number they share a constant beta, which sets how
+/// far past its own front a server's suspicion of another one looks (look-ahead revocation there).
 #[derive(Clone, Copy, Debug, PartialEq, Eq)]
 pub struct Members {
     count: u8,
@@ -65,7 +65,8 @@ impl Members {
         self.count
     }
 
-    /// How far past its own front a server looks where it suspects another one, 0 to 4,095.
+    /// The constant that sets how far past its own front a server's suspicion of another one looks, 0 to 4,095: it
+    /// begins below beta past the front, and covers instances up to twice beta past it.
     pub fn beta(self) -> u32
         ensures beta { result ≡ self.beta }
         ensures small { result ≤ greatest_beta }

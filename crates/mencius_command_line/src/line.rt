@@ -64,9 +64,10 @@ const REPLAY_ABOUT: &str =
 const REPLAY_LONG_ABOUT: &str = "\
 Steps a new cluster through the scenario on standard input and prints a report
 
-The scenario is one JSON object: its version, 1 or 2, the number of servers, 1 to 7, and
-a list of events. Servers, messages and instances are numbered from 0, the messages
-in order of sending. A command's ID is CLIENT.NUMBER, two numbers that the client chose.
+The scenario is one JSON object: its version, 1 or 2, the number of servers, 1 to 7, a
+list of events, and maybe beta, 0 to 4095. Servers, messages and instances are numbered
+from 0, the messages in order of sending. A command's ID is CLIENT.NUMBER, two numbers
+that the client chose.
 
   submit S ID set KEY TEXT  a client asks server S to bind KEY to TEXT, which may be empty
   submit S ID get KEY       .. to look KEY up
@@ -75,7 +76,8 @@ in order of sending. A command's ID is CLIENT.NUMBER, two numbers that the clien
                             .. to bind KEY to NEW where its text is OLD, in version 2 alone
   deliver K D               message K reaches server D, for the first time or again
   lose K D                  message K can no longer reach server D
-  suspect P Q               server P suspects that Q has stopped, and revokes what Q left open
+  suspect P Q               server P suspects that Q has stopped, and revokes what Q left open,
+                            with a beta also ahead of P's own front
   retry P                   server P suggests a command again that lost its instance
   execute S                 server S executes its next instance
 
@@ -234,10 +236,12 @@ The workers share the cluster, each in a thread of its own. In each of its turns
 draws three random words. They pick one event: submit the worker's next command, deliver or
 lose a message, suspect, retry or execute. The cluster takes the event or refuses it.
 
-The scenario on standard input is one JSON object with these fields and no other:
+The scenario on standard input is one JSON object with these fields and no other; beta may
+be left out:
 
   version   1 or 2
   servers   1 to 7
+  beta      0 to 4095: how far ahead a suspicion looks, 0 where it is left out
   workers   1 to 8
   seed      0 to 18446744073709551615, which the random words grow from
   turns     0 to 100000, for each worker

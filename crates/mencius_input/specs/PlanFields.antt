@@ -102,7 +102,7 @@ fitted_lists n (Ok lists) =
     if lists_fit n (length lists) then Ok (record { numbers = n; commands = lists }) else Err BadLimit
 fitted_lists n (Err fault) = Err fault
 
--- what the seven fields say
+-- what the fields say
 abbrev pub plan_said : Option Numbers → Option (Newest (List (List Request))) → Result WrittenPlan AppFault
 plan_said (Some n) (Some lists) = fitted_lists n (in_version n.version lists)
 plan_said _ _ = Err BadShape

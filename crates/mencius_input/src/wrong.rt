@@ -156,15 +156,18 @@ fn wrong_id(alloc: Global, word: &str, fault: AppFault) -> Result<Option<String>
     wrong_u32(alloc, "the number of the command ID", number, fault)
 }
 
-// What is wrong with an operation of one key or text, which a command judges.
-fn wrong_op(alloc: Global, op: Op, fault: AppFault) -> Result<Option<String>, NoMemory> {
-    let Err(bad) = Command::new(
-        CommandId {
-            client: 0,
-            number: 0,
-        },
-        op,
-    ) else {
+// What is wrong with a key or a text, of which an operation is, as a command judges it.
+fn wrong_op(
+    alloc: Global,
+    part: Part,
+    op: Op,
+    fault: AppFault,
+) -> Result<Option<String>, NoMemory> {
+    let id = CommandId {
+        client: 0,
+        number: 0,
+    };
+    let Err(bad) = Command::new(id, op) else {
         return Ok(None);
     };
     let found = match bad {
@@ -174,18 +177,35 @@ fn wrong_op(alloc: Global, op: Op, fault: AppFault) -> Result<Option<String>, No
     if found != fault {
         return Ok(None);
     }
-    Ok(Some(format!(in alloc; "{bad}")?))
+    Ok(Some(words_of_bad(alloc, part, bad)?))
 }
 
-fn wrong_text(alloc: Global, word: &str, fault: AppFault) -> Result<Option<String>, NoMemory> {
+// The words of a command for what it refuses; of two texts that an operation has they say which.
+fn words_of_bad(alloc: Global, part: Part, bad: BadCommand) -> Result<String, NoMemory> {
+    let words = format!(in alloc; "{bad}")?;
+    match (part, words.as_str().strip_prefix("a text")) {
+        (Part::HeldText | Part::NewText, Some(rest)) => {
+            let name = name_of(part);
+            Ok(format!(in alloc; "{name}{rest}")?)
+        }
+        _ => Ok(words),
+    }
+}
+
+fn wrong_text(
+    alloc: Global,
+    part: Part,
+    word: &str,
+    fault: AppFault,
+) -> Result<Option<String>, NoMemory> {
     let key = Key::new(String::from_str(alloc, "k")?);
     let text = Text::new(String::from_str(alloc, word)?);
-    wrong_op(alloc, Op::Set { key, text }, fault)
+    wrong_op(alloc, part, Op::Set { key, text }, fault)
 }
 
 fn wrong_key(alloc: Global, word: &str, fault: AppFault) -> Result<Option<String>, NoMemory> {
     let key = Key::new(String::from_str(alloc, word)?);
-    wrong_op(alloc, Op::Get { key }, fault)
+    wrong_op(alloc, Part::Key, Op::Get { key }, fault)
 }
 
 // What is wrong with a word that is there, where it has the fault.
@@ -200,7 +220,7 @@ fn wrong_word(
         Part::Message => wrong_u32(alloc, name_of(part), word, fault),
         Part::Id => wrong_id(alloc, word, fault),
         Part::Key => wrong_key(alloc, word, fault),
-        Part::Text | Part::HeldText | Part::NewText => wrong_text(alloc, word, fault),
+        Part::Text | Part::HeldText | Part::NewText => wrong_text(alloc, part, word, fault),
     }
 }
 

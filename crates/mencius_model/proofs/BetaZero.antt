@@ -13,7 +13,7 @@ use Rattle.mencius_model.specs.Instance.{learned}
 use Rattle.mencius_model.specs.Server.{covered_by, first_open, front, is_covered, is_open}
 use Rattle.mencius_model.specs.Next.{IsReached, first_cause, next_round, preparation, sends}
 use Rattle.mencius_model.specs.Rules.{is_covered_from, reach_from}
-use Rattle.mencius_model.specs.Laws.{BetaZeroRefuses, BetaZeroSends, all_behind, causes_behind, is_behind}
+use Rattle.mencius_model.specs.Laws.{BetaZeroRefuses, BetaZeroSends, open_to_front, causes_to_front, is_open_to_front}
 use Rattle.mencius_model.proofs.NumberLists.{filter-instances_same, find-instances_before, find-instances_nothing}
 use Rattle.mencius_model.proofs.EventRights.{NoneHolds, none_holds}
 use Rattle.mencius_model.proofs.FrontOwners.{front_owner}
@@ -67,9 +67,9 @@ module _ (m : Membership) (w : Trace) (zero : m.beta ≡ 0) (r : IsReached m w) 
         | inr low ↦ reach_some i j low theirs
       ]
 
-  pub covered_behind : covered_by m w p q ≡ all_behind m w p q
-  covered_behind =
-      filter-instances_same (is_covered m w p q) (is_behind m w p q)
+  pub covered_to_front : covered_by m w p q ≡ open_to_front m w p q
+  covered_to_front =
+      filter-instances_same (is_covered m w p q) (is_open_to_front m w p q)
       (λ j small. same_test (eqb (owner m j) q) _ (leb j (front m w p)) (is_none (learned w p j))
       (reach_open (first_open m w p q) refl j small))
 
@@ -103,15 +103,15 @@ not_same : (p q : ℕ) → eqb p q ≡ false → p ≡ q → ⊥
 not_same p q e at = clash (eqb p q) (eq-eqb p q at) e
 
 both : (m : Membership) (w : Trace) → m.beta ≡ 0 → IsReached m w → (p q : ℕ)
-    → (leb m.count p || leb m.count q) ≡ false → eqb p q ≡ false → covered_by m w p q ≡ all_behind m w p q
+    → (leb m.count p || leb m.count q) ≡ false → eqb p q ≡ false → covered_by m w p q ≡ open_to_front m w p q
 both m w zero r p q good other =
-    covered_behind m w zero r p q (leb-false m.count p (or_parts (leb m.count p) (leb m.count q) good).0)
+    covered_to_front m w zero r p q (leb-false m.count p (or_parts (leb m.count p) (leb m.count q) good).0)
     (not_same p q other)
 
 pub beta_zero_refuses : BetaZeroRefuses
 beta_zero_refuses m w zero r p q =
     same_causes m w p q (leb most_events (events w)) (leb m.count p || leb m.count q) (eqb p q) (covered_by m w p q)
-    (all_behind m w p q) (both m w zero r p q)
+    (open_to_front m w p q) (both m w zero r p q)
 
 pub beta_zero_sends : BetaZeroSends
 beta_zero_sends m w zero r p q fine =

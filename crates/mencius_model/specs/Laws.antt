@@ -203,33 +203,33 @@ ReportedWhereHeard =
 -- ---- suspicions where beta is 0
 
 -- an instance of q up to p's own front that p has not learned
-abbrev pub is_behind : Membership → Trace → ServerId → ServerId → Inst → Bool
-is_behind m w p q i = (owner m i == q && nat_le i (front m w p)) && is_none (learned w p i)
+abbrev pub is_open_to_front : Membership → Trace → ServerId → ServerId → Inst → Bool
+is_open_to_front m w p q i = (owner m i == q && nat_le i (front m w p)) && is_none (learned w p i)
 
-abbrev pub all_behind : Membership → Trace → ServerId → ServerId → List Inst
-all_behind m w p q = filter (is_behind m w p q) instances
+abbrev pub open_to_front : Membership → Trace → ServerId → ServerId → List Inst
+open_to_front m w p q = filter (is_open_to_front m w p q) instances
 
 -- a first phase at each of them, by rising instance
-abbrev pub lines_behind : Membership → Trace → ServerId → ServerId → List Line
-lines_behind m w p q = map (preparation m w p) (all_behind m w p q)
+abbrev pub lines_to_front : Membership → Trace → ServerId → ServerId → List Line
+lines_to_front m w p q = map (preparation m w p) (open_to_front m w p q)
 
 -- and why it is refused, in order
-abbrev pub causes_behind : Membership → Trace → ServerId → ServerId → List (Bool × Refusal)
-causes_behind m w p q =
+abbrev pub causes_to_front : Membership → Trace → ServerId → ServerId → List (Bool × Refusal)
+causes_to_front m w p q =
     (nat_le most_events (events w), EventsFull)
     ∷ (nat_le m.count p || nat_le m.count q, BadServer)
     ∷ (p == q, SelfSuspect)
-    ∷ (is_none (first_item (all_behind m w p q)), NothingToRevoke)
-    ∷ (list_any (λ i. nat_lt most_rounds (next_round m w p i)) (all_behind m w p q), RoundsFull)
-    ∷ (is_too_many most_messages (length (sent w)) (length (all_behind m w p q)), MessagesFull) ∷ []
+    ∷ (is_none (first_item (open_to_front m w p q)), NothingToRevoke)
+    ∷ (list_any (λ i. nat_lt most_rounds (next_round m w p i)) (open_to_front m w p q), RoundsFull)
+    ∷ (is_too_many most_messages (length (sent w)) (length (open_to_front m w p q)), MessagesFull) ∷ []
 
 -- with a beta of 0 a suspicion covers what lies up to the own front, and nothing is refused otherwise
 abbrev pub BetaZeroRefuses : Type 0
 BetaZeroRefuses =
     (m : Membership) (w : Trace) → m.beta ≡ 0 → IsReached m w
-    → (p q : ServerId) → refused m w (Suspect p q) ≡ first_cause (causes_behind m w p q)
+    → (p q : ServerId) → refused m w (Suspect p q) ≡ first_cause (causes_to_front m w p q)
 
 abbrev pub BetaZeroSends : Type 0
 BetaZeroSends =
     (m : Membership) (w : Trace) → m.beta ≡ 0 → IsReached m w
-    → (p q : ServerId) → refused m w (Suspect p q) ≡ None → lines m w (Suspect p q) ≡ lines_behind m w p q
+    → (p q : ServerId) → refused m w (Suspect p q) ≡ None → lines m w (Suspect p q) ≡ lines_to_front m w p q
