@@ -54,9 +54,9 @@ IsAt fault d (Missing field) =
     (fault ≡ BadShape) × (get (field_name field) d ≡ None) × (fields : Members) × (as_object d ≡ Some fields)
 IsAt fault d (Value field) =
     (value : Data) × (get (field_name field) d ≡ Some value) × FieldFails fault field value
-IsAt fault d (Event index text) =
-    (value : Data) × (get (codes "events") d ≡ Some value) × (items : Items) × (as_array value ≡ Some items)
-    × IsFirst fault (version_of d) items index (option_map string_bytes text)
+IsAt fault d (Event index version text) =
+    (version ≡ version_of d) × (value : Data) × (get (codes "events") d ≡ Some value) × (items : Items) × (as_array value ≡ Some items)
+    × IsFirst fault version items index (option_map string_bytes text)
 
 -- those that there are have the fault
 abbrev pub ArePlaces : AppFault → Data → Places → Type 0
@@ -82,7 +82,7 @@ IsToldBy fault Whole words = words ≡ codes "the text is no JSON object"
 IsToldBy fault (Unknown name) words = Unit {0}
 IsToldBy fault (Missing field) words = words ≡ field_words field (codes "missing")
 IsToldBy fault (Value field) words = words ≡ field_words field (value_words fault field)
-IsToldBy fault (Event index text) words = (said : List ℕ) × (words ≡ codes "event " ++ decimal index ++ 32 ∷ said)
+IsToldBy fault (Event index version text) words = (said : List ℕ) × (words ≡ codes "event " ++ decimal index ++ 32 ∷ said)
 
 -- words of a place in what the bytes say that has the fault
 abbrev pub Tells : AppFault → List ℕ → List ℕ → Type 0

@@ -40,11 +40,16 @@ fn of_field(alloc: Global, field: Field, said: &str) -> Result<String, NoMemory>
 }
 
 // What is wrong with an item of the events.
-fn wrong_item(alloc: Global, text: &Option<String>, fault: AppFault) -> Result<String, NoMemory> {
+fn wrong_item(
+    alloc: Global,
+    version: u64,
+    text: &Option<String>,
+    fault: AppFault,
+) -> Result<String, NoMemory> {
     let Some(text) = text else {
         return Ok(String::from_str(alloc, "is no text")?);
     };
-    let words = wrong_event(alloc, text.as_str(), fault)?;
+    let words = wrong_event(alloc, version, text.as_str(), fault)?;
     let text = shown(alloc, text.as_str())?;
     Ok(format!(in alloc; "{text}: {words}")?)
 }
@@ -64,8 +69,12 @@ fn wrong_place(alloc: Global, place: &Place, fault: AppFault) -> Result<String, 
         Place::Unknown { name } => of_unknown(alloc, name.as_str()),
         Place::Missing { field } => of_field(alloc, *field, "missing"),
         Place::Value { field } => of_field(alloc, *field, wrong_value(*field, fault)),
-        Place::Event { index, text } => {
-            let said = wrong_item(alloc, text, fault)?;
+        Place::Event {
+            index,
+            version,
+            text,
+        } => {
+            let said = wrong_item(alloc, *version, text, fault)?;
             of_event(alloc, *index, said.as_str())
         }
     }

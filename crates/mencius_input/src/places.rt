@@ -58,8 +58,12 @@ pub enum Place {
     Missing { field: Field },
     /// The value of a field: of the events, that it is no list.
     Value { field: Field },
-    /// An event, by its index from 0, and its text, if it is one.
-    Event { index: usize, text: Option<String> },
+    /// An event, by its index from 0, the version in which it is judged, and its text, if it is one.
+    Event {
+        index: usize,
+        version: u64,
+        text: Option<String>,
+    },
 }
 
 // The version that the scenario says.
@@ -182,8 +186,13 @@ fn place_in_events(
     let Some(items) = events.as_array() else {
         return Ok(amiss(Field::Events, AppFault::BadShape, fault));
     };
-    match first_event(alloc, version_of(scenario), items.as_slice(), fault)? {
-        Some((index, text)) => Ok(Some(Place::Event { index, text })),
+    let version = version_of(scenario);
+    match first_event(alloc, version, items.as_slice(), fault)? {
+        Some((index, text)) => Ok(Some(Place::Event {
+            index,
+            version,
+            text,
+        })),
         None => Ok(None),
     }
 }

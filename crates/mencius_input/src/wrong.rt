@@ -1,6 +1,7 @@
 //! Which word of an event is wrong, in a person's words. Each word is judged by what reads it.
 
 use crate::event::{event_is_cas, parse_id};
+use crate::newest::takes_cas;
 use crate::words::{cut, parse_u8, parse_u32};
 use mencius_base::{BadCommand, Command, CommandId, Key, NoMemory, Op, Text};
 use mencius_ends::AppFault;
@@ -308,8 +309,16 @@ fn left_over(alloc: Global, left: &mut Option<&str>) -> Result<String, NoMemory>
     }
 }
 
-/// What is wrong with the text of an event that has this fault: the first of its words that has it.
-pub(crate) fn wrong_event(alloc: Global, text: &str, fault: AppFault) -> Result<String, NoMemory> {
+/// What is wrong with the text of an event that has this fault in a version: the first of its words that has it.
+pub(crate) fn wrong_event(
+    alloc: Global,
+    version: u64,
+    text: &str,
+    fault: AppFault,
+) -> Result<String, NoMemory> {
+    if event_is_cas(text) && !takes_cas(version) {
+        return Ok(String::from_str(alloc, "only version 2 has the operation cas")?);
+    }
     let mut left = Some(text);
     let first = next_word(&mut left).unwrap_or("");
     let Some(parts) = parts_behind(first) else {
@@ -322,9 +331,6 @@ pub(crate) fn wrong_event(alloc: Global, text: &str, fault: AppFault) -> Result<
         if let Some(words) = wrong_operation(alloc, &mut left, fault)? {
             return Ok(words);
         }
-    }
-    if left.is_none() && event_is_cas(text) {
-        return Ok(String::from_str(alloc, "only version 2 has the operation cas")?);
     }
     left_over(alloc, &mut left)
 }
