@@ -1,9 +1,9 @@
 //! Steps clusters through schedules that are drawn at random, and asks the laws of their answers after each event.
 //!
-//! Standard input has two numbers, a seed and a count. Of that many schedules each has a cluster of 1 to 7 servers, which
-//! mostly look ahead where they suspect, and 60 to 360 events that are drawn by numbers of its own. Then, to half of the
-//! clusters, each message comes once more in order, so that what was begun is ended. At the end the journal makes a
-//! second cluster with the same answers and the same report.
+//! Standard input has two numbers, a seed and a count. Of that many schedules each has a cluster of 1 to 7 servers,
+//! which mostly look ahead where they suspect, and 60 to 360 events that are drawn by numbers of its own. Then, to half
+//! of the clusters, each message comes once more in order, so that what was begun is ended. At the end the journal makes
+//! a second cluster with the same answers and the same report.
 //!
 //! Or standard input is a scenario of a replay. Then its events are taken in place of drawn ones, and its journal is
 //! judged; then each message that it sent comes again, from the last to the first, twice over, and all is judged again.
@@ -100,7 +100,7 @@ fn draw_members(dice: &mut Dice) -> Option<Members> {
     Members::with_beta(count, beta)
 }
 
-// How far a server looks ahead at most where what was begun is ended. Beyond that there are too many answers to look at.
+// How far a server looks ahead at most where what was begun is ended. Further on there are too many answers to look at.
 const FAR: u32 = 12;
 
 // A cluster that was attacked by one schedule.
