@@ -8,16 +8,19 @@ use Rattle.std.proofs.lemmas.Bool.{eqb-true}
 use Rattle.serde_json.specs.Data.{Data, Items, no_items, item}
 use Rattle.serde_json.specs.Find.{as_array, as_str}
 use Rattle.mencius_base.specs.Request.{Request}
+use Rattle.mencius_base.specs.declared.command.CommandId.{CommandId}
+use Rattle.mencius_base.specs.declared.command.Op.{Op}
+use Rattle.mencius_base.specs.declared.command.Op.TheVariants.{Set, Get, Del, Cas}
 use Rattle.mencius_base.specs.declared.event.Event.{Event}
 use Rattle.mencius_base.specs.declared.event.Event.TheVariants.{Submit}
 use Rattle.mencius_ends.specs.declared.fault.AppFault.{AppFault}
 use Rattle.mencius_ends.specs.declared.fault.AppFault.TheVariants.{BadShape}
-use Rattle.mencius_input.specs.Grammar.{command_of, event_of, event_within, id_of, newest_version, op_of, submit_of, takes_cas}
+use Rattle.mencius_input.specs.Grammar.{cas_of, command_of, event_of, event_within, id_of, newest_version, op_of, set_of, submit_of, takes_cas, texts_of}
 use Rattle.mencius_input.specs.Judged.{judged}
-use Rattle.mencius_input.specs.Newest.{any_in, any_of, any_of_these, command_is_cas, event_is_cas, has_command_cas, has_event_cas, in_version, op_is_cas, submit_is_cas, text_is, unless}
+use Rattle.mencius_input.specs.Newest.{any_in, any_of, any_of_these, command_is_cas, event_is_cas, has_command_cas, has_event_cas, in_version, is_cas, op_is_cas, submit_is_cas, text_is, unless}
 use Rattle.mencius_input.specs.Plan.{commands_of}
 use Rattle.mencius_input.specs.Scenario.{all_in, all_of, item_said, said_by}
-use Rattle.mencius_input.specs.Words.{number_of, words}
+use Rattle.mencius_input.specs.Words.{name_of, number_of, only, words}
 use Rattle.mencius_input.proofs.CutWords.{found_parts, lacking_parts, not_first}
 use Rattle.mencius_input.proofs.EventWords.{other_text}
 use Rattle.mencius_input.proofs.NamedFields.{same_name}
@@ -110,6 +113,82 @@ no_submission text none = by_place (position (λ byte. byte == 32) text) refl
         ap event_is_cas (found_parts 32 text n is)
         ∙ ap (λ bit. bit && submit_is_cas (words (drop (n + 1) text)))
         (other_text (take n text) (codes "submit") (not_first (codes "submit") text n is none))
+
+-- ---- what is read in the newest version is a `cas` exactly where that word stands in its place
+
+op_cas : (ws : List (List ℕ)) (op : Op) → op_of newest_version ws ≡ Some op → op_is_cas ws ≡ is_cas op
+unfolding op_of set_of cas_of
+op_cas [] op e = absurd (cc)
+op_cas (word ∷ ws) op e =
+    by_tests (bytes_eq word (codes "set")) (bytes_eq word (codes "get")) (bytes_eq word (codes "del"))
+    (bytes_eq word (codes "cas")) (one_word word (codes "set") (codes "cas") refl)
+    (one_word word (codes "get") (codes "cas") refl) (one_word word (codes "del") (codes "cas") refl) e
+  where
+    other : (x : Bool) → (x ≡ true → ⊥) → is_cas op ≡ false → x ≡ is_cas op
+    other true apart is = absurd (apart refl)
+    other false apart is = sym is
+
+    of_set : (ws : List (List ℕ)) → set_of ws ≡ Some op → is_cas op ≡ false
+    of_set [] e = absurd (cc)
+    of_set (key ∷ ws) e = made (option_zip (name_of key) (only name_of ws)) e
+      where
+        made : (o : Option (List ℕ × List ℕ)) → option_map (λ pair. Set pair.0 pair.1) o ≡ Some op → is_cas op ≡ false
+        made None e = absurd (cc)
+        made (Some pair) e = let is : Set pair.0 pair.1 ≡ op = cc in ap is_cas (sym is)
+
+    of_key : (make : List ℕ → Op) → ((x : List ℕ) → is_cas (make x) ≡ false) → (o : Option (List ℕ))
+        → option_map make o ≡ Some op → is_cas op ≡ false
+    of_key make none None e = absurd (cc)
+    of_key make none (Some x) e = let is : make x ≡ op = cc in ap is_cas (sym is) ∙ none x
+
+    of_cas : (ws : List (List ℕ)) → cas_of ws ≡ Some op → is_cas op ≡ true
+    of_cas [] e = absurd (cc)
+    of_cas (key ∷ ws) e = made (option_zip (name_of key) (texts_of ws)) e
+      where
+        made : (o : Option (List ℕ × (List ℕ × List ℕ))) → option_map (λ pair. Cas pair.0 pair.1.0 pair.1.1) o ≡ Some op
+            → is_cas op ≡ true
+        made None e = absurd (cc)
+        made (Some pair) e = let is : Cas pair.0 pair.1.0 pair.1.1 ≡ op = cc in ap is_cas (sym is)
+
+    by_tests : (a z d x : Bool) → (a ≡ true → x ≡ true → ⊥) → (z ≡ true → x ≡ true → ⊥) → (d ≡ true → x ≡ true → ⊥)
+        → cond a (set_of ws)
+        (cond z (option_map Get (only name_of ws)) (cond d (option_map Del (only name_of ws))
+        (cond (x && takes_cas newest_version) (cas_of ws) None))) ≡ Some op
+        → x ≡ is_cas op
+    by_tests true z d x h k l e = other x (h refl) (of_set ws e)
+    by_tests false true d x h k l e = other x (k refl) (of_key Get (λ _. refl) (only name_of ws) e)
+    by_tests false false true x h k l e = other x (l refl) (of_key Del (λ _. refl) (only name_of ws) e)
+    by_tests false false false true h k l e = sym (of_cas ws e)
+    by_tests false false false false h k l e = absurd (cc)
+
+pub command_cas : (ws : List (List ℕ)) (x : Request) → command_of newest_version ws ≡ Some x
+    → command_is_cas ws ≡ is_cas x.op
+unfolding command_of
+command_cas [] x e = absurd (cc)
+command_cas (id ∷ ws) x e = made (id_of id) (op_of newest_version ws) refl e
+  where
+    made : (o : Option CommandId) (s : Option Op) → op_of newest_version ws ≡ s
+        → option_map (λ pair. record { id = pair.0; op = pair.1 }) (option_zip o s) ≡ Some x → op_is_cas ws ≡ is_cas x.op
+    made None s is e = absurd (cc)
+    made (Some i) None is e = absurd (cc)
+    made (Some i) (Some op) is e =
+        let same : ◌≡◌ {A = Request} (record { id = i; op = op }) x = cc in
+        op_cas ws op is ∙ ap (λ (y : Request). is_cas y.op) same
+
+pub submit_cas : (ws : List (List ℕ)) (s : ℕ) (x : Request) → submit_of newest_version ws ≡ Some (Submit s x)
+    → submit_is_cas ws ≡ is_cas x.op
+unfolding submit_of
+submit_cas [] s x e = absurd (cc)
+submit_cas (server ∷ ws) s x e = made (number_of server) (command_of newest_version ws) refl e
+  where
+    made : (o : Option ℕ) (r : Option Request) → command_of newest_version ws ≡ r
+        → option_map (λ pair. Submit pair.0 pair.1) (option_zip o r) ≡ Some (Submit s x) → command_is_cas ws ≡ is_cas x.op
+    made None r is e = absurd (cc)
+    made (Some n) None is e = absurd (cc)
+    made (Some n) (Some y) is e =
+        let both : Submit n y ≡ Submit s x = cc in
+        let same : y ≡ x = cc in
+        command_cas ws y is ∙ ap (λ (z : Request). is_cas z.op) same
 
 -- ---- texts, items and lists
 

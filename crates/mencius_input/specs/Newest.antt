@@ -4,6 +4,8 @@ use Rattle.std.specs.Prelude.{ℕ, ◌&&◌, ◌||◌, List, [], ◌∷◌, Bool
 use Rattle.std.specs.Str.{bytes_eq}
 use Rattle.serde_json.specs.Data.{Data, Items, no_items, item}
 use Rattle.serde_json.specs.Find.{as_array, as_str}
+use Rattle.mencius_base.specs.declared.command.Op.{Op}
+use Rattle.mencius_base.specs.declared.command.Op.TheVariants.{Set, Get, Del, Cas}
 use Rattle.mencius_ends.specs.declared.fault.AppFault.{AppFault}
 use Rattle.mencius_ends.specs.declared.fault.AppFault.TheVariants.{BadShape}
 use Rattle.mencius_input.specs.declared.newest.Newest.{Newest}
@@ -27,6 +29,13 @@ submit_is_cas (server ∷ ws) = command_is_cas ws
 abbrev pub event_is_cas : List (List ℕ) → Bool
 event_is_cas [] = false
 event_is_cas (word ∷ ws) = bytes_eq word (codes "submit") && submit_is_cas ws
+
+-- by what was read
+abbrev pub is_cas : Op → Bool
+is_cas (Set key text) = false
+is_cas (Get key) = false
+is_cas (Del key) = false
+is_cas (Cas key held text) = true
 
 -- ---- in what is read
 

@@ -53,11 +53,17 @@ pub enum Place {
     /// The whole value, which is no object.
     Whole,
     /// A field that no scenario has.
-    Unknown { name: String },
+    Unknown {
+        name: String,
+    },
     /// A field that is not there.
-    Missing { field: Field },
+    Missing {
+        field: Field,
+    },
     /// The value of a field: of the events, that it is no list.
-    Value { field: Field },
+    Value {
+        field: Field,
+    },
     /// An event, by its index from 0, the version in which it is judged, and its text, if it is one.
     Event {
         index: usize,
