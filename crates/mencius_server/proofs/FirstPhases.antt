@@ -3,6 +3,7 @@ use Rattle.std.proofs.Common.{◌≡◌, ℕ, ◌+◌, ◌*◌, ◌/◌, ◌<◌
 use Rattle.std.specs.List.{count_by, list_any}
 use Rattle.std.specs.Prelude.{is_none, ◌&&◌}
 use Rattle.std.proofs.Math.Nat.{mul-le-mul_right}
+use Rattle.std.proofs.lemmas.Nat.{div-mul-add}
 use Rattle.std.proofs.lemmas.List.{get_or_past, length-map, map-append}
 use Rattle.std.proofs.lemmas.List.Sums.{length-filter}
 use Rattle.std.proofs.lemmas.Bool.{and_parts, cases_Bool, cases_eq, cases_lt, eqb-true, ltb-false, ne_eqb}
@@ -72,6 +73,13 @@ tried_below m p s some = above s.trying (s.promised / m.count) m.count p some wh
       let grows : (b / n + 1) * n ≤ (max (b / n) promised + 1) * n = mul-le-mul_right n (omega arith) in
       let whole : b < (b / n + 1) * n = omega arith in
       omega arith
+
+-- the round after it is the next one
+pub round_next : (m : Membership) (p : ℕ) (s : SlotState) → p < m.count
+    → round_after m (with_next_phase m p s) ≡ round_after m s + 1
+round_next m p s member =
+    let tried : (round_after m s * m.count + p) / m.count ≡ round_after m s = div-mul-add (round_after m s) m.count p member in
+    ap (λ n. max n (s.promised / m.count) + 1) tried ∙ omega arith
 
 abbrev slots_revoked : ServerState → ℕ → List SlotState
 slots_revoked s q = map (λ (j : ℕ). slot_revoked s.members s.id q (reach_at s q) j (slot s j)) instances

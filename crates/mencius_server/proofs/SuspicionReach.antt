@@ -3,6 +3,7 @@ use Rattle.std.proofs.Common.{◌≡◌, ℕ, ◌+◌, ◌*◌, ◌<◌, ◌≤�
 use Rattle.std.specs.Prelude.{is_none}
 use Rattle.std.specs.List.{find}
 use Rattle.std.proofs.lemmas.Bool.{and_left, and_right, cases_eq, cases_lt, eq-eqb, le-ltb, lt-ltb, ne_eqb}
+use Rattle.std.proofs.Math.Nat.{mod-eq_of_lt, mod-le}
 use Rattle.mencius_base.specs.Limits.{instance_count}
 use Rattle.mencius_base.specs.Members.{Membership, instances, owner}
 use Rattle.mencius_model.specs.Rules.{is_open_from, reach_from}
@@ -11,6 +12,13 @@ use Rattle.coord_paxos.specs.SlotState.{SlotState}
 use Rattle.mencius_server.specs.Known.{KnownState, is_known_open, known_at, known_of, known_reach, known_slot}
 use Rattle.mencius_server.specs.declared.ranges.Span.{Span}
 use Rattle.mencius_server.proofs.KnownInstances.{seen}
+
+-- a server's first instance has its number
+pub first_own : (m : Membership) (q : ℕ) → q < m.count → owner m q ≡ q
+first_own m q member = mod-eq_of_lt member
+
+pub first_least : (m : Membership) (q j : ℕ) → owner m j ≡ q → q ≤ j
+first_least m q j own = omega (arith, own, mod-le j m.count)
 
 pub clash : (a : Bool) → a ≡ true → a ≡ false → ⊥
 clash true e fails = cc

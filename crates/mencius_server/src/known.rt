@@ -282,7 +282,8 @@ impl Known {
         let _few = members.count();
         let beta = members.beta();
         let near = (front + beta).min(INSTANCES);
-        let from = members.first_owned(suspected, 0);
+        // A server's first instance has its number.
+        let from = u32::from(suspected);
         let runs = &mut self.runs;
         let first = open_from(&self.slots, &self.skipped, runs, members, from, near);
         if first < near {
@@ -399,11 +400,11 @@ impl Known {
         ensures { IsOpenStretch self.now suspected reach result }
     {
         let members = self.members;
-        let first = members.first_owned(suspected, 0);
         Stretch {
             members,
             server: suspected,
-            first,
+            // A server's first instance has its number.
+            first: u32::from(suspected),
             stop: reach.min(INSTANCES),
         }
     }

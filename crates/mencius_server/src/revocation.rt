@@ -7,9 +7,8 @@ ghost use Rattle.mencius_server.specs.State.{slot};
 ghost use Rattle.std.specs.Prelude.{◌≡◌, false, is_none, is_some, ◌+◌, ◌<◌, ◌≤◌, ◌++◌, ◌==◌, OnOk, OnErr, if◌then◌else◌, Some, true};
 
 use crate::Server;
-use crate::tally::is_last;
 use coord_paxos::Slot;
-use mencius_base::{Ballot, Members, Message, Outbox, Refusal};
+use mencius_base::{Ballot, GREATEST_ROUND, Members, Message, Outbox, Refusal};
 
 impl Server {
     /// Revokes what a suspected server left open (Rule 3 of Mao, Junqueira and Marzullo, OSDI 2008,
@@ -96,5 +95,6 @@ pub(crate) fn begin_slot(
             ballot,
         });
     }
-    Some(is_last(members, slot))
+    // The slot tries this round now, so the next one is the round after it.
+    Some(round >= GREATEST_ROUND)
 }

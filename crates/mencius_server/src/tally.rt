@@ -123,7 +123,7 @@ impl Tally {
 }
 
 // Whether there is no further round at a slot.
-pub(crate) fn is_last(members: Members, slot: &Slot) -> bool
+fn is_last(members: Members, slot: &Slot) -> bool
     ensures { result ≡ is_spent members slot.now }
 {
     round_after(members, slot) > GREATEST_ROUND

@@ -2,9 +2,9 @@ use Rattle.std.proofs.Common.{◌≡◌, ℕ, ◌+◌, ◌*◌, ◌<◌, false, 
 use Rattle.std.specs.Prelude.{is_none}
 use Rattle.mencius_base.specs.Limits.{instance_count}
 use Rattle.mencius_base.specs.Members.{owner}
-use Rattle.mencius_server.specs.Known.{known_at}
+use Rattle.mencius_server.specs.Known.{KnownState, known_at}
 use Rattle.mencius_server.proofs.InstanceTallies.{runs_kept}
-use Rattle.mencius_server.proofs.SuspicionReach.{reach_nowhere, reach_there}
+use Rattle.mencius_server.proofs.SuspicionReach.{first_least, first_own, reach_nowhere, reach_there}
 use Rattle.mencius_server.proofs.known.Known.reach.Goals.{else-first-near, then-first-near}
 use Rattle.mencius_server.proofs.known.Known.reach.Goals as goal
 
@@ -21,12 +21,14 @@ returns-clause-reach c =
     let m = c.self.inside.members in
     let slots = c.self.inside.slots in
     let rs = c.self.inside.skipped.items in
-    let own = c.first_owned-from.ensures.owned in
     let first = c.open_from-first.result in
+    let own : owner m c.from-from.result ≡ c.args.suspected =
+    rw c.from-from.ensures (first_own m c.args.suspected
+    (omega (arith, c.requires.suspected, ap (λ (x : KnownState). x.members.count) c.self.view_is))) in
     let below : (j : ℕ) → j < first → owner m j ≡ c.args.suspected → j < instance_count
     → is_none (known_at m slots rs j).learned ≡ false =
     λ j less mine small.
-    c.open_from-first.ensures.known j (c.first_owned-from.ensures.least j (omega arith) mine) less (mine ∙ sym own)
+    c.open_from-first.ensures.known j (omega (arith, first_least m c.args.suspected j mine, c.from-from.ensures)) less (mine ∙ sym own)
     small in
     elim c.if-first-near.branch [
       | then-first-near w ↦ w.result-is ∙ ap (λ n. c.args.front + 2 * n + 1) c.beta-beta.ensures.beta
