@@ -1,8 +1,8 @@
 -- A loop over the slots that starts first phases at some.
-use Rattle.std.proofs.Common.{◌≡◌, ℕ, ◌+◌, ◌*◌, ◌/◌, ◌<◌, ◌≤◌, Option, Some, Bool, true, false, cond, eqb, List, [], ◌∷◌, ◌++◌, filter, length, map, max, refl, sym, ◌∙◌, ap, subst, arith, append-nil, append_assoc, ⊎_elim}
+use Rattle.std.proofs.Common.{◌≡◌, ℕ, zero, suc, ◌+◌, ◌*◌, ◌/◌, ◌<◌, ◌≤◌, Option, Some, Bool, true, false, cond, eqb, List, [], ◌∷◌, ◌++◌, filter, length, map, max, refl, sym, ◌∙◌, ap, subst, arith, append-nil, append_assoc, ⊎_elim}
 use Rattle.std.specs.List.{count_by, list_any}
 use Rattle.std.specs.Prelude.{is_none, ◌&&◌}
-use Rattle.std.proofs.Math.Nat.{mul-le-mul_right}
+use Rattle.std.proofs.Math.Nat.{div-mul-le_self, div-zero, le-div_iff_mul-le, mul-le-mul_right}
 use Rattle.std.proofs.lemmas.Nat.{div-mul-add}
 use Rattle.std.proofs.lemmas.List.{get_or_past, length-map, map-append}
 use Rattle.std.proofs.lemmas.List.Sums.{length-filter}
@@ -73,6 +73,12 @@ tried_below m p s some = above s.trying (s.promised / m.count) m.count p some wh
       let grows : (b / n + 1) * n ≤ (max (b / n) promised + 1) * n = mul-le-mul_right n (omega arith) in
       let whole : b < (b / n + 1) * n = omega arith in
       omega arith
+
+-- rounds are ordered as ballots are
+pub rounds_ordered : (k a b : ℕ) → a ≤ b → a / k ≤ b / k
+rounds_ordered zero a b less = omega (arith, div-zero a)
+rounds_ordered (suc k) a b less =
+    (le-div_iff_mul-le {k = suc k} {x = a / suc k} {y = b} (omega arith)).1 (omega (arith, less, div-mul-le_self a (suc k)))
 
 -- the round after it is the next one
 pub round_next : (m : Membership) (p : ℕ) (s : SlotState) → p < m.count

@@ -57,9 +57,9 @@ pub(crate) fn round_after(members: Members, slot: &Slot) -> u32
     ensures round { result ≡ round_after members slot.now }
     ensures some { 1 ≤ result }
 {
-    let tried = slot.trying().round(members);
-    let promised = slot.promised().round(members);
-    tried.max(promised) + 1
+    // Rounds are ordered as their ballots are, so one division is enough.
+    let highest = slot.trying().max(slot.promised());
+    highest.round(members) + 1
 }
 
 // Starts a first phase at a slot where nothing was learned: whether it is in the last round. Where something was
