@@ -1,5 +1,5 @@
 -- The first item that has a fault, and a place in what bytes say.
-use Rattle.std.proofs.Common.{◌≡◌, ◌<◌, ◌+◌, ◌∙◌, ℕ, List, length, get_or, Option, Some, None, Result, Ok, Err, IfOk, IfSome, sym, ap, inl, inr, arith, nat_lt}
+use Rattle.std.proofs.Common.{◌≡◌, ◌<◌, ◌+◌, ◌∙◌, ℕ, List, length, get_or, Option, Some, None, Result, Ok, Err, IfOk, IfSome, sym, ap, subst, inl, inr, arith, nat_lt}
 use Rattle.std.specs.Prelude.{unwrap_or}
 use Rattle.std.specs.Result.{result_err}
 use Rattle.std.proofs.lemmas.Bool.{cases_Bool}
@@ -12,7 +12,7 @@ use Rattle.serde_json.proofs.Views.{get_item_within}
 use Rattle.mencius_ends.specs.declared.fault.AppFault.{AppFault}
 use Rattle.mencius_base.specs.declared.refusal.NoMemory.{NoMemory}
 use Rattle.mencius_input.specs.declared.places.Place.{Place}
-use Rattle.mencius_input.specs.Place.{IsAt, NoneBefore}
+use Rattle.mencius_input.specs.Place.{HasFields, IsAt, NoneBefore}
 use Rattle.mencius_input.specs.Scenario.{item_said, json_of}
 
 pub said_err : {X : Type 0} (r : Result X AppFault) (fault : AppFault) → result_err r ≡ Some fault → r ≡ Err fault
@@ -46,3 +46,13 @@ pub place_known : (result : Result (Option Place) NoMemory) (bytes : List ℕ) (
 place_known (Ok (Some place)) bytes d fault said at = (d, said, at)
 place_known (Ok None) bytes d fault said at = tt
 place_known (Err e) bytes d fault said at = tt
+
+-- what is known of the value is known of what the bytes are
+pub fields_known : (bytes : List ℕ) (d e : Data) → json_of bytes ≡ Some d → json_of bytes ≡ Some e → HasFields d → HasFields e
+fields_known bytes d e said same has =
+    let equal : d ≡ e = cc in
+    subst HasFields equal has
+
+-- bytes that are no JSON say nothing
+pub fields_of_none : (bytes : List ℕ) (d : Data) → json_of bytes ≡ None → json_of bytes ≡ Some d → HasFields d
+fields_of_none bytes d none said = absurd cc

@@ -58,6 +58,13 @@ IsAt fault d (Event index version text) =
     (version ≡ version_of d) × (value : Data) × (get (codes "events") d ≡ Some value) × (items : Items) × (as_array value ≡ Some items)
     × IsFirst fault version items index (option_map string_bytes text)
 
+-- it is an object, and no field is missing
+pub record HasFields (d : Data) : Type 0 where
+  pub object : as_object d ≢ None
+  pub version : get (field_name Version) d ≢ None
+  pub servers : get (field_name Servers) d ≢ None
+  pub events : get (field_name Events) d ≢ None
+
 -- those that there are have the fault
 abbrev pub ArePlaces : AppFault → Data → Places → Type 0
 ArePlaces fault d places =

@@ -1,16 +1,16 @@
 //! Where a scenario has a fault.
 
-ghost use Rattle.std.specs.Prelude.{◌≡◌, ◌≢◌, ◌&&◌, Err, IfOk, IfSome, Some, codes, not, option_map, string_bytes};
+ghost use Rattle.std.specs.Prelude.{◌≡◌, ◌≢◌, ◌&&◌, Err, IfOk, IfSome, MatchOption, None, Ok, Some, codes, not, option_map, string_bytes};
 ghost use Rattle.std.specs.Bool.{MatchBool};
 ghost use Rattle.std.specs.Result.{result_err};
 ghost use Rattle.serde_json.specs.Data.{Data};
-ghost use Rattle.serde_json.specs.Find.{as_str};
+ghost use Rattle.serde_json.specs.Find.{as_str, get};
 ghost use Rattle.serde_json.specs.View.{items_view, view};
 ghost use Rattle.mencius_input.specs.declared.scenario.Name.TheVariants.{Other};
 ghost use Rattle.mencius_input.specs.Fields.{named};
 ghost use Rattle.mencius_input.specs.Grammar.{newest_version, takes_cas};
 ghost use Rattle.mencius_input.specs.Newest.{has_event_cas};
-ghost use Rattle.mencius_input.specs.Place.{ArePlaces, IsAt, IsFirst, field_name, version_of};
+ghost use Rattle.mencius_input.specs.Place.{ArePlaces, HasFields, IsAt, IsFirst, field_name, version_of};
 ghost use Rattle.mencius_input.specs.Scenario.{item_said, json_of, whole_of};
 
 use crate::event::{event_is_cas, parse_event};
@@ -355,9 +355,21 @@ fn first_in_fields(
     first_named(alloc, &mut reader, &mut places, scenario, fault)
 }
 
+// A field, where it is not there.
+fn lack_of(scenario: &Value, field: Field) -> Option<Place>
+    ensures { MatchOption result (get (field_name field) (view scenario.now) ≢ None)
+        (λ x. (x ≡ Place.Missing field) × (get (field_name field) (view scenario.now) ≡ None)) }
+{
+    match scenario.get(field.name()) {
+        Some(_) => None,
+        None => Some(Place::Missing { field }),
+    }
+}
+
 // What the value lacks as a whole: that it is an object, or the first field that is not there.
 fn first_lack(scenario: &Value, fault: AppFault) -> Option<Place>
-    ensures { IfSome result (λ x. IsAt fault (view scenario.now) x) }
+    ensures found { IfSome result (λ x. IsAt fault (view scenario.now) x) }
+    ensures none { result ≡ None → fault ≡ AppFault.BadShape → HasFields (view scenario.now) }
 {
     if fault != AppFault::BadShape {
         return None;
@@ -365,12 +377,9 @@ fn first_lack(scenario: &Value, fault: AppFault) -> Option<Place>
     if scenario.as_object().is_none() {
         return Some(Place::Whole);
     }
-    for field in [Field::Version, Field::Servers, Field::Events] {
-        if scenario.get(field.name()).is_none() {
-            return Some(Place::Missing { field });
-        }
-    }
-    None
+    lack_of(scenario, Field::Version)
+        .or(lack_of(scenario, Field::Servers))
+        .or(lack_of(scenario, Field::Events))
 }
 
 // The first place of a value that has the fault.
@@ -380,7 +389,8 @@ fn place_in(
     scenario: Value,
     fault: AppFault,
 ) -> Result<Option<Place>, NoMemory>
-    ensures { IfOk result (λ o. IfSome o (λ x. IsAt fault (view scenario) x)) }
+    ensures found { IfOk result (λ o. IfSome o (λ x. IsAt fault (view scenario) x)) }
+    ensures none { result ≡ Ok None → fault ≡ AppFault.BadShape → HasFields (view scenario) }
 {
     match first_in_fields(alloc, text, &scenario, fault)? {
         Some(place) => Ok(Some(place)),
@@ -390,14 +400,17 @@ fn place_in(
 
 /// The first place in a text that has the fault `BadShape` or `BadLimit`, which
 /// [`read_scenario`](crate::read_scenario) answers for its bytes. A field that is not there comes
-/// last. There is none where the bytes have another fault, or are too many to be read.
+/// last. There is none where the bytes have another fault, or are too many to be read. A field that
+/// is missing is found wherever nothing else is.
 ///
 /// # Errors
 ///
 /// `NoMemory` where memory ran out.
 pub fn place_of(alloc: Global, bytes: &[u8], fault: AppFault) -> Result<Option<Place>, NoMemory>
-    ensures { IfOk result (λ o. IfSome o (λ x.
+    ensures found { IfOk result (λ o. IfSome o (λ x.
         (d : Data) × (json_of bytes.now ≡ Some d) × IsAt fault d x)) }
+    ensures none { result ≡ Ok None → fault ≡ AppFault.BadShape
+        → (d : Data) → json_of bytes.now ≡ Some d → HasFields d }
 {
     let Ok(text) = std::str::from_utf8(bytes) else {
         return Ok(None);
