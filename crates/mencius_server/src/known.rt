@@ -230,7 +230,7 @@ impl Known {
     /// Learns no-op at a server's instances in a range, and answers at how many nothing was learned before.
     ///
     /// A range that was skipped before costs a search among the ranges. Else it takes about the time of the slots
-    /// that may stand in the range, and, where the server was suspected, of those of its instances up to the front
+    /// that may stand in the range, and, where the server was suspected, of those of its instances up to the reach
     /// then that were in no range.
     pub(crate) fn skip(&mut self, from: u8, first: u32, stop: u32) -> Result<u32, NoMemory>
         requires member { from < self.old.members.count }
