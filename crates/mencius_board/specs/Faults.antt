@@ -1,7 +1,19 @@
--- Which faults a call may have.
-use Rattle.std.specs.Prelude.{◌≡◌, ◌≤◌, ◌⊎◌, ℕ, Bool, true}
+-- The number and the name of each fault, and which faults a call may have.
+use Rattle.std.specs.Prelude.{◌≡◌, ◌≤◌, ◌⊎◌, ℕ, Bool, true, List, codes}
 use Rattle.mencius_board.specs.declared.fault.BoardFault.{BoardFault}
 use Rattle.mencius_board.specs.declared.fault.BoardFault.TheVariants.{NoMemory, NoReader, NoWorker, ShowRefused}
+
+abbrev pub board_fault_number : BoardFault → ℕ
+board_fault_number NoMemory = 14
+board_fault_number NoReader = 15
+board_fault_number ShowRefused = 16
+board_fault_number NoWorker = 17
+
+abbrev pub board_fault_name : BoardFault → List ℕ
+board_fault_name NoMemory = codes "NoMemory"
+board_fault_name NoReader = codes "NoReader"
+board_fault_name ShowRefused = codes "ShowRefused"
+board_fault_name NoWorker = codes "NoWorker"
 
 -- of a call that shows
 abbrev pub IsShowFault : BoardFault → Type 0

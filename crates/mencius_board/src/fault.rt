@@ -1,3 +1,6 @@
+ghost use Rattle.std.specs.Prelude.{◌≡◌};
+ghost use Rattle.mencius_board.specs.Faults.{board_fault_name, board_fault_number};
+
 use thiserror::Error;
 
 /// Why a board, a reader or the workers give up.
@@ -16,4 +19,30 @@ pub enum BoardFault {
     /// A worker's thread could not be started.
     #[error("a thread could not be started")]
     NoWorker,
+}
+
+impl BoardFault {
+    /// The number of the fault, 14 to 17. No two have the same.
+    pub fn number(&self) -> u8
+        ensures { result ≡ board_fault_number self.now }
+    {
+        match self {
+            BoardFault::NoMemory => 14,
+            BoardFault::NoReader => 15,
+            BoardFault::ShowRefused => 16,
+            BoardFault::NoWorker => 17,
+        }
+    }
+
+    /// The name of the fault, which is its variant's.
+    pub fn name(&self) -> &'static str
+        ensures { result.now ≡ board_fault_name self.now }
+    {
+        match self {
+            BoardFault::NoMemory => "NoMemory",
+            BoardFault::NoReader => "NoReader",
+            BoardFault::ShowRefused => "ShowRefused",
+            BoardFault::NoWorker => "NoWorker",
+        }
+    }
 }
