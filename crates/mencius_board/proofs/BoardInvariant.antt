@@ -1,6 +1,6 @@
 -- What every board keeps, over the fields of a board.
-use Rattle.std.proofs.Common.{◌≡◌, ℕ, List, [], ◌++◌, Option, Some, take, sym, ap, subst, ◌∙◌, arith}
-use Rattle.std.proofs.lemmas.List.{take-append-le}
+use Rattle.std.proofs.Common.{◌≡◌, ◌≤◌, ℕ, List, [], ◌++◌, length, Option, Some, take, sym, ap, subst, ◌∙◌, arith}
+use Rattle.std.proofs.lemmas.List.{append-nil, take-append-le}
 use mathlib.Core.List.{IsPrefix}
 use Rattle.mencius_base.specs.declared.command.Command.{Command}
 use Rattle.mencius_cluster.specs.State.{ClusterState}
@@ -38,6 +38,10 @@ pub shown_first : (x : ClusterState) (shown : List Command) (os : List Operation
 shown_first x shown os n h = subst (λ (l : List Command). IsPrefix l (longest x)) (sym h.first)
     (take_begins n (longest x))
 
+-- a list begins with all of itself
+pub all_begins : (xs ys : List Command) → xs ≡ ys → IsPrefix xs ys
+all_begins xs ys same = ([], append-nil xs ∙ same)
+
 -- nothing is shown yet
 pub sound_new : (x : ClusterState) (log opening : MarkState) (seen : Option MarkState) (shown : VersionState)
     (os : List Operation) → IsSteady x → log.log ≡ [] → opening ≡ log
@@ -57,5 +61,32 @@ sound_new x log opening seen shown os steady empty same seen_is is none =
       handed_is = record { many = omega arith; first = ap (λ (l : List Command). l ++ added os) list ∙ none };
       begins = subst (λ (l : List Command). IsPrefix l (longest x)) (sym empty) (prefix_empty (longest x));
       opening_is = same ∙ ap (λ (l : List Command). mark_of log.book l) empty;
+      seen_is = seen_is ∙ ap (λ (m : MarkState). Some m.book) same;
+    }
+
+-- all of the longest history is shown
+pub sound_shown : (x : ClusterState) (log opening mark : MarkState) (seen : Option MarkState) (shown : VersionState)
+    (os : List Operation) (n : ℕ) (list was : List Command) (waiting : List Operation) → IsSteady x
+    → opening ≡ mark_of log.book [] → mark ≡ log → log.log ≡ list → list ≡ longest x → AreHanded was waiting n list
+    → was ++ added waiting ≡ list → shown ≡ record { mark = mark; list = mark.log } → added os ≡ []
+    → book_of seen ≡ Some mark.book → IsSound x log opening seen shown os n
+sound_shown x log opening mark seen shown os n list was waiting steady opening_is same whole all h handed is none
+    seen_is =
+    let list_is : shown.list ≡ list = ap (λ (s : VersionState). s.list) is
+    ∙ (ap (λ (m : MarkState). m.log) same ∙ whole) in
+    record {
+      steady = steady;
+      marked = record {
+        book_is = ap (λ (s : VersionState). s.mark.book) is ∙ ap (λ (m : MarkState). m.book) same;
+        log_is = ap (λ (s : VersionState). s.mark.log) is ∙ sym (ap (λ (s : VersionState). s.list) is);
+      };
+      handed_is = record {
+        many = subst (λ (l : List Command). n ≤ length l) all h.many;
+        first = ap (λ (l : List Command). shown.list ++ l) none
+            ∙ (append-nil shown.list
+            ∙ (list_is ∙ (sym handed ∙ (h.first ∙ ap (λ (l : List Command). take n l) all))));
+      };
+      begins = all_begins log.log (longest x) (whole ∙ all);
+      opening_is = opening_is;
       seen_is = seen_is ∙ ap (λ (m : MarkState). Some m.book) same;
     }

@@ -1,3 +1,4 @@
+pub mod LogEnds
 pub mod LogExchange
 pub mod LogSteps
 pub mod ShownEntries

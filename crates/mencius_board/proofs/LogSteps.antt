@@ -1,17 +1,18 @@
 -- A step that only adds to the log keeps the rule of what is shown.
 use Rattle.std.proofs.Common.{◌≡◌, ℕ, ◌≢◌, List, [], ◌∷◌, ◌++◌, Option, Some, None, set, refl, sym, ap, ◌∙◌, subst}
-use Rattle.std.proofs.Common.{⊎_elim}
+use Rattle.std.proofs.Common.{⊎_elim, ◌<◌, ◌^◌, length}
 use mathlib.Core.Option.{some}
 use mathlib.Core.List.{IsPrefix}
 use lib.ListN.{get_elem?}
 use Rattle.left_right.specs.Register.{Admits, TurnsAt, Forks, Merges}
 use Rattle.atomic_table.proofs.Lists.{at_set, at_snoc}
+use Rattle.mencius_base.specs.declared.command.Command.{Command}
 use Rattle.mencius_board.specs.Marks.{MarkState, VersionState}
 use Rattle.mencius_board.specs.declared.version.Operation.{Operation}
 use Rattle.mencius_board.specs.declared.version.Operation.TheVariants.{Stamp}
 use Rattle.mencius_board.specs.Pending.{IsMarked, then_shown, added}
 use Rattle.mencius_board.proofs.ShownEntries.{then_stamped}
-use Rattle.mencius_board.specs.Shown.{Follows, Keeps, Shows}
+use Rattle.mencius_board.specs.Shown.{Follows, IsWhole, Keeps, Shows}
 use Rattle.mencius_model.proofs.Prefixes.{prefix_self, prefix_trans}
 
 follows_on : (a : Option MarkState) (m n : MarkState) → Follows a m → m.book ≡ n.book → IsPrefix m.log n.log
@@ -20,7 +21,7 @@ follows_on None m n follows book grows = tt
 follows_on (Some a) m n follows book grows = (follows.0 ∙ book, prefix_trans a.log m.log n.log follows.1 grows)
 
 pub turns : (seat : ℕ) (z : Option MarkState) (x y : VersionState) → x.mark.book ≡ y.mark.book
-    → IsPrefix x.mark.log y.mark.log → y.mark.log ≡ y.list → TurnsAt Keeps seat z x y Shows
+    → IsPrefix x.mark.log y.mark.log → IsWhole y → TurnsAt Keeps seat z x y Shows
 turns seat z x y book grows own views h at = (
   Some y.mark,
   (
@@ -72,16 +73,19 @@ merges seat z other d x views h at apart there =
 
 -- a mark of all that is then shown keeps the rule
 pub stamped_turns : (seat : ℕ) (a : Option MarkState) (x now next : VersionState) (old all : List Operation)
-    (h mark : MarkState) → x ≡ now → all ≡ old ++ Stamp mark ∷ [] → mark ≡ h
+    (h mark : MarkState) → length h.log < 2 ^ 32 → x ≡ now → all ≡ old ++ Stamp mark ∷ [] → mark ≡ h
     → IsMarked h.book now → now.list ++ added old ≡ h.log → next ≡ then_shown x all → TurnsAt Keeps seat a x next Shows
-stamped_turns seat a x now next old all h mark same ops is marked whole made =
+stamped_turns seat a x now next old all h mark few same ops is marked whole made =
     let made_now : next ≡ then_shown now (old ++ Stamp mark ∷ []) = made
     ∙ (ap (λ s. then_shown s all) same ∙ ap (then_shown now) ops) in
     let stamped : next ≡ record { mark = mark; list = mark.log } = made_now
     ∙ then_stamped now old mark (whole ∙ ap (λ (m : MarkState). m.log) (sym is)) in
     let mark_is : next.mark ≡ h = ap (λ (s : VersionState). s.mark) stamped ∙ is in
     let list_is : next.list ≡ h.log = ap (λ (s : VersionState). s.list) stamped ∙ ap (λ (m : MarkState). m.log) is in
-    let own : next.mark.log ≡ next.list = ap (λ (m : MarkState). m.log) mark_is ∙ sym list_is in
+    let own : IsWhole next = record {
+      log_is = ap (λ (m : MarkState). m.log) mark_is ∙ sym list_is;
+      limit = subst (λ (l : List Command). length l < 2 ^ 32) (sym list_is) few;
+    } in
     let book : now.mark.book ≡ next.mark.book = marked.book_is ∙ ap (λ (m : MarkState). m.book) (sym mark_is) in
     let log : next.mark.log ≡ now.mark.log ++ added old =
     ap (λ (m : MarkState). m.log) mark_is ∙ (sym whole ∙ ap (λ xs. xs ++ added old) (sym marked.log_is)) in

@@ -1,13 +1,12 @@
 -- A board, as contracts see it, and what its type keeps.
 use Rattle.std.specs.Prelude.{ℕ, ◌≡◌, ◌≤◌, List, [], Option, Some, Ok}
 use mathlib.Core.List.{IsPrefix}
-use Rattle.logbook.specs.Pages.{Book}
 use Rattle.mencius_base.specs.declared.command.Command.{Command}
 use Rattle.mencius_model.specs.Next.{replay}
 use Rattle.mencius_model.specs.Laws.{LongestCommandsGrow}
 use Rattle.mencius_model.specs.Replying.{longest_commands}
 use Rattle.mencius_cluster.specs.State.{ClusterState, trace_of}
-use Rattle.mencius_board.specs.Marks.{MarkState, VersionState, mark_of}
+use Rattle.mencius_board.specs.Marks.{MarkState, Origin, VersionState, mark_of}
 use Rattle.mencius_board.specs.Shown.{book_of}
 use Rattle.mencius_board.specs.declared.version.Operation.{Operation}
 use Rattle.mencius_board.specs.Pending.{AreHanded, IsMarked}
@@ -15,14 +14,14 @@ use Rattle.mencius_board.specs.Pending.{AreHanded, IsMarked}
 -- which board it is, its cluster, the list that is shown, what is to be shown next, and how many readers may still be
 -- made
 pub record BoardState : Type 0 where
-  pub book : Book
+  pub book : Origin
   pub cluster : ClusterState
   pub shown : List Command
   pub pending : List Command
   pub places : ℕ
 
 -- a board on which nothing is shown yet
-abbrev pub new_board : Book → ClusterState → ℕ → BoardState
+abbrev pub new_board : Origin → ClusterState → ℕ → BoardState
 new_board book x readers = record { book = book; cluster = x; shown = []; pending = []; places = readers }
 
 -- the commands of the cluster's longest history, in order

@@ -1,5 +1,6 @@
 pub mod Marks
 pub mod Rules
+pub mod Owners
 pub mod Shown
 pub mod Pending
 pub mod Boards

@@ -117,9 +117,10 @@ impl Board {
     /// Shows the longest history, all at once, and answers what is shown. It may wait for readers
     /// to leave what was shown before. Its work is the new commands, and one copy for the News.
     ///
-    /// `NoMemory` comes where a copy is refused, `ShowRefused` where handing over or publishing is,
-    /// whatever the cause. Cluster and what is shown then stay; some of the new commands may be
-    /// handed over already, and the next call shows them.
+    /// `NoMemory` comes where a copy is refused, `ShowRefused` where `left_right` refuses to take a
+    /// command or to publish, whatever the cause. Cluster and what is shown then stay; some of the new
+    /// commands may be handed over already, and the next call shows them.
+    #[tactic(auto, using(crate::proofs::BoardInvariant::all_begins))]
     pub fn show<R: Wait>(&mut self, rt: &R, alloc: Global) -> Result<News, BoardFault>
         ensures shown { OnOk result (self.new
             ≡ record self.old { shown = longest self.old.cluster; pending = [] }) }
@@ -131,9 +132,7 @@ impl Board {
             return Err(BoardFault::NoMemory);
         };
         hand_over(list.as_slice(), &mut self.handed, &mut self.writer)?;
-        if !record(list.as_slice(), &mut self.log) {
-            return Err(BoardFault::ShowRefused);
-        }
+        record(list.as_slice(), &mut self.log);
         let mark = self.log.mark();
         let Ok(()) = replace_with(&mut self.writer, rt, |writer, rt| {
             publish(rt, &mark, writer)

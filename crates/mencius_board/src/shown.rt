@@ -1,10 +1,11 @@
 //! The rule under which readers enter what the writer shows.
-ghost use Rattle.std.specs.Prelude.{◌≡◌, ◌≤◌, ◌++◌, Some, IfOk, IfErr, length, ◌<◌, drop, MatchResult, [], option_copied, option_map};
+ghost use Rattle.std.specs.Prelude.{◌≡◌, ◌≤◌, ◌++◌, Some, IfOk, IfErr, length, ◌<◌, ◌^◌};
+ghost use Rattle.std.specs.Prelude.{drop, MatchResult, [], option_copied, option_map};
 ghost use Rattle.std.specs.String.{string_bytes};
 ghost use Rattle.left_right.specs.Sides.{view};
-ghost use Rattle.logbook.specs.Pages.{Book};
 ghost use Rattle.mencius_board.specs.Faults.{IsLookupFault};
 ghost use Rattle.mencius_model.specs.Store.{value_at};
+ghost use Rattle.mencius_board.specs.Marks.{Origin};
 ghost use Rattle.mencius_board.specs.Shown.{Follows, book_of};
 ghost use Rattle.mencius_board.specs.Pending.{IsMarked, added};
 ghost use Rattle.mencius_base.specs.Limits.{most_readers};
@@ -70,11 +71,11 @@ pub struct Found {
     pub text: Option<String>,
 }
 
-/// Enters what is shown and looks up a key, with room for its text. `NoReader` comes where the
-/// writer is gone.
+/// Enters what is shown and looks up a key, with room for its text. `NoReader` comes where
+/// `left_right` gives no entry, as where the writer is gone.
 pub fn read(home: Home, key: &str, room: String, least: u32) -> (Home, Result<Found, BoardFault>)
     requires { string_bytes room ≡ [] }
-    ensures book { (x : Book) → book_of (view home.place) ≡ Some x
+    ensures book { (x : Origin) → book_of (view home.place) ≡ Some x
         → book_of (view result.0.place) ≡ Some x }
     ensures follows { IfOk result.1 (λ f. Follows (view home.place) f.mark) }
     ensures text { IfOk result.1 (λ f. option_map string_bytes f.text
@@ -88,16 +89,18 @@ pub fn read(home: Home, key: &str, room: String, least: u32) -> (Home, Result<Fo
     };
     let store = reading.get();
     let mark = store.mark();
-    let len = store.commands().len();
+    let count = store.commands().len() as u32;
     let copied = copy_into(room, store.get(key));
     let home = reading.leave();
     let Ok(text) = copied else {
         return (home, Err(BoardFault::NoMemory));
     };
-    match u32::try_from(len) {
-        Ok(count) if count >= least => (home, Ok(Found { mark, count, text })),
-        _ => (home, Err(BoardFault::NoReader)),
+    // What is shown only grows, so this never comes. But no clause of `left_right` says that a list
+    // which the reader was told of was shown before it entered.
+    if count < least {
+        return (home, Err(BoardFault::NoReader));
     }
+    (home, Ok(Found { mark, count, text }))
 }
 
 // A copy of the text, if there is one.
@@ -122,6 +125,7 @@ pub fn publish<R: Wait>(
     requires marked { IsMarked log.now.book writer.desk.shown.value }
     requires whole { writer.desk.shown.value.list
         ++ added (drop writer.behind writer.log.items) ≡ log.now.log }
+    requires limit { length log.now.log < 2 ^ 32 }
     ensures seen { MatchResult result.1 (λ _.
         book_of (view result.0.desk.place) ≡ Some log.now.book)
         (λ _. view result.0.desk.place ≡ view writer.desk.place) }

@@ -11,7 +11,7 @@ publish_as-requires g c next is =
     let h : MarkState = c.args.log.now in
     let old : List Operation = drop c.args.writer.behind c.args.writer.log.items in
     let all : List Operation = drop c.append.new.self.behind c.append.new.self.log.items in
-    stamped_turns _ _ c.append.new.self.desk.shown.value now next old all h c.again.result
+    stamped_turns _ _ c.append.new.self.desk.shown.value now next old all h c.again.result c.requires.limit
     (ap (λ d. d.shown.value) c.append.ensures.desk) c.in-Ok.ensures.pending c.again.ensures
     c.requires.marked c.requires.whole is
 

@@ -1,4 +1,4 @@
-use Rattle.std.specs.Prelude.{◌≡◌, length}
+use Rattle.std.specs.Prelude.{length}
 use Rattle.std.proofs.Common.{arith, ap, inl, inr, subst, ⊎_elim}
 use Rattle.mencius_model.specs.Executed.{IsPrefix}
 use Rattle.mencius_model.proofs.Prefixes.{shorter_begins}
