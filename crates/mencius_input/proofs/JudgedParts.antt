@@ -55,7 +55,7 @@ given (Ok x) answer e = sym e
 given (Err fault) answer e = fails fault answer (sym e)
 
 -- a step that hands a fault on
-fails_on : {X Y : Type 0} (step : Result X AppFault
+pub fails_on : {X Y : Type 0} (step : Result X AppFault
     → Result Y AppFault) (fault : AppFault) (answer : Result X AppFault) → step (Err fault) ≡ Err fault
     → FailsBy fault answer → FailsBy fault (step answer)
 fails_on step NoMemory answer on e = tt
@@ -123,27 +123,6 @@ passed_on_as result answer fault h failed =
 pub shapeless : {X : Type 0} (within : X → Bool) (o : Option X) (fault : AppFault) → fault ≡ BadShape → o ≡ None
     → FailsBy fault (judged within o)
 shapeless within o fault is none = rw (is, none) refl
-
--- a limit that refuses more
-stricter_err : {X : Type 0} (f g : X → Bool) → ((x : X) → f x ≡ false → g x ≡ false)
-    → (o : Option X) (fault : AppFault) → judged f o ≡ Err fault → judged g o ≡ Err fault
-stricter_err f g less None fault e = e
-stricter_err {X} f g less (Some x) fault e = by_test (f x) refl e
-  where
-    by_test : (a : Bool) → f x ≡ a → ◌≡◌ {A = Result X AppFault} (cond a (Ok x) (Err BadLimit)) (Err fault)
-        → ◌≡◌ {A = Result X AppFault} (cond (g x) (Ok x) (Err BadLimit)) (Err fault)
-    by_test true is e = absurd (cc)
-    by_test false is e = rw (less x is) e
-
-pub stricter : {X : Type 0} (f g : X → Bool) → ((x : X) → f x ≡ false → g x ≡ false)
-    → (o : Option X) (fault : AppFault) → FailsBy fault (judged f o) → FailsBy fault (judged g o)
-stricter f g less o NoMemory h = tt
-stricter f g less o NotJson h = stricter_err f g less o NotJson h
-stricter f g less o BadShape h = stricter_err f g less o BadShape h
-stricter f g less o BadLimit h = stricter_err f g less o BadLimit h
-stricter f g less o ReadFailed h = stricter_err f g less o ReadFailed h
-stricter f g less o WriteFailed h = stricter_err f g less o WriteFailed h
-stricter f g less o BoardFailed h = stricter_err f g less o BoardFailed h
 
 -- what is judged well has a shape and is within the limits
 pub judged_ok : {X : Type 0} (f : X → Bool) (o : Option X) (x : X) → judged f o ≡ Ok x → (o ≡ Some x) × (f x ≡ true)

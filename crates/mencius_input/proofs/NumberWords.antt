@@ -1,9 +1,9 @@
 -- Which words are numbers, and what std's reader makes of them.
-use Rattle.std.proofs.Common.{◌≡◌, ◌<◌, ◌≤◌, ◌^◌, ℕ, List, [], ◌∷◌, ◌&&◌, length, true, false, Bool, arith, Result, Ok, Err, cond, ◌==◌, refl, nat_lt}
+use Rattle.std.proofs.Common.{◌≡◌, ◌<◌, ◌≤◌, ◌^◌, ℕ, List, [], ◌∷◌, ◌&&◌, length, true, false, Bool, arith, Result, Ok, Err, Some, None, cond, ◌==◌, refl, ap, sym, nat_lt, drop, slice_index_or}
 use Rattle.std.specs.Result.{OkIff}
 use Rattle.std.specs.Char.{is_ascii_digit, digit_value}
 use Rattle.std.specs.List.{list_all}
-use Rattle.std.specs.Str.Parse.{AllDigits, digits_value, ParsesUnsigned}
+use Rattle.std.specs.Str.Parse.{AllDigits, IsNumeral, digits_value, ParsesUnsigned, without_leading_plus}
 use Rattle.std.proofs.lemmas.Str.Parse.{numerals_by_value, tells_digits, parse_digits}
 use Rattle.std.proofs.lemmas.Bool.{and_from, and_parts, le-ltb}
 use Rattle.std.proofs.lemmas.Bool.Decides.{nat_tests}
@@ -66,3 +66,30 @@ past_limit bits word e h n =
   where
     not_less : (x y : ℕ) → (x < y → ⊥) → y ≤ x
     not_less x y h = grind arith
+
+digit_byte : (byte : ℕ) → digit_value byte < 10 → is_ascii_digit byte ≡ true
+digit_byte byte e = grind (arith, nat_tests)
+
+digit_bytes : (bytes : List ℕ) → AllDigits 10 bytes → list_all is_ascii_digit bytes ≡ true
+digit_bytes [] h = refl
+digit_bytes (byte ∷ bytes) h =
+    and_from (is_ascii_digit byte) (list_all is_ascii_digit bytes) (digit_byte byte h.0) (digit_bytes bytes h.1)
+
+-- a numeral that begins with 1 to 9 is a number
+pub number_read : (word : List ℕ) (n : ℕ) → IsNumeral 10 (without_leading_plus word)
+    → n ≡ digits_value 10 (without_leading_plus word) → 49 ≤ slice_index_or word 0 0
+    → slice_index_or word 0 0 ≤ 57 → number_of word ≡ Some n
+unfolding number_of
+number_read [] n numeral is low high = absurd (omega arith)
+number_read (byte ∷ bytes) n numeral is low high = by_tests (byte == 43) refl (byte == 48) refl numeral is
+  where
+    by_tests : (a : Bool) → (byte == 43) ≡ a → (z : Bool) → (byte == 48) ≡ z
+        → IsNumeral 10 (drop (cond a 1 0) (byte ∷ bytes)) → n ≡ digits_value 10 (drop (cond a 1 0) (byte ∷ bytes))
+        → cond (cond z (length bytes == 0) (is_ascii_digit byte && list_all is_ascii_digit bytes))
+        (Some (digits_value 10 (byte ∷ bytes))) None ≡ Some n
+    by_tests true plus z zero numeral is = absurd (grind (arith, nat_tests))
+    by_tests false plus true zero numeral is = absurd (grind (arith, nat_tests))
+    by_tests false plus false zero numeral is =
+        let digits : (is_ascii_digit byte && list_all is_ascii_digit bytes) ≡ true =
+        digit_bytes (byte ∷ bytes) numeral.1 in
+        rw digits (ap Some (sym is))

@@ -14,3 +14,4 @@ pub mod Fields
 pub mod PlanFields
 pub mod Events
 pub mod Place
+pub mod Spelled

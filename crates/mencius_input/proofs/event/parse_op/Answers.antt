@@ -1,15 +1,15 @@
-use Rattle.std.proofs.Common.{Ok, Err, refl}
+use Rattle.std.proofs.Common.{refl}
 use Rattle.mencius_base.specs.declared.command.Op.TheVariants.{Get, Del}
 use Rattle.mencius_input.specs.Judged.{unlimited}
-use Rattle.mencius_input.specs.Words.{name_of, words}
+use Rattle.mencius_input.specs.Words.{words}
 use Rattle.mencius_input.specs.Grammar.{op_of, newest_version}
-use Rattle.mencius_input.proofs.JudgedParts.{passed_on, shapeless, made_given}
-use Rattle.mencius_input.proofs.EventWords.{op_one, op_set, op_get, op_del, op_cas, op_other}
+use Rattle.mencius_input.proofs.JudgedParts.{shapeless}
+use Rattle.mencius_input.proofs.EventWords.{key_spelled, op_one, op_set, op_get, op_del, op_cas, op_other, spelled_fault}
 use Rattle.mencius_input.proofs.event.parse_op.Goals as goal
 
 pub returns-in_err-word : goal.returns-in_err-word
 returns-in_err-word c =
-    passed_on _ _ _ c.from_residual.ensures.1
+    spelled_fault _ _ _ c.from_residual.ensures.1
     (shapeless unlimited (op_of newest_version (words c.args.text.now)) _ c.in_err-word.ensures.0
     (rw c.in_err-word.ensures.1 (op_one c.args.text.now)))
 
@@ -21,29 +21,13 @@ returns-in-cas c = rw (c.in_ok-word.ensures, c.in-cas.is, op_cas) c.parse_cas.en
 
 pub returns-in_ok-key-in-get : goal.returns-in_ok-key-in-get
 returns-in_ok-key-in-get c =
-    rw (c.in_ok-word.ensures, c.in-get.is, op_get c.in_ok-word.rest.now)
-    (made_given Get unlimited unlimited (λ _. refl) (name_of c.in_ok-word.rest.now)
-    (Ok c.in_ok-key-in-get.key) c.in_ok-key-in-get.ensures)
+    rw (c.in_ok-word.ensures, c.in-get.is, op_get c.in_ok-word.rest.now, c.in_ok-key-in-get.ensures)
+    (key_spelled Get c.in_ok-word.rest.now refl)
 
 pub returns-in_ok-key-in-del : goal.returns-in_ok-key-in-del
 returns-in_ok-key-in-del c =
-    rw (c.in_ok-word.ensures, c.in-del.is, op_del c.in_ok-word.rest.now)
-    (made_given Del unlimited unlimited (λ _. refl) (name_of c.in_ok-word.rest.now)
-    (Ok c.in_ok-key-in-del.key) c.in_ok-key-in-del.ensures)
-
-pub returns-in_err-key-in-get : goal.returns-in_err-key-in-get
-returns-in_err-key-in-get c =
-    passed_on _ _ _ c.from_residual-in_err-key-in-get.ensures.1
-    (rw (c.in_ok-word.ensures, c.in-get.is, op_get c.in_ok-word.rest.now)
-    (made_given Get unlimited unlimited (λ _. refl) (name_of c.in_ok-word.rest.now)
-    (Err c.in_err-key-in-get.field-0.0) c.in_err-key-in-get.ensures))
-
-pub returns-in_err-key-in-del : goal.returns-in_err-key-in-del
-returns-in_err-key-in-del c =
-    passed_on _ _ _ c.from_residual-in_err-key-in-del.ensures.1
-    (rw (c.in_ok-word.ensures, c.in-del.is, op_del c.in_ok-word.rest.now)
-    (made_given Del unlimited unlimited (λ _. refl) (name_of c.in_ok-word.rest.now)
-    (Err c.in_err-key-in-del.field-0.0) c.in_err-key-in-del.ensures))
+    rw (c.in_ok-word.ensures, c.in-del.is, op_del c.in_ok-word.rest.now, c.in_ok-key-in-del.ensures)
+    (key_spelled Del c.in_ok-word.rest.now refl)
 
 pub returns-in_default : goal.returns-in_default
 returns-in_default c =
