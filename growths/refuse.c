@@ -4,7 +4,7 @@
  *     LD_PRELOAD=./refuse.so REFUSED_GROWTH=7 REFUSED_NOTE=note PROGRAM
  *
  * Only what the program itself asks for is counted, not what the C library or the loader needs. Once the growth was
- * refused, the file REFUSED_NOTE is there.
+ * refused, the file REFUSED_NOTE is there, and says how many bytes it was.
  */
 #define _GNU_SOURCE
 #include <fcntl.h>
@@ -12,6 +12,7 @@
 #include <stdatomic.h>
 #include <stddef.h>
 #include <stdint.h>
+#include <stdio.h>
 #include <stdlib.h>
 #include <unistd.h>
 
@@ -44,7 +45,7 @@ __attribute__((constructor)) static void begin(void)
     refused_growth = number ? strtoul(number, NULL, 10) : 0;
 }
 
-static int is_refused(const void *caller)
+static int is_refused(const void *caller, size_t size)
 {
     uintptr_t address = (uintptr_t)caller;
     if (address < first_address || address >= end_address)
@@ -52,17 +53,20 @@ static int is_refused(const void *caller)
     if (atomic_fetch_add(&growths, 1) + 1 != refused_growth)
         return 0;
     const char *note = getenv("REFUSED_NOTE");
-    if (note)
-        close(open(note, O_WRONLY | O_CREAT, 0600));
+    if (note) {
+        int file = open(note, O_WRONLY | O_CREAT, 0600);
+        dprintf(file, "%zu\n", size);
+        close(file);
+    }
     return 1;
 }
 
 void *malloc(size_t size)
 {
-    return is_refused(__builtin_return_address(0)) ? NULL : __libc_malloc(size);
+    return is_refused(__builtin_return_address(0), size) ? NULL : __libc_malloc(size);
 }
 
 void *realloc(void *block, size_t size)
 {
-    return is_refused(__builtin_return_address(0)) ? NULL : __libc_realloc(block, size);
+    return is_refused(__builtin_return_address(0), size) ? NULL : __libc_realloc(block, size);
 }

@@ -4,7 +4,7 @@ ghost use Rattle.mencius_ends.specs.Ends.{HasFailed, TakesAtMost, most_bytes, mo
 
 use crate::fault::AppFault;
 use crate::source::Source;
-use std::alloc::{AllocError, Global};
+use std::alloc::Global;
 use std::io::ErrorKind;
 
 // The bytes of the longest scenario.
@@ -18,7 +18,8 @@ pub(crate) const MOST_RETRIES: u32 = 1_000;
 
 /// All bytes of a source. Of a longer one than 16,777,216 bytes it reads one byte more, answers
 /// `BadLimit` and leaves the rest. A call that was interrupted is made again, up to 1,000 times in
-/// all; any other error is `ReadFailed`.
+/// all; any other error is `ReadFailed`. `NoMemory` comes where there is no room for the bytes that
+/// were read, or for the 65,536 that one call asks for.
 pub fn read_all<R: Source>(alloc: Global, source: &mut R) -> Result<Vec<u8>, AppFault>
     ensures whole { IfOk result (λ x. IfSome (R.remaining source.old) (λ bytes. x.items ≡ bytes)) }
     ensures end { OnOk result (IsAtEnd (R.remaining source.new)) }
@@ -36,7 +37,7 @@ pub fn read_all<R: Source>(alloc: Global, source: &mut R) -> Result<Vec<u8>, App
     ensures taken { TakesAtMost (most_bytes + 1) (R.remaining source.old) (R.remaining source.new) }
     ensures tried { R.failed source.new ≤ R.failed source.old + most_failed_calls }
 {
-    keep_freed_pages(alloc)?;
+    keep_freed_pages(alloc);
     let mut bytes = Vec::new(alloc);
     let mut retries = 0u32;
     let mut room = Vec::new(alloc);
@@ -60,8 +61,8 @@ pub fn read_all<R: Source>(alloc: Global, source: &mut R) -> Result<Vec<u8>, App
 
 // Lets the heap keep the pages of large blocks that are freed. The C library's gives them back to the
 // system, until a block as large as this was freed once; what a cluster keeps would then be put on new
-// pages, which cost more than all else about it. The block itself is never touched.
-fn keep_freed_pages(alloc: Global) -> Result<(), AllocError> {
-    let _block = Vec::<u8>::with_capacity(alloc, MOST_BYTES)?;
-    Ok(())
+// pages, which cost more than all else about it. The block itself is never touched, and where it is
+// refused only those pages are lost: reading needs no such block.
+fn keep_freed_pages(alloc: Global) {
+    let _block = Vec::<u8>::with_capacity(alloc, MOST_BYTES);
 }
