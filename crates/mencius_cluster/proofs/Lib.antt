@@ -18,5 +18,4 @@ pub mod ExecutionFields
 pub mod IdleExecutors
 pub mod LearnedSlots
 pub mod LossMasks
-pub mod IdentityOrder
 pub mod EventLists

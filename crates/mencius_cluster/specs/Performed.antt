@@ -8,7 +8,8 @@ use Rattle.map_exec.specs.State.{ExecutorState, after_execution}
 use Rattle.mencius_model.specs.Store.{key_of}
 use Rattle.mencius_cluster.specs.declared.submission.Submission.{Submission}
 use Rattle.mencius_cluster.specs.Answers.{bytes_in}
-use Rattle.mencius_cluster.specs.Submissions.{Row, set_value_at}
+use Rattle.indexmap.specs.IndexMap.{set_value_at}
+use Rattle.mencius_cluster.specs.Submissions.{Row}
 use Rattle.mencius_model.specs.Replying.{first_reply}
 
 -- server p executed the command of ticket t: x became y, and the command's row has the reply if p is its home

@@ -6,6 +6,7 @@
 
 mod cluster;
 mod marks;
+mod salted;
 mod submission;
 mod submissions;
 

@@ -1,67 +1,44 @@
-ghost use Rattle.std.specs.Prelude.{ℕ, ◌≡◌, ◌≢◌, ◌<◌, [], ◌∷◌, ◌++◌, None, OnOk, OnErr, MatchOption, get_or, length, option_copied, option_map, slice_get};
+ghost use Rattle.std.specs.Prelude.{◌≡◌, ◌<◌, [], ◌∷◌, ◌++◌, None, OnOk, OnErr, length, option_copied, option_map, slice_get};
 ghost use Rattle.std.specs.Map.{lookup};
 ghost use Rattle.mencius_base.specs.Command.{is_same_id};
 ghost use Rattle.mencius_cluster.specs.declared.submission.Answered.TheVariants.{Pending};
 ghost use Rattle.mencius_cluster.specs.Performed.{IsExecution, IsPerformed};
 ghost use Rattle.mencius_model.specs.WithinLimits.{IsTicketBelow};
-ghost use Rattle.mencius_cluster.specs.Submissions.{IsRising, key_of, row_of};
 
+use crate::salted::Salted;
 use crate::submission::{Answered, Submission};
+use indexmap::IndexMap;
 use map_exec::Executor;
 use mencius_base::{Command, CommandId, NoMemory, Value};
 use std::alloc::Global;
 use std::marker::Model;
 
-// How many commands a client may number.
-const NUMBER_COUNT: u64 = 1 << 32;
-
-// An identity as one number.
-fn key_of(id: CommandId) -> u64
-    ensures { result ≡ key_of id }
-{
-    u64::from(id.client) * NUMBER_COUNT + u64::from(id.number)
-}
-
 /// The submitted commands, in the order of their tickets. No two have the same identity.
 ///
-/// The command of an identity is found by halving, whatever the identities are: a hash with a fixed
-/// seed could be made to look at every one of them.
+/// A command is found by its ticket or by its identity. What a search by identity costs is up to a
+/// hash of the identities that begins with a salt.
 #[derive(Drop)]
 pub struct Submissions {
-    rows: Vec<Submission>,
-    // The identities as numbers, rising.
-    keys: Vec<u64>,
-    // The ticket of each of them.
-    tickets: Vec<u32>,
+    // A command's place is its ticket.
+    rows: IndexMap<CommandId, Submission, Salted>,
 }
 
 impl Model for Submissions {
-    ghost use Rattle.std.specs.Prelude.{◌-◌, length, map, min};
-    ghost use Rattle.std.specs.Vec.{vec_capacity};
-    ghost use Rattle.mencius_cluster.specs.Submissions.{AreSmall, SubmissionTable, IsIndex, key_in, row_of};
+    ghost use Rattle.indexmap.specs.IndexMap.{spare};
+    ghost use Rattle.mencius_cluster.specs.Submissions.{SubmissionTable};
 
     ghost Value = { SubmissionTable };
 
-    ghost view = { λ x. record {
-      entries = map row_of x.rows.items;
-      room = min (vec_capacity x.rows - length x.rows.items)
-          (min (vec_capacity x.keys - length x.keys.items)
-          (vec_capacity x.tickets - length x.tickets.items));
-    } };
-
-    ghost invariant = { λ x. AreSmall x.rows.items
-        × IsIndex (map key_in x.rows.items) x.keys.items x.tickets.items };
+    ghost view = { λ x. record { entries = x.rows.entries; room = spare x.rows } };
 }
 
 impl Submissions {
     /// No command yet. It takes no memory.
-    pub fn new(alloc: Global) -> Submissions
+    pub fn new(alloc: Global, salt: u64) -> Submissions
         ensures { result.entries ≡ [] }
     {
         Submissions {
-            rows: Vec::new(alloc),
-            keys: Vec::new(alloc),
-            tickets: Vec::new(alloc),
+            rows: IndexMap::with_hasher(alloc, Salted::new(salt)),
         }
     }
 
@@ -74,19 +51,18 @@ impl Submissions {
 
     /// The command of a ticket, with what is stored of it.
     pub fn of_ticket(&self, ticket: u32) -> Option<&Submission>
-        ensures { option_map (λ s. row_of s.now) result ≡ slice_get self.now.entries ticket }
+        ensures { option_copied result
+            ≡ option_map (λ row. row.1) (slice_get self.now.entries ticket) }
     {
-        self.rows.get(ticket as usize)
+        let (_, submission) = self.rows.get_index(ticket as usize)?;
+        Some(submission)
     }
 
     /// The command of an identity, with what is stored of it.
     pub fn of_id(&self, id: CommandId) -> Option<&Submission>
         ensures value { option_copied result ≡ lookup (is_same_id id) self.now.entries }
     {
-        match find(self.keys.as_slice(), self.tickets.as_slice(), id) {
-            Some(ticket) => self.of_ticket(ticket),
-            None => None,
-        }
+        self.rows.get(&id)
     }
 
     /// Makes room for one more command. The commands that are there stay either way.
@@ -95,34 +71,25 @@ impl Submissions {
         ensures room { OnOk result (0 < self.new.room) }
     {
         self.rows.reserve(1)?;
-        self.keys.reserve(1)?;
-        self.tickets.reserve(1)?;
         Ok(())
     }
 
     /// Adds a command that has no reply yet, for which there is room. Its ticket is the next one.
-    pub fn enroll(&mut self, ticket: u32, command: Command, home: u8)
-        requires ticket { ticket ≡ length self.old.entries }
+    pub fn enroll(&mut self, command: Command, home: u8)
         requires room { 0 < self.old.room }
         requires new { lookup (is_same_id command.id) self.old.entries ≡ None }
         ensures { self.new.entries ≡ self.old.entries
             ++ (command.id, record { command = command; home = home; answer = Pending }) ∷ [] }
     {
-        let key = key_of(command.id());
-        let Err(place) = self.keys.binary_search(&key) else {
-            unreachable!();
-        };
-        let (Ok(()), Ok(())) = (
-            self.keys.insert(place, key),
-            self.tickets.insert(place, ticket),
-        ) else {
-            unreachable!();
-        };
-        self.rows.push_reserved(Submission {
+        let id = command.id();
+        let submission = Submission {
             command,
             home,
             answer: Answered::Pending,
-        });
+        };
+        let Ok(_) = self.rows.insert(id, submission) else {
+            unreachable!();
+        };
     }
 
     /// Executes the command of a ticket at a server, and keeps its reply if that is its home and it
@@ -139,7 +106,8 @@ impl Submissions {
         ensures executor { OnErr result (executor.new ≡ executor.old) }
         ensures rows { OnErr result (self.new.entries ≡ self.old.entries) }
     {
-        self.rows[ticket as usize].execute(executor, server, ticket)
+        let (_, submission) = self.rows.pair_mut(ticket as usize);
+        submission.execute(executor, server, ticket)
     }
 }
 
@@ -159,20 +127,5 @@ pub fn perform(
     match value {
         Value::Noop => Ok(()),
         Value::Ticket(ticket) => submissions.execute(executor, server, ticket),
-    }
-}
-
-// The ticket of an identity, by the identities and their tickets.
-fn find(keys: &[u64], tickets: &[u32], id: CommandId) -> Option<u32>
-    requires same { length tickets.now ≡ length keys.now }
-    requires rising { IsRising keys.now }
-    ensures { MatchOption result
-        ((n : ℕ) → n < length keys.now → get_or keys.now n 0 ≢ key_of id)
-        (λ t. (n : ℕ) × (n < length keys.now) × (get_or keys.now n 0 ≡ key_of id)
-        × (get_or tickets.now n 0 ≡ t)) }
-{
-    match keys.binary_search(&key_of(id)) {
-        Ok(place) => Some(tickets[place]),
-        Err(_) => None,
     }
 }
