@@ -10,7 +10,7 @@ ghost use Rattle.mencius_trace.specs.Closing.{told_from, trace_text};
 
 use crate::replaying::read_input;
 use mencius_base::{Members, NoMemory};
-use mencius_cluster::Cluster;
+use mencius_cluster::{Cluster, salt_after};
 use mencius_input::{AppFault, Events, Sink, Source, write_all};
 use mencius_trace::{push_closing, tell};
 use std::alloc::Global;
@@ -48,7 +48,7 @@ pub fn trace<R: Source, W: Sink>(
 fn traced(alloc: Global, members: Members, events: Events) -> Result<String, NoMemory>
     ensures text { IfOk result (λ s. string_bytes s ≡ trace_text members events) }
 {
-    let Ok(mut cluster) = Cluster::new(alloc, members) else {
+    let Ok(mut cluster) = Cluster::with_salt(alloc, members, salt_after(0, events.commands())) else {
         return Err(NoMemory);
     };
     let mut text = String::new(alloc);

@@ -107,6 +107,13 @@ impl Plan {
         self.loss
     }
 
+    /// The commands that the workers submit, a list for each server.
+    pub fn commands(&self) -> &[Vec<Command>]
+        ensures { map (λ l. l.items) result.now ≡ self.now.commands }
+    {
+        self.commands.as_slice()
+    }
+
     // The command at a place, where it is one of the worker's.
     pub(crate) fn own_command(&self, worker: u8, place: Place) -> Option<&Command>
         ensures command { option_map (λ x. (place.server, x)) (option_copied result)

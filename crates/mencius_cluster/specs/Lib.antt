@@ -5,3 +5,4 @@ pub mod Tables
 pub mod Marks
 pub mod Inside
 pub mod Performed
+pub mod Salt

@@ -6,7 +6,7 @@
 
 mod cluster;
 mod marks;
-mod salted;
+mod salt;
 mod submission;
 mod submissions;
 
@@ -14,4 +14,5 @@ pub use cluster::{Cluster, Effect};
 pub use marks::Marks;
 pub use mencius_model::laws;
 pub use mencius_server::Glance;
+pub use salt::salt_after;
 pub use submission::{Answered, Submission};

@@ -5,7 +5,7 @@ ghost use Rattle.mencius_cluster.specs.declared.submission.Answered.TheVariants.
 ghost use Rattle.mencius_cluster.specs.Performed.{IsExecution, IsPerformed};
 ghost use Rattle.mencius_model.specs.WithinLimits.{IsTicketBelow};
 
-use crate::salted::Salted;
+use crate::salt::BuildSaltedHasher;
 use crate::submission::{Answered, Submission};
 use indexmap::IndexMap;
 use map_exec::Executor;
@@ -20,7 +20,7 @@ use std::marker::Model;
 #[derive(Drop)]
 pub struct Submissions {
     // A command's place is its ticket.
-    rows: IndexMap<CommandId, Submission, Salted>,
+    rows: IndexMap<CommandId, Submission, BuildSaltedHasher>,
 }
 
 impl Model for Submissions {
@@ -38,7 +38,7 @@ impl Submissions {
         ensures { result.entries ≡ [] }
     {
         Submissions {
-            rows: IndexMap::with_hasher(alloc, Salted::new(salt)),
+            rows: IndexMap::with_hasher(alloc, BuildSaltedHasher::new(salt)),
         }
     }
 

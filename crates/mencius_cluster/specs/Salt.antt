@@ -1,0 +1,15 @@
+-- The salt of a cluster, from the identities of the commands that it is to take.
+use Rattle.std.specs.Prelude.{ℕ, List, ◌++◌, fold}
+use Rattle.std.specs.Hash as fed
+use Rattle.std.specs.Hash.DefaultHasher as sip
+use Rattle.mencius_base.specs.declared.command.Command.{Command}
+
+-- a hasher that writes so, after the identity of one more command
+abbrev pub after_identity : {H : Type 0} → (H → List ℕ → H) → H → Command → H
+after_identity write hasher command =
+    fold write hasher (fed.u32 command.id.client ++ fed.u32 command.id.number)
+
+-- the hash of a salt and of the identities of commands
+abbrev pub salt_after : ℕ → List Command → ℕ
+salt_after salt commands =
+    sip.finish (fold (after_identity sip.write) (fold sip.write sip.initial (fed.u64 salt)) commands)

@@ -1,0 +1,51 @@
+ghost use Rattle.std.specs.Prelude.{◌≡◌, fold};
+ghost use Rattle.std.specs.Hash as fed;
+ghost use Rattle.std.specs.Hash.DefaultHasher as sip;
+ghost use Rattle.mencius_cluster.specs.Salt.{salt_after};
+
+use mencius_base::Command;
+use std::hash::{BuildHasher, DefaultHasher, Hash, Hasher};
+
+/// A salt for a cluster that is to take these commands: a hash by SipHash of another salt, as 0, and
+/// of the identities of the commands, in order.
+///
+/// It changes with each identity, so that whoever chooses identities that share a place under one
+/// salt has chosen them for another one.
+pub fn salt_after(salt: u64, commands: &[Command]) -> u64
+    ensures { result ≡ salt_after salt commands.now }
+{
+    let mut hasher = DefaultHasher::new();
+    hasher.write_u64(salt);
+    for command in commands {
+        command.id().hash(&mut hasher);
+    }
+    hasher.finish()
+}
+
+/// Hashes by SipHash, with a salt before whatever is hashed.
+#[derive(Clone, Copy)]
+pub struct BuildSaltedHasher {
+    // It has hashed the salt.
+    first: DefaultHasher,
+}
+
+impl BuildSaltedHasher {
+    /// By this salt. Which keys of a map share a place depends on all its bits.
+    pub fn new(salt: u64) -> BuildSaltedHasher
+        ensures { result.first ≡ fold sip.write sip.initial (fed.u64 salt) }
+    {
+        let mut first = DefaultHasher::new();
+        first.write_u64(salt);
+        BuildSaltedHasher { first }
+    }
+}
+
+impl BuildHasher for BuildSaltedHasher {
+    type Hasher = DefaultHasher;
+
+    ghost build_hasher = { λ builder. builder.first };
+
+    fn build_hasher(&self) -> DefaultHasher {
+        self.first
+    }
+}
