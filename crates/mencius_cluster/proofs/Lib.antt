@@ -19,3 +19,4 @@ pub mod IdleExecutors
 pub mod LearnedSlots
 pub mod LossMasks
 pub mod EventLists
+pub mod MapRows

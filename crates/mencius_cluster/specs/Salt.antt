@@ -1,13 +1,17 @@
 -- The salt of a cluster, from the identities of the commands that it is to take.
-use Rattle.std.specs.Prelude.{ℕ, List, ◌++◌, fold}
+use Rattle.std.specs.Prelude.{ℕ, ◌+◌, ◌*◌, ◌^◌, List, fold}
 use Rattle.std.specs.Hash as fed
 use Rattle.std.specs.Hash.DefaultHasher as sip
 use Rattle.mencius_base.specs.declared.command.Command.{Command}
+use Rattle.mencius_base.specs.declared.command.CommandId.{CommandId}
+
+-- an identity as one word, below 2 ^ 64
+abbrev pub word_of : CommandId → ℕ
+word_of id = id.client * 2 ^ 32 + id.number
 
 -- a hasher that writes so, after the identity of one more command
 abbrev pub after_identity : {H : Type 0} → (H → List ℕ → H) → H → Command → H
-after_identity write hasher command =
-    fold write hasher (fed.u32 command.id.client ++ fed.u32 command.id.number)
+after_identity write hasher command = fold write hasher (fed.u64 (word_of command.id))
 
 -- the hash of a salt and of the identities of commands
 abbrev pub salt_after : ℕ → List Command → ℕ

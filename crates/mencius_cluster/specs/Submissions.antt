@@ -1,11 +1,16 @@
 -- The submitted commands, by ticket and by identity.
 use Rattle.std.specs.Prelude.{ℕ, List}
 use Rattle.mencius_base.specs.declared.command.CommandId.{CommandId}
+use Rattle.mencius_cluster.specs.declared.salt.Identity.{Identity}
 use Rattle.mencius_cluster.specs.declared.submission.Submission.{Submission}
 
 -- an identity, with what is stored of its command
 abbrev pub Row : Type 0
 Row = CommandId × Submission
+
+-- the row of an entry of the map
+abbrev pub row_of : Identity × Submission → Row
+row_of entry = (entry.0.id, entry.1)
 
 -- the rows by ticket, and how many more there is room for
 pub record SubmissionTable : Type 0 where

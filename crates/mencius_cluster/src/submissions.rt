@@ -5,7 +5,7 @@ ghost use Rattle.mencius_cluster.specs.declared.submission.Answered.TheVariants.
 ghost use Rattle.mencius_cluster.specs.Performed.{IsExecution, IsPerformed};
 ghost use Rattle.mencius_model.specs.WithinLimits.{IsTicketBelow};
 
-use crate::salt::BuildSaltedHasher;
+use crate::salt::{BuildSaltedHasher, Identity};
 use crate::submission::{Answered, Submission};
 use indexmap::IndexMap;
 use map_exec::Executor;
@@ -20,16 +20,17 @@ use std::marker::Model;
 #[derive(Drop)]
 pub struct Submissions {
     // A command's place is its ticket.
-    rows: IndexMap<CommandId, Submission, BuildSaltedHasher>,
+    rows: IndexMap<Identity, Submission, BuildSaltedHasher>,
 }
 
 impl Model for Submissions {
+    ghost use Rattle.std.specs.Prelude.{map};
     ghost use Rattle.indexmap.specs.IndexMap.{spare};
-    ghost use Rattle.mencius_cluster.specs.Submissions.{SubmissionTable};
+    ghost use Rattle.mencius_cluster.specs.Submissions.{SubmissionTable, row_of};
 
     ghost Value = { SubmissionTable };
 
-    ghost view = { λ x. record { entries = x.rows.entries; room = spare x.rows } };
+    ghost view = { λ x. record { entries = map row_of x.rows.entries; room = spare x.rows } };
 }
 
 impl Submissions {
@@ -62,7 +63,7 @@ impl Submissions {
     pub fn of_id(&self, id: CommandId) -> Option<&Submission>
         ensures value { option_copied result ≡ lookup (is_same_id id) self.now.entries }
     {
-        self.rows.get(&id)
+        self.rows.get(&Identity { id })
     }
 
     /// Makes room for one more command. The commands that are there stay either way.
@@ -81,13 +82,13 @@ impl Submissions {
         ensures { self.new.entries ≡ self.old.entries
             ++ (command.id, record { command = command; home = home; answer = Pending }) ∷ [] }
     {
-        let id = command.id();
+        let identity = Identity { id: command.id() };
         let submission = Submission {
             command,
             home,
             answer: Answered::Pending,
         };
-        let Ok(_) = self.rows.insert(id, submission) else {
+        let Ok(_) = self.rows.insert(identity, submission) else {
             unreachable!();
         };
     }
