@@ -2,6 +2,7 @@
 ghost use Rattle.std.specs.Prelude.{◌≡◌};
 
 use super::fixtures::{cas_a, decide, new_cluster, set_number, set_x};
+use core::mem::replace_with;
 use mencius_board::{Board, BoardFault, News, Reader};
 use std::alloc::Global;
 use std::panic::Expect;
@@ -136,17 +137,19 @@ fn two_told<R: Wait + Abort>(
     Ok((first, second))
 }
 
-// Steps and shows rising numbers.
-fn show_rising<R: Wait + Abort>(
-    rt: &R,
-    alloc: Global,
-    board: &mut Board,
-) -> Result<(), BoardFault> {
+// Owns the board, steps and shows rising numbers, and gives the board back; and whether all of them were shown.
+fn show_rising<R: Wait + Abort>(rt: &R, alloc: Global, mut board: Board) -> (Board, bool) {
+    let mut all_shown = true;
     for number in 2..200 {
-        decide(rt, board, set_number(rt, alloc, number));
-        drop(board.show(rt, alloc)?);
+        decide(rt, &mut board, set_number(rt, alloc, number));
+        all_shown = board.show(rt, alloc).is_ok() && all_shown;
     }
-    Ok(())
+    (board, all_shown)
+}
+
+// Takes the board out of its place, which has it again once the numbers were shown.
+fn take_and_show<R: Wait + Abort>(rt: &R, alloc: Global, place: &mut Board) -> bool {
+    replace_with(place, rt, |board, rt| show_rising(rt, alloc, board))
 }
 
 // Whether each of 1,000 lookups finds a number, none below 1 or the one before.
@@ -165,15 +168,15 @@ fn finds_rising(alloc: Global, mut reader: Reader) -> bool {
 }
 
 #[test]
-fn readers_beside_a_thread_that_steps(rt: HostRuntime) -> Result<(), Fail> {
+fn readers_beside_a_thread_that_owns_the_board(rt: HostRuntime) -> Result<(), Fail> {
     let alloc = rt.alloc();
     let cluster = new_cluster(&rt, alloc, 1);
     let mut board = Board::new(&rt, alloc, cluster, 2)?;
     let (first, second) = two_told(&rt, alloc, &mut board).expect(&rt, "two readers");
-    let lent = &mut board;
-    let (stepped, found) = thread::join(
+    let place = &mut board;
+    let (all_shown, found) = thread::join(
         &rt,
-        || show_rising(&rt, alloc, lent).is_ok(),
+        || take_and_show(&rt, alloc, place),
         || {
             thread::join(
                 &rt,
@@ -183,7 +186,7 @@ fn readers_beside_a_thread_that_steps(rt: HostRuntime) -> Result<(), Fail> {
         },
     );
     let cluster = board.end(&rt);
-    assert!(rt; stepped && found.0 && found.1);
+    assert!(rt; all_shown && found.0 && found.1);
     assert_eq!(rt; cluster.commands(), 199);
     Ok(())
 }
