@@ -1,19 +1,23 @@
-/* Refuses one growth of memory of the program that it is loaded into: the one whose number, from 1, is in REFUSED_GROWTH.
+/* Refuses one growth of memory of the program that it is loaded into: the one of the number, from 1, REFUSED_GROWTH.
  *
- *     cc -shared -fPIC -O2 -o refuse.so refuse.c
+ *     cc -shared -fPIC -O2 -o refuse.so refuse.c -ldl
  *     LD_PRELOAD=./refuse.so REFUSED_GROWTH=7 REFUSED_NOTE=note PROGRAM
  *
  * Only what the program itself asks for is counted, not what the C library or the loader needs. Once the growth was
- * refused, the file REFUSED_NOTE is there, and says how many bytes it was.
+ * refused, the file REFUSED_NOTE is there. It says how many threads the program had started by then, 1 if one of them
+ * asked for the growth or 0 if the program's first thread did, and how many bytes were asked for.
  */
 #define _GNU_SOURCE
+#include <dlfcn.h>
 #include <fcntl.h>
 #include <link.h>
+#include <pthread.h>
 #include <stdatomic.h>
 #include <stddef.h>
 #include <stdint.h>
 #include <stdio.h>
 #include <stdlib.h>
+#include <sys/syscall.h>
 #include <unistd.h>
 
 extern void *__libc_malloc(size_t size);
@@ -22,6 +26,7 @@ extern void *__libc_realloc(void *block, size_t size);
 static uintptr_t first_address, end_address;
 static unsigned long refused_growth;
 static atomic_ulong growths;
+static atomic_uint threads;
 
 /* The first object that is told of is the program. */
 static int note_program(struct dl_phdr_info *object, size_t size, void *data)
@@ -52,11 +57,11 @@ static int is_refused(const void *caller, size_t size)
         return 0;
     if (atomic_fetch_add(&growths, 1) + 1 != refused_growth)
         return 0;
-    const char *note = getenv("REFUSED_NOTE");
-    if (note) {
-        int file = open(note, O_WRONLY | O_CREAT, 0600);
-        dprintf(file, "%zu\n", size);
-        close(file);
+    const char *name = getenv("REFUSED_NOTE");
+    int note = name ? open(name, O_WRONLY | O_CREAT, 0600) : -1;
+    if (note >= 0) {
+        dprintf(note, "%u %d %zu\n", atomic_load(&threads), syscall(SYS_gettid) != getpid(), size);
+        close(note);
     }
     return 1;
 }
@@ -69,4 +74,12 @@ void *malloc(size_t size)
 void *realloc(void *block, size_t size)
 {
     return is_refused(__builtin_return_address(0), size) ? NULL : __libc_realloc(block, size);
+}
+
+int pthread_create(pthread_t *thread, const pthread_attr_t *attributes, void *(*start)(void *), void *argument)
+{
+    int (*create)(pthread_t *, const pthread_attr_t *, void *(*)(void *), void *);
+    *(void **)&create = dlsym(RTLD_NEXT, "pthread_create");
+    atomic_fetch_add(&threads, 1);
+    return create(thread, attributes, start, argument);
 }
