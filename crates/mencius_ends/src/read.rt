@@ -11,7 +11,7 @@ use std::io::ErrorKind;
 const MOST_BYTES: usize = 16_777_216;
 
 // The bytes that one call asks for.
-const READ_BYTES: usize = 65_536;
+const READ_BYTES: usize = 8_192;
 
 // How often an interrupted call is made again, over all calls.
 pub(crate) const MOST_RETRIES: u32 = 1_000;
@@ -19,7 +19,7 @@ pub(crate) const MOST_RETRIES: u32 = 1_000;
 /// All bytes of a source. Of a longer one than 16,777,216 bytes it reads one byte more, answers
 /// `BadLimit` and leaves the rest. A call that was interrupted is made again, up to 1,000 times in
 /// all; any other error is `ReadFailed`. `NoMemory` comes where there is no room for the bytes that
-/// were read, or for the 65,536 that one call asks for.
+/// were read, or for the 8,192 that one call asks for.
 pub fn read_all<R: Source>(alloc: Global, source: &mut R) -> Result<Vec<u8>, AppFault>
     ensures whole { IfOk result (λ x. IfSome (R.remaining source.old) (λ bytes. x.items ≡ bytes)) }
     ensures end { OnOk result (IsAtEnd (R.remaining source.new)) }
