@@ -48,7 +48,8 @@ pub fn trace<R: Source, W: Sink>(
 fn traced(alloc: Global, members: Members, events: Events) -> Result<String, NoMemory>
     ensures text { IfOk result (λ s. string_bytes s ≡ trace_text members events) }
 {
-    let Ok(mut cluster) = Cluster::with_salt(alloc, members, salt_after(0, events.commands())) else {
+    let Ok(mut cluster) = Cluster::with_salt(alloc, members, salt_after(0, events.commands()))
+    else {
         return Err(NoMemory);
     };
     let mut text = String::new(alloc);
