@@ -1,13 +1,14 @@
-//! A run with one worker is a board on which its turns are taken one after the other.
+//! Workers of a run: one alone takes its turns on a board one after the other, and each turn passes the gate.
 
 use crate::courses::{cluster_after, new_cluster};
 use mencius_app::{AppFault, Open, Std, read_plan, report, run};
-use mencius_board::{Board, Chooser, worker_turn};
+use mencius_board::{Board, Chooser, Gate, lend, run_workers, worker_turn};
 use mencius_cluster::Cluster;
 use std::alloc::Global;
 use std::panic::Expect;
 use std::process::Abort;
-use std::sync::Wait;
+use std::sync::atomic::{AtomicU64, Ordering};
+use std::sync::{Mutex, Wait};
 use std::test::Fail;
 use std::thread::Threads;
 
@@ -70,4 +71,45 @@ fn one_worker_is_a_board_that_is_stepped(rt: HostRuntime) -> Result<(), Fail> {
     let text = String::from_utf8(written)?;
     let cluster = cluster_of_turns(&rt, alloc, ONE_WORKER)?;
     assert_printed(&rt, alloc, text.as_str(), &cluster)
+}
+
+// The same with two workers.
+const TWO_WORKERS: &str = "{\"version\":1,\"servers\":3,\"workers\":2,\"seed\":1,\"turns\":2000,\
+    \"loss\":4,\"commands\":[[\"1.0 set a x\"],[\"2.0 get a\"],[\"3.0 del a\"]]}";
+
+// Counts how often each of two workers passes.
+#[derive(Drop)]
+struct Counting {
+    passed: [AtomicU64; 2],
+}
+
+impl Gate for Counting {
+    fn pass(&self, worker: u8) {
+        if let Some(count) = self.passed.get(usize::from(worker)) {
+            count.fetch_add(1, Ordering::SeqCst);
+        }
+    }
+}
+
+#[test]
+fn each_turn_passes_the_gate(rt: HostRuntime) -> Result<(), Fail> {
+    let alloc = rt.alloc();
+    let scenario = read_plan(alloc, TWO_WORKERS.as_bytes()).map_err(|_| "a plan")?;
+    let gate = Counting {
+        passed: [AtomicU64::new(0), AtomicU64::new(0)],
+    };
+    let cluster = new_cluster(&rt, alloc, scenario.members);
+    let board = Mutex::new(Board::new(&rt, alloc, cluster, 1)?);
+    let ran = run_workers(&rt, alloc, &board, &scenario.plan, &gate).map(|choosers| choosers.len());
+    let shown = lend(&rt, &board, |board| board.show(&rt, alloc).is_ok());
+    let cluster = board.into_inner().end(&rt);
+    assert_eq!(rt; ran, Ok(2));
+    assert!(rt; shown);
+    assert!(rt;
+        gate.passed
+            .iter()
+            .all(|count| count.load(Ordering::SeqCst) == 2000)
+    );
+    assert!(rt; 0 < cluster.events());
+    Ok(())
 }

@@ -1,16 +1,16 @@
-//! Workers run side by side, each turn passes the gate and steps the board.
+//! Workers run side by side, and a turn waits for the lock.
 use super::fixtures::{new_cluster, set_number};
 use mencius_board::{Board, Gate, Plan, lend, run_workers};
 use std::alloc::Global;
 use std::panic::Expect;
 use std::process::Abort;
-use std::sync::atomic::{AtomicBool, AtomicU64, Ordering};
+use std::sync::atomic::{AtomicBool, Ordering};
 use std::sync::{Mutex, Wait};
 use std::test::Fail;
 use std::thread;
 
-// Workers of some turns over three servers, each of which has one command.
-fn plan_of<R: Abort>(rt: &R, alloc: Global, workers: u8, seed: u64, turns: u32) -> Plan {
+// Workers of one turn each over three servers, each of which has one command.
+fn plan_of<R: Abort>(rt: &R, alloc: Global, workers: u8, seed: u64) -> Plan {
     let mut lists = Vec::new(alloc);
     for number in 0..3 {
         let mut list = Vec::new(alloc);
@@ -18,44 +18,7 @@ fn plan_of<R: Abort>(rt: &R, alloc: Global, workers: u8, seed: u64, turns: u32) 
             .expect(rt, "memory");
         lists.push(list).expect(rt, "memory");
     }
-    Plan::new(workers, seed, turns, 4, lists).expect(rt, "a plan")
-}
-
-// Counts how often each of two workers passes.
-#[derive(Drop)]
-struct Counting {
-    passed: [AtomicU64; 2],
-}
-
-impl Gate for Counting {
-    fn pass(&self, worker: u8) {
-        if let Some(count) = self.passed.get(usize::from(worker)) {
-            count.fetch_add(1, Ordering::SeqCst);
-        }
-    }
-}
-
-#[test]
-fn each_turn_passes_the_gate(rt: HostRuntime) -> Result<(), Fail> {
-    let alloc = rt.alloc();
-    let plan = plan_of(&rt, alloc, 2, 1, 2000);
-    let gate = Counting {
-        passed: [AtomicU64::new(0), AtomicU64::new(0)],
-    };
-    let board = Board::new(&rt, alloc, new_cluster(&rt, alloc, 3), 1)?;
-    let board = Mutex::new(board);
-    let ran = run_workers(&rt, alloc, &board, &plan, &gate).map(|choosers| choosers.len());
-    let shown = lend(&rt, &board, |board| board.show(&rt, alloc).is_ok());
-    let cluster = board.into_inner().end(&rt);
-    assert_eq!(rt; ran, Ok(2));
-    assert!(rt; shown);
-    assert!(rt;
-        gate.passed
-            .iter()
-            .all(|count| count.load(Ordering::SeqCst) == 2000)
-    );
-    assert!(rt; 0 < cluster.events());
-    Ok(())
+    Plan::new(workers, seed, 1, 4, lists).expect(rt, "a plan")
 }
 
 // Lets each of two workers set its own flag and look for the other's, so often at most.
@@ -94,7 +57,7 @@ impl Gate for Meeting {
 #[test]
 fn two_workers_meet(rt: HostRuntime) -> Result<(), Fail> {
     let alloc = rt.alloc();
-    let plan = plan_of(&rt, alloc, 2, 1, 1);
+    let plan = plan_of(&rt, alloc, 2, 1);
     let gate = Meeting {
         here: [AtomicBool::new(false), AtomicBool::new(false)],
         missed: AtomicBool::new(false),
@@ -136,7 +99,7 @@ fn keep_lock<R: Wait>(rt: &R, board: &Mutex<Board>, gate: &Late) -> bool {
 fn a_turn_waits_for_the_lock(rt: HostRuntime) -> Result<(), Fail> {
     let alloc = rt.alloc();
     // The first words of this seed pick the next command.
-    let plan = plan_of(&rt, alloc, 1, 24, 1);
+    let plan = plan_of(&rt, alloc, 1, 24);
     let gate = Late {
         held: AtomicBool::new(false),
         passed: AtomicBool::new(false),
