@@ -1,16 +1,17 @@
-//! Steps a board through the scenario on standard input, and after each event shows it and looks the key `a` up.
-//! Wherever memory runs out in one of these calls, it finds out whether anything changed, and makes the call again.
+//! Steps a board through the scenario on standard input, and before the first event and after each one shows it and
+//! looks the key `a` up, with a reader that is told of it. Wherever memory runs out in one of these calls, it finds out
+//! whether anything changed, what the reader finds among it, and makes the call again.
 //!
 //! `growths/check` refuses this program each of its growths of memory in turn. What it prints, the report and what was
 //! found last, is the same then as if none had been refused.
 //!
-//! It ends with status 0, with 6 where memory ran out in anything else, or with 9 where something changed; then
-//! standard error says in which call.
+//! It ends with status 0, and then standard error has the name of the call that was refused memory, if one was; with 6
+//! where memory ran out in anything else; or with 9 where something changed, which standard error names.
 #![tactic(auto)]
 
 mod watched;
 
-use crate::watched::{Stop, Watched};
+use crate::watched::{Call, Stop, Watched};
 use mencius_app::{Std, report};
 use mencius_cluster::Cluster;
 use mencius_input::{Events, Sink, read_all, read_scenario, write_all};
@@ -18,7 +19,7 @@ use std::alloc::Global;
 use std::process::ExitCode;
 use std::sync::Wait;
 
-// Takes the events of a scenario, and makes each call again that was refused memory.
+// Shows the board, and takes the events of a scenario, each call made again that was refused memory.
 fn walk<R: Wait>(
     rt: &R,
     alloc: Global,
@@ -27,6 +28,8 @@ fn walk<R: Wait>(
     watched: &mut Watched,
 ) -> Result<(), Stop> {
     let mut taken: usize = 0;
+    watched.show(rt, alloc, bytes, taken)?;
+    watched.look_up(alloc)?;
     for event in events {
         watched.step(alloc, bytes, taken, event)?;
         taken = taken.saturating_add(1);
@@ -48,8 +51,13 @@ fn conclude<W: Sink>(alloc: Global, watched: &Watched, sink: &mut W) -> Result<(
     write_all(sink, line.as_bytes()).map_err(|_| Stop::Elsewhere)
 }
 
-// A course over the scenario that the bytes say.
-fn course<R: Wait, W: Sink>(rt: &R, alloc: Global, bytes: &[u8], sink: &mut W) -> Result<(), Stop> {
+// A course over the scenario that the bytes say, and the call that was refused memory, if one was.
+fn course<R: Wait, W: Sink>(
+    rt: &R,
+    alloc: Global,
+    bytes: &[u8],
+    sink: &mut W,
+) -> Result<Option<Call>, Stop> {
     let Ok(scenario) = read_scenario(alloc, bytes) else {
         return Err(Stop::Elsewhere);
     };
@@ -61,8 +69,9 @@ fn course<R: Wait, W: Sink>(rt: &R, alloc: Global, bytes: &[u8], sink: &mut W) -
     if done.is_ok() {
         done = conclude(alloc, &watched, sink);
     }
+    let refused = watched.refused();
     watched.end(rt);
-    done
+    done.map(|()| refused)
 }
 
 fn main(rt: HostRuntime) -> ExitCode {
@@ -74,10 +83,14 @@ fn main(rt: HostRuntime) -> ExitCode {
         return ExitCode::from(6);
     };
     match course(&rt, alloc, bytes.as_slice(), &mut sink) {
-        Ok(()) => ExitCode::from(0),
+        Ok(None) => ExitCode::from(0),
+        Ok(Some(call)) => {
+            let _ = write_all(&mut errors, call.name().as_bytes());
+            ExitCode::from(0)
+        }
         Err(Stop::Elsewhere) => ExitCode::from(6),
-        Err(Stop::Changed(call)) => {
-            let _ = write_all(&mut errors, call.as_bytes());
+        Err(Stop::Changed(answer)) => {
+            let _ = write_all(&mut errors, answer.as_bytes());
             ExitCode::from(9)
         }
     }

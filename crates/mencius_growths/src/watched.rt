@@ -16,15 +16,38 @@ use std::sync::Wait;
 pub enum Stop {
     /// Memory ran out in what is not tried.
     Elsewhere,
-    /// The call of this name was refused memory, and something changed, or it was refused again.
+    /// A call was refused memory, and this changed, or failed when the call was made again.
     Changed(&'static str),
 }
 
-/// A board, a reader of it, and what the last lookup found.
+/// A call that is made again where it was refused memory.
+#[derive(Clone, Copy, Debug, PartialEq, Eq)]
+pub enum Call {
+    /// `Board::step`.
+    Step,
+    /// `Board::show`.
+    Show,
+    /// `Reader::lookup`.
+    Lookup,
+}
+
+impl Call {
+    /// The call's name, as `growths/check` counts it.
+    pub fn name(self) -> &'static str {
+        match self {
+            Call::Step => "step",
+            Call::Show => "show",
+            Call::Lookup => "lookup",
+        }
+    }
+}
+
+/// A board, a reader of it, what the last lookup found, and which call was refused memory last.
 pub struct Watched {
     board: Board,
     reader: Reader,
     found: Option<String>,
+    refused: Option<Call>,
 }
 
 impl Model for Watched {
@@ -49,6 +72,7 @@ impl Watched {
                 board,
                 reader,
                 found: None,
+                refused: None,
             }),
             Err(_) => {
                 board.end(rt);
@@ -63,6 +87,7 @@ impl Watched {
             board,
             reader: _reader,
             found: _found,
+            refused: _,
         } = self;
         board.end(rt);
     }
@@ -75,6 +100,11 @@ impl Watched {
     /// What the last lookup found.
     pub fn found(&self) -> Option<&str> {
         self.found.as_deref()
+    }
+
+    /// The call that was refused memory last, if one was.
+    pub fn refused(&self) -> Option<Call> {
+        self.refused
     }
 
     /// How many commands the list has that the last lookup was answered from.
@@ -93,22 +123,32 @@ impl Watched {
         if self.board.step(event) != Err(Refusal::NoMemory) {
             return Ok(());
         }
-        match self.judge_cluster(alloc, bytes, place, "step")? {
+        self.refused = Some(Call::Step);
+        match self.judge(alloc, bytes, place)? {
             Some(again) => self.step_once(again),
             None => Err(Stop::Elsewhere),
         }
     }
 
-    // The event that comes after so many of the scenario, where a refused call left the cluster as these make it.
+    // The event that comes after so many of the scenario, where a refused call of the board left the cluster as these
+    // make it, and what is shown as it was.
+    fn judge(&mut self, alloc: Global, bytes: &[u8], taken: usize) -> Result<Option<Event>, Stop>
+        ensures { self.new ≡ self.old }
+    {
+        let next = self.judge_cluster(alloc, bytes, taken)?;
+        self.judge_shown(alloc)?;
+        Ok(next)
+    }
+
+    // The event that comes after so many of the scenario, where the cluster is as these make it.
     fn judge_cluster(
         &self,
         alloc: Global,
         bytes: &[u8],
         taken: usize,
-        call: &'static str,
     ) -> Result<Option<Event>, Stop> {
         let (before, next) = retraced(alloc, bytes, taken)?;
-        compare(alloc, &before, self.board.cluster(), call)?;
+        compare(alloc, &before, self.board.cluster())?;
         Ok(next)
     }
 
@@ -130,21 +170,14 @@ impl Watched {
         let news = match self.board.show(rt, alloc) {
             Ok(news) => news,
             Err(BoardFault::NoMemory | BoardFault::ShowRefused) => {
-                self.judge_show(alloc, bytes, taken)?;
+                self.refused = Some(Call::Show);
+                let _next = self.judge(alloc, bytes, taken)?;
                 self.show_once(rt, alloc)?
             }
             Err(_) => return Err(Stop::Changed("fault of show")),
         };
         self.reader.learn(news);
         Ok(())
-    }
-
-    // Nothing, where a refused call of `show` left the cluster and what is shown as they were.
-    fn judge_show(&mut self, alloc: Global, bytes: &[u8], taken: usize) -> Result<(), Stop>
-        ensures { self.new ≡ self.old }
-    {
-        let _next = self.judge_cluster(alloc, bytes, taken, "show")?;
-        self.judge_shown(alloc)
     }
 
     // Nothing, where a lookup finds what the last one found.
@@ -177,6 +210,7 @@ impl Watched {
                 if fault != BoardFault::NoMemory {
                     return Err(Stop::Changed("fault of lookup"));
                 }
+                self.refused = Some(Call::Lookup);
                 if self.reader.count() != count {
                     return Err(Stop::Changed("floor"));
                 }
@@ -217,15 +251,10 @@ fn retraced(alloc: Global, bytes: &[u8], taken: usize) -> Result<(Cluster, Optio
 }
 
 // Nothing, where two clusters answer the same.
-fn compare(
-    alloc: Global,
-    first: &Cluster,
-    second: &Cluster,
-    call: &'static str,
-) -> Result<(), Stop> {
+fn compare(alloc: Global, first: &Cluster, second: &Cluster) -> Result<(), Stop> {
     match first_difference(alloc, first, second) {
         Ok(None) => Ok(()),
-        Ok(Some(_)) => Err(Stop::Changed(call)),
+        Ok(Some(difference)) => Err(Stop::Changed(difference)),
         Err(_) => Err(Stop::Elsewhere),
     }
 }
