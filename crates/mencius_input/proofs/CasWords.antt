@@ -15,10 +15,10 @@ use Rattle.mencius_base.specs.declared.event.Event.{Event}
 use Rattle.mencius_base.specs.declared.event.Event.TheVariants.{Submit}
 use Rattle.mencius_ends.specs.declared.fault.AppFault.{AppFault}
 use Rattle.mencius_ends.specs.declared.fault.AppFault.TheVariants.{BadShape}
-use Rattle.mencius_input.specs.Grammar.{cas_of, command_of, event_of, event_within, id_of, newest_version, op_of, set_of, submit_of, takes_cas, texts_of}
+use Rattle.mencius_input.specs.Grammar.{cas_of, command_of, command_within, event_of, event_within, id_of, newest_version, op_of, set_of, submit_of, takes_cas, texts_of}
 use Rattle.mencius_input.specs.Judged.{judged}
 use Rattle.mencius_input.specs.Newest.{any_in, any_of, any_of_these, command_is_cas, event_is_cas, has_command_cas, has_event_cas, in_version, is_cas, op_is_cas, submit_is_cas, text_is, unless}
-use Rattle.mencius_input.specs.Plan.{commands_of}
+use Rattle.mencius_input.specs.Plan.{command_said, commands_of}
 use Rattle.mencius_input.specs.Scenario.{all_in, all_of, item_said, said_by}
 use Rattle.mencius_input.specs.Words.{name_of, number_of, only, words}
 use Rattle.mencius_input.proofs.CutWords.{found_parts, lacking_parts, not_first}
@@ -224,9 +224,9 @@ module _ {X : Type 0} (read newest : Data → Option X) (test : Data → Bool)
   list_in : (d : Data) → all_in read d ≡ unless (any_in test d) (all_in newest d)
   list_in d = these_in (as_array d)
 
-command_said : (version : ℕ) → takes_cas version ≡ false → (d : Data)
+command_of_said : (version : ℕ) → takes_cas version ≡ false → (d : Data)
     → said_by (command_of version) d ≡ unless (has_command_cas d) (said_by (command_of newest_version) d)
-command_said version old d =
+command_of_said version old d =
     text_in (command_of version) (command_of newest_version) command_is_cas (λ ws. command_in version ws old) (as_str d)
 
 pub event_said : (version : ℕ) → takes_cas version ≡ false → (d : Data)
@@ -289,7 +289,7 @@ pub lists_said_in : (version : ℕ) (within : List (List Request) → Bool) (d :
 lists_said_in version within d =
     read_in_version within (any_in (any_in has_command_cas) d) (λ n. all_in (commands_of n) d)
     (λ n old. list_in (commands_of n) (commands_of newest_version) (any_in has_command_cas)
-    (list_in (said_by (command_of n)) (said_by (command_of newest_version)) has_command_cas (command_said n old)) d)
+    (list_in (said_by (command_of n)) (said_by (command_of newest_version)) has_command_cas (command_of_said n old)) d)
     version
 
 pub item_said_in : (version : ℕ) (d : Data)
@@ -297,3 +297,10 @@ pub item_said_in : (version : ℕ) (d : Data)
     ≡ item_said version d
 item_said_in version d =
     read_in_version event_within (has_event_cas d) (λ n. said_by (event_of n) d) (λ n old. event_said n old d) version
+
+pub command_said_in : (version : ℕ) (d : Data)
+    → in_version version (record { said = command_said newest_version d; has_cas = has_command_cas d })
+    ≡ command_said version d
+command_said_in version d =
+    read_in_version command_within (has_command_cas d) (λ n. said_by (command_of n) d) (λ n old. command_of_said n old d)
+    version

@@ -13,5 +13,8 @@ pub mod Named
 pub mod Fields
 pub mod PlanFields
 pub mod Events
+pub mod Kinds
+pub mod FieldsOf
+pub mod Shown
 pub mod Place
 pub mod Spelled

@@ -1,108 +1,203 @@
--- Where the value of a scenario has a fault.
-use Rattle.std.specs.Prelude.{ℕ, ◌≡◌, ◌≢◌, ◌⊎◌, ◌<◌, ◌++◌, List, ◌∷◌, codes, decimal, Option, Some, None, option_map, unwrap_or, IfSome, Err, string_bytes}
-use Rattle.serde_json.specs.Data.{Data, Items, Members}
-use Rattle.serde_json.specs.Find.{as_array, as_object, as_str, get, get_item}
+-- Where the value of a scenario has a fault, and the words that tell it.
+use Rattle.std.specs.Prelude.{ℕ, ◌≡◌, ◌≢◌, ◌⊎◌, ◌<◌, ◌++◌, List, [], ◌∷◌, codes, decimal, Bool, true, false, Option, Some, None, option_map, unwrap_or, IfSome, Err, string_bytes}
+use Rattle.std.specs.Result.{result_err}
+use Rattle.serde_json.specs.Data.{Data, Items, Members, Num}
+use Rattle.serde_json.specs.Events.{items_len}
+use Rattle.serde_json.specs.Find.{as_array, as_number, as_object, as_str, as_u64, get, get_item}
 use Rattle.mencius_ends.specs.declared.fault.AppFault.{AppFault}
 use Rattle.mencius_ends.specs.declared.fault.AppFault.TheVariants.{BadLimit, BadShape}
-use Rattle.mencius_input.specs.declared.places.Field.{Field}
-use Rattle.mencius_input.specs.declared.places.Field.TheVariants.{Version, Servers, Beta, Events}
+use Rattle.mencius_input.specs.declared.field.Field.{Field}
+use Rattle.mencius_input.specs.declared.field.Field.TheVariants.{Version, Servers, Beta, Events, Workers, Seed, Turns, Loss, Commands}
+use Rattle.mencius_input.specs.declared.kind.Kind.{Kind}
+use Rattle.mencius_input.specs.declared.kind.Kind.TheVariants.{Replay, Run}
 use Rattle.mencius_input.specs.declared.places.Place.{Place}
-use Rattle.mencius_input.specs.declared.places.Place.TheVariants.{Whole, Unknown, Missing, Value, Event}
-use Rattle.mencius_input.specs.declared.places.Places.{Places}
-use Rattle.mencius_input.specs.declared.scenario.Name.TheVariants.{Other}
-use Rattle.mencius_input.specs.Fields.{named}
+use Rattle.mencius_input.specs.declared.places.Place.TheVariants as place
+use Rattle.mencius_input.specs.FieldsOf.{field_name, field_named, field_within, is_whole, list_field, needed}
 use Rattle.mencius_input.specs.Grammar.{newest_version}
 use Rattle.mencius_input.specs.Judged.{judged}
-use Rattle.mencius_input.specs.Scenario.{are_servers, is_beta, is_version, item_said, json_of, whole_in, whole_of}
+use Rattle.mencius_input.specs.Kinds.{has_many_objects}
+use Rattle.mencius_input.specs.Newest.{has_command_cas, has_event_cas}
+use Rattle.mencius_input.specs.Plan.{command_said}
+use Rattle.mencius_input.specs.Scenario.{item_said, json_of, whole_in, whole_of}
+use Rattle.mencius_input.specs.Shown.{shown_text}
 
-abbrev pub field_name : Field → List ℕ
-field_name Version = codes "version"
-field_name Servers = codes "servers"
-field_name Beta = codes "beta"
-field_name Events = codes "events"
-
--- the version in which the events are judged: that of the scenario, and where it says none, the newest
+-- the version in which events and commands are judged: that of the scenario, and where it says none, the newest
 abbrev pub version_of : Data → ℕ
 version_of d = unwrap_or (whole_of (codes "version") d) newest_version
 
+-- ---- items: events of a schedule, or commands of a run
+
+abbrev pub item_fault : Kind → ℕ → Data → Option AppFault
+item_fault Replay version d = result_err (item_said version d)
+item_fault Run version d = result_err (command_said version d)
+
+-- the item is a `cas`, by the place of that word alone
+abbrev pub item_has_cas : Kind → Data → Bool
+item_has_cas Replay d = has_event_cas d
+item_has_cas Run d = has_command_cas d
+
 -- no item before this index has the fault
-abbrev pub NoneBefore : AppFault → ℕ → Items → ℕ → Type 0
-NoneBefore fault version items index =
-    (n : ℕ) (earlier : Data) → n < index → get_item n items ≡ Some earlier → item_said version earlier ≢ Err fault
+abbrev pub NoneBefore : Kind → AppFault → ℕ → Items → ℕ → Type 0
+NoneBefore kind fault version items index =
+    (n : ℕ) (earlier : Data) → n < index → get_item n items ≡ Some earlier → item_fault kind version earlier ≢ Some fault
 
 -- the item at the index is the first that has the fault, and this is its text
-pub record IsFirst (fault : AppFault) (version : ℕ) (items : Items) (index : ℕ) (text : Option (List ℕ)) : Type 0 where
-  pub event : Data
-  pub there : get_item index items ≡ Some event
-  pub fails : item_said version event ≡ Err fault
-  pub first : NoneBefore fault version items index
-  pub said : text ≡ as_str event
+pub record IsFirst (kind : Kind) (fault : AppFault) (version : ℕ) (items : Items) (index : ℕ) (text : Option (List ℕ)) : Type 0 where
+  pub one : Data
+  pub there : get_item index items ≡ Some one
+  pub fails : item_fault kind version one ≡ Some fault
+  pub first : NoneBefore kind fault version items index
+  pub said : text ≡ as_str one
 
--- the value of a field has the fault
-abbrev pub FieldFails : AppFault → Field → Data → Type 0
-FieldFails fault Version d = judged is_version (whole_in d) ≡ Err fault
-FieldFails fault Servers d = judged are_servers (whole_in d) ≡ Err fault
-FieldFails fault Beta d = judged is_beta (whole_in d) ≡ Err fault
-FieldFails fault Events d = (fault ≡ BadShape) × (as_array d ≡ None)
+-- the place is in this list of commands
+abbrev pub IsInList : AppFault → ℕ → ℕ → Data → Place → Type 0
+IsInList fault version at list (place.List n) = (n ≡ at) × (fault ≡ BadShape) × (as_array list ≡ None)
+IsInList fault version at list (place.Command n index v text) =
+    (n ≡ at) × (v ≡ version) × (items : Items) × (as_array list ≡ Some items)
+    × IsFirst Run fault version items index (option_map string_bytes text)
+IsInList fault version at list _ = ⊥
 
--- the place has the fault
-abbrev pub IsAt : AppFault → Data → Place → Type 0
-IsAt fault d Whole = (fault ≡ BadShape) × (as_object d ≡ None)
-IsAt fault d (Unknown name) =
-    (fault ≡ BadShape) × (named (string_bytes name) ≡ Other) × (value : Data) × (get (string_bytes name) d ≡ Some value)
-IsAt fault d (Missing field) =
+-- no place is in this list of commands
+abbrev pub IsFine : AppFault → ℕ → Data → Type 0
+IsFine fault version list =
+    (fault ≡ BadShape → as_array list ≢ None)
+    × ((items : Items) → as_array list ≡ Some items → NoneBefore Run fault version items (items_len items))
+
+-- nor in the lists before this one
+abbrev pub AreFine : AppFault → ℕ → Items → ℕ → Type 0
+AreFine fault version lists n =
+    (m : ℕ) (earlier : Data) → m < n → get_item m lists ≡ Some earlier → IsFine fault version earlier
+
+-- the place is in the first of these lists that has one
+abbrev pub IsInLists : AppFault → ℕ → Items → Place → Type 0
+IsInLists fault version lists here =
+    (n : ℕ) × (list : Data) × (get_item n lists ≡ Some list) × IsInList fault version n list here
+    × AreFine fault version lists n
+
+-- ---- places
+
+-- these are the items of the field that is a list
+abbrev pub AreItems : Kind → Data → Items → Type 0
+AreItems kind d items = (value : Data) × (get (field_name (list_field kind)) d ≡ Some value) × (as_array value ≡ Some items)
+
+-- a number, but no whole one
+abbrev pub IsOtherNumber : Data → Type 0
+IsOtherNumber d = (n : Num) × (as_number d ≡ Some n) × (as_u64 n ≡ None)
+
+-- the place has the fault, in a scenario of the kind
+abbrev pub IsAt : Kind → AppFault → Data → Place → Type 0
+IsAt kind fault d place.Whole = (fault ≡ BadShape) × (as_object d ≡ None)
+IsAt kind fault d (place.Unknown name) =
+    (fault ≡ BadShape) × (field_named kind (string_bytes name) ≡ None) × (value : Data) × (get (string_bytes name) d ≡ Some value)
+IsAt kind fault d (place.Missing field) =
     (fault ≡ BadShape) × (get (field_name field) d ≡ None) × (fields : Members) × (as_object d ≡ Some fields)
-IsAt fault d (Value field) =
-    (value : Data) × (get (field_name field) d ≡ Some value) × FieldFails fault field value
-IsAt fault d (Event index version text) =
-    (version ≡ version_of d) × (value : Data) × (get (codes "events") d ≡ Some value) × (items : Items) × (as_array value ≡ Some items)
-    × IsFirst fault version items index (option_map string_bytes text)
+IsAt kind fault d (place.Number field) =
+    (is_whole kind field ≡ true) × (value : Data) × (get (field_name field) d ≡ Some value)
+    × (judged (field_within field) (whole_in value) ≡ Err fault)
+IsAt kind fault d (place.Huge field) =
+    (is_whole kind field ≡ true) × (value : Data) × (get (field_name field) d ≡ Some value) × (fault ≡ BadShape) × IsOtherNumber value
+IsAt kind fault d (place.NoList field) =
+    (field ≡ list_field kind) × (value : Data) × (get (field_name field) d ≡ Some value) × (fault ≡ BadShape) × (as_array value ≡ None)
+IsAt kind fault d (place.Event index version text) =
+    (kind ≡ Replay) × (version ≡ version_of d) × (items : Items) × AreItems Replay d items
+    × IsFirst Replay fault version items index (option_map string_bytes text)
+IsAt kind fault d (place.List n) =
+    (kind ≡ Run) × (lists : Items) × AreItems Run d lists × IsInLists fault (version_of d) lists (place.List n)
+IsAt kind fault d (place.Command n index version text) =
+    (kind ≡ Run) × (lists : Items) × AreItems Run d lists × IsInLists fault (version_of d) lists (place.Command n index version text)
+IsAt kind fault d (place.Lists count servers) =
+    (kind ≡ Run) × (fault ≡ BadLimit) × (lists : Items) × AreItems Run d lists × (count ≡ items_len lists)
+    × (whole_of (codes "servers") d ≡ Some servers) × (count ≢ servers)
+
+-- these fields are there
+abbrev pub AreThere : List Field → Data → Type 0
+AreThere [] d = Unit {0}
+AreThere (field ∷ fields) d = (get (field_name field) d ≢ None) × AreThere fields d
 
 -- it is an object, and no field is missing
-pub record HasFields (d : Data) : Type 0 where
-  pub object : as_object d ≢ None
-  pub version : get (field_name Version) d ≢ None
-  pub servers : get (field_name Servers) d ≢ None
-  pub events : get (field_name Events) d ≢ None
-
--- those that there are have the fault
-abbrev pub ArePlaces : AppFault → Data → Places → Type 0
-ArePlaces fault d places =
-    IfSome places.version (λ place. IsAt fault d place) × IfSome places.servers (λ place. IsAt fault d place)
-    × IfSome places.beta (λ place. IsAt fault d place) × IfSome places.events (λ place. IsAt fault d place)
+abbrev pub HasFields : Kind → Data → Type 0
+HasFields kind d = (as_object d ≢ None) × AreThere (needed kind) d
 
 -- ---- the words that tell a place
 
--- what the value of a field is
-abbrev pub value_words : AppFault → Field → List ℕ
-value_words fault Events = codes "no list"
-value_words BadShape field = codes "no whole number"
-value_words fault Version = codes "not 1 or 2"
-value_words fault Servers = codes "not 1 to 7"
-value_words fault Beta = codes "not 0 to 4095"
+-- what a number past the limits of a field is
+abbrev pub limit_words : Field → List ℕ
+limit_words Version = codes "not 1 or 2"
+limit_words Servers = codes "not 1 to 7"
+limit_words Beta = codes "not 0 to 4095"
+limit_words Workers = codes "not 1 to 8"
+limit_words Seed = codes "not 0 to 18446744073709551615"
+limit_words Turns = codes "not 0 to 100000"
+limit_words Loss = codes "not 0 to 32"
+limit_words field = codes "no list"
+
+abbrev pub number_words : AppFault → Field → List ℕ
+number_words BadShape field = codes "no whole number"
+number_words fault field = limit_words field
 
 abbrev pub field_words : Field → List ℕ → List ℕ
 field_words field said = codes "the field \"" ++ (field_name field ++ (codes "\" is " ++ said))
 
-abbrev pub IsToldBy : AppFault → Place → List ℕ → Type 0
-IsToldBy fault Whole words = words ≡ codes "the text is no JSON object"
-IsToldBy fault (Unknown name) words = Unit {0}
-IsToldBy fault (Missing field) words = words ≡ field_words field (codes "missing")
-IsToldBy fault (Value field) words = words ≡ field_words field (value_words fault field)
-IsToldBy fault (Event index version text) words = (said : List ℕ) × (words ≡ codes "event " ++ decimal index ++ 32 ∷ said)
+abbrev pub counts_words : ℕ → ℕ → List ℕ
+counts_words lists servers = codes "lists " ++ decimal lists ++ codes ", servers " ++ decimal servers
+
+-- which fields there are, behind the name of one that there is not
+abbrev pub unknown_words : Kind → List ℕ
+unknown_words Replay = codes " is no field: a scenario of replay has version, servers, beta and events"
+unknown_words Run =
+    codes " is no field: a scenario of run has version, servers, beta, workers, seed, turns, loss and commands"
+
+-- of an item that is a string its text comes first
+abbrev pub IsItemTold : Option (List ℕ) → List ℕ → Type 0
+IsItemTold None words = words ≡ codes "is no string"
+IsItemTold (Some text) words = (said : List ℕ) × (words ≡ shown_text text ++ 58 ∷ 32 ∷ said)
+
+abbrev pub IsToldBy : Kind → AppFault → Place → List ℕ → Type 0
+IsToldBy kind fault place.Whole words = words ≡ codes "the text is no JSON object"
+IsToldBy kind fault (place.Unknown name) words = words ≡ shown_text (string_bytes name) ++ unknown_words kind
+IsToldBy kind fault (place.Missing field) words = words ≡ field_words field (codes "missing")
+IsToldBy kind fault (place.Number field) words = words ≡ field_words field (number_words fault field)
+IsToldBy kind fault (place.Huge field) words = words ≡ field_words field (limit_words field)
+IsToldBy kind fault (place.NoList field) words = words ≡ field_words field (codes "no list")
+IsToldBy kind fault (place.Event index version text) words =
+    (said : List ℕ) × (words ≡ codes "event " ++ decimal index ++ 32 ∷ said) × IsItemTold (option_map string_bytes text) said
+IsToldBy kind fault (place.List n) words = words ≡ codes "item " ++ decimal n ++ codes " of the field \"commands\" is no list"
+IsToldBy kind fault (place.Command n index version text) words =
+    (said : List ℕ) × (words ≡ codes "command " ++ decimal index ++ codes " of list " ++ decimal n ++ 32 ∷ said)
+    × IsItemTold (option_map string_bytes text) said
+IsToldBy kind fault (place.Lists count servers) words =
+    words ≡ field_words Commands (codes "not one list for each server: " ++ counts_words count servers)
 
 -- words of a place in what the bytes say that has the fault
-abbrev pub Tells : AppFault → List ℕ → List ℕ → Type 0
-Tells fault bytes words =
-    (place : Place) × (d : Data) × (json_of bytes ≡ Some d) × IsAt fault d place × IsToldBy fault place words
+abbrev pub Tells : Kind → AppFault → List ℕ → List ℕ → Type 0
+Tells kind fault bytes words =
+    (place : Place) × (d : Data) × (json_of bytes ≡ Some d) × IsAt kind fault d place × IsToldBy kind fault place words
 
--- what is said where no place was found: of a passed limit, that it is the one on all bytes
+-- what is said where no place is looked for
+abbrev pub many_words : List ℕ
+many_words = codes "more than 65,536 { stand in the text, where a scenario has one"
+
+-- what is said where no place was found
 abbrev pub unplaced_words : AppFault → List ℕ
-unplaced_words BadLimit = codes "the scenario is longer than 16,777,216 bytes"
+unplaced_words BadLimit = codes "a number, a length or a count is past its limit"
 unplaced_words fault = codes "the text is no scenario"
 
--- what is said of a fault
-abbrev pub IsTold : AppFault → List ℕ → List ℕ → Type 0
-IsTold BadShape bytes words = Tells BadShape bytes words ⊎ (words ≡ unplaced_words BadShape)
-IsTold BadLimit bytes words = Tells BadLimit bytes words ⊎ (words ≡ unplaced_words BadLimit)
-IsTold fault bytes words = Unit {0}
+-- words of a place, or that there is none
+abbrev pub IsPlaced : Kind → AppFault → List ℕ → List ℕ → Type 0
+IsPlaced kind fault bytes words =
+    Tells kind fault bytes words ⊎ ((has_many_objects bytes ≡ true) × (words ≡ many_words))
+    ⊎ ((has_many_objects bytes ≡ false) × (words ≡ unplaced_words fault))
+
+-- what is said of a fault of bytes that were read
+abbrev pub IsTold : Kind → AppFault → List ℕ → List ℕ → Type 0
+IsTold kind BadShape bytes words = IsPlaced kind BadShape bytes words
+IsTold kind BadLimit bytes words = IsPlaced kind BadLimit bytes words
+IsTold kind fault bytes words = Unit {0}
+
+-- what is said of a fault of bytes that were not read to their end
+abbrev pub too_long_words : List ℕ
+too_long_words = codes "the scenario is longer than 16,777,216 bytes"
+
+abbrev pub IsToldUnread : AppFault → List ℕ → Type 0
+IsToldUnread BadLimit words = words ≡ too_long_words
+IsToldUnread fault words = Unit {0}

@@ -66,6 +66,10 @@ lists_fit n lists = numbers_within n && (lists == n.servers)
 abbrev pub plan_within : WrittenPlan → Bool
 plan_within x = lists_fit x.numbers (length x.commands) && list_all (list_all command_within) x.commands
 
+-- what an item of a list of commands says in a version, or its fault
+abbrev pub command_said : ℕ → Data → Result Request AppFault
+command_said version d = judged command_within (said_by (command_of version) d)
+
 -- ---- the bytes
 
 -- what the bytes say, or the fault that they have

@@ -1,25 +1,100 @@
 //! Where a scenario is wrong, in a person's words.
 
-ghost use Rattle.std.specs.Prelude.{◌≡◌, ◌⊎◌, ◌∷◌, ◌++◌, IfOk, codes, decimal, string_bytes};
-ghost use Rattle.mencius_input.specs.Place.{IsTold, IsToldBy, Tells, field_words, unplaced_words, value_words};
+ghost use Rattle.std.specs.Prelude.{◌≡◌, ◌∷◌, ◌++◌, IfOk, codes, decimal, option_map, string_bytes};
+ghost use Rattle.mencius_input.specs.Place.{IsItemTold, IsPlaced, IsTold, IsToldBy, IsToldUnread, counts_words, field_words, limit_words, number_words, unknown_words, unplaced_words};
+ghost use Rattle.mencius_input.specs.Shown.{shown_text};
 
-use crate::places::{Field, Place, place_of};
+use crate::field::Field;
+use crate::kind::{Kind, has_many_objects};
+use crate::places::{Place, place_of};
+use crate::shown::shown;
 use crate::stops::stop_in;
-use crate::wrong::{shown, wrong_event};
+use crate::wrong::wrong_item;
 use mencius_base::NoMemory;
 use mencius_ends::AppFault;
 use std::alloc::Global;
 
-// What is wrong with the value of a field.
-fn wrong_value(field: Field, fault: AppFault) -> &'static str
-    ensures { result.now ≡ value_words fault field }
+// What a number past the limits of a field is.
+fn limit_words(field: Field) -> &'static str
+    ensures { result.now ≡ limit_words field }
 {
-    match (field, fault) {
-        (Field::Events, _) => "no list",
-        (_, AppFault::BadShape) => "no whole number",
-        (Field::Version, _) => "not 1 or 2",
-        (Field::Servers, _) => "not 1 to 7",
-        (Field::Beta, _) => "not 0 to 4095",
+    match field {
+        Field::Version => "not 1 or 2",
+        Field::Servers => "not 1 to 7",
+        Field::Beta => "not 0 to 4095",
+        Field::Workers => "not 1 to 8",
+        Field::Seed => "not 0 to 18446744073709551615",
+        Field::Turns => "not 0 to 100000",
+        Field::Loss => "not 0 to 32",
+        Field::Events | Field::Commands => "no list",
+    }
+}
+
+// What is wrong with a field that should be a whole number.
+fn number_words(field: Field, fault: AppFault) -> &'static str
+    ensures { result.now ≡ number_words fault field }
+{
+    match fault {
+        AppFault::BadShape => "no whole number",
+        _ => limit_words(field),
+    }
+}
+
+// Which fields there are, behind the name of one that there is not.
+fn unknown_words(kind: Kind) -> &'static str
+    ensures { result.now ≡ unknown_words kind }
+{
+    match kind {
+        Kind::Replay => {
+            " is no field: a scenario of replay has version, servers, beta and events"
+        }
+        Kind::Run => {
+            " is no field: a scenario of run has version, servers, beta, workers, seed, turns, loss and commands"
+        }
+    }
+}
+
+// What is said of a field that a scenario has.
+fn of_field(alloc: Global, field: Field, said: &str) -> Result<String, NoMemory>
+    ensures { IfOk result (λ s. string_bytes s ≡ field_words field said.now) }
+{
+    let name = field.name();
+    Ok(format!(in alloc; "the field \"{name}\" is {said}")?)
+}
+
+// What is said of a field that no scenario of the kind has.
+fn of_unknown(alloc: Global, kind: Kind, name: &str) -> Result<String, NoMemory>
+    ensures { IfOk result (λ s. string_bytes s ≡ shown_text name.now ++ unknown_words kind) }
+{
+    let mut words = shown(alloc, name)?;
+    words.push_str(unknown_words(kind))?;
+    Ok(words)
+}
+
+// What is said of a text, behind it.
+fn of_text(alloc: Global, text: &str, said: &str) -> Result<String, NoMemory>
+    ensures { IfOk result (λ s. string_bytes s ≡ shown_text text.now ++ 58 ∷ 32 ∷ said.now) }
+{
+    let text = shown(alloc, text)?;
+    Ok(format!(in alloc; "{text}: {said}")?)
+}
+
+// What is said of an event or a command.
+fn of_item(
+    alloc: Global,
+    kind: Kind,
+    version: u64,
+    text: &Option<String>,
+    fault: AppFault,
+) -> Result<String, NoMemory>
+    ensures { IfOk result (λ s. IsItemTold (option_map string_bytes text.now) (string_bytes s)) }
+{
+    match text {
+        Some(text) => {
+            let said = wrong_item(alloc, kind, version, text.as_str(), fault)?;
+            of_text(alloc, text.as_str(), said.as_str())
+        }
+        None => Ok(String::from_str(alloc, "is no string")?),
     }
 }
 
@@ -31,106 +106,140 @@ fn of_event(alloc: Global, index: usize, said: &str) -> Result<String, NoMemory>
     Ok(format!(in alloc; "event {index} {said}")?)
 }
 
-// What is said of a field that a scenario has.
-fn of_field(alloc: Global, field: Field, said: &str) -> Result<String, NoMemory>
-    ensures { IfOk result (λ s. string_bytes s ≡ field_words field said.now) }
+// What is said of a command.
+fn of_command(alloc: Global, list: usize, index: usize, said: &str) -> Result<String, NoMemory>
+    ensures { IfOk result (λ s. string_bytes s
+        ≡ codes "command " ++ decimal index ++ codes " of list " ++ decimal list ++ 32 ∷ said.now) }
 {
-    let name = field.name();
-    Ok(format!(in alloc; "the field \"{name}\" is {said}")?)
+    Ok(format!(in alloc; "command {index} of list {list} {said}")?)
 }
 
-// What is wrong with an item of the events.
-fn wrong_item(
-    alloc: Global,
-    version: u64,
-    text: &Option<String>,
-    fault: AppFault,
-) -> Result<String, NoMemory> {
-    let Some(text) = text else {
-        return Ok(String::from_str(alloc, "is no text")?);
-    };
-    let words = wrong_event(alloc, version, text.as_str(), fault)?;
-    let text = shown(alloc, text.as_str())?;
-    Ok(format!(in alloc; "{text}: {words}")?)
+// What is said of an item of the commands that is no list.
+fn of_list(alloc: Global, list: usize) -> Result<String, NoMemory>
+    ensures { IfOk result (λ s. string_bytes s
+        ≡ codes "item " ++ decimal list ++ codes " of the field \"commands\" is no list") }
+{
+    Ok(format!(in alloc; "item {list} of the field \"commands\" is no list")?)
 }
 
-// What is said of a field that no scenario has.
-fn of_unknown(alloc: Global, name: &str) -> Result<String, NoMemory> {
-    let name = shown(alloc, name)?;
-    Ok(format!(in alloc; "{name} is no field of a scenario")?)
+// How many lists there are, and how many servers.
+fn counts(alloc: Global, lists: usize, servers: u64) -> Result<String, NoMemory>
+    ensures { IfOk result (λ s. string_bytes s ≡ counts_words lists servers) }
+{
+    Ok(format!(in alloc; "lists {lists}, servers {servers}")?)
+}
+
+// What is said of commands that are not one list for each server.
+fn of_lists(alloc: Global, count: usize, servers: u64) -> Result<String, NoMemory>
+    ensures { IfOk result (λ s. string_bytes s ≡ field_words Field.Commands
+        (codes "not one list for each server: " ++ counts_words count servers)) }
+{
+    let counts = counts(alloc, count, servers)?;
+    let said = format!(in alloc; "not one list for each server: {counts}")?;
+    of_field(alloc, Field::Commands, said.as_str())
 }
 
 // What is wrong at a place that has the fault.
-fn wrong_place(alloc: Global, place: &Place, fault: AppFault) -> Result<String, NoMemory>
-    ensures { IfOk result (λ s. IsToldBy fault place.now (string_bytes s)) }
+fn wrong_place(
+    alloc: Global,
+    kind: Kind,
+    place: &Place,
+    fault: AppFault,
+) -> Result<String, NoMemory>
+    ensures { IfOk result (λ s. IsToldBy kind fault place.now (string_bytes s)) }
 {
     match place {
         Place::Whole => Ok(String::from_str(alloc, "the text is no JSON object")?),
-        Place::Unknown { name } => of_unknown(alloc, name.as_str()),
+        Place::Unknown { name } => of_unknown(alloc, kind, name.as_str()),
         Place::Missing { field } => of_field(alloc, *field, "missing"),
-        Place::Value { field } => of_field(alloc, *field, wrong_value(*field, fault)),
+        Place::Number { field } => of_field(alloc, *field, number_words(*field, fault)),
+        Place::Huge { field } => of_field(alloc, *field, limit_words(*field)),
+        Place::NoList { field } => of_field(alloc, *field, "no list"),
         Place::Event {
             index,
             version,
             text,
         } => {
-            let said = wrong_item(alloc, *version, text, fault)?;
+            let said = of_item(alloc, Kind::Replay, *version, text, fault)?;
             of_event(alloc, *index, said.as_str())
         }
+        Place::List { list } => of_list(alloc, *list),
+        Place::Command {
+            list,
+            index,
+            version,
+            text,
+        } => {
+            let said = of_item(alloc, Kind::Run, *version, text, fault)?;
+            of_command(alloc, *list, *index, said.as_str())
+        }
+        Place::Lists { count, servers } => of_lists(alloc, *count, *servers),
     }
 }
 
-// What is said where no place in the bytes has the fault.
+// What is said where no place was found that has the fault.
 fn unplaced(fault: AppFault) -> &'static str
     ensures { result.now ≡ unplaced_words fault }
 {
     match fault {
-        AppFault::BadLimit => "the scenario is longer than 16,777,216 bytes",
+        AppFault::BadLimit => "a number, a length or a count is past its limit",
         _ => "the text is no scenario",
     }
 }
 
-// The objects of a text of which a tree is made. A scenario has one; of a text that has millions the
-// tree would take gigabytes.
-const MOST_OBJECTS: usize = 65_536;
-
-// Whether more objects may begin in a text than a tree is made of.
-fn has_many_objects(bytes: &[u8]) -> bool {
-    bytes.iter().filter(|byte| **byte == b'{').count() > MOST_OBJECTS
-}
-
 // Where the shape is bad or a limit is passed.
-fn tell_place(alloc: Global, bytes: &[u8], fault: AppFault) -> Result<String, NoMemory>
-    ensures { IfOk result (λ s. Tells fault bytes.now (string_bytes s)
-        ⊎ (string_bytes s ≡ unplaced_words fault)) }
+fn tell_place(alloc: Global, kind: Kind, bytes: &[u8], fault: AppFault) -> Result<String, NoMemory>
+    ensures { IfOk result (λ s. IsPlaced kind fault bytes.now (string_bytes s)) }
 {
     if has_many_objects(bytes) {
-        return Ok(String::from_str(alloc, unplaced(fault))?);
+        return Ok(String::from_str(
+            alloc,
+            "more than 65,536 { stand in the text, where a scenario has one",
+        )?);
     }
-    match place_of(alloc, bytes, fault)? {
-        Some(place) => wrong_place(alloc, &place, fault),
+    match place_of(alloc, kind, bytes, fault)? {
+        Some(place) => wrong_place(alloc, kind, &place, fault),
         None => Ok(String::from_str(alloc, unplaced(fault))?),
     }
 }
 
-/// Says where the scenario of `replay` in `bytes` has its fault, in one line of a person's words: for
-/// `NotJson` the line and the column, in characters from 1; for `BadShape` and `BadLimit` the field,
-/// or the event by its index from 0 and its text, and which word of it. It is the first place in the
-/// text that has the fault. There is no line feed at the end and no other control character.
+/// Says where the scenario in `bytes`, which is read as one of the kind, has its fault, in one line of a
+/// person's words: for `NotJson` the line and the column, in characters from 1; for `BadShape` and
+/// `BadLimit` the field, or the event or the command by its index from 0 and its text, and which word of
+/// it. It is the first place in the text that has the fault; of a text in which more than 65,536 `{`
+/// stand no place is told. There is no line feed at the end and no other control character.
 ///
-/// `fault` is what [`read_scenario`](crate::read_scenario) answers for the bytes, or what
-/// [`read_all`](crate::read_all) answered, which keeps no bytes: then `bytes` may be empty.
+/// `fault` is what [`read_scenario`](crate::read_scenario), or for a run
+/// [`read_run_input`](crate::read_run_input), answers for the bytes.
 ///
 /// # Errors
 ///
 /// `NoMemory` where memory ran out.
-pub fn explain(alloc: Global, bytes: &[u8], fault: AppFault) -> Result<String, NoMemory>
-    ensures { IfOk result (λ s. IsTold fault bytes.now (string_bytes s)) }
+pub fn explain(alloc: Global, kind: Kind, bytes: &[u8], fault: AppFault) -> Result<String, NoMemory>
+    ensures { IfOk result (λ s. IsTold kind fault bytes.now (string_bytes s)) }
 {
     match fault {
         AppFault::NotJson => stop_in(alloc, bytes),
-        AppFault::BadShape => tell_place(alloc, bytes, AppFault::BadShape),
-        AppFault::BadLimit => tell_place(alloc, bytes, AppFault::BadLimit),
+        AppFault::BadShape => tell_place(alloc, kind, bytes, AppFault::BadShape),
+        AppFault::BadLimit => tell_place(alloc, kind, bytes, AppFault::BadLimit),
+        _ => Ok(format!(in alloc; "{fault}")?),
+    }
+}
+
+/// Says why bytes were not read to their end, in one line of a person's words. `fault` is what
+/// [`read_all`](crate::read_all) answers: `BadLimit` where there are too many bytes.
+///
+/// # Errors
+///
+/// `NoMemory` where memory ran out.
+pub fn explain_unread(alloc: Global, fault: AppFault) -> Result<String, NoMemory>
+    ensures { IfOk result (λ s. IsToldUnread fault (string_bytes s)) }
+{
+    match fault {
+        AppFault::BadLimit => Ok(String::from_str(
+            alloc,
+            "the scenario is longer than 16,777,216 bytes",
+        )?),
         _ => Ok(format!(in alloc; "{fault}")?),
     }
 }

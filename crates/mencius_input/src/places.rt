@@ -1,21 +1,23 @@
 //! Where a scenario has a fault.
 
-ghost use Rattle.std.specs.Prelude.{◌≡◌, ◌≢◌, ◌&&◌, Err, IfOk, IfSome, MatchOption, None, Ok, Some, codes, not, option_map, string_bytes};
+ghost use Rattle.std.specs.Prelude.{ℕ, ◌≡◌, ◌≢◌, ◌⊎◌, ◌&&◌, IfOk, IfSome, IsTrue, MatchOption, None, Ok, Some, codes, length, not, option_map, string_bytes, true};
 ghost use Rattle.std.specs.Bool.{MatchBool};
 ghost use Rattle.std.specs.Result.{result_err};
 ghost use Rattle.serde_json.specs.Data.{Data};
 ghost use Rattle.serde_json.specs.Find.{as_str, get};
 ghost use Rattle.serde_json.specs.View.{items_view, view};
-ghost use Rattle.mencius_input.specs.declared.scenario.Name.TheVariants.{Other};
-ghost use Rattle.mencius_input.specs.Fields.{named};
-ghost use Rattle.mencius_input.specs.Grammar.{newest_version, takes_cas};
-ghost use Rattle.mencius_input.specs.Newest.{has_event_cas};
-ghost use Rattle.mencius_input.specs.Place.{ArePlaces, HasFields, IsAt, IsFirst, field_name, version_of};
-ghost use Rattle.mencius_input.specs.Scenario.{item_said, json_of, whole_of};
+ghost use Rattle.mencius_input.specs.FieldsOf.{field_name, field_named, is_whole, needed};
+ghost use Rattle.mencius_input.specs.Grammar.{command_of, command_within, event_of, event_within, newest_version, takes_cas};
+ghost use Rattle.mencius_input.specs.Judged.{judged};
+ghost use Rattle.mencius_input.specs.declared.kind.Kind.TheVariants.{Replay, Run};
+ghost use Rattle.mencius_input.specs.Place.{AreItems, AreThere, HasFields, IsAt, IsFine, IsFirst, IsInList, IsInLists, IsOtherNumber, NoneBefore, item_fault, item_has_cas, version_of};
+ghost use Rattle.mencius_input.specs.Scenario.{json_of, whole_of};
+ghost use Rattle.mencius_input.specs.Words.{words};
 
-use crate::event::{event_is_cas, parse_event};
+use crate::event::{command_is_cas, event_is_cas, parse_command, parse_event};
+use crate::field::{Field, field_named, is_whole, is_within, list_field};
+use crate::kind::{Kind, tree_of};
 use crate::newest::{NEWEST_VERSION, takes_cas};
-use crate::scenario::{Name, are_servers, is_beta, is_version, named};
 use crate::tokens::Tokens;
 use crate::value::{MOST_DEPTH, next_name, pass};
 use json::Scratch;
@@ -24,35 +26,12 @@ use mencius_ends::AppFault;
 use serde_json::Value;
 use std::alloc::Global;
 
-/// A field of a scenario of `replay`.
-#[derive(Clone, Copy, Debug, PartialEq, Eq)]
-pub enum Field {
-    Version,
-    Servers,
-    Beta,
-    Events,
-}
-
-impl Field {
-    /// The name of the field.
-    pub fn name(self) -> &'static str
-        ensures { result.now ≡ field_name self }
-    {
-        match self {
-            Field::Version => "version",
-            Field::Servers => "servers",
-            Field::Beta => "beta",
-            Field::Events => "events",
-        }
-    }
-}
-
-/// A place where a scenario of `replay` has a fault.
+/// A place where a scenario has a fault.
 #[derive(Debug, Drop, PartialEq, Eq)]
 pub enum Place {
     /// The whole value, which is no object.
     Whole,
-    /// A field that no scenario has.
+    /// A field that no scenario of the kind has.
     Unknown {
         name: String,
     },
@@ -60,8 +39,16 @@ pub enum Place {
     Missing {
         field: Field,
     },
-    /// The value of a field: of the events, that it is no list.
-    Value {
+    /// A field that is no whole number, or one past its limits.
+    Number {
+        field: Field,
+    },
+    /// A field that is a number too great to be read as a whole one.
+    Huge {
+        field: Field,
+    },
+    /// A field that is no list.
+    NoList {
         field: Field,
     },
     /// An event, by its index from 0, the version in which it is judged, and its text, if it is one.
@@ -70,51 +57,93 @@ pub enum Place {
         version: u64,
         text: Option<String>,
     },
+    /// An item of the commands, from 0, that is no list.
+    List {
+        list: usize,
+    },
+    /// A command, by its list and its index there, both from 0, and as an event is.
+    Command {
+        list: usize,
+        index: usize,
+        version: u64,
+        text: Option<String>,
+    },
+    /// The commands, which are so many lists, and not one for each of so many servers.
+    Lists {
+        count: usize,
+        servers: u64,
+    },
 }
 
-// The version that the scenario says.
+// The whole number that a field is.
 #[tactic(auto, unfolding(crate::specs::Scenario::whole_of))]
-fn said_version(scenario: &Value) -> Option<u64>
-    ensures { result ≡ whole_of (codes "version") (view scenario.now) }
+fn said_number(scenario: &Value, field: Field) -> Option<u64>
+    ensures { result ≡ whole_of (field_name field) (view scenario.now) }
 {
-    scenario.get("version")?.as_u64()
+    scenario.get(field.name())?.as_u64()
 }
 
-// The version in which the events are judged: that of the scenario, and where it says none, the
-// newest.
+// The version in which events and commands are judged: that of the scenario, and where it says none,
+// the newest.
 fn version_of(scenario: &Value) -> u64
     ensures { result ≡ version_of (view scenario.now) }
 {
-    said_version(scenario).unwrap_or(NEWEST_VERSION)
+    said_number(scenario, Field::Version).unwrap_or(NEWEST_VERSION)
 }
 
-// Whether an item of the events is a `cas` in a version that has none.
-fn is_cas_too_many(version: u64, item: &Value) -> bool
-    ensures { result ≡ (has_event_cas (view item.now) && not (takes_cas version)) }
+// Whether an item is a `cas`, by the place of that word alone.
+fn has_cas(kind: Kind, item: &Value) -> bool
+    ensures { result ≡ item_has_cas kind (view item.now) }
 {
-    match item.as_str() {
-        Some(text) => event_is_cas(text) && !takes_cas(version),
-        None => false,
+    match (item.as_str(), kind) {
+        (Some(text), Kind::Replay) => event_is_cas(text),
+        (Some(text), Kind::Run) => command_is_cas(text),
+        (None, _) => false,
     }
 }
 
-// The fault of an item of the events.
-fn fault_of_item(alloc: Global, version: u64, item: &Value) -> Result<Option<AppFault>, NoMemory>
-    ensures { IfOk result (λ o. o ≡ result_err (item_said version (view item.now))) }
+// Whether an item is a `cas` in a version that has none.
+fn is_cas_too_many(kind: Kind, version: u64, item: &Value) -> bool
+    ensures { result ≡ (item_has_cas kind (view item.now) && not (takes_cas version)) }
 {
-    if is_cas_too_many(version, item) {
-        return Ok(Some(AppFault::BadShape));
-    }
-    newest_fault_of_item(alloc, item)
+    has_cas(kind, item) && !takes_cas(version)
 }
 
-// The fault that an item of the events has in the newest version.
-fn newest_fault_of_item(alloc: Global, item: &Value) -> Result<Option<AppFault>, NoMemory>
-    ensures { IfOk result (λ o. o ≡ result_err (item_said newest_version (view item.now))) }
+// The fault of an item.
+fn fault_of_item(
+    alloc: Global,
+    kind: Kind,
+    version: u64,
+    item: &Value,
+) -> Result<Option<AppFault>, NoMemory>
+    ensures { IfOk result (λ o. o ≡ item_fault kind version (view item.now)) }
 {
-    let Some(text) = item.as_str() else {
+    if is_cas_too_many(kind, version, item) {
         return Ok(Some(AppFault::BadShape));
-    };
+    }
+    newest_fault_of_item(alloc, kind, item)
+}
+
+// The fault that an item has in the newest version.
+fn newest_fault_of_item(
+    alloc: Global,
+    kind: Kind,
+    item: &Value,
+) -> Result<Option<AppFault>, NoMemory>
+    ensures { IfOk result (λ o. o ≡ item_fault kind newest_version (view item.now)) }
+{
+    match (item.as_str(), kind) {
+        (Some(text), Kind::Replay) => fault_of_event(alloc, text),
+        (Some(text), Kind::Run) => fault_of_command(alloc, text),
+        (None, _) => Ok(Some(AppFault::BadShape)),
+    }
+}
+
+// The fault of an event in the newest version.
+fn fault_of_event(alloc: Global, text: &str) -> Result<Option<AppFault>, NoMemory>
+    ensures { IfOk result (λ o.
+        o ≡ result_err (judged event_within (event_of newest_version (words text.now)))) }
+{
     match parse_event(alloc, text) {
         Ok(_) => Ok(None),
         Err(AppFault::NoMemory) => Err(NoMemory),
@@ -122,12 +151,30 @@ fn newest_fault_of_item(alloc: Global, item: &Value) -> Result<Option<AppFault>,
     }
 }
 
-// Whether an item of the events has the fault.
-fn has_fault(alloc: Global, version: u64, item: &Value, fault: AppFault) -> Result<bool, NoMemory>
-    ensures { IfOk result (λ x. MatchBool x (item_said version (view item.now) ≡ Err fault)
-        (item_said version (view item.now) ≢ Err fault)) }
+// The fault of a command in the newest version.
+fn fault_of_command(alloc: Global, text: &str) -> Result<Option<AppFault>, NoMemory>
+    ensures { IfOk result (λ o.
+        o ≡ result_err (judged command_within (command_of newest_version (words text.now)))) }
 {
-    match fault_of_item(alloc, version, item)? {
+    match parse_command(alloc, text) {
+        Ok(_) => Ok(None),
+        Err(AppFault::NoMemory) => Err(NoMemory),
+        Err(fault) => Ok(Some(fault)),
+    }
+}
+
+// Whether an item has the fault.
+fn has_fault(
+    alloc: Global,
+    kind: Kind,
+    version: u64,
+    item: &Value,
+    fault: AppFault,
+) -> Result<bool, NoMemory>
+    ensures { IfOk result (λ x. MatchBool x (item_fault kind version (view item.now) ≡ Some fault)
+        (item_fault kind version (view item.now) ≢ Some fault)) }
+{
+    match fault_of_item(alloc, kind, version, item)? {
         Some(found) => {
             if found == fault {
                 return Ok(true);
@@ -148,18 +195,20 @@ fn text_of_item(alloc: Global, item: &Value) -> Result<Option<String>, NoMemory>
     }
 }
 
-// The first of the events that has the fault.
-fn first_event(
+// The first of the items that has the fault.
+fn first_item(
     alloc: Global,
+    kind: Kind,
     version: u64,
     items: &[Value],
     fault: AppFault,
 ) -> Result<Option<(usize, Option<String>)>, NoMemory>
-    ensures { IfOk result (λ o. IfSome o (λ x.
-        IsFirst fault version (items_view items.now) x.0 (option_map string_bytes x.1))) }
+    ensures { IfOk result (λ o. MatchOption o
+        (NoneBefore kind fault version (items_view items.now) (length items.now))
+        (λ x. IsFirst kind fault version (items_view items.now) x.0 (option_map string_bytes x.1))) }
 {
     for (index, item) in items.iter().enumerate() {
-        if has_fault(alloc, version, item, fault)? {
+        if has_fault(alloc, kind, version, item, fault)? {
             let text = text_of_item(alloc, item)?;
             return Ok(Some((index, text)));
         }
@@ -167,33 +216,98 @@ fn first_event(
     Ok(None)
 }
 
-// The value of a field, where the fault that it has is the one that is looked for.
-fn amiss(field: Field, found: AppFault, fault: AppFault) -> Option<Place>
-    ensures { IfSome result (λ x. (x ≡ Place.Value field) × (found ≡ fault)) }
+// The place in an item of the commands.
+fn place_in_list(
+    alloc: Global,
+    version: u64,
+    list: usize,
+    value: &Value,
+    fault: AppFault,
+) -> Result<Option<Place>, NoMemory>
+    ensures { IfOk result (λ o. MatchOption o (IsFine fault version (view value.now))
+        (λ x. IsInList fault version list (view value.now) x)) }
 {
-    if found == fault {
-        Some(Place::Value { field })
-    } else {
-        None
+    let Some(items) = value.as_array() else {
+        if fault == AppFault::BadShape {
+            return Ok(Some(Place::List { list }));
+        }
+        return Ok(None);
+    };
+    match first_item(alloc, Kind::Run, version, items.as_slice(), fault)? {
+        Some((index, text)) => Ok(Some(Place::Command {
+            list,
+            index,
+            version,
+            text,
+        })),
+        None => Ok(None),
     }
 }
 
-// The place in the field of the events.
+// The place in the first of the lists of commands that has one.
+fn first_in_lists(
+    alloc: Global,
+    version: u64,
+    lists: &[Value],
+    fault: AppFault,
+) -> Result<Option<Place>, NoMemory>
+    ensures { IfOk result (λ o. IfSome o (λ x.
+        IsInLists fault version (items_view lists.now) x)) }
+{
+    for (list, value) in lists.iter().enumerate() {
+        let place = place_in_list(alloc, version, list, value, fault)?;
+        if place.is_some() {
+            return Ok(place);
+        }
+    }
+    Ok(None)
+}
+
+// The commands as a place, where they are not one list for each server.
+fn lists_amiss(scenario: &Value, count: usize, fault: AppFault) -> Option<Place>
+    ensures { IfSome result (λ x. (fault ≡ AppFault.BadLimit) × (servers : ℕ)
+        × (x ≡ Place.Lists count servers)
+        × (whole_of (codes "servers") (view scenario.now) ≡ Some servers) × (count ≢ servers)) }
+{
+    if fault != AppFault::BadLimit {
+        return None;
+    }
+    let servers = said_number(scenario, Field::Servers)?;
+    if count as u64 == servers || !is_within(Field::Servers, servers) {
+        return None;
+    }
+    Some(Place::Lists { count, servers })
+}
+
+// The place in the commands of a run.
+fn place_in_commands(
+    alloc: Global,
+    scenario: &Value,
+    lists: &[Value],
+    fault: AppFault,
+) -> Result<Option<Place>, NoMemory>
+    requires { AreItems Run (view scenario.now) (items_view lists.now) }
+    ensures { IfOk result (λ o. IfSome o (λ x. IsAt Run fault (view scenario.now) x)) }
+{
+    let place = first_in_lists(alloc, version_of(scenario), lists, fault)?;
+    if place.is_some() {
+        return Ok(place);
+    }
+    Ok(lists_amiss(scenario, lists.len(), fault))
+}
+
+// The place in the events of a schedule.
 fn place_in_events(
     alloc: Global,
     scenario: &Value,
+    events: &[Value],
     fault: AppFault,
 ) -> Result<Option<Place>, NoMemory>
-    ensures { IfOk result (λ o. IfSome o (λ x. IsAt fault (view scenario.now) x)) }
+    requires { AreItems Replay (view scenario.now) (items_view events.now) }
+    ensures { IfOk result (λ o. IfSome o (λ x. IsAt Replay fault (view scenario.now) x)) }
 {
-    let Some(events) = scenario.get("events") else {
-        return Ok(None);
-    };
-    let Some(items) = events.as_array() else {
-        return Ok(amiss(Field::Events, AppFault::BadShape, fault));
-    };
     let version = version_of(scenario);
-    match first_event(alloc, version, items.as_slice(), fault)? {
+    match first_item(alloc, Kind::Replay, version, events, fault)? {
         Some((index, text)) => Ok(Some(Place::Event {
             index,
             version,
@@ -203,63 +317,87 @@ fn place_in_events(
     }
 }
 
-// The place in the field of the version.
-fn place_in_version(scenario: &Value, fault: AppFault) -> Option<Place>
-    ensures { IfSome result (λ x. IsAt fault (view scenario.now) x) }
+// The place in the field that is a list.
+fn place_in_list_field(
+    alloc: Global,
+    kind: Kind,
+    scenario: &Value,
+    fault: AppFault,
+) -> Result<Option<Place>, NoMemory>
+    ensures { IfOk result (λ o. IfSome o (λ x. IsAt kind fault (view scenario.now) x)) }
 {
-    let value = scenario.get("version")?;
+    let field = list_field(kind);
+    let Some(value) = scenario.get(field.name()) else {
+        return Ok(None);
+    };
+    let Some(items) = value.as_array() else {
+        if fault == AppFault::BadShape {
+            return Ok(Some(Place::NoList { field }));
+        }
+        return Ok(None);
+    };
+    match kind {
+        Kind::Replay => place_in_events(alloc, scenario, items.as_slice(), fault),
+        Kind::Run => place_in_commands(alloc, scenario, items.as_slice(), fault),
+    }
+}
+
+// Whether a value is a number too great to be read as a whole one. The numbers between 2 to the 64th
+// and the float before it are read as that power.
+fn is_huge(value: &Value) -> bool
+    ensures { IsTrue result → IsOtherNumber (view value.now) }
+{
+    match value.as_number() {
+        Some(number) => match number.as_u64() {
+            Some(_) => false,
+            None => number.as_f64().unwrap_or(0.0) >= 18_446_744_073_709_551_616.0,
+        },
+        None => false,
+    }
+}
+
+// The place in a field that is no whole number.
+fn not_whole(field: Field, value: &Value, fault: AppFault) -> Option<Place>
+    ensures { IfSome result (λ x. (fault ≡ AppFault.BadShape) × ((x ≡ Place.Number field)
+        ⊎ ((x ≡ Place.Huge field) × IsOtherNumber (view value.now)))) }
+{
+    if fault != AppFault::BadShape {
+        return None;
+    }
+    if is_huge(value) {
+        Some(Place::Huge { field })
+    } else {
+        Some(Place::Number { field })
+    }
+}
+
+// The place in a field that should be a whole number.
+fn place_in_number(kind: Kind, scenario: &Value, field: Field, fault: AppFault) -> Option<Place>
+    requires { is_whole kind field ≡ true }
+    ensures { IfSome result (λ x. IsAt kind fault (view scenario.now) x) }
+{
+    let value = scenario.get(field.name())?;
     match value.as_u64() {
-        None => amiss(Field::Version, AppFault::BadShape, fault),
-        Some(version) => {
-            if is_version(version) {
+        None => not_whole(field, value, fault),
+        Some(number) => {
+            if fault != AppFault::BadLimit || is_within(field, number) {
                 return None;
             }
-            amiss(Field::Version, AppFault::BadLimit, fault)
+            Some(Place::Number { field })
         }
     }
 }
 
-// The place in the field of the servers.
-fn place_in_servers(scenario: &Value, fault: AppFault) -> Option<Place>
-    ensures { IfSome result (λ x. IsAt fault (view scenario.now) x) }
-{
-    let value = scenario.get("servers")?;
-    match value.as_u64() {
-        None => amiss(Field::Servers, AppFault::BadShape, fault),
-        Some(servers) => {
-            if are_servers(servers) {
-                return None;
-            }
-            amiss(Field::Servers, AppFault::BadLimit, fault)
-        }
-    }
-}
-
-// The place in the field of the beta.
-fn place_in_beta(scenario: &Value, fault: AppFault) -> Option<Place>
-    ensures { IfSome result (λ x. IsAt fault (view scenario.now) x) }
-{
-    let value = scenario.get("beta")?;
-    match value.as_u64() {
-        None => amiss(Field::Beta, AppFault::BadShape, fault),
-        Some(beta) => {
-            if is_beta(beta) {
-                return None;
-            }
-            amiss(Field::Beta, AppFault::BadLimit, fault)
-        }
-    }
-}
-
-// The place of a field that no scenario has.
+// The place of a field that no scenario of the kind has.
 fn place_of_unknown(
     alloc: Global,
+    kind: Kind,
     scenario: &Value,
     name: &str,
     fault: AppFault,
 ) -> Result<Option<Place>, NoMemory>
-    requires { named name.now ≡ Other }
-    ensures { IfOk result (λ o. IfSome o (λ x. IsAt fault (view scenario.now) x)) }
+    requires { field_named kind name.now ≡ None }
+    ensures { IfOk result (λ o. IfSome o (λ x. IsAt kind fault (view scenario.now) x)) }
 {
     if fault != AppFault::BadShape {
         return Ok(None);
@@ -273,62 +411,44 @@ fn place_of_unknown(
     }
 }
 
-// The places in the fields that a scenario has, until their names are found.
-#[derive(Drop)]
-struct Places {
-    version: Option<Place>,
-    servers: Option<Place>,
-    beta: Option<Place>,
-    events: Option<Place>,
-}
-
-// The places in the fields that a scenario has.
-fn places_in(alloc: Global, scenario: &Value, fault: AppFault) -> Result<Places, NoMemory>
-    ensures { IfOk result (λ places. ArePlaces fault (view scenario.now) places) }
-{
-    Ok(Places {
-        version: place_in_version(scenario, fault),
-        servers: place_in_servers(scenario, fault),
-        beta: place_in_beta(scenario, fault),
-        events: place_in_events(alloc, scenario, fault)?,
-    })
-}
-
-// The place in the field of this name. The fields that a scenario has are looked at once each, however
-// often they are written.
+// The place in the field of this name. The field that is a list is looked at once, however often it is
+// written.
 fn place_named(
     alloc: Global,
-    places: &mut Places,
+    kind: Kind,
+    in_list: &mut Option<Place>,
     scenario: &Value,
     name: &str,
     fault: AppFault,
 ) -> Result<Option<Place>, NoMemory>
-    requires { ArePlaces fault (view scenario.now) places.old }
-    ensures kept { ArePlaces fault (view scenario.now) places.new }
-    ensures found { IfOk result (λ o. IfSome o (λ x. IsAt fault (view scenario.now) x)) }
+    requires { IfSome in_list.old (λ x. IsAt kind fault (view scenario.now) x) }
+    ensures kept { IfSome in_list.new (λ x. IsAt kind fault (view scenario.now) x) }
+    ensures found { IfOk result (λ o. IfSome o (λ x. IsAt kind fault (view scenario.now) x)) }
 {
-    match named(name) {
-        Name::Version => Ok(places.version.take()),
-        Name::Servers => Ok(places.servers.take()),
-        Name::Beta => Ok(places.beta.take()),
-        Name::Events => Ok(places.events.take()),
-        Name::Other => place_of_unknown(alloc, scenario, name, fault),
+    match field_named(kind, name) {
+        Some(field) => {
+            if is_whole(kind, field) {
+                return Ok(place_in_number(kind, scenario, field, fault));
+            }
+            Ok(in_list.take())
+        }
+        None => place_of_unknown(alloc, kind, scenario, name, fault),
     }
 }
 
 // The place in the first field that has one, of those that a reader comes to.
 fn first_named(
     alloc: Global,
+    kind: Kind,
     reader: &mut Tokens<'_>,
-    places: &mut Places,
     scenario: &Value,
     fault: AppFault,
 ) -> Result<Option<Place>, NoMemory>
-    requires { ArePlaces fault (view scenario.now) places.old }
-    ensures { IfOk result (λ o. IfSome o (λ x. IsAt fault (view scenario.now) x)) }
+    ensures { IfOk result (λ o. IfSome o (λ x. IsAt kind fault (view scenario.now) x)) }
 {
+    let mut in_list = place_in_list_field(alloc, kind, scenario, fault)?;
     'fields: while let Ok(Some(name)) = next_name(reader) {
-        let place = place_named(alloc, places, scenario, name, fault)?;
+        let place = place_named(alloc, kind, &mut in_list, scenario, name, fault)?;
         if place.is_some() {
             return Ok(place);
         }
@@ -342,34 +462,70 @@ fn first_named(
 // The place in the fields, in the order in which they are written.
 fn first_in_fields(
     alloc: Global,
+    kind: Kind,
     text: &str,
     scenario: &Value,
     fault: AppFault,
 ) -> Result<Option<Place>, NoMemory>
-    ensures { IfOk result (λ o. IfSome o (λ x. IsAt fault (view scenario.now) x)) }
+    ensures { IfOk result (λ o. IfSome o (λ x. IsAt kind fault (view scenario.now) x)) }
 {
-    let mut places = places_in(alloc, scenario, fault)?;
     let mut scratch = Scratch::new(alloc);
     let mut reader = Tokens::new(text, &mut scratch)?;
     let _brace = reader.next();
-    first_named(alloc, &mut reader, &mut places, scenario, fault)
+    first_named(alloc, kind, &mut reader, scenario, fault)
 }
 
 // A field, where it is not there.
-fn lack_of(scenario: &Value, field: Field) -> Option<Place>
+fn lack_of(scenario: &Value, field: Field) -> Option<Field>
     ensures { MatchOption result (get (field_name field) (view scenario.now) ≢ None)
-        (λ x. (x ≡ Place.Missing field) × (get (field_name field) (view scenario.now) ≡ None)) }
+        (λ x. get (field_name x) (view scenario.now) ≡ None) }
 {
     match scenario.get(field.name()) {
         Some(_) => None,
-        None => Some(Place::Missing { field }),
+        None => Some(field),
+    }
+}
+
+// The first field that is not there, of those that a scenario of `replay` needs.
+fn lack_of_schedule(scenario: &Value) -> Option<Field>
+    ensures { MatchOption result (AreThere (needed Replay) (view scenario.now))
+        (λ x. get (field_name x) (view scenario.now) ≡ None) }
+{
+    lack_of(scenario, Field::Version)
+        .or(lack_of(scenario, Field::Servers))
+        .or(lack_of(scenario, Field::Events))
+}
+
+// The first field that is not there, of those that a scenario of `run` needs.
+fn lack_of_plan(scenario: &Value) -> Option<Field>
+    ensures { MatchOption result (AreThere (needed Run) (view scenario.now))
+        (λ x. get (field_name x) (view scenario.now) ≡ None) }
+{
+    lack_of(scenario, Field::Version)
+        .or(lack_of(scenario, Field::Servers))
+        .or(lack_of(scenario, Field::Workers))
+        .or(lack_of(scenario, Field::Seed))
+        .or(lack_of(scenario, Field::Turns))
+        .or(lack_of(scenario, Field::Loss))
+        .or(lack_of(scenario, Field::Commands))
+}
+
+// The first field that is not there.
+fn first_lack(kind: Kind, scenario: &Value) -> Option<Field>
+    ensures { MatchOption result (AreThere (needed kind) (view scenario.now))
+        (λ x. get (field_name x) (view scenario.now) ≡ None) }
+{
+    match kind {
+        Kind::Replay => lack_of_schedule(scenario),
+        Kind::Run => lack_of_plan(scenario),
     }
 }
 
 // What the value lacks as a whole: that it is an object, or the first field that is not there.
-fn first_lack(scenario: &Value, fault: AppFault) -> Option<Place>
-    ensures found { IfSome result (λ x. IsAt fault (view scenario.now) x) }
-    ensures none { result ≡ None → fault ≡ AppFault.BadShape → HasFields (view scenario.now) }
+fn lack_in(kind: Kind, scenario: &Value, fault: AppFault) -> Option<Place>
+    ensures found { IfSome result (λ x. IsAt kind fault (view scenario.now) x) }
+    ensures none { result ≡ None → fault ≡ AppFault.BadShape
+        → HasFields kind (view scenario.now) }
 {
     if fault != AppFault::BadShape {
         return None;
@@ -377,47 +533,53 @@ fn first_lack(scenario: &Value, fault: AppFault) -> Option<Place>
     if scenario.as_object().is_none() {
         return Some(Place::Whole);
     }
-    lack_of(scenario, Field::Version)
-        .or(lack_of(scenario, Field::Servers))
-        .or(lack_of(scenario, Field::Events))
+    match first_lack(kind, scenario) {
+        Some(field) => Some(Place::Missing { field }),
+        None => None,
+    }
 }
 
 // The first place of a value that has the fault.
 fn place_in(
     alloc: Global,
+    kind: Kind,
     text: &str,
     scenario: Value,
     fault: AppFault,
 ) -> Result<Option<Place>, NoMemory>
-    ensures found { IfOk result (λ o. IfSome o (λ x. IsAt fault (view scenario) x)) }
-    ensures none { result ≡ Ok None → fault ≡ AppFault.BadShape → HasFields (view scenario) }
+    ensures found { IfOk result (λ o. IfSome o (λ x. IsAt kind fault (view scenario) x)) }
+    ensures none { result ≡ Ok None → fault ≡ AppFault.BadShape → HasFields kind (view scenario) }
 {
-    match first_in_fields(alloc, text, &scenario, fault)? {
+    match first_in_fields(alloc, kind, text, &scenario, fault)? {
         Some(place) => Ok(Some(place)),
-        None => Ok(first_lack(&scenario, fault)),
+        None => Ok(lack_in(kind, &scenario, fault)),
     }
 }
 
 /// The first place in a text that has the fault `BadShape` or `BadLimit`, which
-/// [`read_scenario`](crate::read_scenario) answers for its bytes. A field that is not there comes
-/// last. There is none where the bytes have another fault, or are too many to be read. A field that
-/// is missing is found wherever nothing else is.
+/// [`read_scenario`](crate::read_scenario) or [`read_run_input`](crate::read_run_input) answers for its
+/// bytes. A field that is not there comes last. There is none where the bytes have another fault. A
+/// field that is missing is found wherever nothing else is.
 ///
 /// # Errors
 ///
 /// `NoMemory` where memory ran out.
-pub fn place_of(alloc: Global, bytes: &[u8], fault: AppFault) -> Result<Option<Place>, NoMemory>
+pub fn place_of(
+    alloc: Global,
+    kind: Kind,
+    bytes: &[u8],
+    fault: AppFault,
+) -> Result<Option<Place>, NoMemory>
     ensures found { IfOk result (λ o. IfSome o (λ x.
-        (d : Data) × (json_of bytes.now ≡ Some d) × IsAt fault d x)) }
+        (d : Data) × (json_of bytes.now ≡ Some d) × IsAt kind fault d x)) }
     ensures none { result ≡ Ok None → fault ≡ AppFault.BadShape
-        → (d : Data) → json_of bytes.now ≡ Some d → HasFields d }
+        → (d : Data) → json_of bytes.now ≡ Some d → HasFields kind d }
 {
     let Ok(text) = std::str::from_utf8(bytes) else {
         return Ok(None);
     };
-    match Value::from_str(alloc, text) {
-        Ok(scenario) => place_in(alloc, text, scenario, fault),
-        Err(e) if e.is_memory() => Err(NoMemory),
-        Err(_) => Ok(None),
+    match tree_of(alloc, text)? {
+        Some(scenario) => place_in(alloc, kind, text, scenario, fault),
+        None => Ok(None),
     }
 }

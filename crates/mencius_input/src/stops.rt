@@ -81,25 +81,95 @@ fn last_before(
     Ok(last)
 }
 
+// The last byte that is no blank.
+fn last_solid(bytes: &[u8]) -> Option<u8> {
+    bytes
+        .iter()
+        .rev()
+        .find(|b| !matches!(**b, b' ' | b'\t' | b'\n' | b'\r'))
+        .copied()
+}
+
+// What is wrong with a string of which the opening quote was read.
+fn wrong_string(inside: &[u8]) -> &'static str {
+    let mut is_escaped = false;
+    for byte in inside {
+        if *byte < b' ' {
+            return "a control character stands in a string";
+        }
+        if !is_escaped && *byte == b'"' {
+            return "a string has an escape that JSON does not have";
+        }
+        is_escaped = !is_escaped && *byte == b'\\';
+    }
+    "a string does not end"
+}
+
+// What is wrong with what stands behind the front of a value.
+fn wrong_behind(front: &[u8], rest: &[u8]) -> &'static str {
+    match (last_solid(front), rest) {
+        (_, [b'/', b'/' | b'*', ..]) => "a comment, which JSON does not have",
+        (_, [b'\'', ..]) => "a single quote, where a string of JSON stands in double quotes",
+        (Some(b','), [b']' | b'}', ..]) => "a comma stands before the closing bracket",
+        (None | Some(b'[' | b'{' | b',' | b':'), [b'"', inside @ ..]) => wrong_string(inside),
+        _ => NO_JSON,
+    }
+}
+
+// The brackets that the front of a value has left open, from the outermost on.
+fn open_brackets(alloc: Global, front: &str) -> Result<Vec<u8>, NoMemory> {
+    let mut scratch = Scratch::new(alloc);
+    let mut reader = Reader::new(front, &mut scratch)?;
+    let mut open = Vec::new(alloc);
+    'tokens: while let Some(token) = reader.next() {
+        match token {
+            Token::BeginArray => open.push(b'[')?,
+            Token::BeginObject => open.push(b'{')?,
+            Token::EndArray | Token::EndObject => {
+                open.pop();
+            }
+            _ => {}
+        }
+    }
+    Ok(open)
+}
+
+// What is wrong with a text that is the front of a value.
+fn wrong_end(alloc: Global, front: &str) -> Result<&'static str, NoMemory> {
+    Ok(match open_brackets(alloc, front)?.last() {
+        Some(b'[') => "the text ends too soon: a ] is missing",
+        Some(_) => "the text ends too soon: a } is missing",
+        None => "the text ends too soon: a value is missing",
+    })
+}
+
 // Where reading stopped in a text that is no JSON, and what is wrong there.
 fn stop_of(alloc: Global, text: &str) -> Result<(usize, &'static str), NoMemory> {
-    let offset = read_to(alloc, text)?;
-    let front = &text.as_bytes()[..offset.min(text.len())];
+    let offset = read_to(alloc, text)?.min(text.len());
+    let (front, rest) = text.as_bytes().split_at(offset);
     if !is_front(alloc, front)? {
         return last_before(alloc, text, offset);
     }
-    if offset >= text.len() {
-        return Ok((offset, "the text ends too soon"));
+    if rest.is_empty() {
+        return Ok((offset, wrong_end(alloc, text)?));
     }
-    Ok((offset, NO_JSON))
+    Ok((offset, wrong_behind(front, rest)))
+}
+
+// Where bytes that are no JSON stop being it, and what is wrong there.
+fn wrong_bytes(alloc: Global, bytes: &[u8]) -> Result<(usize, &'static str), NoMemory> {
+    if bytes.starts_with(b"\xef\xbb\xbf") {
+        return Ok((0, "a byte order mark, which JSON does not have"));
+    }
+    match std::str::from_utf8(bytes) {
+        Ok(text) => stop_of(alloc, text),
+        Err(e) => Ok((e.valid_up_to(), "not UTF-8")),
+    }
 }
 
 /// Where bytes that are no JSON stop being it, in a person's words.
 pub(crate) fn stop_in(alloc: Global, bytes: &[u8]) -> Result<String, NoMemory> {
-    let (offset, what) = match std::str::from_utf8(bytes) {
-        Ok(text) => stop_of(alloc, text)?,
-        Err(e) => (e.valid_up_to(), "not UTF-8"),
-    };
+    let (offset, what) = wrong_bytes(alloc, bytes)?;
     let (line, column) = line_and_column(bytes, offset);
     Ok(format!(in alloc; "line {line}, column {column}: {what}")?)
 }

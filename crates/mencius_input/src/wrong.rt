@@ -1,14 +1,13 @@
-//! Which word of an event is wrong, in a person's words. Each word is judged by what reads it.
+//! Which word of an event or a command is wrong, in a person's words. Each word is judged by what reads it.
 
-use crate::event::{event_is_cas, parse_id};
+use crate::event::{command_is_cas, event_is_cas, parse_id};
+use crate::kind::Kind;
 use crate::newest::takes_cas;
+use crate::shown::shown;
 use crate::words::{cut, parse_u8, parse_u32};
 use mencius_base::{BadCommand, Command, CommandId, Key, NoMemory, Op, Text};
 use mencius_ends::AppFault;
 use std::alloc::Global;
-
-// The longest text that is shown whole, in characters.
-const MOST_SHOWN: usize = 60;
 
 // A word behind the first one of an event, or behind the operation of a command.
 #[derive(Clone, Copy)]
@@ -56,22 +55,6 @@ fn operands_of(operation: &str) -> Option<&'static [Part]> {
         "cas" => Some(&[Part::Key, Part::HeldText, Part::NewText]),
         _ => None,
     }
-}
-
-/// A text in quotes, with its control characters escaped. A long one is cut off and ends in two
-/// dots.
-pub(crate) fn shown(alloc: Global, text: &str) -> Result<String, NoMemory> {
-    let mut front = String::new(alloc);
-    let mut room = MOST_SHOWN;
-    for c in text.chars() {
-        if room == 0 {
-            front.push_str("..")?;
-            break;
-        }
-        front.push(c)?;
-        room -= 1;
-    }
-    Ok(format!(in alloc; "{front:?}")?)
 }
 
 // The next of the words that are left.
@@ -287,7 +270,9 @@ fn wrong_operation(
 fn unknown(alloc: Global, first: &str, is_whole: bool) -> Result<String, NoMemory> {
     if !first.is_empty() {
         let word = shown(alloc, first)?;
-        return Ok(format!(in alloc; "no event begins with {word}")?);
+        return Ok(format!(in alloc;
+            "no event begins with {word}: each begins with submit, deliver, lose, suspect, retry or execute"
+        )?);
     }
     let words = if is_whole {
         "it is empty"
@@ -305,20 +290,12 @@ fn left_over(alloc: Global, left: &mut Option<&str>) -> Result<String, NoMemory>
             let word = shown(alloc, word)?;
             Ok(format!(in alloc; "there is a word too many: {word}")?)
         }
-        None => Ok(String::from_str(alloc, "it is no event")?),
+        None => Ok(String::from_str(alloc, "a word of it is wrong")?),
     }
 }
 
-/// What is wrong with the text of an event that has this fault in a version: the first of its words that has it.
-pub(crate) fn wrong_event(
-    alloc: Global,
-    version: u64,
-    text: &str,
-    fault: AppFault,
-) -> Result<String, NoMemory> {
-    if event_is_cas(text) && !takes_cas(version) {
-        return Ok(String::from_str(alloc, "only version 2 has the operation cas")?);
-    }
+// What is wrong with the text of an event.
+fn wrong_event(alloc: Global, text: &str, fault: AppFault) -> Result<String, NoMemory> {
     let mut left = Some(text);
     let first = next_word(&mut left).unwrap_or("");
     let Some(parts) = parts_behind(first) else {
@@ -333,4 +310,42 @@ pub(crate) fn wrong_event(
         }
     }
     left_over(alloc, &mut left)
+}
+
+// What is wrong with the text of a command.
+fn wrong_command(alloc: Global, text: &str, fault: AppFault) -> Result<String, NoMemory> {
+    let mut left = Some(text);
+    if let Some(words) = wrong_words(alloc, &[Part::Id], &mut left, fault)? {
+        return Ok(words);
+    }
+    if let Some(words) = wrong_operation(alloc, &mut left, fault)? {
+        return Ok(words);
+    }
+    left_over(alloc, &mut left)
+}
+
+// Whether a text is a `cas`, by the place of that word alone.
+fn is_cas(kind: Kind, text: &str) -> bool {
+    match kind {
+        Kind::Replay => event_is_cas(text),
+        Kind::Run => command_is_cas(text),
+    }
+}
+
+/// What is wrong with the text of an event, or in a run of a command, that has this fault in a version: the
+/// first of its words that has it.
+pub(crate) fn wrong_item(
+    alloc: Global,
+    kind: Kind,
+    version: u64,
+    text: &str,
+    fault: AppFault,
+) -> Result<String, NoMemory> {
+    if is_cas(kind, text) && !takes_cas(version) {
+        return Ok(String::from_str(alloc, "only version 2 has the operation cas")?);
+    }
+    match kind {
+        Kind::Replay => wrong_event(alloc, text, fault),
+        Kind::Run => wrong_command(alloc, text, fault),
+    }
 }

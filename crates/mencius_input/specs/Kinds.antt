@@ -1,0 +1,37 @@
+-- Which of the two kinds of scenario a text is meant as.
+use Rattle.std.specs.Prelude.{ℕ, ◌==◌, ◌&&◌, ◌||◌, List, length, Bool, not, codes, Option, Some, None, is_some, nat_lt, if◌then◌else◌}
+use Rattle.std.specs.List.{filter}
+use Rattle.serde_json.specs.Data.{Data}
+use Rattle.serde_json.specs.Find.{get}
+use Rattle.mencius_input.specs.declared.kind.Kind.{Kind}
+use Rattle.mencius_input.specs.declared.kind.Kind.TheVariants.{Replay, Run}
+use Rattle.mencius_input.specs.Scenario.{json_of}
+
+-- a field of the name is there
+abbrev pub has : List ℕ → Data → Bool
+has name d = is_some (get name d)
+
+-- a field that only the scenario of a run has
+abbrev pub has_run_field : Data → Bool
+has_run_field d =
+    has (codes "workers") d || has (codes "seed") d || has (codes "turns") d || has (codes "loss") d
+    || has (codes "commands") d
+
+-- what has events is meant for `replay`, whatever else it has
+abbrev pub kind_of : Data → Kind
+kind_of d = if not (has (codes "events") d) && has_run_field d then Run else Replay
+
+abbrev pub kind_said : Option Data → Kind
+kind_said None = Replay
+kind_said (Some d) = kind_of d
+
+-- more objects may begin in these bytes than a tree is made of
+abbrev pub most_objects : ℕ
+most_objects = 65536
+
+abbrev pub has_many_objects : List ℕ → Bool
+has_many_objects bytes = nat_lt most_objects (length (filter (λ byte. byte == 123) bytes))
+
+-- the kind that bytes are meant as
+abbrev pub kind_in : List ℕ → Kind
+kind_in bytes = if has_many_objects bytes then Replay else kind_said (json_of bytes)

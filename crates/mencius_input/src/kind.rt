@@ -1,0 +1,95 @@
+//! Which of the two kinds of scenario a text is meant as.
+
+ghost use Rattle.std.specs.Prelude.{◌≡◌, ◌==◌, IfOk, codes, is_some, length, option_map};
+ghost use Rattle.std.specs.List.{filter};
+ghost use Rattle.serde_json.specs.Find.{get};
+ghost use Rattle.serde_json.specs.Read.{read};
+ghost use Rattle.serde_json.specs.View.{view};
+ghost use Rattle.mencius_input.specs.Kinds.{has_many_objects, has_run_field, kind_in, kind_of};
+
+use mencius_base::NoMemory;
+use serde_json::Value;
+use std::alloc::Global;
+
+/// What a scenario is for.
+#[derive(Clone, Copy, Debug, PartialEq, Eq)]
+pub enum Kind {
+    /// Events that are replayed or traced.
+    Replay,
+    /// A plan that workers follow.
+    Run,
+}
+
+// The objects of a text of which a tree is made. A scenario has one; of a text that has millions the
+// tree would take gigabytes.
+const MOST_OBJECTS: usize = 65_536;
+
+// How many objects may begin in a text.
+fn opening_braces(bytes: &[u8]) -> usize
+    ensures { result ≡ length (filter (λ byte. byte == 123) bytes.now) }
+{
+    bytes.iter().filter(|byte| **byte == b'{').count()
+}
+
+/// Whether more objects may begin in a text than a tree is made of.
+pub(crate) fn has_many_objects(bytes: &[u8]) -> bool
+    ensures { result ≡ has_many_objects bytes.now }
+{
+    opening_braces(bytes) > MOST_OBJECTS
+}
+
+/// The tree of a text, if it is JSON.
+pub(crate) fn tree_of(alloc: Global, text: &str) -> Result<Option<Value>, NoMemory>
+    ensures { IfOk result (λ o. option_map view o ≡ read text.now) }
+{
+    match Value::from_str(alloc, text) {
+        Ok(value) => Ok(Some(value)),
+        Err(e) if e.is_memory() => Err(NoMemory),
+        Err(_) => Ok(None),
+    }
+}
+
+// Whether a field is there that only the scenario of a run has.
+fn has_run_field(value: &Value) -> bool
+    ensures { result ≡ has_run_field (view value.now) }
+{
+    value.get("workers").is_some()
+        || value.get("seed").is_some()
+        || value.get("turns").is_some()
+        || value.get("loss").is_some()
+        || value.get("commands").is_some()
+}
+
+// The kind that a value is meant as.
+fn kind_of_value(value: &Value) -> Kind
+    ensures { result ≡ kind_of (view value.now) }
+{
+    if value.get("events").is_none() && has_run_field(value) {
+        Kind::Run
+    } else {
+        Kind::Replay
+    }
+}
+
+/// The kind of scenario that a text is meant as, by its fields: a run's, where it has no field
+/// `events` and one of `workers`, `seed`, `turns`, `loss` and `commands`, and else one of `replay`. So
+/// is what is no JSON, and a text in which more than 65,536 `{` stand. A tree of the text is made.
+///
+/// # Errors
+///
+/// `NoMemory` where memory ran out.
+#[tactic(auto, using(crate::proofs::JsonTexts::utf8_yes, crate::proofs::JsonTexts::utf8_no))]
+pub fn kind_of(alloc: Global, bytes: &[u8]) -> Result<Kind, NoMemory>
+    ensures { IfOk result (λ kind. kind ≡ kind_in bytes.now) }
+{
+    if has_many_objects(bytes) {
+        return Ok(Kind::Replay);
+    }
+    let Ok(text) = std::str::from_utf8(bytes) else {
+        return Ok(Kind::Replay);
+    };
+    match tree_of(alloc, text)? {
+        Some(value) => Ok(kind_of_value(&value)),
+        None => Ok(Kind::Replay),
+    }
+}

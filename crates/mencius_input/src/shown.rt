@@ -1,0 +1,87 @@
+//! A text as words show it.
+
+ghost use Rattle.std.specs.Prelude.{◌≡◌, ◌<◌, ◌++◌, IfOk, OnOk, List, ℕ, flat_map, length, string_bytes, take};
+ghost use Rattle.std.specs.Str.{chars};
+ghost use Rattle.mencius_input.specs.Shown.{is_hidden, most_shown, shown_char, shown_number, shown_text};
+
+use mencius_base::NoMemory;
+use std::alloc::Global;
+
+// The longest text that is shown whole, in characters.
+const MOST_SHOWN: usize = 60;
+
+// Whether a character is never shown as it stands: a terminal may act on it, or show nothing, or
+// turn what follows around.
+fn is_hidden(c: char) -> bool
+    ensures { result ≡ is_hidden c }
+{
+    let code = c as u32;
+    code < 0x20
+        || (code >= 0x7f && code < 0xa0)
+        || (code >= 0x200b && code < 0x2010)
+        || (code >= 0x2028 && code < 0x2030)
+        || (code >= 0x2060 && code < 0x2070)
+        || code == 0xfeff
+}
+
+// Puts the number of a character behind the words.
+fn push_number(words: &mut String, c: char) -> Result<(), NoMemory>
+    ensures { OnOk result (string_bytes words.new ≡ string_bytes words.old ++ shown_number c) }
+{
+    let code = c as u32;
+    write!(words, "\\u{{{code:x}}}")?;
+    Ok(())
+}
+
+// Puts a character behind the words, as it is shown.
+#[tactic(auto, unfolding(crate::specs::Shown::shown_char))]
+fn push_shown(words: &mut String, c: char) -> Result<(), NoMemory>
+    ensures { OnOk result (string_bytes words.new ≡ string_bytes words.old ++ shown_char c) }
+{
+    if is_hidden(c) {
+        return push_number(words, c);
+    }
+    if c == '"' {
+        words.push_str("\\\"")?;
+        return Ok(());
+    }
+    if c == '\\' {
+        words.push_str("\\\\")?;
+        return Ok(());
+    }
+    words.push(c)?;
+    Ok(())
+}
+
+// Puts the front of a text behind the words, as it is shown.
+fn push_front(words: &mut String, text: &str) -> Result<(), NoMemory>
+    ensures { OnOk result (string_bytes words.new
+        ≡ string_bytes words.old ++ flat_map shown_char (take most_shown (chars text.now))) }
+{
+    for c in text.chars().take(MOST_SHOWN) {
+        push_shown(words, c)?;
+    }
+    Ok(())
+}
+
+// How many characters a text has.
+fn count_of_chars(text: &str) -> usize
+    ensures { result ≡ length (chars text.now) }
+{
+    text.chars().count()
+}
+
+/// A text in quotes: quotes and backslashes behind a backslash, and a character that is not to be
+/// seen, as a control character, by its number. Of a long one the first 60 characters are shown, and
+/// two dots.
+pub(crate) fn shown(alloc: Global, text: &str) -> Result<String, NoMemory>
+    ensures { IfOk result (λ s. string_bytes s ≡ shown_text text.now) }
+{
+    let mut words = String::from_str(alloc, "\"")?;
+    push_front(&mut words, text)?;
+    if count_of_chars(text) > MOST_SHOWN {
+        words.push_str("..")?;
+    }
+    words.push('"')?;
+    Ok(words)
+}
