@@ -111,11 +111,14 @@ lists_at fault d lists count (Some x) are same (limit, servers, is, said, apart)
     (refl, limit, items_view lists, are, same ∙ sym (items_len-items_view lists), said, apart)
 
 -- of two fields one is not there, or both are
-pub either_lack : (L : Field → Type 0) (A B : Type 0) (r s : Option Field) → MatchOption r A L → MatchOption s B L
-    → MatchOption (option_or r s) (A × B) L
-either_lack L A B (Some field) s lacks other = lacks
-either_lack L A B None (Some field) here lacks = lacks
-either_lack L A B None None here there = (here, there)
+pub either_lack : (L : Field → Type 0) (A B : Type 0) (found r s : Option Field) → found ≡ option_or r s
+    → MatchOption r A L → MatchOption s B L → MatchOption found (A × B) L
+either_lack L A B found r s is here there = subst (λ o. MatchOption o (A × B) L) (sym is) (by_cases r s here there)
+  where
+    by_cases : (r s : Option Field) → MatchOption r A L → MatchOption s B L → MatchOption (option_or r s) (A × B) L
+    by_cases (Some field) s lacks other = lacks
+    by_cases None (Some field) here lacks = lacks
+    by_cases None None here there = (here, there)
 
 pub lack_known : (L : Field → Type 0) (A B : Type 0) (r : Option Field) → (A → B) → MatchOption r A L → MatchOption r B L
 lack_known L A B (Some field) f lacks = lacks
