@@ -162,6 +162,16 @@ impl Board {
         Ok(Reader::new(home, self.opening.again()))
     }
 
+    /// Promises of a reader of this board that its floor is a prefix of the longest history, and so is
+    /// each list that it answered from. It changes nothing and takes no memory; its work is one step.
+    pub fn bounds(&mut self, reader: &Reader)
+        requires { reader.now.book ≡ self.old.book }
+        ensures begins { IsPrefix reader.now.log (longest self.old.cluster) }
+        ensures same { self.new ≡ self.old }
+    {
+        self.log.covers(reader.floor());
+    }
+
     /// Uses the board up, and gives its cluster. It may wait for readers to leave; lookups that
     /// enter later are refused.
     pub fn end<R: Wait>(self, rt: &R) -> Cluster

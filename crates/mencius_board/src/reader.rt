@@ -101,6 +101,12 @@ impl Reader {
         }
     }
 
+    pub(crate) fn floor(&self) -> &Mark
+        ensures { result.now ≡ self.now }
+    {
+        &self.floor
+    }
+
     /// How many commands the floor has: the longest list that the reader saw or was told of.
     pub fn count(&self) -> u32
         ensures { result ≡ length self.now.log }

@@ -1,2 +1,3 @@
 pub mod JournalMoments
 pub mod HandDeliveries
+pub mod LedBallots

@@ -1,1 +1,3 @@
 pub mod Hands
+pub mod Longest
+pub mod Ballots

@@ -34,13 +34,34 @@ pub fn look_up_told(
     ensures board { reader.new.book ≡ reader.old.book }
 {
     reader.learn(news);
-    let text = reader.lookup(alloc, key)?;
-    let count = reader.count();
-    Ok(Reading { text, count })
+    look_up(alloc, reader, key)
 }
 
-/// Shows a board's longest history, tells a reader of it, and looks a key up. The answer is from a list
-/// of which the longest history, as it was then, is a prefix.
+/// Looks a key up and asks the reader's own board. The answer is from a prefix of its longest history,
+/// and the list of the answer before is a prefix of that one. The board stays as it is.
+pub fn look_up_within(
+    alloc: Global,
+    board: &mut Board,
+    reader: &mut Reader,
+    key: &str,
+) -> Result<Reading, BoardFault>
+    requires { reader.old.book ≡ board.old.book }
+    ensures begins { IsPrefix reader.new.log (longest board.old.cluster) }
+    ensures grows { IsPrefix reader.old.log reader.new.log }
+    ensures text { IfOk result (λ x. option_map string_bytes x.text
+        ≡ value_at key.now reader.new.log) }
+    ensures count { IfOk result (λ x. x.count ≡ length reader.new.log) }
+    ensures board { reader.new.book ≡ reader.old.book }
+    ensures same { board.new ≡ board.old }
+{
+    let reading = look_up(alloc, reader, key);
+    // Called for its promise alone.
+    board.bounds(reader);
+    reading
+}
+
+/// Shows a board's longest history, tells a reader of it, and looks a key up. The answer is from the
+/// longest history itself.
 pub fn look_up_shown<R: Wait>(
     rt: &R,
     alloc: Global,
@@ -49,11 +70,28 @@ pub fn look_up_shown<R: Wait>(
     key: &str,
 ) -> Result<Reading, BoardFault>
     requires { reader.old.book ≡ board.old.book }
-    ensures shown { OnOk result (IsPrefix (longest board.old.cluster) reader.new.log) }
+    ensures shown { OnOk result (reader.new.log ≡ longest board.old.cluster) }
     ensures text { IfOk result (λ x. option_map string_bytes x.text
-        ≡ value_at key.now reader.new.log) }
+        ≡ value_at key.now (longest board.old.cluster)) }
+    ensures board { (reader.new.book ≡ reader.old.book) × (board.new.book ≡ board.old.book) }
     ensures cluster { board.new.cluster ≡ board.old.cluster }
 {
     let news = board.show(rt, alloc)?;
-    look_up_told(alloc, reader, news, key)
+    let reading = look_up_told(alloc, reader, news, key);
+    // Called for its promise alone.
+    board.bounds(reader);
+    reading
+}
+
+// Looks a key up.
+fn look_up(alloc: Global, reader: &mut Reader, key: &str) -> Result<Reading, BoardFault>
+    ensures board { reader.new.book ≡ reader.old.book }
+    ensures grows { IsPrefix reader.old.log reader.new.log }
+    ensures text { IfOk result (λ x. option_map string_bytes x.text
+        ≡ value_at key.now reader.new.log) }
+    ensures count { IfOk result (λ x. x.count ≡ length reader.new.log) }
+{
+    let text = reader.lookup(alloc, key)?;
+    let count = reader.count();
+    Ok(Reading { text, count })
 }

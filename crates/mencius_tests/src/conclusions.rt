@@ -5,7 +5,7 @@ use mencius_base::{Ballot, Members, Message, Outbox, Refusal};
 use mencius_board::{Board, BoardFault};
 use mencius_conclusions::conclusions::{histories, note_across};
 use mencius_conclusions::hands::deliver;
-use mencius_conclusions::readings::{Reading, look_up_shown};
+use mencius_conclusions::readings::{Reading, look_up_shown, look_up_within};
 use mencius_server::Server;
 use std::alloc::Global;
 use std::panic::Expect;
@@ -108,5 +108,32 @@ fn a_told_reader_finds_what_was_executed(rt: HostRuntime) -> Result<(), Fail> {
     assert_eq!(rt; found.count, 1);
     assert!(rt; found.text.expect(&rt, "a text").as_str() == "x");
     assert_eq!(rt; cluster.events(), 6);
+    Ok(())
+}
+
+// A lookup before the longest history is shown, and one after.
+fn look_up_twice<R: Wait>(
+    rt: &R,
+    alloc: Global,
+    board: &mut Board,
+) -> Result<(Reading, Reading), BoardFault> {
+    let mut reader = board.reader()?;
+    let before = look_up_within(alloc, board, &mut reader, "a")?;
+    drop(board.show(rt, alloc)?);
+    let after = look_up_within(alloc, board, &mut reader, "a")?;
+    Ok((before, after))
+}
+
+#[test]
+fn an_untold_reader_finds_what_is_shown(rt: HostRuntime) -> Result<(), Fail> {
+    let alloc = rt.alloc();
+    let cluster = cluster_after(&rt, alloc, ONE_COMMAND);
+    let mut board = Board::new(&rt, alloc, cluster, 1).expect(&rt, "memory");
+    let answer = look_up_twice(&rt, alloc, &mut board);
+    drop(board.end(&rt));
+    let (before, after) = answer.expect(&rt, "two readings");
+    assert_eq!(rt; (before.count, after.count), (0, 1));
+    assert!(rt; before.text.is_none());
+    assert!(rt; after.text.expect(&rt, "a text").as_str() == "x");
     Ok(())
 }

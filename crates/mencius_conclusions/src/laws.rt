@@ -1,0 +1,19 @@
+//! Two laws beside those of a cluster, of the same definitions: what holds in every trace that events
+//! make. Like those the functions do nothing when they run, and each one's contract is the law.
+
+ghost use Rattle.mencius_conclusions.specs.Ballots.{MessagesLed};
+ghost use Rattle.mencius_conclusions.specs.Longest.{LongestIsLeast};
+
+/// The server that `Cluster::longest` answers has a longest history: no member's is longer, and that
+/// of each lesser server is shorter.
+pub fn longest()
+    ensures { LongestIsLeast }
+{}
+
+/// No message names a ballot of 1 to n - 1, of n servers, not even in a vote. A Suggest is its
+/// instance's owner's, and a Prepare or a Propose is of a ballot of n or more that its sender leads.
+/// A Promise goes to whoever leads its ballot, which is of n or more, and reports a vote of a lower
+/// one, if any; an Accepted goes to whoever leads its ballot of the instance, at ballot 0 the owner.
+pub fn ballots()
+    ensures { MessagesLed }
+{}
