@@ -163,7 +163,8 @@ impl Board {
     }
 
     /// Promises of a reader of this board that its floor is a prefix of the longest history, and so is
-    /// each list that it answered from. It changes nothing and takes no memory; its work is one step.
+    /// each list that it answered from. It changes nothing and takes no memory; its work is one
+    /// exchange of a word.
     pub fn bounds(&mut self, reader: &Reader)
         requires { reader.now.book ≡ self.old.book }
         ensures begins { IsPrefix reader.now.log (longest self.old.cluster) }

@@ -4,8 +4,8 @@
 ghost use Rattle.mencius_conclusions.specs.Ballots.{MessagesLed};
 ghost use Rattle.mencius_conclusions.specs.Longest.{LongestIsLeast};
 
-/// The server that `Cluster::longest` answers has a longest history: no member's is longer, and that
-/// of each lesser server is shorter.
+/// What counts as the longest history in `growth` and in what a board shows is one: no member's is
+/// longer, and that of each lesser server is shorter. `Cluster::longest` promises it of its own answer.
 pub fn longest()
     ensures { LongestIsLeast }
 {}

@@ -60,8 +60,8 @@ pub fn look_up_within(
     reading
 }
 
-/// Shows a board's longest history, tells a reader of it, and looks a key up. The answer is from the
-/// longest history itself.
+/// Shows a board's longest history, tells a reader of it, and looks a key up. The answer is from just
+/// that history.
 pub fn look_up_shown<R: Wait>(
     rt: &R,
     alloc: Global,
