@@ -9,6 +9,8 @@ mod conclusions;
 #[cfg(test)]
 mod courses;
 #[cfg(test)]
+mod orders;
+#[cfg(test)]
 mod rotation;
 #[cfg(test)]
 mod runs;

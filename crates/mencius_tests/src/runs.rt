@@ -16,16 +16,17 @@ use std::thread::Threads;
 const ONE_WORKER: &str = "{\"version\":1,\"servers\":3,\"workers\":1,\"seed\":1,\"turns\":2000,\
     \"loss\":4,\"commands\":[[\"1.0 set a x\"],[\"2.0 get a\"],[\"3.0 del a\"]]}";
 
-// What a run prints, with its journal before the report.
-fn ran<R: Threads + Wait + Sync>(
+/// What a run prints, with its journal before the report.
+pub fn ran<R: Threads + Wait + Sync, G: Gate + Sync>(
     rt: &R,
     alloc: Global,
     scenario: &str,
+    gate: &G,
     written: &mut Vec<u8>,
 ) -> Result<(), AppFault> {
     let mut source = Std::new(scenario.as_bytes());
     let mut sink = Std::new(written);
-    run(rt, alloc, &mut source, &mut sink, &Open, true, None)
+    run(rt, alloc, &mut source, &mut sink, gate, true, None)
 }
 
 // A cluster after the turns of a run's one worker, each taken on a board.
@@ -46,35 +47,36 @@ fn cluster_of_turns<R: Abort + Wait>(
     Ok(board.end(rt))
 }
 
-// A run's text begins with the journal of a cluster, and ends with its report.
-fn assert_printed<R: Abort>(
+/// Whether a run's text is the journal of a cluster, and then its report.
+pub fn is_printed<R: Abort>(
     rt: &R,
     alloc: Global,
     text: &str,
     cluster: &Cluster,
-) -> Result<(), Fail> {
+) -> Result<bool, Fail> {
     let (line, rest) = text.split_once('\n').ok_or("one line")?;
-    assert!(rt; cluster_after(rt, alloc, line).journal() == cluster.journal());
     let mut taken = Vec::new(alloc);
     let answer = report(alloc, cluster, &mut Std::new(&mut taken));
     assert_eq!(rt; answer, Ok(()));
-    assert!(rt; taken.as_slice() == rest.as_bytes());
-    Ok(())
+    let is_journal = cluster_after(rt, alloc, line).journal() == cluster.journal();
+    Ok(is_journal && taken.as_slice() == rest.as_bytes())
 }
 
 #[test]
 fn one_worker_is_a_board_that_is_stepped(rt: HostRuntime) -> Result<(), Fail> {
     let alloc = rt.alloc();
     let mut written = Vec::new(alloc);
-    let answer = ran(&rt, alloc, ONE_WORKER, &mut written);
+    let answer = ran(&rt, alloc, ONE_WORKER, &Open, &mut written);
     assert_eq!(rt; answer, Ok(()));
     let text = String::from_utf8(written)?;
     let cluster = cluster_of_turns(&rt, alloc, ONE_WORKER)?;
-    assert_printed(&rt, alloc, text.as_str(), &cluster)
+    assert!(rt; is_printed(&rt, alloc, text.as_str(), &cluster)?);
+    Ok(())
 }
 
-// The same with two workers.
-const TWO_WORKERS: &str = "{\"version\":1,\"servers\":3,\"workers\":2,\"seed\":1,\"turns\":2000,\
+/// The same with two workers.
+pub const TWO_WORKERS: &str =
+    "{\"version\":1,\"servers\":3,\"workers\":2,\"seed\":1,\"turns\":2000,\
     \"loss\":4,\"commands\":[[\"1.0 set a x\"],[\"2.0 get a\"],[\"3.0 del a\"]]}";
 
 // Counts how often each of two workers passes.

@@ -1,0 +1,214 @@
+//! Two workers whose gate lets one turn begin at a time, in an order that is known: what comes of their run is what comes of a
+//! board on which these turns are taken in this order, and a reader finds meanwhile what worker 0 has shown.
+
+use crate::courses::new_cluster;
+use crate::runs::{TWO_WORKERS, is_printed, ran};
+use mencius_app::read_plan;
+use mencius_board::{Board, Chooser, Gate, Reader, lend, run_workers, worker_turn};
+use mencius_cluster::Cluster;
+use std::alloc::Global;
+use std::panic::Expect;
+use std::process::Abort;
+use std::sync::{Condvar, Mutex, Wait};
+use std::test::Fail;
+
+// How many turns each of the two workers takes.
+const TURNS: usize = 2000;
+
+// How many turns of both stand in the order: all but the last one of each. Nobody is told when a worker's last turn ends, so
+// these two may come in either order.
+const ORDERED: usize = 2 * TURNS - 2;
+
+// Which worker takes the turn of a number: 0, 1, 1, 0, 0, 1, 1, 0, and so on.
+fn worker_of(turn: usize) -> u8 {
+    match turn % 4 {
+        0 | 3 => 0,
+        _ => 1,
+    }
+}
+
+// How far the order has come.
+#[derive(Drop)]
+struct Course {
+    begun: usize,
+    // The worker whose turn is under way.
+    at_work: Option<u8>,
+}
+
+impl Course {
+    // A worker that comes to the gate has ended its turn before.
+    fn end_turn(&mut self, worker: u8) {
+        if self.at_work == Some(worker) {
+            self.at_work = None;
+        }
+    }
+
+    fn is_to_wait(&self, worker: u8) -> bool {
+        self.at_work.is_some() || (self.begun < ORDERED && worker_of(self.begun) != worker)
+    }
+
+    fn begin_turn(&mut self, worker: u8) {
+        if self.begun < ORDERED {
+            self.begun += 1;
+            self.at_work = Some(worker);
+        }
+    }
+}
+
+// Lets each of two workers wait for its turns.
+#[derive(Drop)]
+struct Ordered<'a, R> {
+    rt: &'a R,
+    course: Mutex<Course>,
+    changed: Condvar,
+}
+
+impl<'a, R> Ordered<'a, R> {
+    fn new(rt: &'a R) -> Ordered<'a, R> {
+        let course = Course {
+            begun: 0,
+            at_work: None,
+        };
+        Ordered {
+            rt,
+            course: Mutex::new(course),
+            changed: Condvar::new(),
+        }
+    }
+}
+
+impl<R: Wait> Gate for Ordered<'_, R> {
+    fn pass(&self, worker: u8) {
+        let mut course = self.course.lock(self.rt);
+        course.end_turn(worker);
+        self.changed.notify_all();
+        let mut course = self
+            .changed
+            .wait_while(self.rt, course, |course| course.is_to_wait(worker));
+        course.begin_turn(worker);
+    }
+}
+
+// What comes of the turns when they are taken on a board.
+#[derive(Drop)]
+struct Outcome {
+    cluster: Cluster,
+    // How many commands are shown before each turn of worker 1.
+    shown: Vec<u32>,
+}
+
+fn take<R: Abort>(rt: &R, board: &mut Board, chooser: &mut Chooser) {
+    let answer = worker_turn(board, chooser);
+    assert_eq!(rt; answer, Ok(()));
+}
+
+// Takes the turns in their order, and the last two in this one. After each 64th turn of worker 0 the board is shown.
+fn outcome_of<R: Abort + Wait>(rt: &R, alloc: Global, last: [u8; 2]) -> Result<Outcome, Fail> {
+    let scenario = read_plan(alloc, TWO_WORKERS.as_bytes()).map_err(|_| "a plan")?;
+    let cluster = new_cluster(rt, alloc, scenario.members);
+    assert!(rt; scenario.plan.workers() == 2);
+    let mut zero = Chooser::new(&scenario.plan, 0);
+    let mut one = Chooser::new(&scenario.plan, 1);
+    let mut shown = Vec::new(alloc);
+    let mut count = 0;
+    let mut turns: u32 = 0;
+    let mut board = Board::new(rt, alloc, cluster, 1).expect(rt, "a board");
+    for worker in (0..ORDERED).map(worker_of).chain(last) {
+        if worker == 0 {
+            take(rt, &mut board, &mut zero);
+            turns = turns.wrapping_add(1);
+            if turns % 64 == 0 {
+                count = board.show(rt, alloc).expect(rt, "News").count();
+            }
+        } else {
+            shown.push(count).expect(rt, "memory");
+            take(rt, &mut board, &mut one);
+        }
+    }
+    let cluster = board.end(rt);
+    Ok(Outcome { cluster, shown })
+}
+
+#[test]
+fn a_run_is_a_board_that_is_stepped_in_order(rt: HostRuntime) -> Result<(), Fail> {
+    let alloc = rt.alloc();
+    let mut written = Vec::new(alloc);
+    let answer = ran(&rt, alloc, TWO_WORKERS, &Ordered::new(&rt), &mut written);
+    assert_eq!(rt; answer, Ok(()));
+    let text = String::from_utf8(written)?;
+    let first = outcome_of(&rt, alloc, [0, 1])?;
+    let second = outcome_of(&rt, alloc, [1, 0])?;
+    assert!(rt;
+        is_printed(&rt, alloc, text.as_str(), &first.cluster)?
+            || is_printed(&rt, alloc, text.as_str(), &second.cluster)?
+    );
+    Ok(())
+}
+
+// A reader that looks again and again.
+#[derive(Drop)]
+struct Looks {
+    reader: Reader,
+    many: usize,
+    // Whether each look found as many commands as it was to find.
+    are_right: bool,
+}
+
+impl Looks {
+    fn look(&mut self, alloc: Global, wanted: &[u32]) {
+        let found = self.reader.lookup(alloc, "a");
+        let is_right = found.is_ok() && wanted.get(self.many) == Some(&self.reader.count());
+        self.are_right = self.are_right && is_right;
+        self.many = self.many.wrapping_add(1);
+    }
+}
+
+// Has a reader look before each turn of worker 1, while nobody takes a turn.
+#[derive(Drop)]
+struct Looking<'a, R> {
+    order: Ordered<'a, R>,
+    alloc: Global,
+    wanted: &'a [u32],
+    looks: Mutex<Looks>,
+}
+
+impl<R: Wait> Gate for Looking<'_, R> {
+    fn pass(&self, worker: u8) {
+        self.order.pass(worker);
+        if worker == 1 {
+            lend(self.order.rt, &self.looks, |looks| {
+                looks.look(self.alloc, self.wanted)
+            });
+        }
+    }
+}
+
+#[test]
+fn a_reader_beside_workers_finds_what_is_shown(rt: HostRuntime) -> Result<(), Fail> {
+    let alloc = rt.alloc();
+    let scenario = read_plan(alloc, TWO_WORKERS.as_bytes()).map_err(|_| "a plan")?;
+    let outcome = outcome_of(&rt, alloc, [0, 1])?;
+    assert_eq!(rt; outcome.shown.len(), TURNS);
+    assert!(rt; outcome.shown.last().is_some_and(|&count| 0 < count));
+    let cluster = new_cluster(&rt, alloc, scenario.members);
+    let mut board = Board::new(&rt, alloc, cluster, 1).expect(&rt, "a board");
+    let reader = board.reader().expect(&rt, "a reader");
+    let looks = Looks {
+        reader,
+        many: 0,
+        are_right: true,
+    };
+    let gate = Looking {
+        order: Ordered::new(&rt),
+        alloc,
+        wanted: outcome.shown.as_slice(),
+        looks: Mutex::new(looks),
+    };
+    let board = Mutex::new(board);
+    let ran = run_workers(&rt, alloc, &board, &scenario.plan, &gate).map(|choosers| choosers.len());
+    drop(board.into_inner().end(&rt));
+    assert_eq!(rt; ran, Ok(2));
+    let looks = gate.looks.into_inner();
+    assert!(rt; looks.are_right && looks.many == TURNS);
+    Ok(())
+}
