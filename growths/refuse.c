@@ -3,12 +3,14 @@
  *     cc -shared -fPIC -O2 -o refuse.so refuse.c -ldl
  *     LD_PRELOAD=./refuse.so REFUSED_GROWTH=7 REFUSED_NOTE=note PROGRAM
  *
- * Only what the program itself asks for is counted, not what the C library or the loader needs. Once the growth was
- * refused, the file REFUSED_NOTE is there. It says how many threads the program had started by then, 1 if one of them
- * asked for the growth or 0 if the program's first thread did, and how many bytes were asked for.
+ * Only what the program itself asks for is counted, not what the C library or the loader needs; with REFUSED_THREAD only
+ * what that thread asks for, 0 the program's first one, 1 the first one that it starts, and so on. Once the growth was
+ * refused, the file REFUSED_NOTE is there. It says how many threads the program had started by then, which thread asked
+ * for the growth, and how many bytes were asked for.
  */
 #define _GNU_SOURCE
 #include <dlfcn.h>
+#include <errno.h>
 #include <fcntl.h>
 #include <link.h>
 #include <pthread.h>
@@ -17,16 +19,28 @@
 #include <stdint.h>
 #include <stdio.h>
 #include <stdlib.h>
-#include <sys/syscall.h>
 #include <unistd.h>
 
 extern void *__libc_malloc(size_t size);
 extern void *__libc_realloc(void *block, size_t size);
 
+/* More threads than that are not started. */
+#define MOST_THREADS 64
+
+/* What a thread is to do. */
+struct work {
+    void *(*start)(void *);
+    void *argument;
+    unsigned thread;
+};
+
 static uintptr_t first_address, end_address;
 static unsigned long refused_growth;
+static long refused_thread = -1;
 static atomic_ulong growths;
 static atomic_uint threads;
+static struct work works[MOST_THREADS];
+static _Thread_local unsigned own_thread;
 
 /* The first object that is told of is the program. */
 static int note_program(struct dl_phdr_info *object, size_t size, void *data)
@@ -46,8 +60,10 @@ static int note_program(struct dl_phdr_info *object, size_t size, void *data)
 __attribute__((constructor)) static void begin(void)
 {
     const char *number = getenv("REFUSED_GROWTH");
+    const char *thread = getenv("REFUSED_THREAD");
     dl_iterate_phdr(note_program, NULL);
     refused_growth = number ? strtoul(number, NULL, 10) : 0;
+    refused_thread = thread ? strtol(thread, NULL, 10) : -1;
 }
 
 static int is_refused(const void *caller, size_t size)
@@ -55,12 +71,14 @@ static int is_refused(const void *caller, size_t size)
     uintptr_t address = (uintptr_t)caller;
     if (address < first_address || address >= end_address)
         return 0;
+    if (refused_thread >= 0 && own_thread != refused_thread)
+        return 0;
     if (atomic_fetch_add(&growths, 1) + 1 != refused_growth)
         return 0;
     const char *name = getenv("REFUSED_NOTE");
     int note = name ? open(name, O_WRONLY | O_CREAT, 0600) : -1;
     if (note >= 0) {
-        dprintf(note, "%u %d %zu\n", atomic_load(&threads), syscall(SYS_gettid) != getpid(), size);
+        dprintf(note, "%u %u %zu\n", atomic_load(&threads), own_thread, size);
         close(note);
     }
     return 1;
@@ -76,10 +94,20 @@ void *realloc(void *block, size_t size)
     return is_refused(__builtin_return_address(0), size) ? NULL : __libc_realloc(block, size);
 }
 
+static void *begin_thread(void *argument)
+{
+    const struct work *work = argument;
+    own_thread = work->thread;
+    return work->start(work->argument);
+}
+
 int pthread_create(pthread_t *thread, const pthread_attr_t *attributes, void *(*start)(void *), void *argument)
 {
     int (*create)(pthread_t *, const pthread_attr_t *, void *(*)(void *), void *);
     *(void **)&create = dlsym(RTLD_NEXT, "pthread_create");
-    atomic_fetch_add(&threads, 1);
-    return create(thread, attributes, start, argument);
+    unsigned place = atomic_fetch_add(&threads, 1);
+    if (place >= MOST_THREADS)
+        return EAGAIN;
+    works[place] = (struct work){start, argument, place + 1};
+    return create(thread, attributes, begin_thread, &works[place]);
 }

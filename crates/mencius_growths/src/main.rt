@@ -5,19 +5,25 @@
 //! `growths/check` refuses this program each of its growths of memory in turn. What it prints, the report and what was
 //! found last, is the same then as if none had been refused.
 //!
-//! It ends with status 0, and then standard error has the name of the call that was refused memory, if one was; with 6
-//! where memory ran out in anything else; or with 9 where something changed, which standard error names.
+//! Or the scenario is one of a run with two workers. Then these run, and one line is printed: the name of their fault, or
+//! `Ok`, and how many turns each of them began.
+//!
+//! It ends with status 0, and then standard error has the name of the call that was refused memory, if one was made again;
+//! with 6 where memory ran out in anything else; or with 9 where something changed, which standard error names.
 #![tactic(auto)]
 
 mod watched;
+mod workers;
 
 use crate::watched::{Call, Stop, Watched};
-use mencius_app::{Std, report};
+use crate::workers::run_counted;
+use mencius_app::{Std, read_plan, report};
 use mencius_cluster::Cluster;
-use mencius_input::{Events, Sink, read_all, read_scenario, write_all};
+use mencius_input::{AppFault, Events, Scenario, Sink, read_all, read_scenario, write_all};
 use std::alloc::Global;
 use std::process::ExitCode;
 use std::sync::Wait;
+use std::thread::Threads;
 
 // Shows the board, and takes the events of a scenario, each call made again that was refused memory.
 fn walk<R: Wait>(
@@ -56,11 +62,9 @@ fn course<R: Wait, W: Sink>(
     rt: &R,
     alloc: Global,
     bytes: &[u8],
+    scenario: Scenario,
     sink: &mut W,
 ) -> Result<Option<Call>, Stop> {
-    let Ok(scenario) = read_scenario(alloc, bytes) else {
-        return Err(Stop::Elsewhere);
-    };
     let Ok(cluster) = Cluster::new(alloc, scenario.members) else {
         return Err(Stop::Elsewhere);
     };
@@ -74,6 +78,34 @@ fn course<R: Wait, W: Sink>(
     done.map(|()| refused)
 }
 
+// Lets the workers of a run's scenario run, and writes what came of it.
+fn run<R: Threads + Wait + Sync, W: Sink>(
+    rt: &R,
+    alloc: Global,
+    bytes: &[u8],
+    sink: &mut W,
+) -> Result<(), Stop> {
+    let Ok(scenario) = read_plan(alloc, bytes) else {
+        return Err(Stop::Elsewhere);
+    };
+    let line = run_counted(rt, alloc, &scenario)?;
+    write_all(sink, line.as_bytes()).map_err(|_| Stop::Elsewhere)
+}
+
+// Does what the scenario asks for, and answers the call that was made again, if one was.
+fn perform<R: Threads + Wait + Sync, W: Sink>(
+    rt: &R,
+    alloc: Global,
+    bytes: &[u8],
+    sink: &mut W,
+) -> Result<Option<Call>, Stop> {
+    match read_scenario(alloc, bytes) {
+        Ok(scenario) => course(rt, alloc, bytes, scenario, sink),
+        Err(AppFault::BadShape) => run(rt, alloc, bytes, sink).map(|()| None),
+        Err(_) => Err(Stop::Elsewhere),
+    }
+}
+
 fn main(rt: HostRuntime) -> ExitCode {
     let alloc = rt.alloc();
     let mut source = Std::new(rt.stdin());
@@ -82,7 +114,7 @@ fn main(rt: HostRuntime) -> ExitCode {
     let Ok(bytes) = read_all(alloc, &mut source) else {
         return ExitCode::from(6);
     };
-    match course(&rt, alloc, bytes.as_slice(), &mut sink) {
+    match perform(&rt, alloc, bytes.as_slice(), &mut sink) {
         Ok(None) => ExitCode::from(0),
         Ok(Some(call)) => {
             let _ = write_all(&mut errors, call.name().as_bytes());

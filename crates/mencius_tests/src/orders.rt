@@ -19,12 +19,11 @@ const TURNS: usize = 2000;
 // these two may come in either order.
 const ORDERED: usize = 2 * TURNS - 2;
 
-// Which worker takes the turn of a number: 0, 1, 1, 0, 0, 1, 1, 0, and so on.
+// Which worker takes the turn of a number. They take turns, worker 0 first, but in each fifth round worker 1 is first.
 fn worker_of(turn: usize) -> u8 {
-    match turn % 4 {
-        0 | 3 => 0,
-        _ => 1,
-    }
+    let is_second = turn % 2 == 1;
+    let is_fifth = turn / 2 % 5 == 4;
+    u8::from(is_second != is_fifth)
 }
 
 // How far the order has come.

@@ -1,0 +1,66 @@
+//! Two workers that run on a board, and how far each of them came.
+
+use crate::watched::Stop;
+use mencius_app::RunScenario;
+use mencius_board::{Board, BoardFault, Gate, run_workers};
+use mencius_cluster::Cluster;
+use std::alloc::Global;
+use std::sync::atomic::{AtomicU32, Ordering};
+use std::sync::{Mutex, Wait};
+use std::thread::Threads;
+
+// Counts the turns that each of two workers begins.
+#[derive(Drop)]
+struct Counting {
+    begun: [AtomicU32; 2],
+}
+
+impl Counting {
+    fn new() -> Counting {
+        Counting {
+            begun: [AtomicU32::new(0), AtomicU32::new(0)],
+        }
+    }
+
+    fn counts(&self) -> (u32, u32) {
+        let [zero, one] = &self.begun;
+        (zero.load(Ordering::SeqCst), one.load(Ordering::SeqCst))
+    }
+}
+
+impl Gate for Counting {
+    fn pass(&self, worker: u8) {
+        if let Some(count) = self.begun.get(usize::from(worker)) {
+            count.fetch_add(1, Ordering::SeqCst);
+        }
+    }
+}
+
+/// Lets the workers of a scenario run. The line has the name of their fault, or `Ok`, and how many turns worker 0 and
+/// worker 1 began.
+pub fn run_counted<R: Threads + Wait + Sync>(
+    rt: &R,
+    alloc: Global,
+    scenario: &RunScenario,
+) -> Result<String, Stop> {
+    let Ok(cluster) = Cluster::new(alloc, scenario.members) else {
+        return Err(Stop::Elsewhere);
+    };
+    let Ok(board) = Board::new(rt, alloc, cluster, 1) else {
+        return Err(Stop::Elsewhere);
+    };
+    let board = Mutex::new(board);
+    let gate = Counting::new();
+    let ran = run_workers(rt, alloc, &board, &scenario.plan, &gate).map(|_choosers| ());
+    drop(board.into_inner().end(rt));
+    let (zero, one) = gate.counts();
+    let name = name_of(ran);
+    format!(in alloc; "{name} {zero} {one}\n").map_err(|_| Stop::Elsewhere)
+}
+
+fn name_of(ran: Result<(), BoardFault>) -> &'static str {
+    match ran {
+        Ok(()) => "Ok",
+        Err(fault) => fault.name(),
+    }
+}
