@@ -3,10 +3,10 @@
  *     cc -shared -fPIC -O2 -o refuse.so refuse.c -ldl
  *     LD_PRELOAD=./refuse.so REFUSED_GROWTH=7 REFUSED_NOTE=note PROGRAM
  *
- * Only what the program itself asks for is counted, not what the C library or the loader needs; with REFUSED_THREAD only
- * what that thread asks for, 0 the program's first one, 1 the first one that it starts, and so on. Once the growth was
- * refused, the file REFUSED_NOTE is there. It says how many threads the program had started by then, which thread asked
- * for the growth, and how many bytes were asked for.
+ * Only what the program itself asks for is counted, not what the C library or the loader needs; with REFUSED_THREAD
+ * only what that thread asks for, 0 the program's first one, 1 the first one that it starts, and so on. Once the growth
+ * was refused, the file REFUSED_NOTE is there. It says how many threads the program had started by then, which thread
+ * asked for the growth, and how many bytes were asked for.
  */
 #define _GNU_SOURCE
 #include <dlfcn.h>

@@ -5,11 +5,11 @@
 //! `growths/check` refuses this program each of its growths of memory in turn. What it prints, the report and what was
 //! found last, is the same then as if none had been refused.
 //!
-//! Or the scenario is one of a run with two workers. Then these run, and one line is printed: the name of their fault, or
-//! `Ok`, and how many turns each of them began.
+//! Or the scenario is one of a run with two workers. Then these run, and one line is printed: the name of their fault,
+//! or `Ok`, and how many turns each of them began.
 //!
-//! It ends with status 0, and then standard error has the name of the call that was refused memory, if one was made again;
-//! with 6 where memory ran out in anything else; or with 9 where something changed, which standard error names.
+//! It ends with status 0, and then standard error has the name of the call that was made again, if one was; with 6 where
+//! memory ran out in anything else; or with 9 where something changed, which standard error names.
 #![tactic(auto)]
 
 mod watched;

@@ -1,5 +1,5 @@
-//! Two workers whose gate lets one turn begin at a time, in an order that is known: what comes of their run is what comes of a
-//! board on which these turns are taken in this order, and a reader finds meanwhile what worker 0 has shown.
+//! Two workers whose gate lets one turn begin at a time, in a known order: their run is a board on which these turns
+//! are taken in this order, and a reader beside them finds what worker 0 has shown.
 
 use crate::courses::new_cluster;
 use crate::runs::{TWO_WORKERS, is_printed, ran};
@@ -15,8 +15,8 @@ use std::test::Fail;
 // How many turns each of the two workers takes.
 const TURNS: usize = 2000;
 
-// How many turns of both stand in the order: all but the last one of each. Nobody is told when a worker's last turn ends, so
-// these two may come in either order.
+// How many turns of both stand in the order: all but the last one of each. A worker's next coming to the gate tells
+// that its turn has ended, and after the last one it does not come: so these two may be taken in either order.
 const ORDERED: usize = 2 * TURNS - 2;
 
 // Which worker takes the turn of a number. They take turns, worker 0 first, but in each fifth round worker 1 is first.
