@@ -11,26 +11,26 @@ use std::thread::Threads;
 
 // Counts the turns that each of two workers begins.
 #[derive(Drop)]
-struct Counting {
-    begun: [AtomicU32; 2],
+struct TurnCounter {
+    turns: [AtomicU32; 2],
 }
 
-impl Counting {
-    fn new() -> Counting {
-        Counting {
-            begun: [AtomicU32::new(0), AtomicU32::new(0)],
+impl TurnCounter {
+    fn new() -> TurnCounter {
+        TurnCounter {
+            turns: [AtomicU32::new(0), AtomicU32::new(0)],
         }
     }
 
     fn counts(&self) -> (u32, u32) {
-        let [zero, one] = &self.begun;
+        let [zero, one] = &self.turns;
         (zero.load(Ordering::SeqCst), one.load(Ordering::SeqCst))
     }
 }
 
-impl Gate for Counting {
+impl Gate for TurnCounter {
     fn pass(&self, worker: u8) {
-        if let Some(count) = self.begun.get(usize::from(worker)) {
+        if let Some(count) = self.turns.get(usize::from(worker)) {
             count.fetch_add(1, Ordering::SeqCst);
         }
     }
@@ -50,7 +50,7 @@ pub fn run_counted<R: Threads + Wait + Sync>(
         return Err(Stop::Elsewhere);
     };
     let board = Mutex::new(board);
-    let gate = Counting::new();
+    let gate = TurnCounter::new();
     let ran = run_workers(rt, alloc, &board, &scenario.plan, &gate).map(|_choosers| ());
     drop(board.into_inner().end(rt));
     let (zero, one) = gate.counts();

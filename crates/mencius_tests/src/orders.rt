@@ -17,7 +17,7 @@ const TURNS: usize = 2000;
 
 // How many turns of both stand in the order: all but the last one of each. A worker's next coming to the gate tells
 // that its turn has ended, and after the last one it does not come: so these two may be taken in either order.
-const ORDERED: usize = 2 * TURNS - 2;
+const TURNS_IN_ORDER: usize = 2 * TURNS - 2;
 
 // Which worker takes the turn of a number. They take turns, worker 0 first, but in each fifth round worker 1 is first.
 fn worker_of(turn: usize) -> u8 {
@@ -29,46 +29,47 @@ fn worker_of(turn: usize) -> u8 {
 // How far the order has come.
 #[derive(Drop)]
 struct Course {
-    begun: usize,
-    // The worker whose turn is under way.
-    at_work: Option<u8>,
+    // How many turns of the order have begun.
+    turns: usize,
+    // The worker whose turn has begun and not ended.
+    worker: Option<u8>,
 }
 
 impl Course {
     // A worker that comes to the gate has ended its turn before.
     fn end_turn(&mut self, worker: u8) {
-        if self.at_work == Some(worker) {
-            self.at_work = None;
+        if self.worker == Some(worker) {
+            self.worker = None;
         }
     }
 
     fn is_to_wait(&self, worker: u8) -> bool {
-        self.at_work.is_some() || (self.begun < ORDERED && worker_of(self.begun) != worker)
+        self.worker.is_some() || (self.turns < TURNS_IN_ORDER && worker_of(self.turns) != worker)
     }
 
     fn begin_turn(&mut self, worker: u8) {
-        if self.begun < ORDERED {
-            self.begun += 1;
-            self.at_work = Some(worker);
+        if self.turns < TURNS_IN_ORDER {
+            self.turns += 1;
+            self.worker = Some(worker);
         }
     }
 }
 
 // Lets each of two workers wait for its turns.
 #[derive(Drop)]
-struct Ordered<'a, R> {
+struct OrderGate<'a, R> {
     rt: &'a R,
     course: Mutex<Course>,
     changed: Condvar,
 }
 
-impl<'a, R> Ordered<'a, R> {
-    fn new(rt: &'a R) -> Ordered<'a, R> {
+impl<'a, R> OrderGate<'a, R> {
+    fn new(rt: &'a R) -> OrderGate<'a, R> {
         let course = Course {
-            begun: 0,
-            at_work: None,
+            turns: 0,
+            worker: None,
         };
-        Ordered {
+        OrderGate {
             rt,
             course: Mutex::new(course),
             changed: Condvar::new(),
@@ -76,7 +77,7 @@ impl<'a, R> Ordered<'a, R> {
     }
 }
 
-impl<R: Wait> Gate for Ordered<'_, R> {
+impl<R: Wait> Gate for OrderGate<'_, R> {
     fn pass(&self, worker: u8) {
         let mut course = self.course.lock(self.rt);
         course.end_turn(worker);
@@ -93,7 +94,7 @@ impl<R: Wait> Gate for Ordered<'_, R> {
 struct Outcome {
     cluster: Cluster,
     // How many commands are shown before each turn of worker 1.
-    shown: Vec<u32>,
+    counts: Vec<u32>,
 }
 
 fn take<R: Abort>(rt: &R, board: &mut Board, chooser: &mut Chooser) {
@@ -102,17 +103,17 @@ fn take<R: Abort>(rt: &R, board: &mut Board, chooser: &mut Chooser) {
 }
 
 // Takes the turns in their order, and the last two in this one. After each 64th turn of worker 0 the board is shown.
-fn outcome_of<R: Abort + Wait>(rt: &R, alloc: Global, last: [u8; 2]) -> Result<Outcome, Fail> {
+fn outcome_of<R: Abort + Wait>(rt: &R, alloc: Global, last_two: [u8; 2]) -> Result<Outcome, Fail> {
     let scenario = read_plan(alloc, TWO_WORKERS.as_bytes()).map_err(|_| "a plan")?;
     let cluster = new_cluster(rt, alloc, scenario.members);
     assert!(rt; scenario.plan.workers() == 2);
     let mut zero = Chooser::new(&scenario.plan, 0);
     let mut one = Chooser::new(&scenario.plan, 1);
-    let mut shown = Vec::new(alloc);
+    let mut counts = Vec::new(alloc);
     let mut count = 0;
     let mut turns: u32 = 0;
     let mut board = Board::new(rt, alloc, cluster, 1).expect(rt, "a board");
-    for worker in (0..ORDERED).map(worker_of).chain(last) {
+    for worker in (0..TURNS_IN_ORDER).map(worker_of).chain(last_two) {
         if worker == 0 {
             take(rt, &mut board, &mut zero);
             turns = turns.wrapping_add(1);
@@ -120,19 +121,19 @@ fn outcome_of<R: Abort + Wait>(rt: &R, alloc: Global, last: [u8; 2]) -> Result<O
                 count = board.show(rt, alloc).expect(rt, "News").count();
             }
         } else {
-            shown.push(count).expect(rt, "memory");
+            counts.push(count).expect(rt, "memory");
             take(rt, &mut board, &mut one);
         }
     }
     let cluster = board.end(rt);
-    Ok(Outcome { cluster, shown })
+    Ok(Outcome { cluster, counts })
 }
 
 #[test]
 fn a_run_is_a_board_that_is_stepped_in_order(rt: HostRuntime) -> Result<(), Fail> {
     let alloc = rt.alloc();
     let mut written = Vec::new(alloc);
-    let answer = ran(&rt, alloc, TWO_WORKERS, &Ordered::new(&rt), &mut written);
+    let answer = ran(&rt, alloc, TWO_WORKERS, &OrderGate::new(&rt), &mut written);
     assert_eq!(rt; answer, Ok(()));
     let text = String::from_utf8(written)?;
     let first = outcome_of(&rt, alloc, [0, 1])?;
@@ -148,35 +149,35 @@ fn a_run_is_a_board_that_is_stepped_in_order(rt: HostRuntime) -> Result<(), Fail
 #[derive(Drop)]
 struct Looks {
     reader: Reader,
-    many: usize,
-    // Whether each look found as many commands as it was to find.
+    lookups: usize,
+    // Whether each lookup found as many commands as it was to find.
     are_right: bool,
 }
 
 impl Looks {
-    fn look(&mut self, alloc: Global, wanted: &[u32]) {
+    fn look(&mut self, alloc: Global, counts: &[u32]) {
         let found = self.reader.lookup(alloc, "a");
-        let is_right = found.is_ok() && wanted.get(self.many) == Some(&self.reader.count());
+        let is_right = found.is_ok() && counts.get(self.lookups) == Some(&self.reader.count());
         self.are_right = self.are_right && is_right;
-        self.many = self.many.wrapping_add(1);
+        self.lookups = self.lookups.wrapping_add(1);
     }
 }
 
-// Has a reader look before each turn of worker 1, while nobody takes a turn.
+// Has a reader look before each turn of worker 1. Worker 0 waits then, or takes its last turn, which shows nothing.
 #[derive(Drop)]
-struct Looking<'a, R> {
-    order: Ordered<'a, R>,
+struct ReaderGate<'a, R> {
+    order: OrderGate<'a, R>,
     alloc: Global,
-    wanted: &'a [u32],
+    counts: &'a [u32],
     looks: Mutex<Looks>,
 }
 
-impl<R: Wait> Gate for Looking<'_, R> {
+impl<R: Wait> Gate for ReaderGate<'_, R> {
     fn pass(&self, worker: u8) {
         self.order.pass(worker);
         if worker == 1 {
             lend(self.order.rt, &self.looks, |looks| {
-                looks.look(self.alloc, self.wanted)
+                looks.look(self.alloc, self.counts)
             });
         }
     }
@@ -187,20 +188,20 @@ fn a_reader_beside_workers_finds_what_is_shown(rt: HostRuntime) -> Result<(), Fa
     let alloc = rt.alloc();
     let scenario = read_plan(alloc, TWO_WORKERS.as_bytes()).map_err(|_| "a plan")?;
     let outcome = outcome_of(&rt, alloc, [0, 1])?;
-    assert_eq!(rt; outcome.shown.len(), TURNS);
-    assert!(rt; outcome.shown.last().is_some_and(|&count| 0 < count));
+    assert_eq!(rt; outcome.counts.len(), TURNS);
+    assert!(rt; outcome.counts.last().is_some_and(|&count| 0 < count));
     let cluster = new_cluster(&rt, alloc, scenario.members);
     let mut board = Board::new(&rt, alloc, cluster, 1).expect(&rt, "a board");
     let reader = board.reader().expect(&rt, "a reader");
     let looks = Looks {
         reader,
-        many: 0,
+        lookups: 0,
         are_right: true,
     };
-    let gate = Looking {
-        order: Ordered::new(&rt),
+    let gate = ReaderGate {
+        order: OrderGate::new(&rt),
         alloc,
-        wanted: outcome.shown.as_slice(),
+        counts: outcome.counts.as_slice(),
         looks: Mutex::new(looks),
     };
     let board = Mutex::new(board);
@@ -208,6 +209,6 @@ fn a_reader_beside_workers_finds_what_is_shown(rt: HostRuntime) -> Result<(), Fa
     drop(board.into_inner().end(&rt));
     assert_eq!(rt; ran, Ok(2));
     let looks = gate.looks.into_inner();
-    assert!(rt; looks.are_right && looks.many == TURNS);
+    assert!(rt; looks.are_right && looks.lookups == TURNS);
     Ok(())
 }
