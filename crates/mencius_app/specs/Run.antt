@@ -8,6 +8,7 @@ use Rattle.mencius_ends.specs.declared.fault.AppFault.{AppFault}
 use Rattle.mencius_ends.specs.declared.fault.AppFault.TheVariants.{BoardFailed, NoMemory}
 use Rattle.mencius_app.specs.Input.{Says, plan_input_of}
 use Rattle.mencius_app.specs.Journal.{ReadsBack, journal_text}
+use Rattle.mencius_app.specs.Plan.{IsOutcome}
 use Rattle.mencius_input.specs.Plan.{WrittenPlan}
 use Rattle.mencius_app.specs.Report.{report_text}
 use Rattle.mencius_trace.specs.Words.{former_text, line_feed}
@@ -50,13 +51,14 @@ IsOwnFault fault = (fault ≡ NoMemory) ⊎ (fault ≡ BoardFailed)
 
 -- ---- the whole
 
--- a text of a run by all that a reader has, so far as that is known: that of a cluster, whose journal replays, and
--- whose journal's line says it again
+-- a text of a run by all that a reader has, so far as that is known: that of the cluster to which all turns of the plan
+-- came, whose journal replays, and whose journal's line says it again
 pub record IsRunOf (known : Option (List ℕ)) (with_journal : Bool) (key : Option (List ℕ)) (text : List ℕ)
     : Type 0 where
   pub written : WrittenPlan
   pub says : Says plan_input_of known written
   pub cluster : ClusterState
+  pub outcome : IsOutcome written cluster
   pub replays : replay cluster.members cluster.journal ≡ Ok (trace_of cluster)
   pub run : text ≡ run_text with_journal key cluster
   pub reads_back : with_journal ≡ true → ReadsBack cluster

@@ -1,11 +1,15 @@
 -- What a worker's thread answered, once it is joined, and what all of them then come to.
-use Rattle.std.proofs.Common.{ℕ, Option, Some, None, subst, inl, inr}
+use Rattle.std.specs.Prelude.{MatchOption}
+use Rattle.std.proofs.Common.{◌≡◌, ℕ, Option, Some, None, Err, subst, inl, inr}
+use Rattle.mencius_board.specs.declared.fault.BoardFault.TheVariants.{NoWorker}
 use Rattle.core.specs.declared.thread.PromisedHandle.{PromisedHandle}
 use Rattle.mencius_board.specs.declared.workers.ProgressOf.{ProgressOf}
 use Rattle.mencius_choices.specs.Plans.{PlanState}
-use Rattle.mencius_board.specs.Running.{Answers, EndState, EndsAs, HasEnded, IsEndOf}
+use Rattle.mencius_board.specs.Running.{Answers, EndState, HasEnded, IsEndOf}
 
 pub ended : {T : Type 0} (o : Option (PromisedHandle T ProgressOf)) (plan : PlanState) (worker : ℕ) (end : EndState)
-    → Answers plan.seed plan.turns worker o → EndsAs o end → IsEndOf plan worker end
+    → Answers plan.seed plan.turns worker o
+    → MatchOption o (end ≡ Err NoWorker) (λ h. HasEnded h.promise.seed h.promise.worker h.promise.turns end)
+    → IsEndOf plan worker end
 ended None plan worker end a e = inr e
 ended (Some h) plan worker end a e = inl (subst (λ (x : ProgressOf). HasEnded x.seed x.worker x.turns end) a e)

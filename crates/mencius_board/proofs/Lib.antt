@@ -9,3 +9,4 @@ pub mod WorkerTurns
 pub mod JoinedWorkers
 pub mod WorkerEnds
 pub mod ListSteps
+pub mod RunSteps

@@ -7,3 +7,4 @@ pub mod Boards
 pub mod Faults
 pub mod Turns
 pub mod Running
+pub mod Runs

@@ -23,11 +23,6 @@ abbrev pub HasEnded : ℕ → ℕ → ℕ → EndState → Type 0
 HasEnded seed worker turns (Ok d) = d.drawing ≡ drawing_after seed worker turns
 HasEnded seed worker turns (Err f) = IsWorkerFault worker turns f
 
--- what joining a worker's thread gives, if there is one
-abbrev pub EndsAs : {T : Type 0} → Option (PromisedHandle T ProgressOf) → EndState → Type 0
-EndsAs None end = end ≡ Err NoWorker
-EndsAs (Some h) end = HasEnded h.promise.seed h.promise.worker h.promise.turns end
-
 -- this worker of a plan took its turns, or its thread could not be started
 abbrev pub IsEndOf : PlanState → ℕ → EndState → Type 0
 IsEndOf plan worker end = HasEnded plan.seed worker plan.turns end ⊎ (end ≡ Err NoWorker)

@@ -1,10 +1,11 @@
 //! Workers that step one board in threads of their own.
-ghost use Rattle.std.specs.Prelude.{◌≡◌, ◌<◌, ◌≤◌, ℕ, IfErr, IfOk, MatchResult, vec_len, vec_capacity, slice_index_or};
+ghost use Rattle.std.specs.Prelude.{◌≡◌, ◌<◌, ◌≤◌, ℕ, Err, IfErr, IfOk, MatchOption, MatchResult, vec_len, vec_capacity, slice_index_or};
 ghost use Rattle.std.specs.Fn.{FnOnceReturnsAtMut};
-ghost use Rattle.mencius_choices.specs.Choices.{chooser_at, drawn};
+ghost use Rattle.mencius_choices.specs.Choices.{drawn};
 ghost use Rattle.mencius_board.specs.Turns.{EndsTurn, IsAfterTurn, TakesTurn};
 ghost use Rattle.mencius_board.specs.Faults.{IsRunFault, IsTurnFault};
-ghost use Rattle.mencius_board.specs.Running.{Answers, EndsAs, HasEnded, HaveEnded, HaveTurned, settled};
+ghost use Rattle.mencius_board.specs.Running.{Answers, HasEnded, HaveEnded, HaveTurned, settled};
+ghost use Rattle.mencius_board.specs.declared.fault.BoardFault.TheVariants.{NoWorker};
 
 use crate::board::Board;
 use crate::fault::BoardFault;
@@ -65,7 +66,7 @@ pub fn lend<B, X, R: Wait, F: FnOnce(&mut B) -> X>(rt: &R, lock: &Mutex<B>, f: F
 }
 
 /// Worker 0 shows the longest history after each so many of its turns.
-const TURNS_A_SHOW: u32 = 64;
+pub(crate) const TURNS_A_SHOW: u32 = 64;
 
 // How a worker ended.
 type Ended = Result<Progress, BoardFault>;
@@ -92,7 +93,7 @@ fn work<R: Wait, G: Gate>(
             |board| -> (Progress, Result<(), BoardFault>)
                 ensures { (result.0.drawing ≡ drawn progress.drawing)
                     × IfErr result.1 (IsTurnFault shows) }
-            { take_turn(rt, alloc, board, plan, progress, shows) },
+            { go_on(rt, alloc, board, plan, progress, shows) },
         );
         progress = next;
         answer?;
@@ -100,8 +101,8 @@ fn work<R: Wait, G: Gate>(
     Ok(progress)
 }
 
-// One turn, after which the longest history is shown where it is to be.
-fn take_turn<R: Wait>(
+// One turn of a worker that has come so far.
+fn go_on<R: Wait>(
     rt: &R,
     alloc: Global,
     board: &mut Board,
@@ -109,16 +110,28 @@ fn take_turn<R: Wait>(
     progress: Progress,
     shows: bool,
 ) -> (Progress, Result<(), BoardFault>)
-    ensures turn { TakesTurn (chooser_at plan.now progress) (chooser_at plan.now result.0)
-        board.old board.new
-        shows result.1 }
     ensures drawn { result.0.drawing ≡ drawn progress.drawing }
     ensures fault { IfErr result.1 (IsTurnFault shows) }
 {
     let mut chooser = Chooser::of(plan, progress);
-    let turned = worker_turn(board, &mut chooser);
-    let answer = show_after(rt, alloc, board, turned, shows);
+    let answer = take_turn(rt, alloc, board, &mut chooser, shows);
     (chooser.into_progress(), answer)
+}
+
+/// One turn, after which the longest history is shown where it is to be.
+pub(crate) fn take_turn<R: Wait>(
+    rt: &R,
+    alloc: Global,
+    board: &mut Board,
+    chooser: &mut Chooser,
+    shows: bool,
+) -> Result<(), BoardFault>
+    ensures turn { TakesTurn chooser.old chooser.new board.old board.new shows result }
+    ensures drawn { chooser.new.drawing ≡ drawn chooser.old.drawing }
+    ensures fault { IfErr result (IsTurnFault shows) }
+{
+    let turned = worker_turn(board, chooser);
+    show_after(rt, alloc, board, turned, shows)
 }
 
 // Shows the longest history where it is to be shown and the turn ended well.
@@ -156,8 +169,12 @@ impl Promise<Result<Progress, BoardFault>> for ProgressOf {
 // A worker's thread, if it could be started.
 type Running = Option<PromisedHandle<Result<Progress, BoardFault>, ProgressOf>>;
 
-fn join_one<R: Threads>(rt: &R, child: Running) -> Ended
-    ensures { EndsAs child result }
+/// What joining a worker's thread gives, if there is one.
+pub(crate) fn join_started<T, P: Promise<Result<T, BoardFault>>, R: Threads>(
+    rt: &R,
+    child: Option<PromisedHandle<Result<T, BoardFault>, P>>,
+) -> Result<T, BoardFault>
+    ensures { MatchOption child (result ≡ Err NoWorker) (λ h. P.kept_by h.promise result) }
 {
     match child {
         Some(child) => child.join(rt),
@@ -180,7 +197,7 @@ fn gather<R: Threads>(
     ensures each { HaveEnded result.items plan.now (vec_len running) }
 {
     for child in running {
-        let end = join_one(rt, child);
+        let end = join_started(rt, child);
         ends.push_reserved(end);
     }
     ends

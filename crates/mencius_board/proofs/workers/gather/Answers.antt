@@ -15,9 +15,9 @@ loop-child-preserved g c =
     let left : ℕ = into_iter_len c.next.new.self in
     let two = first_of (λ m o. Answers seed turns (done + m) o) many left _ _ c.in-Some.child step.0 step.1 was.2 in
     let next : Answers seed turns done c.in-Some.child = rw add-zero at two.0 in
-    let end : EndState = c.join_one-end.result in
+    let end : EndState = c.join_started-end.result in
     let is_end : IsEndOf c.args.plan.now done end =
-    ended c.in-Some.child c.args.plan.now done end next c.join_one-end.ensures in
+    ended c.in-Some.child c.args.plan.now done end next c.join_started-end.ensures in
     let longer : vec_len c.push_reserved.new.self ≡ done + 1 = c.push_reserved.ensures.len in (
       omega (arith, was.0, longer, step.1),
       search rules,

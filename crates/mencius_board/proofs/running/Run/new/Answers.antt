@@ -1,0 +1,13 @@
+use Rattle.std.proofs.Common.{None, subst}
+use Rattle.mencius_board.specs.Boards.{BoardState}
+use Rattle.mencius_board.specs.Runs.{IsRun}
+use Rattle.mencius_board.proofs.RunSteps.{begun}
+use Rattle.mencius_board.proofs.running.Run.new.Goals as goal
+
+pub invariant_of-result : goal.invariant_of-result
+invariant_of-result g c =
+    subst
+    (λ (x : BoardState). IsRun g.J.Job.plan x c.args.board c.args.choosers.items c.args.taken.items c.args.turns None)
+    c.requires.first
+    (begun g.J.Job.plan c.args.board c.args.choosers.items c.args.taken.items c.args.turns c.requires.turns
+    c.requires.choosers c.requires.taken)

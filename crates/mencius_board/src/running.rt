@@ -1,0 +1,282 @@
+//! A run: all turns of a plan's workers on one board, each worker in a thread of its own.
+ghost use Rattle.std.specs.Prelude.{◌≡◌, ◌≢◌, ◌⊎◌, ◌<◌, ◌+◌, ◌^◌, ◌==◌, map, replicate, IfErr, IfOk, IfSome, None, OnOk};
+ghost use Rattle.std.specs.List.{list_all};
+ghost use Rattle.mencius_base.specs.Members.{below};
+ghost use Rattle.mencius_board.specs.Boards.{BoardState};
+ghost use Rattle.mencius_board.specs.Faults.{IsRunFault};
+ghost use Rattle.mencius_board.specs.Runs.{HasRun, is_to_show};
+ghost use Rattle.mencius_choices.specs.Choices.{first_chooser};
+ghost use Rattle.mencius_choices.specs.Plans.{PlanState};
+
+use crate::board::Board;
+use crate::fault::BoardFault;
+use crate::workers::{Gate, TURNS_A_SHOW, lend, take_turn};
+use mencius_base::NoMemory;
+use mencius_choices::{Chooser, Plan};
+use std::alloc::Global;
+use std::marker::{Brand, Model, PhantomData, Send, Sync};
+use std::sync::{Mutex, Wait};
+use std::thread;
+use std::thread::{Scope, Threads};
+
+/// What a run is of: a plan, and the board as it was before the first turn.
+///
+/// Of a value under a lock nothing is known but what its type keeps, so the type has to know both.
+pub trait Job {
+    ghost plan: { PlanState };
+
+    ghost first: { BoardState };
+}
+
+impl Job for Brand {
+    ghost use Rattle.mencius_board.specs.Runs.{no_board, no_plan};
+
+    ghost plan = { no_plan };
+
+    ghost first = { no_board };
+}
+
+// What lies under the lock of a run. As long as no worker ended at a fault, its type keeps that the
+// board is one that turns of the plan brought here.
+struct Run<'p, J: Job> {
+    board: Board,
+    // By worker number: the choices, and how many turns were taken.
+    choosers: Vec<Chooser<'p>>,
+    taken: Vec<u32>,
+    // So many turns each worker is to take.
+    turns: u32,
+    // The fault of the worker of least number that ended at one, and that number.
+    fault: Option<(u8, BoardFault)>,
+    job: PhantomData<J>,
+}
+
+impl<'p, J: Job> Model for Run<'p, J> {
+    ghost use Rattle.mencius_board.specs.Boards.{BoardState};
+    ghost use Rattle.mencius_board.specs.Runs.{IsRun};
+
+    ghost Value = { BoardState };
+
+    ghost view = { λ x. x.board };
+
+    ghost invariant = { λ x. IsRun J.plan J.first x.board x.choosers.items x.taken.items
+        x.turns x.fault };
+}
+
+impl<'p, J: Job> Run<'p, J> {
+    fn new(board: Board, choosers: Vec<Chooser<'p>>, taken: Vec<u32>, turns: u32) -> Run<'p, J>
+        requires first { board ≡ J.first }
+        requires turns { turns ≡ J.plan.turns }
+        requires choosers { choosers.items ≡ map (first_chooser J.plan) (below J.plan.workers) }
+        requires taken { taken.items ≡ replicate J.plan.workers 0 }
+    {
+        Run {
+            board,
+            choosers,
+            taken,
+            turns,
+            fault: None,
+            job: PhantomData,
+        }
+    }
+
+    // The next turn of a worker, if one is left, after which worker 0 shows where it is to. Whether
+    // the worker goes on.
+    fn advance<R: Wait>(&mut self, rt: &R, alloc: Global, worker: u8) -> bool
+        requires { worker < J.plan.workers }
+    {
+        let seat = usize::from(worker);
+        let taken = self.taken[seat];
+        if taken >= self.turns {
+            return false;
+        }
+        let shows = is_to_show(worker, taken);
+        let answer = take_turn(rt, alloc, &mut self.board, &mut self.choosers[seat], shows);
+        self.taken[seat] = taken + 1;
+        match answer {
+            Ok(()) => true,
+            Err(fault) => {
+                self.fault = least_of(self.fault, worker, fault);
+                false
+            }
+        }
+    }
+
+    // The thread of a worker could not be started.
+    fn refuse(&mut self, worker: u8) {
+        self.fault = least_of(self.fault, worker, BoardFault::NoWorker);
+    }
+
+    // The board, and whether each worker took all of its turns or which fault the first has that did
+    // not.
+    fn into_board(self) -> (Board, Result<(), BoardFault>)
+        ensures ran { OnOk result.1 (HasRun J.plan J.first result.0) }
+        ensures fault { IfErr result.1 (IsRunFault J.plan.turns) }
+    {
+        let Run {
+            board,
+            choosers: _choosers,
+            taken,
+            turns,
+            fault,
+            job: _,
+        } = self;
+        if let Some((_, fault)) = fault {
+            return (board, Err(fault));
+        }
+        if !are_all(taken.as_slice(), turns) {
+            // A worker takes all of its turns, or has a fault. But no clause of a thread says so.
+            return (board, Err(BoardFault::NoWorker));
+        }
+        (board, Ok(()))
+    }
+}
+
+// Of the fault that was found so far, by the worker's number, and one more: that of the least worker.
+fn least_of(
+    found: Option<(u8, BoardFault)>,
+    worker: u8,
+    fault: BoardFault,
+) -> Option<(u8, BoardFault)>
+    ensures some { result ≢ None }
+    ensures one { IfSome result (λ x. (x.1 ≡ fault) ⊎ (found ≡ result)) }
+{
+    match found {
+        Some((least, _)) if least < worker => found,
+        _ => Some((worker, fault)),
+    }
+}
+
+// Whether a worker that took so many turns shows after the next one.
+fn is_to_show(worker: u8, taken: u32) -> bool
+    requires { taken + 1 < 2 ^ 32 }
+    ensures { result ≡ is_to_show worker taken }
+{
+    worker == 0 && (taken + 1) % TURNS_A_SHOW == 0
+}
+
+// Whether each of these counts is this one.
+fn are_all(counts: &[u32], wanted: u32) -> bool
+    ensures { result ≡ list_all (λ n. n == wanted) counts.now }
+{
+    counts.iter().all(|count| *count == wanted)
+}
+
+// All turns of one worker, up to its first fault.
+fn work<'p, J: Job, R: Wait, G: Gate>(
+    rt: &R,
+    alloc: Global,
+    run: &Mutex<Run<'p, J>>,
+    gate: &G,
+    worker: u8,
+    turns: u32,
+)
+    requires { worker < J.plan.workers }
+{
+    for _ in 0..turns {
+        gate.pass(worker);
+        let goes_on = lend(rt, run, |run| run.advance(rt, alloc, worker));
+        if !goes_on {
+            return;
+        }
+    }
+}
+
+// Starts the workers in a scope, whose end waits for them.
+fn start_all<'s, 'p, J: Job + Send, E, R: Threads + Wait + Sync + 's, G: Gate + Sync + 's>(
+    scope: &Scope<'s, E>,
+    rt: &'s R,
+    alloc: Global,
+    run: &'s Mutex<Run<'p, J>>,
+    plan: &Plan,
+    gate: &'s G,
+)
+    requires { plan.now ≡ J.plan }
+{
+    let turns = plan.turns();
+    for worker in 0..plan.workers() {
+        let child = scope.spawn(move || work(rt, alloc, run, gate, worker, turns));
+        if child.is_err() {
+            lend(rt, run, |run| run.refuse(worker));
+        }
+    }
+}
+
+// All turns of all workers, each in a thread of its own.
+fn run_threads<'p, J: Job + Send, R: Threads + Wait + Sync, G: Gate + Sync>(
+    rt: &R,
+    alloc: Global,
+    run: &Mutex<Run<'p, J>>,
+    plan: &Plan,
+    gate: &G,
+)
+    requires { plan.now ≡ J.plan }
+{
+    thread::scope(
+        thread::scope_env(),
+        rt,
+        |scope|
+            requires { plan.now ≡ J.plan }
+        { start_all(scope, rt, alloc, run, plan, gate) },
+    );
+}
+
+// The choosers of a plan before any turn, and as many counts of turns, by worker number.
+fn seats<'p>(alloc: Global, plan: &'p Plan) -> Result<(Vec<Chooser<'p>>, Vec<u32>), NoMemory>
+    ensures choosers { IfOk result (λ x. x.0.items
+        ≡ map (first_chooser plan.now) (below plan.now.workers)) }
+    ensures taken { IfOk result (λ x. x.1.items ≡ replicate plan.now.workers 0) }
+{
+    let many = usize::from(plan.workers());
+    let mut choosers = Vec::with_capacity(alloc, many)?;
+    for worker in 0..plan.workers() {
+        choosers.push_reserved(Chooser::new(plan, worker));
+    }
+    let taken = vec![in alloc; 0; many]?;
+    Ok((choosers, taken))
+}
+
+// A run of this plan on this board, both of which the type knows.
+fn run_job<'p, J: Job + Send, R: Threads + Wait + Sync, G: Gate + Sync>(
+    rt: &R,
+    alloc: Global,
+    board: Board,
+    plan: &'p Plan,
+    gate: &G,
+) -> (Board, Result<(), BoardFault>)
+    requires first { board ≡ J.first }
+    requires plan { plan.now ≡ J.plan }
+    ensures ran { OnOk result.1 (HasRun J.plan J.first result.0) }
+    ensures fault { IfErr result.1 (IsRunFault plan.now.turns) }
+{
+    let Ok((choosers, taken)) = seats(alloc, plan) else {
+        return (board, Err(BoardFault::NoMemory));
+    };
+    let run = Mutex::new(Run::<J>::new(board, choosers, taken, plan.turns()));
+    run_threads(rt, alloc, &run, plan, gate);
+    run.into_inner().into_board()
+}
+
+/// Lets each worker of the plan take all of its turns on a board, each in a thread of its own, and
+/// gives the board back.
+///
+/// A turn passes the gate, takes a lock that is the run's own, and makes one
+/// [`worker_turn`](crate::worker_turn) with the worker's chooser. Worker 0 also shows the longest history after each 64th
+/// turn of its own, under the same taking of the lock. With `Ok` the board is the one that these turns and no others
+/// bring about, in the order in which the workers got the lock.
+///
+/// A worker ends at its first fault, and all others go on. `NoMemory` comes first, where there is no
+/// memory to start with, and then the fault of the worker of least number that has one: `NoMemory`,
+/// `NoWorker` where its thread could not be started, or, of worker 0 and from its 64th turn on,
+/// `ShowRefused`.
+pub fn run_plan<R: Threads + Wait + Sync, G: Gate + Sync>(
+    rt: &R,
+    alloc: Global,
+    board: Board,
+    plan: &Plan,
+    gate: &G,
+) -> (Board, Result<(), BoardFault>)
+    ensures ran { OnOk result.1 (HasRun plan.now board result.0) }
+    ensures fault { IfErr result.1 (IsRunFault plan.now.turns) }
+{
+    run_job::<Brand, R, G>(rt, alloc, board, plan, gate)
+}
