@@ -8,8 +8,9 @@ use Rattle.mencius_choices.specs.Plans.{PlanState}
 use Rattle.mencius_board.specs.Running.{Answers, EndState, HasEnded, IsEndOf}
 
 pub ended : {T : Type 0} (o : Option (PromisedHandle T ProgressOf)) (plan : PlanState) (worker : ℕ) (end : EndState)
-    → Answers plan.seed plan.turns worker o
-    → MatchOption o (end ≡ Err NoWorker) (λ h. HasEnded h.promise.seed h.promise.worker h.promise.turns end)
+    → Answers plan worker o
+    → MatchOption o (end ≡ Err NoWorker) (λ h. HasEnded h.promise.plan.now h.promise.worker end)
     → IsEndOf plan worker end
 ended None plan worker end a e = inr e
-ended (Some h) plan worker end a e = inl (subst (λ (x : ProgressOf). HasEnded x.seed x.worker x.turns end) a e)
+ended (Some h) plan worker end a e =
+    inl (subst (λ n. HasEnded plan n end) a.1 (subst (λ x. HasEnded x h.promise.worker end) a.0 e))

@@ -3,10 +3,10 @@ use Rattle.std.specs.Prelude.{MatchResult, IfOk, IfErr}
 use Rattle.std.proofs.Common.{◌≡◌, ℕ, suc, ◌+◌, ◌<◌, List, [], ◌∷◌, ◌++◌, Result, Ok, Err, length, get_or}
 use Rattle.std.proofs.Common.{length-append, refl, sym, ◌∙◌, subst, inl, inr, arith, add-zero, zero-add}
 use Rattle.mencius_board.specs.declared.fault.BoardFault.{BoardFault}
-use Rattle.mencius_choices.specs.Choices.{ChooserState, HasTurned, ProgressState, chooser_at, drawing_after}
+use Rattle.mencius_choices.specs.Choices.{ChooserState, HasTurned, ProgressState, chooser_at, first_chooser}
 use Rattle.mencius_board.specs.Faults.{IsRunFault}
 use Rattle.mencius_choices.specs.Plans.{PlanState}
-use Rattle.mencius_board.specs.Running.{EndState, HaveEnded, HaveTurned, IsEndOf, settled, settled_behind}
+use Rattle.mencius_board.specs.Running.{EndState, HaveEnded, HaveTurned, IsEndOf, TakesTurns, settled, settled_behind}
 use Rattle.mencius_board.proofs.ListSteps.{more_of}
 
 -- each end, by its place behind n that came before
@@ -14,7 +14,8 @@ abbrev EndFrom : PlanState → ℕ → List EndState → Type 0
 EndFrom plan n ends = (m : ℕ) (d : EndState) → m < length ends → IsEndOf plan (n + m) (get_or ends m d)
 
 abbrev Turned : PlanState → ℕ → ChooserState → Type 0
-Turned plan seat chooser = HasTurned chooser plan seat plan.turns
+Turned plan seat chooser =
+    HasTurned chooser plan seat plan.turns × TakesTurns seat plan.turns (first_chooser plan seat) chooser
 
 end_first : (plan : PlanState) (n : ℕ) (end : EndState) (rest : List EndState) → EndFrom plan n (end ∷ rest)
     → IsEndOf plan n end
@@ -26,10 +27,10 @@ end_rest plan n m end rest e h l d below =
     let at : n + suc l ≡ m + l = omega (arith, e) in
     subst (λ (o : ℕ). IsEndOf plan o (get_or rest l d)) at (h (suc l) d (omega arith))
 
-has_drawn : (plan : PlanState) (seat : ℕ) (d : ProgressState) → IsEndOf plan seat (Ok d)
-    → d.drawing ≡ drawing_after plan.seed seat plan.turns
-has_drawn plan seat d (inl h) = h
-has_drawn plan seat d (inr e) = absurd (cc)
+has_turned : (plan : PlanState) (seat : ℕ) (d : ProgressState) → IsEndOf plan seat (Ok d)
+    → Turned plan seat (chooser_at plan d)
+has_turned plan seat d (inl h) = (record { plan = refl; drawing = h.0 }, h.1)
+has_turned plan seat d (inr e) = absurd (cc)
 
 run_fault : (plan : PlanState) (seat : ℕ) (f : BoardFault) → IsEndOf plan seat (Err f) → IsRunFault plan.turns f
 run_fault plan seat f (inl (inl memory)) = inl memory
@@ -59,9 +60,8 @@ settled_turned plan done (Err g ∷ rest) x e h turned = absurd (cc)
 settled_turned plan done (Ok d ∷ rest) x e h turned =
     let more : List ChooserState = done ++ chooser_at plan d ∷ [] in
     let one : length more ≡ length done + 1 = length-append done (chooser_at plan d ∷ []) in
-    let drawing : d.drawing ≡ drawing_after plan.seed (length done) plan.turns =
-    has_drawn plan (length done) d (end_first plan (length done) (Ok d) rest h) in
-    let is : Turned plan (length done) (chooser_at plan d) = record { plan = refl; drawing = drawing } in
+    let is : Turned plan (length done) (chooser_at plan d) =
+    has_turned plan (length done) d (end_first plan (length done) (Ok d) rest h) in
     let all = settled_turned plan more rest x e (end_rest plan (length done) (length more) (Ok d) rest one h)
     (λ m y below. more_of (Turned plan) m done (chooser_at plan d) y turned is (omega (arith, below, one))) in
     (omega (arith, all.0, one), all.1)

@@ -1,11 +1,12 @@
 -- What follows from a worker's turn.
 use Rattle.std.specs.Prelude.{IfErr}
-use Rattle.std.proofs.Common.{◌≡◌, Bool, true, false, Result, Ok, Err, refl, ap, subst, inl, inr}
+use Rattle.std.proofs.Common.{◌≡◌, ℕ, ◌+◌, Bool, true, false, Result, Ok, Err, refl, ap, sym, subst, inl, inr, add-one}
 use Rattle.mencius_board.specs.declared.fault.BoardFault.{BoardFault}
 use Rattle.mencius_board.specs.Boards.{BoardState}
 use Rattle.mencius_choices.specs.Choices.{ChooserState}
 use Rattle.mencius_board.specs.Faults.{IsShowFault, IsTurnFault}
-use Rattle.mencius_board.specs.Turns.{EndsTurn, HasNoMemory, IsAfterTurn, TakesTurn}
+use Rattle.mencius_board.specs.Running.{TakesTurns}
+use Rattle.mencius_board.specs.Turns.{EndsTurn, HasNoMemory, IsAfterTurn, TakesTurn, is_to_show}
 
 turned_fault : (old new : ChooserState) (before after : BoardState) (shows : Bool)
     (turned : Result (Unit {0}) BoardFault)
@@ -45,3 +46,18 @@ pub turn_plan : (old new : ChooserState) (before after : BoardState) (answer : R
     → EndsTurn old new before after answer → new.plan ≡ old.plan
 turn_plan old new before after (Ok _) h = h.chosen.plan
 turn_plan old new before after (Err f) h = refused_plan old new before h.2
+
+-- one turn more of a worker
+pub one_more : (worker n : ℕ) (first chooser last : ChooserState) (before after : BoardState) (shows : Bool)
+    (answer : Result (Unit {0}) BoardFault)
+    → TakesTurns worker n first chooser → TakesTurn chooser last before after shows answer
+    → shows ≡ is_to_show worker n → answer ≡ Ok tt → TakesTurns worker (n + 1) first last
+one_more worker n first chooser last before after shows answer were turn is well =
+    subst (λ m. TakesTurns worker m first last) (sym (add-one n)) (
+      chooser,
+      were,
+      before,
+      after,
+      subst (λ r. TakesTurn chooser last before after (is_to_show worker n) r) well
+          (subst (λ b. TakesTurn chooser last before after b answer) is turn),
+    )

@@ -1,31 +1,42 @@
 -- Which worker a running thread is, and how workers end.
-use Rattle.std.specs.Prelude.{ℕ, ◌≡◌, ◌<◌, ◌⊎◌, List, [], ◌∷◌, ◌++◌, slice_index_or, Option, Some, None, Result, Ok}
+use Rattle.std.specs.Prelude.{ℕ, zero, suc, ◌≡◌, ◌<◌, ◌⊎◌, List, [], ◌∷◌, ◌++◌, slice_index_or, Option, Some, None, Result, Ok}
 use Rattle.std.specs.Prelude.{Err}
 use Rattle.core.specs.declared.thread.PromisedHandle.{PromisedHandle}
 use Rattle.mencius_board.specs.declared.fault.BoardFault.{BoardFault}
 use Rattle.mencius_board.specs.declared.fault.BoardFault.TheVariants.{NoWorker}
 use Rattle.mencius_board.specs.declared.workers.ProgressOf.{ProgressOf}
+use Rattle.mencius_board.specs.Boards.{BoardState}
 use Rattle.mencius_board.specs.Faults.{IsWorkerFault}
+use Rattle.mencius_board.specs.Turns.{TakesTurn, is_to_show}
 use Rattle.mencius_choices.specs.Plans.{PlanState}
-use Rattle.mencius_choices.specs.Choices.{ChooserState, HasTurned, ProgressState, chooser_at, drawing_after}
+use Rattle.mencius_choices.specs.Choices.{ChooserState, HasTurned, ProgressState, chooser_at, drawing_after, first_chooser}
 
 -- how a worker ended
 abbrev pub EndState : Type 0
 EndState = Result ProgressState BoardFault
 
--- the thread, if there is one, is to answer how this worker ended
-abbrev pub Answers : {T : Type 0} → ℕ → ℕ → ℕ → Option (PromisedHandle T ProgressOf) → Type 0
-Answers seed turns worker None = Unit {0}
-Answers seed turns worker (Some h) = h.promise ≡ record { seed = seed; worker = worker; turns = turns }
+-- the thread, if there is one, is to answer how this worker of the plan ended
+abbrev pub Answers : {T : Type 0} → PlanState → ℕ → Option (PromisedHandle T ProgressOf) → Type 0
+Answers plan worker None = Unit {0}
+Answers plan worker (Some h) = (h.promise.plan.now ≡ plan) × (h.promise.worker ≡ worker)
 
--- a worker that took turns drew three words in each of them, or ended at a fault that its turns may have
-abbrev pub HasEnded : ℕ → ℕ → ℕ → EndState → Type 0
-HasEnded seed worker turns (Ok d) = d.drawing ≡ drawing_after seed worker turns
-HasEnded seed worker turns (Err f) = IsWorkerFault worker turns f
+-- so many turns of a worker, one after the other, each on a board as it found it, and what is shown after them
+abbrev pub TakesTurns : ℕ → ℕ → ChooserState → ChooserState → Type 0
+TakesTurns worker zero first last = last ≡ first
+TakesTurns worker (suc n) first last =
+    (chooser : ChooserState) × TakesTurns worker n first chooser
+    × (before : BoardState) × (after : BoardState) × TakesTurn chooser last before after (is_to_show worker n) (Ok tt)
+
+-- a worker took all turns of its plan, and drew three words in each, or ended at a fault that its turns may have
+abbrev pub HasEnded : PlanState → ℕ → EndState → Type 0
+HasEnded plan worker (Ok d) =
+    (d.drawing ≡ drawing_after plan.seed worker plan.turns)
+    × TakesTurns worker plan.turns (first_chooser plan worker) (chooser_at plan d)
+HasEnded plan worker (Err f) = IsWorkerFault worker plan.turns f
 
 -- this worker of a plan took its turns, or its thread could not be started
 abbrev pub IsEndOf : PlanState → ℕ → EndState → Type 0
-IsEndOf plan worker end = HasEnded plan.seed worker plan.turns end ⊎ (end ≡ Err NoWorker)
+IsEndOf plan worker end = HasEnded plan worker end ⊎ (end ≡ Err NoWorker)
 
 -- each of n workers ended so, by number
 abbrev pub HaveEnded : List EndState → PlanState → ℕ → Type 0
@@ -46,3 +57,4 @@ abbrev pub HaveTurned : List ChooserState → PlanState → Type 0
 HaveTurned xs plan =
     (worker : ℕ) (d : ChooserState) → worker < plan.workers
     → HasTurned (slice_index_or xs worker d) plan worker plan.turns
+    × TakesTurns worker plan.turns (first_chooser plan worker) (slice_index_or xs worker d)

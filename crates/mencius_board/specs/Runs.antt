@@ -5,8 +5,8 @@ use Rattle.mencius_choices.specs.Choices.{ChooserState, first_chooser}
 use Rattle.mencius_choices.specs.Plans.{PlanState, plan_of}
 use Rattle.mencius_board.specs.Boards.{BoardState, new_board}
 use Rattle.mencius_board.specs.declared.fault.BoardFault.{BoardFault}
-use Rattle.mencius_board.specs.Faults.{IsRunFault, turns_a_show}
-use Rattle.mencius_board.specs.Turns.{TakesTurn}
+use Rattle.mencius_board.specs.Faults.{IsRunFault}
+use Rattle.mencius_board.specs.Turns.{TakesTurn, is_to_show}
 
 -- a board, and the choices of each worker by its number
 pub record RunState : Type 0 where
@@ -21,10 +21,6 @@ first_run plan board = record { board = board; choosers = map (first_chooser pla
 abbrev pub turns_of : ℕ → List ℕ → ℕ
 turns_of worker [] = 0
 turns_of worker (other ∷ order) = (if other == worker then 1 else 0) + turns_of worker order
-
--- whether a worker that took so many turns shows after the next one
-abbrev pub is_to_show : ℕ → ℕ → Bool
-is_to_show worker taken = (worker == 0) && ((taken + 1) % turns_a_show == 0)
 
 -- a worker that took so many turns takes the next one; the choices of the others stay
 pub record Advances (worker taken : ℕ) (old new : RunState) : Type 0 where

@@ -1,5 +1,5 @@
 -- What a worker's turn does.
-use Rattle.std.specs.Prelude.{◌≡◌, ◌≢◌, ◌⊎◌, [], Bool, true, false, Result, Ok, Err}
+use Rattle.std.specs.Prelude.{◌≡◌, ◌≢◌, ◌⊎◌, [], Bool, true, false, ℕ, ◌+◌, ◌%◌, ◌==◌, ◌&&◌, Result, Ok, Err}
 use Rattle.mencius_base.specs.declared.event.Event.{Event}
 use Rattle.mencius_base.specs.declared.refusal.Refusal.{Refusal}
 use Rattle.mencius_base.specs.declared.refusal.Refusal.TheVariants.{NoMemory}
@@ -8,7 +8,7 @@ use Rattle.mencius_cluster.specs.State.{IsRefusal, IsStepped}
 use Rattle.mencius_board.specs.declared.fault.BoardFault.{BoardFault}
 use Rattle.mencius_board.specs.declared.fault.BoardFault.TheVariants.{NoMemory as No_memory}
 use Rattle.mencius_board.specs.Boards.{BoardState, longest}
-use Rattle.mencius_board.specs.Faults.{IsShowFault}
+use Rattle.mencius_board.specs.Faults.{IsShowFault, turns_a_show}
 use Rattle.mencius_choices.specs.Choices.{ChooserState, IsChosen, IsPutOff}
 
 -- the cluster accepted the event, and the rest of the board stayed
@@ -60,3 +60,7 @@ pub record TakesTurn (old new : ChooserState) (before after : BoardState) (shows
   pub turned : Result (Unit {0}) BoardFault
   pub turn : EndsTurn old new before board turned
   pub then_is : IsAfterTurn shows board after turned answer
+
+-- whether a worker that took so many turns shows after the next one
+abbrev pub is_to_show : ℕ → ℕ → Bool
+is_to_show worker taken = (worker == 0) && ((taken + 1) % turns_a_show == 0)

@@ -1,16 +1,16 @@
 //! A run: all turns of a plan's workers on one board, each worker in a thread of its own.
-ghost use Rattle.std.specs.Prelude.{◌≡◌, ◌≢◌, ◌⊎◌, ◌<◌, ◌+◌, ◌^◌, ◌==◌, map, replicate, IfErr, IfOk, IfSome, None, OnOk};
+ghost use Rattle.std.specs.Prelude.{◌≡◌, ◌≢◌, ◌⊎◌, ◌<◌, ◌==◌, map, replicate, IfErr, IfOk, IfSome, None, OnOk};
 ghost use Rattle.std.specs.List.{list_all};
 ghost use Rattle.mencius_base.specs.Members.{below};
 ghost use Rattle.mencius_board.specs.Boards.{BoardState};
 ghost use Rattle.mencius_board.specs.Faults.{IsRunFault};
-ghost use Rattle.mencius_board.specs.Runs.{HasRun, is_to_show};
+ghost use Rattle.mencius_board.specs.Runs.{HasRun};
 ghost use Rattle.mencius_choices.specs.Choices.{first_chooser};
 ghost use Rattle.mencius_choices.specs.Plans.{PlanState};
 
 use crate::board::Board;
 use crate::fault::BoardFault;
-use crate::workers::{Gate, TURNS_A_SHOW, lend, take_turn};
+use crate::workers::{Gate, is_to_show, lend, take_turn};
 use mencius_base::NoMemory;
 use mencius_choices::{Chooser, Plan};
 use std::alloc::Global;
@@ -144,14 +144,6 @@ fn least_of(
         Some((least, _)) if least < worker => found,
         _ => Some((worker, fault)),
     }
-}
-
-// Whether a worker that took so many turns shows after the next one.
-fn is_to_show(worker: u8, taken: u32) -> bool
-    requires { taken + 1 < 2 ^ 32 }
-    ensures { result ≡ is_to_show worker taken }
-{
-    worker == 0 && (taken + 1) % TURNS_A_SHOW == 0
 }
 
 // Whether each of these counts is this one.

@@ -1,8 +1,8 @@
 //! Workers that step one board in threads of their own.
-ghost use Rattle.std.specs.Prelude.{◌≡◌, ◌<◌, ◌≤◌, ℕ, Err, IfErr, IfOk, MatchOption, MatchResult, vec_len, vec_capacity, slice_index_or};
+ghost use Rattle.std.specs.Prelude.{◌≡◌, ◌<◌, ◌≤◌, ◌+◌, ◌^◌, ℕ, Err, IfErr, IfOk, MatchOption, MatchResult, vec_len, vec_capacity, slice_index_or};
 ghost use Rattle.std.specs.Fn.{FnOnceReturnsAtMut};
-ghost use Rattle.mencius_choices.specs.Choices.{drawn};
-ghost use Rattle.mencius_board.specs.Turns.{EndsTurn, IsAfterTurn, TakesTurn};
+ghost use Rattle.mencius_choices.specs.Choices.{chooser_at, drawn};
+ghost use Rattle.mencius_board.specs.Turns.{EndsTurn, IsAfterTurn, TakesTurn, is_to_show};
 ghost use Rattle.mencius_board.specs.Faults.{IsRunFault, IsTurnFault};
 ghost use Rattle.mencius_board.specs.Running.{Answers, HasEnded, HaveEnded, HaveTurned, settled};
 ghost use Rattle.mencius_board.specs.declared.fault.BoardFault.TheVariants.{NoWorker};
@@ -66,7 +66,7 @@ pub fn lend<B, X, R: Wait, F: FnOnce(&mut B) -> X>(rt: &R, lock: &Mutex<B>, f: F
 }
 
 /// Worker 0 shows the longest history after each so many of its turns.
-pub(crate) const TURNS_A_SHOW: u32 = 64;
+const TURNS_A_SHOW: u32 = 64;
 
 // How a worker ended.
 type Ended = Result<Progress, BoardFault>;
@@ -81,17 +81,19 @@ fn work<R: Wait, G: Gate>(
     worker: u8,
 ) -> Ended
     requires { worker < plan.now.workers }
-    ensures { HasEnded plan.now.seed worker plan.now.turns result }
+    ensures { HasEnded plan.now worker result }
 {
     let mut progress = Chooser::new(plan, worker).into_progress();
     for turn in 0..plan.turns() {
         gate.pass(worker);
-        let shows = worker == 0 && turn % TURNS_A_SHOW == TURNS_A_SHOW - 1;
+        let shows = is_to_show(worker, turn);
         let (next, answer) = lend(
             rt,
             board,
             |board| -> (Progress, Result<(), BoardFault>)
-                ensures { (result.0.drawing ≡ drawn progress.drawing)
+                ensures { TakesTurn (chooser_at plan.entry.now progress)
+                    (chooser_at plan.entry.now result.0) board.old board.new shows result.1
+                    × (result.0.drawing ≡ drawn progress.drawing)
                     × IfErr result.1 (IsTurnFault shows) }
             { go_on(rt, alloc, board, plan, progress, shows) },
         );
@@ -110,6 +112,8 @@ fn go_on<R: Wait>(
     progress: Progress,
     shows: bool,
 ) -> (Progress, Result<(), BoardFault>)
+    ensures turn { TakesTurn (chooser_at plan.now progress) (chooser_at plan.now result.0)
+        board.old board.new shows result.1 }
     ensures drawn { result.0.drawing ≡ drawn progress.drawing }
     ensures fault { IfErr result.1 (IsTurnFault shows) }
 {
@@ -134,6 +138,14 @@ pub(crate) fn take_turn<R: Wait>(
     show_after(rt, alloc, board, turned, shows)
 }
 
+/// Whether a worker that took so many turns shows after the next one.
+pub(crate) fn is_to_show(worker: u8, taken: u32) -> bool
+    requires { taken + 1 < 2 ^ 32 }
+    ensures { result ≡ is_to_show worker taken }
+{
+    worker == 0 && (taken + 1) % TURNS_A_SHOW == 0
+}
+
 // Shows the longest history where it is to be shown and the turn ended well.
 fn show_after<R: Wait>(
     rt: &R,
@@ -154,20 +166,19 @@ fn show_after<R: Wait>(
 
 // What a worker's thread is to answer.
 #[derive(Clone, Copy)]
-struct ProgressOf {
-    seed: u64,
+struct ProgressOf<'p> {
+    plan: &'p Plan,
     worker: u8,
-    turns: u32,
 }
 
-impl Promise<Result<Progress, BoardFault>> for ProgressOf {
+impl<'p> Promise<Result<Progress, BoardFault>> for ProgressOf<'p> {
     ghost use Rattle.mencius_board.specs.Running.{HasEnded};
 
-    ghost kept_by = { λ x r. HasEnded x.seed x.worker x.turns r };
+    ghost kept_by = { λ x r. HasEnded x.plan.now x.worker r };
 }
 
 // A worker's thread, if it could be started.
-type Running = Option<PromisedHandle<Result<Progress, BoardFault>, ProgressOf>>;
+type Running<'p> = Option<PromisedHandle<Result<Progress, BoardFault>, ProgressOf<'p>>>;
 
 /// What joining a worker's thread gives, if there is one.
 pub(crate) fn join_started<T, P: Promise<Result<T, BoardFault>>, R: Threads>(
@@ -183,18 +194,18 @@ pub(crate) fn join_started<T, P: Promise<Result<T, BoardFault>>, R: Threads>(
 }
 
 // Joins each worker, and gives how it ended, by worker number.
-fn gather<R: Threads>(
+fn gather<'p, R: Threads>(
     rt: &R,
     mut ends: Vec<Ended>,
-    running: Vec<Running>,
-    plan: &Plan,
+    running: Vec<Running<'p>>,
+    plan: &'p Plan,
 ) -> Vec<Ended>
     requires empty { vec_len ends ≡ 0 }
     requires room { vec_len running ≤ vec_capacity ends }
     requires each { (n : ℕ) (d : _) → n < vec_len running
-        → Answers plan.now.seed plan.now.turns n (slice_index_or running.items n d) }
-    ensures len { vec_len result ≡ vec_len running }
-    ensures each { HaveEnded result.items plan.now (vec_len running) }
+        → Answers plan.now n (slice_index_or running.items n d) }
+    ensures len { vec_len result ≡ vec_len running.entry }
+    ensures each { HaveEnded result.items plan.now (vec_len running.entry) }
 {
     for child in running {
         let end = join_started(rt, child);
@@ -219,11 +230,7 @@ fn start_all<'s, E, R: Threads + Wait + Sync + 's, G: Gate + Sync + 's>(
     let ends = Vec::with_capacity(alloc, many)?;
     let mut running = Vec::with_capacity(alloc, many)?;
     for worker in 0..plan.workers() {
-        let promise = ProgressOf {
-            seed: plan.seed(),
-            worker,
-            turns: plan.turns(),
-        };
+        let promise = ProgressOf { plan, worker };
         let child = scope.spawn_with(promise, move || work(rt, alloc, board, plan, gate, worker));
         running.push_reserved(child.ok());
     }

@@ -9,5 +9,5 @@ invariant-loop-child g l =
     (done + into_iter_len rest ≡ vec_len l.fn.running)
     × (vec_len l.fn.running ≤ vec_capacity l.ends)
     × ((n : ℕ) (d : _) → n < into_iter_len rest
-    → Answers l.plan.seed l.plan.turns (done + n) (get_or (into_iter_items rest) n d))
+    → Answers l.plan (done + n) (get_or (into_iter_items rest) n d))
     × HaveEnded (vec_items l.ends) l.plan done

@@ -1,5 +1,5 @@
 use Rattle.std.proofs.Common.{◌≡◌, ◌<◌, ◌∙◌, ap, subst, sym, ℕ}
-use Rattle.mencius_board.specs.Runs.{is_to_show}
+use Rattle.mencius_board.specs.Turns.{is_to_show}
 use Rattle.mencius_board.proofs.RunSteps.{goes_on, stops}
 use Rattle.mencius_board.proofs.running.Run.advance.Goals as goal
 
