@@ -15,7 +15,7 @@ use Rattle.mencius_choices.specs.Plans.{PlanState}
 use Rattle.mencius_board.specs.declared.fault.BoardFault.{BoardFault}
 use Rattle.mencius_board.specs.Boards.{BoardState}
 use Rattle.mencius_board.specs.Faults.{IsRunFault, IsTurnFault}
-use Rattle.mencius_board.specs.Runs.{Advances, ComesTo, HasRun, IsRun, IsUnderWay, first_run, turns_of}
+use Rattle.mencius_board.specs.Runs.{HasRun, IsRun, IsUnderWay, turns_of}
 use Rattle.mencius_board.specs.Turns.{TakesTurn, is_to_show}
 
 zeros : (n i : ℕ) → get_or (replicate n zero) i zero ≡ zero

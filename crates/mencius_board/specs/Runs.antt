@@ -1,5 +1,5 @@
 -- Workers that take turns on one board, and what a board comes to by all turns of a plan.
-use Rattle.std.specs.Prelude.{ℕ, ◌≡◌, ◌<◌, ◌+◌, ◌%◌, ◌==◌, ◌&&◌, Bool, List, [], ◌∷◌, map, set, get_or, slice_get, Option, Some, None, Ok, IfSome, if◌then◌else◌, length}
+use Rattle.std.specs.Prelude.{ℕ, ◌≡◌, ◌<◌, ◌+◌, ◌==◌, List, [], ◌∷◌, map, set, get_or, slice_get, Option, Some, None, Ok, IfSome, if◌then◌else◌, length}
 use Rattle.mencius_base.specs.Members.{below}
 use Rattle.mencius_choices.specs.Choices.{ChooserState, first_chooser}
 use Rattle.mencius_choices.specs.Plans.{PlanState, plan_of}

@@ -1,5 +1,4 @@
-use Rattle.std.proofs.Common.{rules, ◌≡◌, ◌∙◌, ◌++◌, ◌∷◌, [], ap, sym, refl, arith}
-use Rattle.mencius_base.specs.Members.{below}
+use Rattle.std.proofs.Common.{rules, ◌∙◌, ◌++◌, ◌∷◌, [], ap}
 use Rattle.mencius_choices.specs.Choices.{first_chooser}
 use Rattle.mencius_board.proofs.RunSteps.{no_seat, one_seat}
 use Rattle.mencius_board.proofs.running.seats.Goals as goal

@@ -1,4 +1,3 @@
-use Rattle.std.proofs.Common.{◌≡◌}
 use Rattle.mencius_board.specs.Turns.{TakesTurn}
 use Rattle.mencius_board.proofs.WorkerTurns.{turn_fault}
 use Rattle.mencius_board.proofs.workers.take_turn.Goals as goal
