@@ -18,7 +18,7 @@ use Rattle.mencius_ends.specs.declared.fault.AppFault.TheVariants.{BadLimit, Bad
 use Rattle.mencius_input.specs.declared.field.Field.{Field}
 use Rattle.mencius_input.specs.declared.kind.Kind.{Kind}
 use Rattle.mencius_input.specs.declared.kind.Kind.TheVariants.{Replay, Run}
-use Rattle.mencius_input.specs.declared.places.Place.TheVariants.{Number, Huge, Lists}
+use Rattle.mencius_input.specs.declared.places.Place.TheVariants.{Number, GreatNumber, Lists}
 use Rattle.mencius_input.specs.FieldsOf.{field_name, field_within, is_whole}
 use Rattle.mencius_input.specs.Grammar.{newest_version, takes_cas}
 use Rattle.mencius_input.specs.Judged.{judged}
@@ -127,7 +127,7 @@ lack_known L A B None f all = f all
 -- a field that is no whole number
 pub not_whole_at : (kind : Kind) (fault : AppFault) (d value : Data) (field : Field) (found : Option Place)
     → is_whole kind field ≡ true → get (field_name field) d ≡ Some value → whole_in value ≡ None
-    → IfSome found (λ x. (fault ≡ BadShape) × ((x ≡ Number field) ⊎ ((x ≡ Huge field) × IsOtherNumber value)))
+    → IfSome found (λ x. (fault ≡ BadShape) × ((x ≡ Number field) ⊎ ((x ≡ GreatNumber field) × IsOtherNumber value)))
     → IfSome found (λ x. IsAt kind fault d x)
 not_whole_at kind fault d value field None whole there none h = tt
 not_whole_at kind fault d value field (Some x) whole there none (shape, inl is) =

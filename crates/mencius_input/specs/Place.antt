@@ -94,7 +94,7 @@ IsAt kind fault d (place.Missing field) =
 IsAt kind fault d (place.Number field) =
     (is_whole kind field ≡ true) × (value : Data) × (get (field_name field) d ≡ Some value)
     × (judged (field_within field) (whole_in value) ≡ Err fault)
-IsAt kind fault d (place.Huge field) =
+IsAt kind fault d (place.GreatNumber field) =
     (is_whole kind field ≡ true) × (value : Data) × (get (field_name field) d ≡ Some value) × (fault ≡ BadShape) × IsOtherNumber value
 IsAt kind fault d (place.NoList field) =
     (field ≡ list_field kind) × (value : Data) × (get (field_name field) d ≡ Some value) × (fault ≡ BadShape) × (as_array value ≡ None)
@@ -157,7 +157,7 @@ IsToldBy kind fault place.Whole words = words ≡ codes "the text is no JSON obj
 IsToldBy kind fault (place.Unknown name) words = words ≡ shown_text (string_bytes name) ++ unknown_words kind
 IsToldBy kind fault (place.Missing field) words = words ≡ field_words field (codes "missing")
 IsToldBy kind fault (place.Number field) words = words ≡ field_words field (number_words fault field)
-IsToldBy kind fault (place.Huge field) words = words ≡ field_words field (limit_words field)
+IsToldBy kind fault (place.GreatNumber field) words = words ≡ field_words field (limit_words field)
 IsToldBy kind fault (place.NoList field) words = words ≡ field_words field (codes "no list")
 IsToldBy kind fault (place.Event index version text) words =
     (said : List ℕ) × (words ≡ codes "event " ++ decimal index ++ 32 ∷ said) × IsItemTold (option_map string_bytes text) said

@@ -153,7 +153,7 @@ fn wrong_place(
         Place::Unknown { name } => of_unknown(alloc, kind, name.as_str()),
         Place::Missing { field } => of_field(alloc, *field, "missing"),
         Place::Number { field } => of_field(alloc, *field, number_words(*field, fault)),
-        Place::Huge { field } => of_field(alloc, *field, limit_words(*field)),
+        Place::GreatNumber { field } => of_field(alloc, *field, limit_words(*field)),
         Place::NoList { field } => of_field(alloc, *field, "no list"),
         Place::Event {
             index,

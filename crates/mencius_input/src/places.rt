@@ -44,7 +44,7 @@ pub enum Place {
         field: Field,
     },
     /// A field that is a number too great to be read as a whole one.
-    Huge {
+    GreatNumber {
         field: Field,
     },
     /// A field that is no list.
@@ -344,7 +344,7 @@ fn place_in_list_field(
 
 // Whether a value is a number too great to be read as a whole one. The numbers between 2 to the 64th
 // and the float before it are read as that power.
-fn is_huge(value: &Value) -> bool
+fn is_great(value: &Value) -> bool
     ensures { IsTrue result → IsOtherNumber (view value.now) }
 {
     match value.as_number() {
@@ -359,13 +359,13 @@ fn is_huge(value: &Value) -> bool
 // The place in a field that is no whole number.
 fn not_whole(field: Field, value: &Value, fault: AppFault) -> Option<Place>
     ensures { IfSome result (λ x. (fault ≡ AppFault.BadShape) × ((x ≡ Place.Number field)
-        ⊎ ((x ≡ Place.Huge field) × IsOtherNumber (view value.now)))) }
+        ⊎ ((x ≡ Place.GreatNumber field) × IsOtherNumber (view value.now)))) }
 {
     if fault != AppFault::BadShape {
         return None;
     }
-    if is_huge(value) {
-        Some(Place::Huge { field })
+    if is_great(value) {
+        Some(Place::GreatNumber { field })
     } else {
         Some(Place::Number { field })
     }
