@@ -1,14 +1,15 @@
 -- Why a task ended at a fault.
-use Rattle.std.proofs.Common.{◌≡◌, ℕ, Bool, false, List, Option, Some, None, IfSome, IfErr, Result, Ok, Err, String, Global, refl, sym, subst}
+use Rattle.std.proofs.Common.{◌≡◌, inr, ℕ, Bool, false, List, [], Option, Some, None, IfSome, IfErr, Result, Ok, Err, String, Global, refl, sym, subst}
+use Rattle.clap.specs.Words.{Text}
 use Rattle.mencius_ends.specs.declared.fault.AppFault.{AppFault}
 use Rattle.mencius_input.specs.Scenario.{members_of}
 use Rattle.mencius_app.specs.Calls.{IsCause}
 use Rattle.mencius_app.specs.Replay.{IsReplayOf, accepts_all}
 use Rattle.mencius_app.specs.Run.{IsRunOf}
-use Rattle.mencius_app.specs.Ending.{IsTextOf, ending_of, ending_of_check, ending_with, fault_in, tells_of_refusals}
-use Rattle.mencius_app.specs.declared.checking.Finding.{Finding}
+use Rattle.mencius_app.specs.Ending.{IsAskedFor, IsFaultFor, IsInputFaultOf, IsTextOf, ending_at, ending_of, ending_with, fault_in, tells_of_refusals}
+use Rattle.mencius_app.specs.declared.finding.Finding.{Finding}
 use Rattle.mencius_app.specs.declared.ending.Ending.{Ending}
-use Rattle.mencius_command_line.specs.CommandLine.{asked_replay, asked_run}
+use Rattle.mencius_command_line.specs.CommandLine.{Asked, asked, asked_replay, asked_run, faults, line_of}
 
 -- where its text is also one of another kind
 pub as_text : {F : AppFault → Type 0} {P Q : List ℕ → Type 0} {reads reads_now writes writes_now : ℕ}
@@ -34,17 +35,32 @@ pub text_of_run : (known : Option (List ℕ)) (with_journal : Bool) (key there :
 text_of_run known with_journal key there text same is =
     (false, (subst (λ y. IsRunOf known with_journal y text) same is, refl))
 
--- what holds of the fault of a result holds of the fault of the ending that it makes
-pub of_result : {T : Type 0} (done : Result T AppFault) (ending : Ending) (P : AppFault → Type 0)
-    → ending ≡ ending_of done → IfErr done P → IfSome (fault_in ending) P
-of_result (Ok x) ending P e h = subst (λ d. IfSome (fault_in d) P) (sym e) tt
-of_result (Err fault) ending P e h = subst (λ d. IfSome (fault_in d) P) (sym e) h
-
--- so of a check
-pub of_check : {T : Type 0} (done : Result T Finding) (ending : Ending) (P : AppFault → Type 0)
-    → ending ≡ ending_of_check done → IfErr done (λ found. P found.fault) → IfSome (fault_in ending) P
-of_check (Ok x) ending P e h = subst (λ d. IfSome (fault_in d) P) (sym e) tt
-of_check (Err found) ending P e h = subst (λ d. IfSome (fault_in d) P) (sym e) (worded found.words) where
+-- what holds of the fault of a finding holds of the fault of the ending that it makes
+pub of_finding : (found : Finding) (ending : Ending) (P : AppFault → Type 0) → ending ≡ ending_at found
+    → P found.fault → IfSome (fault_in ending) P
+of_finding found ending P e h = subst (λ d. IfSome (fault_in d) P) (sym e) (worded found.words) where
   worded : (words : Option (String Global)) → IfSome (fault_in (ending_with found.fault words)) P
   worded (Some words) = h
   worded None = h
+
+-- and so of a result
+pub of_result : {T : Type 0} (done : Result T Finding) (ending : Ending) (P : AppFault → Type 0)
+    → ending ≡ ending_of done → IfErr done (λ found. P found.fault) → IfSome (fault_in ending) P
+of_result (Ok x) ending P e h = subst (λ d. IfSome (fault_in d) P) (sym e) tt
+of_result (Err found) ending P e h = of_finding found ending P e h
+
+-- what holds of a task holds of the arguments that ask for it
+pub of_task : (arguments : List Text) (task : Asked) (known : Option (List ℕ)) (reads reads_now writes writes_now : ℕ)
+    (old new : Option (List ℕ)) (fault : Option AppFault) → faults (line_of arguments) ≡ []
+    → task ≡ asked (line_of arguments)
+    → IfSome fault (IsCause (IsInputFaultOf task known) (IsTextOf task known) reads reads_now writes writes_now old new)
+    → IfSome fault (IsCause (IsFaultFor arguments known) (IsAskedFor arguments known) reads reads_now writes writes_now
+    old new)
+of_task arguments task known reads reads_now writes writes_now old new None none same h = tt
+of_task arguments task known reads reads_now writes writes_now old new (Some fault) none same h = record {
+  bad_input = λ bad. (none, subst (λ a. IsInputFaultOf a known fault) same (h.bad_input bad));
+  read_failed = h.read_failed;
+  write_failed = h.write_failed;
+  front = λ e. let was = h.front e in (was.0, inr (none, subst (λ a. IsTextOf a known was.0) same was.1), was.2);
+  nothing = h.nothing;
+}

@@ -16,7 +16,7 @@ use Rattle.mencius_input.specs.Scenario.{Written, json_of, members_of, or_not_js
 use Rattle.mencius_app.specs.Calls.{IsCause, IsReadingCause}
 use Rattle.mencius_app.specs.Input.{HasFault, IsBadInput, Says, input_of, unless_long}
 use Rattle.mencius_app.specs.Replay.{IsMadeOf}
-use Rattle.mencius_app.specs.declared.checking.Finding.{Finding}
+use Rattle.mencius_app.specs.declared.finding.Finding.{Finding}
 use Rattle.mencius_base.specs.declared.event.Event.{Event}
 use Rattle.mencius_app.specs.Run.{IsOwnFault}
 
@@ -79,9 +79,9 @@ no_memory fault bad e = other_bad fault NoMemory e (λ h. absurd (cc), λ h. abs
 -- ---- reading
 
 -- what holds of the fault holds of the result that hands it on
-pub at_err : {T : Type 0} (r : Result T AppFault) (fault : AppFault) (P : AppFault → Type 0)
-    → IsErrAnd r (λ e. e ≡ fault) → P fault → IfErr r P
-at_err r fault P is h = let failed = err_from_is_err_and r is in rw (failed.1, failed.2) h
+pub at_err : {T E : Type 0} (r : Result T E) (error : E) (P : E → Type 0) → IsErrAnd r (λ e. e ≡ error) → P error
+    → IfErr r P
+at_err r error P is h = let failed = err_from_is_err_and r is in rw (failed.1, failed.2) h
 
 -- memory ran out, or the board failed
 pub own_fault : {F : AppFault → Type 0} {reads reads_now : ℕ} {fault : AppFault} → IsOwnFault fault

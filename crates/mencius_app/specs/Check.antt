@@ -1,9 +1,7 @@
 -- The line of a check, and which input it is of.
-use Rattle.std.specs.Prelude.{ℕ, ◌≡◌, List, ◌++◌, codes, decimal, length, Option, IfSome}
+use Rattle.std.specs.Prelude.{ℕ, List, ◌++◌, codes, decimal, length, Option}
 use Rattle.mencius_base.specs.Members.{Membership}
 use Rattle.mencius_base.specs.declared.event.Event.{Event}
-use Rattle.mencius_ends.specs.declared.fault.AppFault.{AppFault}
-use Rattle.mencius_input.specs.Place.{IsTold}
 use Rattle.mencius_app.specs.Replay.{IsMadeOf}
 use Rattle.mencius_trace.specs.Words.{line_feed}
 
@@ -15,11 +13,3 @@ ok_line m es =
 -- the line of a scenario that is all that a reader has, so far as that is known
 abbrev pub IsCheckOf : Option (List ℕ) → List ℕ → Type 0
 IsCheckOf known text = IsMadeOf ok_line known text
-
--- the line says where these bytes have the fault
-abbrev pub AreWordsOf : AppFault → List ℕ → List ℕ → Type 0
-AreWordsOf fault bytes line = (said : List ℕ) × IsTold fault bytes said × (line ≡ said ++ line_feed)
-
--- the line says where all that a reader has, so far as that is known, has the fault
-abbrev pub AreWordsOfInput : Option (List ℕ) → AppFault → List ℕ → Type 0
-AreWordsOfInput known fault line = IfSome known (λ bytes. AreWordsOf fault bytes line)

@@ -1,21 +1,24 @@
 -- How a call of the program ends: its exit status, its line on standard error, and what was done before.
-use Rattle.std.specs.Prelude.{◌≡◌, ◌≢◌, ◌⊎◌, ◌&&◌, ℕ, Bool, true, false, not, List, [], ◌∷◌, ◌++◌, Option, Some, None, codes, decimal, String, string_bytes, Result, Ok, Err}
+use Rattle.std.specs.Prelude.{◌≡◌, ◌⊎◌, ◌&&◌, ℕ, Bool, true, false, not, List, [], ◌∷◌, ◌++◌, Option, Some, None, option_map, codes, decimal, String, string_bytes, Result, Ok, Err}
 use Rattle.std.specs.Global.{Global}
 use Rattle.std.specs.Io.KnownBytes.{Appends}
 use Rattle.clap.specs.Words.{IsAmong, Text}
 use Rattle.clap.specs.declared.error.kind.ErrorKind.{ErrorKind}
-use Rattle.clap.specs.declared.error.kind.ErrorKind.TheVariants as kind
 use Rattle.mencius_ends.specs.declared.fault.AppFault.{AppFault}
 use Rattle.mencius_command_line.specs.CommandLine.{Asked, are_texts, asked, asked_check, asked_replay, asked_run, asked_trace, faults, line_of}
+use Rattle.mencius_command_line.specs.Help.{shown_for}
 use Rattle.mencius_ends.specs.Fault.{fault_name, fault_number}
 use Rattle.mencius_ends.specs.Status.{status_of}
 use Rattle.mencius_app.specs.Input.{IsFaultOf, IsPlanFaultOf}
 use Rattle.mencius_app.specs.Replay.{IsJudgedReplayOf}
 use Rattle.mencius_trace.specs.Words.{line_feed}
-use Rattle.mencius_app.specs.Check.{AreWordsOfInput, IsCheckOf}
+use Rattle.mencius_app.specs.Check.{IsCheckOf}
+use Rattle.mencius_app.specs.Findings.{AreWordsOfInput}
 use Rattle.mencius_app.specs.Trace.{IsTraceOf}
 use Rattle.mencius_app.specs.Run.{IsRunOf}
-use Rattle.mencius_app.specs.declared.checking.Finding.{Finding}
+use Rattle.mencius_app.specs.declared.calling.RunOptions.{RunOptions}
+use Rattle.mencius_app.specs.declared.calling.TheConstants.{NOT_TEXT}
+use Rattle.mencius_app.specs.declared.finding.Finding.{Finding}
 use Rattle.mencius_app.specs.declared.ending.Ending.{Ending}
 use Rattle.mencius_app.specs.declared.ending.Ending.TheVariants.{Done, Refused, BadCommandLine, Failed, Explained}
 
@@ -49,20 +52,18 @@ lines_of_ending (Failed fault) = fault_line fault
 lines_of_ending (Explained fault words) = fault_line fault ++ string_bytes words
 lines_of_ending _ = []
 
--- how a call ends whose work came to this
-abbrev pub ending_of : {T : Type 0} → Result T AppFault → Ending
-ending_of (Ok done) = Done
-ending_of (Err fault) = Failed fault
-
 -- how a call ends at a fault, with words for it where there are any
 abbrev pub ending_with : AppFault → Option (String Global) → Ending
 ending_with fault (Some words) = Explained fault words
 ending_with fault None = Failed fault
 
--- how a call ends whose check came to this
-abbrev pub ending_of_check : {T : Type 0} → Result T Finding → Ending
-ending_of_check (Ok done) = Done
-ending_of_check (Err found) = ending_with found.fault found.words
+abbrev pub ending_at : Finding → Ending
+ending_at found = ending_with found.fault found.words
+
+-- how a call ends whose work came to this
+abbrev pub ending_of : {T : Type 0} → Result T Finding → Ending
+ending_of (Ok done) = Done
+ending_of (Err found) = ending_at found
 
 -- what words there are say where all that a reader has, so far as that is known, has the fault
 abbrev pub TellsOf : Option (List ℕ) → Ending → Type 0
@@ -75,18 +76,21 @@ tells_of_refusals is_strict all_accepted = is_strict && not all_accepted
 
 -- ---- what was done, for arguments behind the program's name
 
--- an error of this kind is a text to show, and no mistake: help or the version
-abbrev pub IsToShow : ErrorKind → Type 0
-IsToShow error = (error ≡ kind.DisplayHelp) ⊎ (error ≡ kind.DisplayVersion)
-
--- the arguments ask for a text to show
-abbrev pub AsksToShow : List Text → Type 0
-AsksToShow arguments = (error : ErrorKind) × IsAmong error (faults (line_of arguments)) × IsToShow error
+-- the arguments ask for this text to be shown: help or the version
+abbrev pub IsShown : List Text → List ℕ → Type 0
+IsShown arguments text =
+    (error : ErrorKind) × IsAmong error (faults (line_of arguments)) × (shown_for error arguments ≡ Some text)
 
 -- one of them is no text, or they make a mistake
 abbrev pub IsMistaken : List Text → Type 0
 IsMistaken arguments = (are_texts arguments ≡ false) ⊎ ((error : ErrorKind)
-    × IsAmong error (faults (line_of arguments)) × (error ≢ kind.DisplayHelp) × (error ≢ kind.DisplayVersion))
+    × IsAmong error (faults (line_of arguments)) × (shown_for error arguments ≡ None))
+
+-- what is said of that: of an argument that is no text, one message, and of a mistake, words behind `error: `
+abbrev pub IsComplaint : List Text → List ℕ → Type 0
+IsComplaint arguments text =
+    ((are_texts arguments ≡ false) × (text ≡ NOT_TEXT.now))
+    ⊎ ((are_texts arguments ≡ true) × (words : List ℕ) × (text ≡ codes "error: " ++ words))
 
 -- the text of a task, of all that a reader has, and whether refused events are told of
 abbrev pub IsTaskOf : Asked → Option (List ℕ) → Bool → List ℕ → Type 0
@@ -107,13 +111,25 @@ IsTextOf asked known text = (told : Bool) × IsTaskOf asked known told text
 -- what the arguments ask for was written, whole
 abbrev pub Did : List Text → Option (List ℕ) → Option (List ℕ) → Option (List ℕ) → Bool → Type 0
 Did arguments known old new told =
-    ((told ≡ false) × AsksToShow arguments × ((text : List ℕ) × Appends old new text))
+    ((told ≡ false) × (text : List ℕ) × IsShown arguments text × Appends old new text)
     ⊎ ((faults (line_of arguments) ≡ []) × DidTask (asked (line_of arguments)) known old new told)
 
 -- a text that the arguments ask for
 abbrev pub IsAskedFor : List Text → Option (List ℕ) → List ℕ → Type 0
 IsAskedFor arguments known text =
-    AsksToShow arguments ⊎ ((faults (line_of arguments) ≡ []) × IsTextOf (asked (line_of arguments)) known text)
+    IsShown arguments text ⊎ ((faults (line_of arguments) ≡ []) × IsTextOf (asked (line_of arguments)) known text)
+
+-- a run with these options
+abbrev pub asked_with : RunOptions → Asked
+asked_with options = asked_run options.with_journal (option_map string_bytes options.key)
+
+abbrev pub is_run : Asked → Bool
+is_run (asked_run with_journal key) = true
+is_run _ = false
+
+-- the arguments ask for a run
+abbrev pub AsksToRun : List Text → Type 0
+AsksToRun arguments = (faults (line_of arguments) ≡ []) × (is_run (asked (line_of arguments)) ≡ true)
 
 -- the input of a task is bad in this way, where it is known
 abbrev pub IsInputFaultOf : Asked → Option (List ℕ) → AppFault → Type 0

@@ -1,22 +1,24 @@
 //! A call of the program, from its words to how it ends.
 
-ghost use Rattle.std.specs.Prelude.{◌≡◌, ◌≢◌, ◌⊎◌, ◌≤◌, ◌+◌, ℕ, List, false, true, IfErr, IfSome, OnOk, Some};
+ghost use Rattle.std.specs.Prelude.{◌≡◌, ◌≢◌, ◌⊎◌, ◌≤◌, ◌+◌, ◌++◌, ℕ, List, codes, false, true, IfErr, IfOk, IfSome, OnErr, Some, None, []};
 ghost use Rattle.std.specs.Io.KnownBytes.{Appends};
 ghost use Rattle.clap.specs.Words.{kind_of};
-ghost use Rattle.mencius_command_line.specs.CommandLine.{are_texts, asked, asked_check, asked_in, bytes_of, faults, line_of};
+ghost use Rattle.mencius_command_line.specs.CommandLine.{are_texts, asked, asked_in, bytes_of, faults, line_of};
+ghost use Rattle.mencius_command_line.specs.Help.{shown_for};
 ghost use Rattle.mencius_ends.specs.Ends.{HasFailed, WritesFront, most_failed_calls};
 ghost use Rattle.mencius_app.specs.Calls.{AsksLittle, IsCause};
-ghost use Rattle.mencius_app.specs.Ending.{Did, DidTask, IsAskedFor, IsFaultFor, IsInputFaultOf, IsMistaken, IsTextOf, IsToShow, TellsOf, ending_of, ending_of_check, fault_in, is_explained};
+ghost use Rattle.mencius_app.specs.Ending.{AsksToRun, Did, DidTask, IsAskedFor, IsComplaint, IsFaultFor, IsInputFaultOf, IsMistaken, IsTextOf, TellsOf, asked_with, ending_at, ending_of, fault_in, is_explained};
 
-use crate::checking::{Finding, check};
-use crate::ending::Ending;
+use crate::checking::check;
+use crate::ending::{Ending, write_both};
+use crate::finding::Finding;
 use crate::replaying::replay_judged;
 use crate::running::run;
 use crate::tracing::trace;
 use clap::Error;
 use clap::error::ErrorKind;
 use mencius_board::Open;
-use mencius_command_line::{Task, are_texts, read_arguments};
+use mencius_command_line::{Task, are_texts, read_arguments, text_to_show};
 use mencius_input::{AppFault, Sink, Source, write_all};
 use std::alloc::Global;
 use std::sync::Wait;
@@ -32,14 +34,17 @@ Usage: mencius <COMMAND>
 For more information, try '--help'.
 ";
 
+// How each of its messages begins.
+const ERROR: &str = "error: ";
+
 /// Does what the arguments behind the program's name ask for: a [`replay`](crate::replay), a
 /// [`trace`], a [`check`] or a [`run`] of the scenario that `source` has, whose text goes to `sink`; or
 /// help or the version, which goes there too. What is wrong with the arguments, as one that is not
-/// UTF-8, goes to `errors`, and then nothing was read. The program's own name is not asked for, and
-/// so may be anything.
+/// UTF-8, goes to `errors`, and then nothing was read; else nothing goes there, as [`end`](crate::end)
+/// tells of a fault. The program's own name is not asked for, and so may be anything.
 ///
 /// It ends with `Done`, or with `Refused` where a strict replay had refused events, only once the
-/// whole text was written; and with `Explained` only where a check found a fault.
+/// whole text was written. For no other task than a run does it wait for a thread.
 pub fn perform<R: Source, W: Sink, E: Sink, T: Threads + Wait + Sync>(
     rt: &T,
     alloc: Global,
@@ -56,10 +61,17 @@ pub fn perform<R: Source, W: Sink, E: Sink, T: Threads + Wait + Sync>(
         Did (bytes_of arguments.now) (R.remaining source.old) (W.contents sink.old)
         (W.contents sink.new) true }
 
-    // The arguments are refused, and nothing was read or written to `sink`.
+    // The arguments are refused, and nothing was read or written to `sink`. Standard error has why,
+    // and is left alone otherwise.
     ensures not_text { are_texts (bytes_of arguments.now) ≡ false → result ≡ Ending.BadCommandLine }
     ensures misused { result ≡ Ending.BadCommandLine →
         IsMistaken (bytes_of arguments.now) × (source.new ≡ source.old) × (sink.new ≡ sink.old) }
+    ensures complaint { result ≡ Ending.BadCommandLine → (text : List ℕ)
+        × IsComplaint (bytes_of arguments.now) text
+        × WritesFront (E.contents errors.old) (E.contents errors.new) text
+        × (Appends (E.contents errors.old) (E.contents errors.new) text
+        ⊎ HasFailed (E.failed errors.old) (E.failed errors.new)) }
+    ensures quiet { result ≢ Ending.BadCommandLine → errors.new ≡ errors.old }
 
     // Which fault, and when; and how much was asked of reader and writer, whatever the answer.
     ensures fault { IfSome (fault_in result)
@@ -67,8 +79,9 @@ pub fn perform<R: Source, W: Sink, E: Sink, T: Threads + Wait + Sync>(
         (IsAskedFor (bytes_of arguments.now) (R.remaining source.old))
         (R.failed source.old) (R.failed source.new) (W.failed sink.old) (W.failed sink.new)
         (W.contents sink.old) (W.contents sink.new)) }
-    ensures explained { is_explained result ≡ true
-        → asked (line_of (bytes_of arguments.now)) ≡ asked_check }
+    ensures board { fault_in result ≡ Some AppFault.BoardFailed
+        → AsksToRun (bytes_of arguments.now) }
+    ensures explained { is_explained result ≡ true → faults (line_of (bytes_of arguments.now)) ≡ [] }
     ensures words { TellsOf (R.remaining source.old) result }
     ensures asked { AsksLittle (R.remaining source.old) (R.remaining source.new)
         (R.failed source.old) (R.failed source.new) (W.failed sink.old) (W.failed sink.new) }
@@ -79,66 +92,108 @@ pub fn perform<R: Source, W: Sink, E: Sink, T: Threads + Wait + Sync>(
         return Ending::BadCommandLine;
     }
     match read_arguments(alloc, arguments) {
-        Ok(task) => perform_task(rt, alloc, task, source, sink),
-        Err(error) => tell(alloc, &error, sink, errors),
+        Ok(task) => match perform_alone(alloc, task, source, sink) {
+            Ok(ending) => ending,
+            Err(options) => perform_run(rt, alloc, &options, source, sink),
+        },
+        Err(error) => tell(alloc, arguments, &error, sink, errors),
     }
 }
 
 // Writes what the command line has to say: a text that was asked for to `sink`, and what is wrong to
 // `errors`.
-fn tell<W: Sink, E: Sink>(alloc: Global, error: &Error, sink: &mut W, errors: &mut E) -> Ending
-    ensures done { result ≡ Ending.Done → IsToShow (kind_of error.now)
-        × (text : List ℕ) × Appends (W.contents sink.old) (W.contents sink.new) text }
+fn tell<W: Sink, E: Sink>(
+    alloc: Global,
+    arguments: &[Vec<u8>],
+    error: &Error,
+    sink: &mut W,
+    errors: &mut E,
+) -> Ending
+    ensures done { result ≡ Ending.Done → (text : List ℕ)
+        × (shown_for (kind_of error.now) (bytes_of arguments.now) ≡ Some text)
+        × Appends (W.contents sink.old) (W.contents sink.new) text }
     ensures all_accepted { result ≢ Ending.Refused }
     ensures plain { is_explained result ≡ false }
     ensures misused { result ≡ Ending.BadCommandLine → (kind_of error.now ≢ ErrorKind.OutOfMemory)
-        × (kind_of error.now ≢ ErrorKind.DisplayHelp)
-        × (kind_of error.now ≢ ErrorKind.DisplayVersion)
+        × (shown_for (kind_of error.now) (bytes_of arguments.now) ≡ None)
         × (sink.new ≡ sink.old) }
+    ensures complaint { result ≡ Ending.BadCommandLine → (words : List ℕ)
+        × WritesFront (E.contents errors.old) (E.contents errors.new) (codes "error: " ++ words)
+        × (Appends (E.contents errors.old) (E.contents errors.new) (codes "error: " ++ words)
+        ⊎ HasFailed (E.failed errors.old) (E.failed errors.new)) }
+    ensures quiet { result ≢ Ending.BadCommandLine → errors.new ≡ errors.old }
     ensures fault { IfSome (fault_in result)
         (λ f. (f ≡ AppFault.WriteFailed) ⊎ (f ≡ AppFault.NoMemory)) }
     ensures write_failed { fault_in result ≡ Some AppFault.WriteFailed
-        → HasFailed (W.failed sink.old) (W.failed sink.new) × IsToShow (kind_of error.now)
-        × (text : List ℕ) × WritesFront (W.contents sink.old) (W.contents sink.new) text }
+        → HasFailed (W.failed sink.old) (W.failed sink.new) × (text : List ℕ)
+        × (shown_for (kind_of error.now) (bytes_of arguments.now) ≡ Some text)
+        × WritesFront (W.contents sink.old) (W.contents sink.new) text }
     ensures nothing { fault_in result ≡ Some AppFault.NoMemory → sink.new ≡ sink.old }
     ensures tried { W.failed sink.new ≤ W.failed sink.old + most_failed_calls }
 {
     if error.kind() == ErrorKind::OutOfMemory {
         return Ending::Failed(AppFault::NoMemory);
     }
+    match text_to_show(error.kind(), arguments) {
+        Some(text) => match write_all(sink, text.as_bytes()) {
+            Ok(()) => Ending::Done,
+            Err(fault) => Ending::Failed(fault),
+        },
+        None => complain(alloc, error, errors),
+    }
+}
+
+// Writes what is wrong with the command line.
+fn complain<E: Sink>(alloc: Global, error: &Error, errors: &mut E) -> Ending
+    ensures cases { (result ≡ Ending.BadCommandLine) ⊎ (result ≡ Ending.Failed AppFault.NoMemory) }
+    ensures complaint { result ≡ Ending.BadCommandLine → (words : List ℕ)
+        × WritesFront (E.contents errors.old) (E.contents errors.new) (codes "error: " ++ words)
+        × (Appends (E.contents errors.old) (E.contents errors.new) (codes "error: " ++ words)
+        ⊎ HasFailed (E.failed errors.old) (E.failed errors.new)) }
+    ensures quiet { result ≢ Ending.BadCommandLine → errors.new ≡ errors.old }
+{
     let Ok(text) = format!(in alloc; "{error}") else {
         return Ending::Failed(AppFault::NoMemory);
     };
-    if error.use_stderr() {
-        // Nobody is left to tell where standard error fails.
-        let _ = write_all(errors, text.as_bytes());
-        return Ending::BadCommandLine;
-    }
-    ending_of(write_all(sink, text.as_bytes()))
+    let text = text.as_str();
+    // `clap` says nothing of the text; it begins so, and with this it is sure to.
+    let words = text.strip_prefix(ERROR).unwrap_or(text);
+    // Nobody is left to tell where standard error fails.
+    let _ = write_both(errors, ERROR, words);
+    Ending::BadCommandLine
 }
 
-// Does a task.
-fn perform_task<R: Source, W: Sink, T: Threads + Wait + Sync>(
-    rt: &T,
+// What is asked of a run.
+#[derive(Drop)]
+struct RunOptions {
+    with_journal: bool,
+    key: Option<String>,
+}
+
+// Does a task that waits for nobody. A run is none: it comes back, and nothing was read or written.
+fn perform_alone<R: Source, W: Sink>(
     alloc: Global,
     task: Task,
     source: &mut R,
     sink: &mut W,
-) -> Ending
-    ensures done { result ≡ Ending.Done →
+) -> Result<Ending, RunOptions>
+    ensures done { IfOk result (λ ending. ending ≡ Ending.Done →
         DidTask (asked_in task) (R.remaining source.old) (W.contents sink.old)
-        (W.contents sink.new) false }
-    ensures refused { result ≡ Ending.Refused →
+        (W.contents sink.new) false) }
+    ensures refused { IfOk result (λ ending. ending ≡ Ending.Refused →
         DidTask (asked_in task) (R.remaining source.old) (W.contents sink.old)
-        (W.contents sink.new) true }
-    ensures taken_words { result ≢ Ending.BadCommandLine }
-    ensures fault { IfSome (fault_in result)
+        (W.contents sink.new) true) }
+    ensures taken_words { IfOk result (λ ending. ending ≢ Ending.BadCommandLine) }
+    ensures run { IfErr result (λ options. asked_in task ≡ asked_with options) }
+    ensures untouched { OnErr result ((source.new ≡ source.old) × (sink.new ≡ sink.old)) }
+    ensures fault { IfOk result (λ ending. IfSome (fault_in ending)
         (IsCause (IsInputFaultOf (asked_in task) (R.remaining source.old))
         (IsTextOf (asked_in task) (R.remaining source.old))
         (R.failed source.old) (R.failed source.new) (W.failed sink.old) (W.failed sink.new)
-        (W.contents sink.old) (W.contents sink.new)) }
-    ensures explained { is_explained result ≡ true → asked_in task ≡ asked_check }
-    ensures words { TellsOf (R.remaining source.old) result }
+        (W.contents sink.old) (W.contents sink.new))) }
+    ensures no_board { IfOk result (λ ending. IfSome (fault_in ending)
+        (λ f. f ≢ AppFault.BoardFailed)) }
+    ensures words { IfOk result (TellsOf (R.remaining source.old)) }
     ensures asked { AsksLittle (R.remaining source.old) (R.remaining source.new)
         (R.failed source.old) (R.failed source.new) (W.failed sink.old) (W.failed sink.new) }
 {
@@ -146,44 +201,63 @@ fn perform_task<R: Source, W: Sink, T: Threads + Wait + Sync>(
         Task::Replay { is_strict } => match replay_judged(alloc, source, sink) {
             Ok(all_accepted) => {
                 if is_strict && !all_accepted {
-                    Ending::Refused
+                    Ok(Ending::Refused)
                 } else {
-                    Ending::Done
+                    Ok(Ending::Done)
                 }
             }
-            Err(fault) => ending_of(Err(fault)),
+            Err(found) => Ok(ending_at(found)),
         },
-        Task::Trace => ending_of(trace(alloc, source, sink)),
-        Task::Check => ending_of_check(check(alloc, source, sink)),
-        Task::Run { with_journal, key } => {
-            let key = key.as_deref();
-            ending_of(run(rt, alloc, source, sink, &Open, with_journal, key))
-        }
+        Task::Trace => Ok(ending_of(trace(alloc, source, sink))),
+        Task::Check => Ok(ending_of(check(alloc, source, sink))),
+        Task::Run { with_journal, key } => Err(RunOptions { with_journal, key }),
     }
 }
 
+// Does a run. It alone waits for threads.
+fn perform_run<R: Source, W: Sink, T: Threads + Wait + Sync>(
+    rt: &T,
+    alloc: Global,
+    options: &RunOptions,
+    source: &mut R,
+    sink: &mut W,
+) -> Ending
+    ensures done { result ≡ Ending.Done →
+        DidTask (asked_with options.now) (R.remaining source.old) (W.contents sink.old)
+        (W.contents sink.new) false }
+    ensures no_other { (result ≢ Ending.Refused) × (result ≢ Ending.BadCommandLine) }
+    ensures fault { IfSome (fault_in result)
+        (IsCause (IsInputFaultOf (asked_with options.now) (R.remaining source.old))
+        (IsTextOf (asked_with options.now) (R.remaining source.old))
+        (R.failed source.old) (R.failed source.new) (W.failed sink.old) (W.failed sink.new)
+        (W.contents sink.old) (W.contents sink.new)) }
+    ensures words { TellsOf (R.remaining source.old) result }
+    ensures asked { AsksLittle (R.remaining source.old) (R.remaining source.new)
+        (R.failed source.old) (R.failed source.new) (W.failed sink.old) (W.failed sink.new) }
+{
+    let key = options.key.as_deref();
+    ending_of(run(rt, alloc, source, sink, &Open, options.with_journal, key))
+}
+
 // How a call ends whose work came to this.
-fn ending_of(done: Result<(), AppFault>) -> Ending
+fn ending_of(done: Result<(), Finding>) -> Ending
     ensures { result ≡ ending_of done }
 {
     match done {
         Ok(()) => Ending::Done,
-        Err(fault) => Ending::Failed(fault),
+        Err(found) => ending_at(found),
     }
 }
 
-// How a call ends whose check came to this.
-fn ending_of_check(done: Result<(), Finding>) -> Ending
-    ensures { result ≡ ending_of_check done }
+// How a call ends at a fault.
+fn ending_at(found: Finding) -> Ending
+    ensures { result ≡ ending_at found }
 {
-    match done {
-        Ok(()) => Ending::Done,
-        Err(
-            Finding {
-                fault,
-                words: Some(words),
-            },
-        ) => Ending::Explained { fault, words },
-        Err(Finding { fault, words: None }) => Ending::Failed(fault),
+    match found {
+        Finding {
+            fault,
+            words: Some(words),
+        } => Ending::Explained { fault, words },
+        Finding { fault, words: None } => Ending::Failed(fault),
     }
 }

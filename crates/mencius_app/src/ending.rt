@@ -19,7 +19,7 @@ pub enum Ending {
     BadCommandLine,
     /// It ended at a fault.
     Failed(AppFault),
-    /// A check ended at a fault, and there are words for it.
+    /// A task ended at a fault, and there are words for it.
     Explained {
         /// The fault.
         fault: AppFault,
@@ -61,8 +61,8 @@ fn tell<E: Sink>(errors: &mut E, fault: AppFault, words: &str) -> u8
     exit_status(fault)
 }
 
-// Writes two texts, one behind the other.
-fn write_both<E: Sink>(errors: &mut E, first: &str, second: &str) -> Result<(), AppFault>
+/// Writes two texts, one behind the other.
+pub(crate) fn write_both<E: Sink>(errors: &mut E, first: &str, second: &str) -> Result<(), AppFault>
     ensures whole { OnOk result (Appends (E.contents errors.old) (E.contents errors.new)
         (first.now ++ second.now)) }
     ensures front { WritesFront (E.contents errors.old) (E.contents errors.new)

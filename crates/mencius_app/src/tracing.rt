@@ -3,12 +3,14 @@
 ghost use Rattle.std.specs.Prelude.{ℕ, List, ◌≡◌, ◌≢◌, ◌++◌, [], string_bytes, IfErr, IfOk, OnOk};
 ghost use Rattle.std.specs.Io.KnownBytes.{Appends, IsAtEnd};
 ghost use Rattle.mencius_app.specs.Calls.{AsksLittle, IsCause};
+ghost use Rattle.mencius_app.specs.Findings.{IsFoundIn};
 ghost use Rattle.mencius_app.specs.Input.{IsFaultOf};
 ghost use Rattle.mencius_app.specs.Trace.{IsTraceOf};
 ghost use Rattle.mencius_cluster.specs.State.{trace_of};
 ghost use Rattle.mencius_trace.specs.Closing.{told_from, trace_text};
 
-use crate::replaying::read_input;
+use crate::finding::Finding;
+use crate::reading::read_input;
 use mencius_base::{Members, NoMemory};
 use mencius_cluster::{Cluster, salt_after};
 use mencius_input::{AppFault, Events, Sink, Source, write_all};
@@ -19,29 +21,28 @@ use std::alloc::Global;
 /// did, one fact a line, and then how far each server is and which messages were not heard. The
 /// whole text is made before any of it is written. An event that runs out of memory ends the trace
 /// with `NoMemory`.
-pub fn trace<R: Source, W: Sink>(
-    alloc: Global,
-    source: &mut R,
-    sink: &mut W,
-) -> Result<(), AppFault>
+pub fn trace<R: Source, W: Sink>(alloc: Global, source: &mut R, sink: &mut W) -> Result<(), Finding>
     // All bytes were read, they are a scenario, and the text of its trace was written.
     ensures end { OnOk result (IsAtEnd (R.remaining source.new)) }
     ensures done { OnOk result ((text : List ℕ) × IsTraceOf (R.remaining source.old) text
         × Appends (W.contents sink.old) (W.contents sink.new) text) }
 
     // Which fault, and when; and how much was asked of reader and writer, whatever the answer.
-    ensures fault { IfErr result (IsCause (IsFaultOf (R.remaining source.old))
+    ensures fault { IfErr result (λ found. IsCause (IsFaultOf (R.remaining source.old))
         (IsTraceOf (R.remaining source.old)) (R.failed source.old) (R.failed source.new)
-        (W.failed sink.old) (W.failed sink.new) (W.contents sink.old) (W.contents sink.new)) }
-    ensures no_board { IfErr result (λ f. f ≢ AppFault.BoardFailed) }
+        (W.failed sink.old) (W.failed sink.new) (W.contents sink.old) (W.contents sink.new)
+        found.fault) }
+    ensures no_board { IfErr result (λ found. found.fault ≢ AppFault.BoardFailed) }
+    ensures words { IfErr result (IsFoundIn (R.remaining source.old)) }
     ensures asked { AsksLittle (R.remaining source.old) (R.remaining source.new)
         (R.failed source.old) (R.failed source.new) (W.failed sink.old) (W.failed sink.new) }
 {
     let scenario = read_input(alloc, source)?;
     let Ok(text) = traced(alloc, scenario.members, scenario.events) else {
-        return Err(AppFault::NoMemory);
+        return Err(Finding::from(AppFault::NoMemory));
     };
-    write_all(sink, text.as_bytes())
+    write_all(sink, text.as_bytes())?;
+    Ok(())
 }
 
 // The text of a trace.

@@ -3,6 +3,8 @@
 
 mod arguments;
 mod line;
+mod pages;
 
 pub use arguments::{are_texts, read_arguments};
 pub use line::{Task, read_command_line};
+pub use pages::text_to_show;

@@ -137,13 +137,14 @@ fn make<R: Abort + Threads + Wait + Sync>(
     source: &mut Std<Pieces>,
     sink: &mut Std<Page>,
 ) -> Result<(), AppFault> {
-    match call {
+    let made = match call {
         Call::Replay => replay(alloc, source, sink),
         Call::Trace => trace(alloc, source, sink),
-        Call::Check => check(alloc, source, sink).map_err(|finding| finding.fault),
+        Call::Check => check(alloc, source, sink),
         Call::Run => run(rt, alloc, source, sink, &Open, true, Some("a")),
-        Call::Report => report(alloc, &cluster_after(rt, alloc, SCENARIO), sink),
-    }
+        Call::Report => return report(alloc, &cluster_after(rt, alloc, SCENARIO), sink),
+    };
+    made.map_err(|finding| finding.fault)
 }
 
 fn reader<'a>(

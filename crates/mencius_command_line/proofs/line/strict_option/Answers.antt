@@ -11,5 +11,5 @@ set_true rule = record rule { action = Some SetTrue }
 
 pub returns-clause-rule : goal.returns-clause-rule
 returns-clause-rule c =
-    ap rule_of c.help.ensures ∙ ap rule_of c.action.ensures
+    ap rule_of c.action.ensures
     ∙ ap set_true (ap rule_of c.long.ensures ∙ ap named c.new.ensures.rule)

@@ -12,6 +12,4 @@ versioned a = record a { top = record a.top { has_version = true } }
 pub returns : goal.returns
 returns c =
     ap app_of_fields c.subcommand_required.ensures
-    ∙ ap requiring (ap app_of_fields c.after_help.ensures ∙ ap app_of_fields c.long_about.ensures
-    ∙ ap app_of_fields c.about.ensures ∙ ap app_of_fields c.version.ensures
-    ∙ ap versioned c.new.ensures.app)
+    ∙ ap requiring (ap app_of_fields c.version.ensures ∙ ap versioned c.new.ensures.app)

@@ -1,8 +1,8 @@
 use Rattle.std.proofs.Common.{◌≡◌, ◌⊎◌, ℕ, List, [], IfSome, rules, string_bytes, subst, sym}
 use Rattle.mencius_ends.specs.declared.fault.AppFault.TheVariants.{BadLimit, ReadFailed, NoMemory}
-use Rattle.mencius_app.specs.Check.{AreWordsOf}
-use Rattle.mencius_app.proofs.CheckWords.{of_any_input, of_this_input}
-use Rattle.mencius_app.proofs.checking.read_input.Goals as goal
+use Rattle.mencius_app.specs.Findings.{AreWordsOf}
+use Rattle.mencius_app.proofs.FindingWords.{of_any_input, of_this_input}
+use Rattle.mencius_app.proofs.reading.read_input.Goals as goal
 
 pub returns-in-Err-clause-words : goal.returns-in-Err-clause-words
 returns-in-Err-clause-words g c =

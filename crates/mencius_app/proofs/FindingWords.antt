@@ -1,12 +1,12 @@
--- The words of a check: of which bytes they are.
+-- The words of a finding: of which bytes they are.
 use Rattle.std.proofs.Common.{◌≡◌, ◌⊎◌, inl, inr, ℕ, false, List, [], Option, Some, None, IfSome, IfErr, Result, Ok, Err, String, Global, string_bytes, sym, subst, ◌∙◌}
 use Rattle.mencius_ends.specs.declared.fault.AppFault.{AppFault}
 use Rattle.mencius_ends.specs.declared.fault.AppFault.TheVariants.{NotJson, BadShape, BadLimit, ReadFailed, WriteFailed, BoardFailed, NoMemory}
 use Rattle.mencius_input.specs.Place.{IsTold, Tells}
 use Rattle.mencius_input.proofs.EmptyText.{no_json}
-use Rattle.mencius_app.specs.Check.{AreWordsOf, AreWordsOfInput}
-use Rattle.mencius_app.specs.Ending.{TellsOf, ending_of, ending_of_check, ending_with, is_explained}
-use Rattle.mencius_app.specs.declared.checking.Finding.{Finding}
+use Rattle.mencius_app.specs.Findings.{AreWordsOf, AreWordsOfInput, IsFoundIn}
+use Rattle.mencius_app.specs.Ending.{TellsOf, ending_at, ending_of, ending_with, is_explained}
+use Rattle.mencius_app.specs.declared.finding.Finding.{Finding}
 use Rattle.mencius_app.specs.declared.ending.Ending.{Ending}
 use Rattle.mencius_app.specs.declared.ending.Ending.TheVariants.{Done, Refused, BadCommandLine, Failed, Explained}
 
@@ -59,19 +59,16 @@ unexplained known BadCommandLine plain = tt
 unexplained known (Failed fault) plain = tt
 unexplained known (Explained fault words) plain = absurd (cc)
 
-pub told_of_result : {T : Type 0} (known : Option (List ℕ)) (done : Result T AppFault) (ending : Ending)
-    → ending ≡ ending_of done → TellsOf known ending
-told_of_result known (Ok done) ending e = subst (TellsOf known) (sym e) tt
-told_of_result known (Err fault) ending e = subst (TellsOf known) (sym e) tt
-
-pub told_of_check : {T : Type 0} (known : Option (List ℕ)) (done : Result T Finding) (ending : Ending)
-    → ending ≡ ending_of_check done
-    → IfErr done (λ found. IfSome found.words (λ line. AreWordsOfInput known found.fault (string_bytes line)))
-    → TellsOf known ending
-told_of_check known (Ok done) ending e h = subst (TellsOf known) (sym e) tt
-told_of_check known (Err found) ending e h = subst (TellsOf known) (sym e) (worded found.words h) where
+pub told_of_finding : (known : Option (List ℕ)) (found : Finding) (ending : Ending) → ending ≡ ending_at found
+    → IsFoundIn known found → TellsOf known ending
+told_of_finding known found ending e h = subst (TellsOf known) (sym e) (worded found.words h) where
   worded : (words : Option (String Global))
       → IfSome words (λ line. AreWordsOfInput known found.fault (string_bytes line))
       → TellsOf known (ending_with found.fault words)
   worded (Some words) told = told
   worded None told = tt
+
+pub told_of_result : {T : Type 0} (known : Option (List ℕ)) (done : Result T Finding) (ending : Ending)
+    → ending ≡ ending_of done → IfErr done (IsFoundIn known) → TellsOf known ending
+told_of_result known (Ok done) ending e h = subst (TellsOf known) (sym e) tt
+told_of_result known (Err found) ending e h = told_of_finding known found ending e h

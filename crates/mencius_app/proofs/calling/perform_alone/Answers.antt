@@ -1,0 +1,49 @@
+use Rattle.std.proofs.Common.{◌≡◌, arith, false, refl, true}
+use Rattle.std.proofs.lemmas.Result.{IfErr-weaker}
+use Rattle.mencius_app.specs.Ending.{tells_of_refusals}
+use Rattle.mencius_app.proofs.EndingCauses.{as_text, of_finding, of_result, text_of_replay}
+use Rattle.mencius_app.proofs.FindingWords.{told_of_finding, told_of_result}
+use Rattle.mencius_app.proofs.calling.perform_alone.Goals as goal
+
+pub returns-in-Err-clause-fault : goal.returns-in-Err-clause-fault
+returns-in-Err-clause-fault g c =
+    rw c.in-Replay.is (of_finding c.in-Err.found _ _ c.ending_at.ensures
+    (as_text (text_of_replay c.in-Replay.is_strict _) c.in-Err.ensures.fault))
+
+pub returns-in-Trace-clause-fault : goal.returns-in-Trace-clause-fault
+returns-in-Trace-clause-fault g c =
+    rw c.in-Trace.is (of_result c.trace.result _ _ c.ending_of.ensures
+    (IfErr-weaker c.trace.result _ _ (λ found h. as_text (λ text is. (false, (is, refl))) h) c.trace.ensures.fault))
+
+pub returns-in-Check-clause-fault : goal.returns-in-Check-clause-fault
+returns-in-Check-clause-fault g c =
+    rw c.in-Check.is (of_result c.check.result _ _ c.ending_of-in-Check.ensures
+    (IfErr-weaker c.check.result _ _ (λ found h. as_text (λ text is. (false, (is, refl))) h) c.check.ensures.fault))
+
+pub returns-in-Err-clause-no_board : goal.returns-in-Err-clause-no_board
+returns-in-Err-clause-no_board g c = of_finding c.in-Err.found _ _ c.ending_at.ensures c.in-Err.ensures.no_board
+
+pub returns-in-Trace-clause-no_board : goal.returns-in-Trace-clause-no_board
+returns-in-Trace-clause-no_board g c = of_result c.trace.result _ _ c.ending_of.ensures c.trace.ensures.no_board
+
+pub returns-in-Check-clause-no_board : goal.returns-in-Check-clause-no_board
+returns-in-Check-clause-no_board g c =
+    of_result c.check.result _ _ c.ending_of-in-Check.ensures c.check.ensures.no_board
+
+pub returns-in-Err-clause-words : goal.returns-in-Err-clause-words
+returns-in-Err-clause-words g c = told_of_finding _ c.in-Err.found _ c.ending_at.ensures c.in-Err.ensures.words
+
+pub returns-in-Trace-clause-words : goal.returns-in-Trace-clause-words
+returns-in-Trace-clause-words g c = told_of_result _ c.trace.result _ c.ending_of.ensures c.trace.ensures.words
+
+pub returns-in-Check-clause-words : goal.returns-in-Check-clause-words
+returns-in-Check-clause-words g c = told_of_result _ c.check.result _ c.ending_of-in-Check.ensures c.check.ensures.words
+
+pub returns-then-not-all_accepted-clause-done : goal.returns-then-not-all_accepted-clause-done
+returns-then-not-all_accepted-clause-done g c e = absurd (cc e)
+
+pub returns-then-not-all_accepted-clause-refused : goal.returns-then-not-all_accepted-clause-refused
+returns-then-not-all_accepted-clause-refused g c e =
+    let done = c.in-Ok.ensures.done in
+    let told : true ≡ tells_of_refusals c.in-Replay.is_strict c.in-Ok.all_accepted = grind arith in
+    rw c.in-Replay.is (done.0, (c.in-Ok.all_accepted, done.1, told), done.2)

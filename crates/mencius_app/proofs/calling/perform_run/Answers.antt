@@ -1,0 +1,12 @@
+use Rattle.std.proofs.lemmas.Result.{IfErr-weaker}
+use Rattle.mencius_app.proofs.EndingCauses.{as_text, of_result, text_of_run}
+use Rattle.mencius_app.proofs.FindingWords.{told_of_result}
+use Rattle.mencius_app.proofs.calling.perform_run.Goals as goal
+
+pub returns-clause-fault : goal.returns-clause-fault
+returns-clause-fault g c =
+    of_result c.run.result _ _ c.ending_of.ensures (IfErr-weaker c.run.result _ _ (λ found h. as_text (λ text is.
+    text_of_run _ _ _ _ text c.as_deref-key.ensures.value is) h) c.run.ensures.fault)
+
+pub returns-clause-words : goal.returns-clause-words
+returns-clause-words g c = told_of_result _ c.run.result _ c.ending_of.ensures c.run.ensures.words
