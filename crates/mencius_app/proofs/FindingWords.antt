@@ -1,74 +1,77 @@
 -- The words of a finding: of which bytes they are.
-use Rattle.std.proofs.Common.{◌≡◌, ◌⊎◌, inl, inr, ℕ, false, List, [], Option, Some, None, IfSome, IfErr, Result, Ok, Err, String, Global, string_bytes, sym, subst, ◌∙◌}
+use Rattle.std.proofs.Common.{◌≡◌, ◌⊎◌, ◌<◌, ◌++◌, inl, inr, ℕ, false, List, length, Option, Some, None, IfSome, IfErr, Result, Ok, Err, String, Global, string_bytes, sym, subst}
 use Rattle.mencius_ends.specs.declared.fault.AppFault.{AppFault}
-use Rattle.mencius_ends.specs.declared.fault.AppFault.TheVariants.{NotJson, BadShape, BadLimit, ReadFailed, WriteFailed, BoardFailed, NoMemory}
-use Rattle.mencius_input.specs.Place.{IsTold, Tells}
-use Rattle.mencius_input.proofs.EmptyText.{no_json}
-use Rattle.mencius_app.specs.Findings.{AreWordsOf, AreWordsOfInput, IsFoundIn}
-use Rattle.mencius_app.specs.Ending.{TellsOf, ending_at, ending_of, ending_with, is_explained}
+use Rattle.mencius_ends.specs.declared.fault.AppFault.TheVariants.{BadLimit, ReadFailed, NoMemory}
+use Rattle.mencius_ends.specs.Ends.{most_bytes}
+use Rattle.mencius_input.specs.declared.kind.Kind.{Kind}
+use Rattle.mencius_input.specs.Place.{IsToldUnread}
+use Rattle.mencius_trace.specs.Words.{line_feed}
+use Rattle.mencius_app.specs.Findings.{AreWordsOfInput, IsFoundIn, IsToldAs, IsToldByFields, Telling}
+use Rattle.mencius_app.specs.Ending.{TellsOf, ending_at, ending_of, ending_with, is_explained, telling_of}
 use Rattle.mencius_app.specs.declared.finding.Finding.{Finding}
 use Rattle.mencius_app.specs.declared.ending.Ending.{Ending}
 use Rattle.mencius_app.specs.declared.ending.Ending.TheVariants.{Done, Refused, BadCommandLine, Failed, Explained}
+use Rattle.mencius_command_line.specs.CommandLine.{Asked}
 
--- no place is told of in an empty text
-nothing_placed : (words : List ℕ) → Tells BadLimit [] words → ⊥
-nothing_placed words (place, d, says, at, told) = let none = sym no_json ∙ says in absurd (cc)
+-- ---- the bytes
 
--- what is said of a fault for which a reader kept no bytes is said of any
-pub told_of_any : (fault : AppFault) (bytes words : List ℕ)
-    → (fault ≡ BadLimit) ⊎ (fault ≡ ReadFailed) ⊎ (fault ≡ NoMemory)
-    → IsTold fault [] words → IsTold fault bytes words
-told_of_any BadLimit bytes words reading told = elim told [
-  | inl placed ↦ absurd (nothing_placed words placed)
-  | inr unplaced ↦ inr unplaced
-]
-told_of_any BadShape bytes words reading told = absurd (elim reading [
-  | inl limit ↦ cc
-  | inr (inl failed) ↦ cc
-  | inr (inr memory) ↦ cc
-])
-told_of_any NotJson bytes words reading told = tt
-told_of_any ReadFailed bytes words reading told = tt
-told_of_any WriteFailed bytes words reading told = tt
-told_of_any BoardFailed bytes words reading told = tt
-told_of_any NoMemory bytes words reading told = tt
+-- of a failed reader anything may be said
+abbrev pub IsFree : Telling → Type 0
+IsFree Tells = (fault : AppFault) → (fault ≡ ReadFailed) ⊎ (fault ≡ NoMemory) → (bytes words : List ℕ)
+    → Tells fault bytes words
 
-pub of_any_input : (known : Option (List ℕ)) (fault : AppFault) (words : Option (String Global))
-    → (fault ≡ BadLimit) ⊎ (fault ≡ ReadFailed) ⊎ (fault ≡ NoMemory)
-    → IfSome words (λ line. AreWordsOf fault [] (string_bytes line))
-    → IfSome words (λ line. AreWordsOfInput known fault (string_bytes line))
-of_any_input known fault None reading h = tt
-of_any_input None fault (Some line) reading h = tt
-of_any_input (Some bytes) fault (Some line) reading h = (h.0, told_of_any fault bytes h.0 reading h.1, h.2)
+pub free_as : (kind : Kind) → IsFree (IsToldAs kind)
+free_as kind fault (inl failed) bytes words = rw failed (inl tt)
+free_as kind fault (inr memory) bytes words = rw memory (inl tt)
 
-pub of_this_input : (known : Option (List ℕ)) (bytes : List ℕ) (fault : AppFault) (words : Option (String Global))
-    → IfSome known (λ all. all ≡ bytes) → IfSome words (λ line. AreWordsOf fault bytes (string_bytes line))
-    → IfSome words (λ line. AreWordsOfInput known fault (string_bytes line))
-of_this_input known bytes fault None same h = tt
-of_this_input None bytes fault (Some line) same h = tt
-of_this_input (Some all) bytes fault (Some line) same h =
-    subst (λ read. AreWordsOf fault read (string_bytes line)) (sym same) h
+pub free_by_fields : IsFree IsToldByFields
+free_by_fields fault (inl failed) bytes words = rw failed tt
+free_by_fields fault (inr memory) bytes words = rw memory tt
+
+-- no bytes were kept
+pub of_unread : (Tells : Telling) → IsFree Tells → (known : Option (List ℕ)) (fault : AppFault)
+    (words : Option (String Global)) → (fault ≡ BadLimit) ⊎ (fault ≡ ReadFailed) ⊎ (fault ≡ NoMemory)
+    → (fault ≡ BadLimit → IfSome known (λ bytes. most_bytes < length bytes))
+    → IfSome words (λ line. (said : List ℕ) × IsToldUnread fault said × (string_bytes line ≡ said ++ line_feed))
+    → IfSome words (λ line. AreWordsOfInput Tells known fault (string_bytes line))
+of_unread Tells free known fault None reading long h = tt
+of_unread Tells free None fault (Some line) reading long h = tt
+of_unread Tells free (Some bytes) fault (Some line) (inl limit) long h =
+    (h.0, inr (limit, long limit, subst (λ f. IsToldUnread f h.0) limit h.1), h.2)
+of_unread Tells free (Some bytes) fault (Some line) (inr other) long h =
+    (h.0, inl (free fault other bytes h.0), h.2)
+
+-- all bytes were read
+pub of_bytes : (Tells : Telling) (known : Option (List ℕ)) (bytes : List ℕ) (fault : AppFault)
+    (words : Option (String Global)) → IfSome known (λ all. all ≡ bytes)
+    → IfSome words (λ line. (said : List ℕ) × Tells fault bytes said × (string_bytes line ≡ said ++ line_feed))
+    → IfSome words (λ line. AreWordsOfInput Tells known fault (string_bytes line))
+of_bytes Tells known bytes fault None same h = tt
+of_bytes Tells None bytes fault (Some line) same h = tt
+of_bytes Tells (Some all) bytes fault (Some line) same h =
+    (h.0, inl (subst (λ read. Tells fault read h.0) (sym same) h.1), h.2)
 
 -- ---- the ending
 
 -- an ending without words
-pub unexplained : (known : Option (List ℕ)) (ending : Ending) → is_explained ending ≡ false → TellsOf known ending
-unexplained known Done plain = tt
-unexplained known Refused plain = tt
-unexplained known BadCommandLine plain = tt
-unexplained known (Failed fault) plain = tt
-unexplained known (Explained fault words) plain = absurd (cc)
+pub unexplained : (asked : Asked) (known : Option (List ℕ)) (ending : Ending) → is_explained ending ≡ false
+    → TellsOf asked known ending
+unexplained asked known Done plain = tt
+unexplained asked known Refused plain = tt
+unexplained asked known BadCommandLine plain = tt
+unexplained asked known (Failed fault) plain = tt
+unexplained asked known (Explained fault words) plain = absurd (cc)
 
-pub told_of_finding : (known : Option (List ℕ)) (found : Finding) (ending : Ending) → ending ≡ ending_at found
-    → IsFoundIn known found → TellsOf known ending
-told_of_finding known found ending e h = subst (TellsOf known) (sym e) (worded found.words h) where
+pub told_of_finding : (asked : Asked) (known : Option (List ℕ)) (found : Finding) (ending : Ending)
+    → ending ≡ ending_at found → IsFoundIn (telling_of asked) known found → TellsOf asked known ending
+told_of_finding asked known found ending e h = subst (TellsOf asked known) (sym e) (worded found.words h) where
   worded : (words : Option (String Global))
-      → IfSome words (λ line. AreWordsOfInput known found.fault (string_bytes line))
-      → TellsOf known (ending_with found.fault words)
+      → IfSome words (λ line. AreWordsOfInput (telling_of asked) known found.fault (string_bytes line))
+      → TellsOf asked known (ending_with found.fault words)
   worded (Some words) told = told
   worded None told = tt
 
-pub told_of_result : {T : Type 0} (known : Option (List ℕ)) (done : Result T Finding) (ending : Ending)
-    → ending ≡ ending_of done → IfErr done (IsFoundIn known) → TellsOf known ending
-told_of_result known (Ok done) ending e h = subst (TellsOf known) (sym e) tt
-told_of_result known (Err found) ending e h = told_of_finding known found ending e h
+pub told_of_result : {T : Type 0} (asked : Asked) (known : Option (List ℕ)) (done : Result T Finding) (ending : Ending)
+    → ending ≡ ending_of done → IfErr done (IsFoundIn (telling_of asked) known) → TellsOf asked known ending
+told_of_result asked known (Ok done) ending e h = subst (TellsOf asked known) (sym e) tt
+told_of_result asked known (Err found) ending e h = told_of_finding asked known found ending e h

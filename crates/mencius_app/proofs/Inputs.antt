@@ -64,13 +64,13 @@ other_bad fault other e none (inl h) = none.0 (sym e ∙ h)
 other_bad fault other e none (inr (inl h)) = none.1 (sym e ∙ h)
 other_bad fault other e none (inr (inr h)) = none.2 (sym e ∙ h)
 
-no_read : (fault : AppFault) → IsBadInput fault → fault ≢ ReadFailed
+pub no_read : (fault : AppFault) → IsBadInput fault → fault ≢ ReadFailed
 no_read fault bad e = other_bad fault ReadFailed e (λ h. absurd (cc), λ h. absurd (cc), λ h. absurd (cc)) bad
 
-no_write : (fault : AppFault) → IsBadInput fault → fault ≢ WriteFailed
+pub no_write : (fault : AppFault) → IsBadInput fault → fault ≢ WriteFailed
 no_write fault bad e = other_bad fault WriteFailed e (λ h. absurd (cc), λ h. absurd (cc), λ h. absurd (cc)) bad
 
-no_board : (fault : AppFault) → IsBadInput fault → fault ≢ BoardFailed
+pub no_board : (fault : AppFault) → IsBadInput fault → fault ≢ BoardFailed
 no_board fault bad e = other_bad fault BoardFailed e (λ h. absurd (cc), λ h. absurd (cc), λ h. absurd (cc)) bad
 
 no_memory : (fault : AppFault) → IsBadInput fault → fault ≢ NoMemory
@@ -115,12 +115,12 @@ unread read known reads reads_now fault (inr (inl broken)) long failed = record 
 }
 unread read known reads reads_now fault (inr (inr memory)) long failed = own_fault (inl memory)
 
-flipped : (known : Option (List ℕ)) (bytes : List ℕ) → IfSome known (λ all. bytes ≡ all)
+pub flipped : (known : Option (List ℕ)) (bytes : List ℕ) → IfSome known (λ all. bytes ≡ all)
     → IfSome known (λ all. all ≡ bytes)
 flipped None bytes h = tt
 flipped (Some all) bytes h = sym h
 
-failing : {Y : Type 0} (fault : AppFault) (answer : Result Y AppFault) → FailsBy fault answer
+pub failing : {Y : Type 0} (fault : AppFault) (answer : Result Y AppFault) → FailsBy fault answer
     → (fault ≡ NoMemory) ⊎ (answer ≡ Err fault)
 failing NotJson answer h = inr h
 failing BadShape answer h = inr h
@@ -130,7 +130,7 @@ failing WriteFailed answer h = inr h
 failing NoMemory answer h = inl refl
 failing BoardFailed answer h = inr h
 
-bad_there : {Y : Type 0} (read : List ℕ → Result Y AppFault) (known : Option (List ℕ)) (bytes : List ℕ)
+pub bad_there : {Y : Type 0} (read : List ℕ → Result Y AppFault) (known : Option (List ℕ)) (bytes : List ℕ)
     (fault : AppFault) → IfSome known (λ all. bytes ≡ all) → unless_long read bytes ≡ Err fault
     → HasFault (unless_long read) known fault
 bad_there read None bytes fault same e = tt

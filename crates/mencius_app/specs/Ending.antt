@@ -7,13 +7,14 @@ use Rattle.clap.specs.declared.error.kind.ErrorKind.{ErrorKind}
 use Rattle.mencius_ends.specs.declared.fault.AppFault.{AppFault}
 use Rattle.mencius_command_line.specs.CommandLine.{Asked, are_texts, asked, asked_check, asked_replay, asked_run, asked_trace, faults, line_of}
 use Rattle.mencius_command_line.specs.Help.{shown_for}
+use Rattle.mencius_input.specs.declared.kind.Kind.TheVariants as input
 use Rattle.mencius_ends.specs.Fault.{fault_name, fault_number}
 use Rattle.mencius_ends.specs.Status.{status_of}
 use Rattle.mencius_app.specs.Input.{IsFaultOf, IsPlanFaultOf}
 use Rattle.mencius_app.specs.Replay.{IsJudgedReplayOf}
 use Rattle.mencius_trace.specs.Words.{line_feed}
-use Rattle.mencius_app.specs.Check.{IsCheckOf}
-use Rattle.mencius_app.specs.Findings.{AreWordsOfInput}
+use Rattle.mencius_app.specs.Check.{IsCheckFaultOf, IsCheckOf}
+use Rattle.mencius_app.specs.Findings.{AreWordsOfInput, IsToldAs, IsToldByFields, Telling}
 use Rattle.mencius_app.specs.Trace.{IsTraceOf}
 use Rattle.mencius_app.specs.Run.{IsRunOf}
 use Rattle.mencius_app.specs.declared.calling.RunOptions.{RunOptions}
@@ -65,10 +66,17 @@ abbrev pub ending_of : {T : Type 0} → Result T Finding → Ending
 ending_of (Ok done) = Done
 ending_of (Err found) = ending_at found
 
+-- how a task tells of a fault
+abbrev pub telling_of : Asked → Telling
+telling_of (asked_replay is_strict) = IsToldAs input.Replay
+telling_of asked_trace = IsToldAs input.Replay
+telling_of asked_check = IsToldByFields
+telling_of (asked_run with_journal key) = IsToldAs input.Run
+
 -- what words there are say where all that a reader has, so far as that is known, has the fault
-abbrev pub TellsOf : Option (List ℕ) → Ending → Type 0
-TellsOf known (Explained fault words) = AreWordsOfInput known fault (string_bytes words)
-TellsOf known _ = Unit {0}
+abbrev pub TellsOf : Asked → Option (List ℕ) → Ending → Type 0
+TellsOf asked known (Explained fault words) = AreWordsOfInput (telling_of asked) known fault (string_bytes words)
+TellsOf asked known _ = Unit {0}
 
 -- a strict replay tells of refused events
 abbrev pub tells_of_refusals : Bool → Bool → Bool
@@ -134,6 +142,7 @@ AsksToRun arguments = (faults (line_of arguments) ≡ []) × (is_run (asked (lin
 -- the input of a task is bad in this way, where it is known
 abbrev pub IsInputFaultOf : Asked → Option (List ℕ) → AppFault → Type 0
 IsInputFaultOf (asked_run with_journal key) known fault = IsPlanFaultOf known fault
+IsInputFaultOf asked_check known fault = IsCheckFaultOf known fault
 IsInputFaultOf _ known fault = IsFaultOf known fault
 
 -- the arguments ask for a task, whose input is bad in this way

@@ -82,7 +82,8 @@ pub fn perform<R: Source, W: Sink, E: Sink, T: Threads + Wait + Sync>(
     ensures board { fault_in result ≡ Some AppFault.BoardFailed
         → AsksToRun (bytes_of arguments.now) }
     ensures explained { is_explained result ≡ true → faults (line_of (bytes_of arguments.now)) ≡ [] }
-    ensures words { TellsOf (R.remaining source.old) result }
+    ensures words { TellsOf (asked (line_of (bytes_of arguments.now))) (R.remaining source.old)
+        result }
     ensures asked { AsksLittle (R.remaining source.old) (R.remaining source.new)
         (R.failed source.old) (R.failed source.new) (W.failed sink.old) (W.failed sink.new) }
 {
@@ -193,7 +194,7 @@ fn perform_alone<R: Source, W: Sink>(
         (W.contents sink.old) (W.contents sink.new))) }
     ensures no_board { IfOk result (λ ending. IfSome (fault_in ending)
         (λ f. f ≢ AppFault.BoardFailed)) }
-    ensures words { IfOk result (TellsOf (R.remaining source.old)) }
+    ensures words { IfOk result (TellsOf (asked_in task) (R.remaining source.old)) }
     ensures asked { AsksLittle (R.remaining source.old) (R.remaining source.new)
         (R.failed source.old) (R.failed source.new) (W.failed sink.old) (W.failed sink.new) }
 {
@@ -231,7 +232,7 @@ fn perform_run<R: Source, W: Sink, T: Threads + Wait + Sync>(
         (IsTextOf (asked_with options.now) (R.remaining source.old))
         (R.failed source.old) (R.failed source.new) (W.failed sink.old) (W.failed sink.new)
         (W.contents sink.old) (W.contents sink.new)) }
-    ensures words { TellsOf (R.remaining source.old) result }
+    ensures words { TellsOf (asked_with options.now) (R.remaining source.old) result }
     ensures asked { AsksLittle (R.remaining source.old) (R.remaining source.new)
         (R.failed source.old) (R.failed source.new) (W.failed sink.old) (W.failed sink.new) }
 {

@@ -1,9 +1,11 @@
 //! Why a task ended without doing its work.
 
-ghost use Rattle.std.specs.Prelude.{◌≡◌, IfSome, string_bytes};
-ghost use Rattle.mencius_app.specs.Findings.{AreWordsOf};
+ghost use Rattle.std.specs.Prelude.{◌≡◌, ◌++◌, ℕ, List, IfSome, string_bytes, true};
+ghost use Rattle.mencius_input.specs.Place.{IsTold, IsToldUnread};
+ghost use Rattle.mencius_app.specs.Findings.{IsOtherKind, IsToldAs, other_kind_words};
+ghost use Rattle.mencius_trace.specs.Words.{line_feed};
 
-use mencius_input::{AppFault, explain};
+use mencius_input::{AppFault, Kind, explain, explain_unread, read_run_input, read_scenario};
 use std::alloc::{AllocError, Global};
 
 /// Why a task ended: a fault, and where its scenario has it.
@@ -37,20 +39,86 @@ impl From<AllocError> for Finding {
     }
 }
 
-/// A fault that these bytes have, with words for it if there is memory.
-pub(crate) fn found(alloc: Global, bytes: &[u8], fault: AppFault) -> Finding
+/// What is found where reading all of an input failed.
+pub(crate) fn unread(alloc: Global, fault: AppFault) -> Finding
     ensures fault { result.fault ≡ fault }
-    ensures words { IfSome result.words (λ line. AreWordsOf fault bytes.now (string_bytes line)) }
+    ensures words { IfSome result.words (λ line. (words : List ℕ)
+        × IsToldUnread fault words × (string_bytes line ≡ words ++ line_feed)) }
 {
-    let words = words_of(alloc, bytes, fault);
+    let words = if fault == AppFault::NoMemory {
+        None
+    } else {
+        words_unread(alloc, fault)
+    };
     Finding { fault, words }
 }
 
-// A line that says where these bytes have a fault, if there is memory.
-fn words_of(alloc: Global, bytes: &[u8], fault: AppFault) -> Option<String>
-    ensures { IfSome result (λ line. AreWordsOf fault bytes.now (string_bytes line)) }
+/// What is found where these bytes have a fault as a scenario of this kind.
+pub(crate) fn misread(alloc: Global, kind: Kind, bytes: &[u8], fault: AppFault) -> Finding
+    ensures fault { result.fault ≡ fault }
+    ensures words { IfSome result.words (λ line. (words : List ℕ)
+        × IsTold kind fault bytes.now words × (string_bytes line ≡ words ++ line_feed)) }
 {
-    let mut words = explain(alloc, bytes, fault).ok()?;
-    words.push('\n').ok()?;
-    Some(words)
+    let words = if fault == AppFault::NoMemory {
+        None
+    } else {
+        words_at(alloc, kind, bytes, fault)
+    };
+    Finding { fault, words }
+}
+
+/// The same by a task that takes no other kind.
+pub(crate) fn misread_as(alloc: Global, kind: Kind, bytes: &[u8], fault: AppFault) -> Finding
+    ensures fault { result.fault ≡ fault }
+    ensures words { IfSome result.words (λ line. (words : List ℕ)
+        × IsToldAs kind fault bytes.now words × (string_bytes line ≡ words ++ line_feed)) }
+{
+    if fault == AppFault::BadShape && is_other_kind(alloc, kind, bytes) {
+        let words = words_of_other(alloc, kind);
+        return Finding { fault, words };
+    }
+    misread(alloc, kind, bytes, fault)
+}
+
+// Whether these bytes are a scenario of the other kind; where memory runs out, they are none.
+fn is_other_kind(alloc: Global, kind: Kind, bytes: &[u8]) -> bool
+    ensures { result ≡ true → IsOtherKind kind bytes.now }
+{
+    match kind {
+        Kind::Replay => read_run_input(alloc, bytes).is_ok(),
+        Kind::Run => read_scenario(alloc, bytes).is_ok(),
+    }
+}
+
+fn words_of_other(alloc: Global, kind: Kind) -> Option<String>
+    ensures { IfSome result (λ line. string_bytes line ≡ other_kind_words kind ++ line_feed) }
+{
+    let words = match kind {
+        Kind::Replay => "this is a scenario of a run: `mencius run` takes it",
+        Kind::Run => "this is a scenario of events: `mencius replay` takes it",
+    };
+    as_line(String::from_str(alloc, words).ok()?)
+}
+
+fn words_unread(alloc: Global, fault: AppFault) -> Option<String>
+    ensures { IfSome result (λ line. (words : List ℕ)
+        × IsToldUnread fault words × (string_bytes line ≡ words ++ line_feed)) }
+{
+    as_line(explain_unread(alloc, fault).ok()?)
+}
+
+fn words_at(alloc: Global, kind: Kind, bytes: &[u8], fault: AppFault) -> Option<String>
+    ensures { IfSome result (λ line. (words : List ℕ)
+        × IsTold kind fault bytes.now words × (string_bytes line ≡ words ++ line_feed)) }
+{
+    as_line(explain(alloc, kind, bytes, fault).ok()?)
+}
+
+// Words as a line, if there is memory for its line feed.
+fn as_line(words: String) -> Option<String>
+    ensures { IfSome result (λ line. string_bytes line ≡ string_bytes words ++ line_feed) }
+{
+    let mut line = words;
+    line.push('\n').ok()?;
+    Some(line)
 }

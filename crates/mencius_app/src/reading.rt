@@ -1,14 +1,14 @@
 //! How a task reads its scenario.
 
-ghost use Rattle.std.specs.Prelude.{◌≡◌, ◌≢◌, IfErr, IfOk, IfSome, OnOk, string_bytes};
+ghost use Rattle.std.specs.Prelude.{◌≡◌, ◌≢◌, IfErr, IfOk, OnOk};
 ghost use Rattle.std.specs.Io.KnownBytes.{IsAtEnd};
 ghost use Rattle.mencius_input.specs.Scenario.{written_in};
 ghost use Rattle.mencius_app.specs.Calls.{AsksReader, IsReadingCause};
-ghost use Rattle.mencius_app.specs.Findings.{IsFoundIn};
+ghost use Rattle.mencius_app.specs.Findings.{IsFoundIn, IsToldAs};
 ghost use Rattle.mencius_app.specs.Input.{IsFaultOf, Says, input_of};
 
-use crate::finding::{Finding, found};
-use mencius_input::{AppFault, Scenario, Source, read_all, read_scenario};
+use crate::finding::{Finding, misread_as, unread};
+use mencius_input::{AppFault, Kind, Scenario, Source, read_all, read_scenario};
 use std::alloc::Global;
 
 /// The scenario of `replay` that a reader has, or what is wrong with it.
@@ -18,16 +18,16 @@ pub(crate) fn read_input<R: Source>(alloc: Global, source: &mut R) -> Result<Sce
     ensures fault { IfErr result (λ found. IsReadingCause (IsFaultOf (R.remaining source.old))
         (R.failed source.old) (R.failed source.new) found.fault) }
     ensures no_board { IfErr result (λ found. found.fault ≢ AppFault.BoardFailed) }
-    ensures words { IfErr result (IsFoundIn (R.remaining source.old)) }
+    ensures words { IfErr result (IsFoundIn (IsToldAs Kind.Replay) (R.remaining source.old)) }
     ensures asked { AsksReader (R.remaining source.old) (R.remaining source.new)
         (R.failed source.old) (R.failed source.new) }
 {
     let bytes = match read_all(alloc, source) {
         Ok(bytes) => bytes,
-        Err(fault) => return Err(found(alloc, b"", fault)),
+        Err(fault) => return Err(unread(alloc, fault)),
     };
     match read_scenario(alloc, bytes.as_slice()) {
         Ok(scenario) => Ok(scenario),
-        Err(fault) => Err(found(alloc, bytes.as_slice(), fault)),
+        Err(fault) => Err(misread_as(alloc, Kind::Replay, bytes.as_slice(), fault)),
     }
 }

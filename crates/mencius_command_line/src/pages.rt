@@ -161,13 +161,17 @@ docs/FORMATS.md describes the trace in full, and examples/ has schedules to try.
 const CHECK_HELP: &str = "\
 Says where the scenario on standard input is wrong
 
-The scenario is one of `replay`, whose help says what it has. No event of it is stepped.
-Where `replay` and `trace` would take it, a line is printed:
+The scenario is one of `replay` or one of `run`; the help of each says what it has. What has
+no events, but workers, seed, turns, loss or commands, is judged as a run's. No event of it
+is stepped, and no worker starts. Where its task would take it, a line is printed:
 
-  ok servers N events E     how many servers and how many events it has
+  ok servers N events E     of `replay`: how many servers and how many events it has
+  ok servers N workers W turns T commands C C ..
+                            of `run`: how many servers and workers, how many turns each
+                            worker takes, and how many commands there are for each server
 
-Where they would not, nothing is printed. Standard error then has the line of the fault
-that they give, and after it a line that says where and what it is.
+Where it would not, nothing is printed. Standard error then has the line of the fault that
+the task gives, and after it a line that says where and what it is.
 
 Usage: mencius check < SCENARIO
 
@@ -180,8 +184,9 @@ Exit status:
   3  a bad scenario: 21 NotJson, 22 BadShape, 23 BadLimit
   4  reading or writing failed: 24 ReadFailed, 25 WriteFailed
   5  memory ran out: 26 NoMemory
-From 3 on, standard error has the line `mencius: fault NUMBER NAME`; of a bad scenario
-there is a second line, unless memory for it ran out.
+From 3 on, standard error has the line `mencius: fault NUMBER NAME`, and of a scenario that
+is bad or cannot be read a second one, which says where it is wrong, unless memory for it
+ran out. Nothing was printed then, unless writing failed.
 
 Examples, at the top of the repository; the second finds a zero too many:
   ./mencius check < examples/one_command.json

@@ -16,7 +16,7 @@ returns-in-Err-clause-misused g c = λ ended.
     ]
 
 pub returns-in-Err-clause-words : goal.returns-in-Err-clause-words
-returns-in-Err-clause-words g c = unexplained _ _ c.tell.ensures.plain
+returns-in-Err-clause-words g c = unexplained _ _ _ c.tell.ensures.plain
 
 pub returns-then-not-are_texts-clause-not_text : goal.returns-then-not-are_texts-clause-not_text
 returns-then-not-are_texts-clause-not_text g c e = refl

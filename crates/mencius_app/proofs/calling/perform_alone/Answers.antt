@@ -1,5 +1,6 @@
 use Rattle.std.proofs.Common.{◌≡◌, arith, false, refl, true}
 use Rattle.std.proofs.lemmas.Result.{IfErr-weaker}
+use Rattle.mencius_command_line.specs.CommandLine.{asked_check, asked_replay, asked_trace}
 use Rattle.mencius_app.specs.Ending.{tells_of_refusals}
 use Rattle.mencius_app.proofs.EndingCauses.{as_text, of_finding, of_result, text_of_replay}
 use Rattle.mencius_app.proofs.FindingWords.{told_of_finding, told_of_result}
@@ -31,13 +32,17 @@ returns-in-Check-clause-no_board g c =
     of_result c.check.result _ _ c.ending_of-in-Check.ensures c.check.ensures.no_board
 
 pub returns-in-Err-clause-words : goal.returns-in-Err-clause-words
-returns-in-Err-clause-words g c = told_of_finding _ c.in-Err.found _ c.ending_at.ensures c.in-Err.ensures.words
+returns-in-Err-clause-words g c =
+    rw c.in-Replay.is (told_of_finding (asked_replay c.in-Replay.is_strict) _ c.in-Err.found _ c.ending_at.ensures
+    c.in-Err.ensures.words)
 
 pub returns-in-Trace-clause-words : goal.returns-in-Trace-clause-words
-returns-in-Trace-clause-words g c = told_of_result _ c.trace.result _ c.ending_of.ensures c.trace.ensures.words
+returns-in-Trace-clause-words g c =
+    rw c.in-Trace.is (told_of_result asked_trace _ c.trace.result _ c.ending_of.ensures c.trace.ensures.words)
 
 pub returns-in-Check-clause-words : goal.returns-in-Check-clause-words
-returns-in-Check-clause-words g c = told_of_result _ c.check.result _ c.ending_of-in-Check.ensures c.check.ensures.words
+returns-in-Check-clause-words g c =
+    rw c.in-Check.is (told_of_result asked_check _ c.check.result _ c.ending_of-in-Check.ensures c.check.ensures.words)
 
 pub returns-then-not-all_accepted-clause-done : goal.returns-then-not-all_accepted-clause-done
 returns-then-not-all_accepted-clause-done g c e = absurd (cc e)

@@ -1,4 +1,5 @@
 use Rattle.std.proofs.lemmas.Result.{IfErr-weaker}
+use Rattle.mencius_app.specs.Ending.{asked_with}
 use Rattle.mencius_app.proofs.EndingCauses.{as_text, of_result, text_of_run}
 use Rattle.mencius_app.proofs.FindingWords.{told_of_result}
 use Rattle.mencius_app.proofs.calling.perform_run.Goals as goal
@@ -9,4 +10,6 @@ returns-clause-fault g c =
     text_of_run _ _ _ _ text c.as_deref-key.ensures.value is) h) c.run.ensures.fault)
 
 pub returns-clause-words : goal.returns-clause-words
-returns-clause-words g c = told_of_result _ c.run.result _ c.ending_of.ensures c.run.ensures.words
+returns-clause-words g c =
+    told_of_result (asked_with c.args.options.now) (g.R.Source.remaining c.args.source.now) c.run.result _
+    c.ending_of.ensures c.run.ensures.words

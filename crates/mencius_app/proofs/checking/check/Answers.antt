@@ -1,19 +1,18 @@
-use Rattle.std.proofs.Common.{Err, string_bytes, subst, sym}
-use Rattle.mencius_input.specs.Scenario.{written_in}
-use Rattle.mencius_app.specs.Check.{IsCheckOf, ok_line}
-use Rattle.mencius_app.proofs.Inputs.{at_finding, made, unwritable}
+use Rattle.std.proofs.Common.{Err, subst, sym}
+use Rattle.mencius_app.specs.Check.{IsCheckOf}
+use Rattle.mencius_app.proofs.Inputs.{at_finding, unwritable}
 use Rattle.mencius_app.proofs.checking.check.Goals as goal
 
 pub returns-in_err-write_all-clause-fault : goal.returns-in_err-write_all-clause-fault
 returns-in_err-write_all-clause-fault g c =
-    let line = made ok_line _ (written_in c.in_ok-scenario.scenario) (string_bytes c.in_ok-line.line)
-    c.in_ok-scenario.ensures.said c.in_ok-line.ensures in
     at_finding _ _ _ c.from_residual-in_err-write_all.ensures.1
-    (unwritable _ _ _ _ _ _ _ _ {T = Unit {0}} (Err c.in_err-write_all.field-0.0) _ _ line c.as_bytes.ensures.value
-    c.in_err-write_all.ensures.front c.in_err-write_all.ensures.fault c.in_err-write_all.ensures.failed)
+    (unwritable _ _ _ _ _ _ _ _ {T = Unit {0}} (Err c.in_err-write_all.field-0.0) _ _ c.in_ok-line.ensures.line
+    c.as_bytes.ensures.value c.in_err-write_all.ensures.front c.in_err-write_all.ensures.fault
+    c.in_err-write_all.ensures.failed)
 
 pub returns-clause-done : goal.returns-clause-done
-returns-clause-done g c =
-    let line = made ok_line _ (written_in c.in_ok-scenario.scenario) (string_bytes c.in_ok-line.line)
-    c.in_ok-scenario.ensures.said c.in_ok-line.ensures in
-    (c.as_bytes.result.now, subst (IsCheckOf _) (sym c.as_bytes.ensures.value) line, c.in_ok-write_all.ensures.whole)
+returns-clause-done g c = (
+  c.as_bytes.result.now,
+  subst (IsCheckOf _) (sym c.as_bytes.ensures.value) c.in_ok-line.ensures.line,
+  c.in_ok-write_all.ensures.whole,
+)
