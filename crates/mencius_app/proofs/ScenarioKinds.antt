@@ -7,7 +7,7 @@ use Rattle.mencius_ends.specs.declared.fault.AppFault.TheVariants.{BadShape}
 use Rattle.mencius_input.specs.declared.kind.Kind.{Kind}
 use Rattle.mencius_input.specs.declared.kind.Kind.TheVariants.{Replay, Run}
 use Rattle.mencius_input.specs.Judged.{judged}
-use Rattle.mencius_input.specs.Kinds.{has_many_objects, has_run_field, kind_in, kind_of, kind_said}
+use Rattle.mencius_input.specs.Kinds.{has_many_objects, has_run_field, kind_in, kind_said}
 use Rattle.mencius_input.specs.Scenario.{beta_of, json_of, or_not_json, read_there, scenario, whole_of, within, written_of}
 
 none_behind : {X Y : Type 0} (o : Option X) (f : X → Option Y) → ((x : X) → f x ≡ None) → option_and_then f o ≡ None
