@@ -1,0 +1,139 @@
+"""What a store prints for a schedule, and where that first departs from what is expected.
+
+A store prints a report, a trace, or both, as docs/FORMATS.md has them. Of a trace the lines `event` and `sent` are
+compared, and of the other kinds of lines those of which the store prints any, as far as it is known what to expect of
+them. Any other line is the store's own business. A report is compared whole. A line `refused` without a name agrees
+with every name.
+"""
+import dataclasses
+import itertools
+import re
+
+TRACE_KINDS = frozenset({"event", "refused", "promises", "acceptances", "ignored", "learned", "sent", "front",
+                         "executed", "reply"})
+CLOSING = re.compile(r"server \d+ front \d+ executed |unheard ")
+REPORT_BEGIN = re.compile(r"servers \d+ messages |server \d+ front \d+ done ")
+REPORT_REFUSAL = re.compile(r"refused \d+( |$)")
+REPORT_KINDS = frozenset({"refused", "servers", "server", "reply"})
+
+# What a difference is about.
+LINES, REPORT, CRASH, HANG, FLOOD, SILENCE, NO_FORMAT = (
+    "lines", "report", "crash", "hang", "flood", "silence", "no format")
+
+
+@dataclasses.dataclass
+class Texts:
+    """The lines of a trace, one list an event and one for what comes after the last, and the lines of a report."""
+    events: list
+    closing: list
+    report: list
+
+    def kinds(self):
+        """Which kinds of lines the trace has; these two it may have, if it is one."""
+        return {kind_of(line) for lines in [*self.events, self.closing] for line in lines} | {"event", "sent"}
+
+
+@dataclasses.dataclass
+class Difference:
+    """Where a store first departs: what about, in words too; the index of the event, or None where that is not known;
+    and the lines that should agree."""
+    about: str
+    words: str
+    event: int = None
+    expected: list = dataclasses.field(default_factory=list)
+    found: list = dataclasses.field(default_factory=list)
+
+
+def kind_of(line):
+    return line.split(" ", 1)[0]
+
+
+def read_texts(text):
+    """The lines of a trace and of a report in what was printed."""
+    texts = Texts([], [], [])
+    in_report = False
+    for line in text.split("\n"):
+        if kind_of(line) == "event":
+            in_report = False
+            texts.events.append([line])
+        elif in_report or REPORT_BEGIN.match(line) or REPORT_REFUSAL.match(line):
+            in_report = in_report or REPORT_BEGIN.match(line) is not None
+            if kind_of(line) in REPORT_KINDS:
+                texts.report.append(line)
+        elif CLOSING.match(line):
+            texts.closing.append(line)
+        elif texts.events and kind_of(line) in TRACE_KINDS:
+            texts.events[-1].append(line)
+    return texts
+
+
+def agree(expected, found):
+    """Whether two lines say the same; None stands for no line."""
+    if expected == found:
+        return True
+    return expected is not None and found is not None and kind_of(expected) == "refused" and (
+        found == expected.rsplit(" ", 1)[0])
+
+
+def all_agree(expected, found):
+    return all(agree(*pair) for pair in itertools.zip_longest(expected, found))
+
+
+def differ_in_trace(expected, kinds, found):
+    """The first difference of two traces in lines of these kinds, or None."""
+    compared_kinds = kinds & found.kinds()
+
+    def compared(lines):
+        return [line for line in lines if kind_of(line) in compared_kinds]
+
+    for index, (ours, theirs) in enumerate(itertools.zip_longest(expected.events, found.events, fillvalue=[])):
+        if not all_agree(compared(ours), compared(theirs)):
+            return Difference(LINES, "its trace has other lines", index, compared(ours), compared(theirs))
+    if not all_agree(compared(expected.closing), compared(found.closing)):
+        return Difference(LINES, "its trace has other lines at the end", max(len(expected.events) - 1, 0),
+                          compared(expected.closing), compared(found.closing))
+    return None
+
+
+def differ_in_report(expected, found):
+    """The difference of two reports, or None. Which event it comes from no report says."""
+    if all_agree(expected.report, found.report):
+        return None
+    return Difference(REPORT, "its report has other lines", None, expected.report, found.report)
+
+
+def first_difference(expected, kinds, text):
+    """The first difference between what is expected and what a store printed, or None. Of a trace lines of these kinds
+    are compared."""
+    found = read_texts(text)
+    if not found.events and not found.closing and not found.report:
+        if not expected.events:
+            return None
+        if not text.strip():
+            return Difference(SILENCE, "printed nothing")
+        return Difference(NO_FORMAT, "printed neither a report nor lines of a trace", None, [],
+                          text.rstrip("\n").split("\n")[:5])
+    difference = None
+    if found.events or found.closing:
+        difference = differ_in_trace(expected, kinds, found)
+    if difference is None and found.report:
+        difference = differ_in_report(expected, found)
+    return difference
+
+
+def stopped(is_flood, seconds, text):
+    """The difference of a store that had to be stopped."""
+    event = last_event(read_texts(text))
+    if is_flood:
+        return Difference(FLOOD, "printed without end", event)
+    return Difference(HANG, f"had not ended after {seconds:g} seconds", event)
+
+
+def crashed(status, complaint, text):
+    """The difference of a store that ended with another status than 0, or by a signal, which is a negative one."""
+    words = f"ended with status {status}" if status > 0 else f"was ended by signal {-status}"
+    return Difference(CRASH, words, last_event(read_texts(text)), [], complaint.splitlines()[-5:])
+
+
+def last_event(texts):
+    return len(texts.events) - 1 if texts.events else None

@@ -1,0 +1,326 @@
+"""Draws schedules that bring about what stores get wrong: servers that suspect each other by turns at the same few
+instances, messages that come late, twice or not at all, servers that are cut off for a while, and commands that lose
+their instances and are suggested again.
+
+Each seed gives the same schedule each time. What is not asked for, the rates and the size of the cluster, is drawn from
+the seed too, so that some schedules have much of a thing and others nothing of it.
+"""
+import dataclasses
+import random
+
+import reference
+
+# How often a thing happens, in a hundred: the name, what it is, and the rates that are drawn where none is asked for.
+RATES = {
+    "submissions": ("of 100 events, how many begin to submit commands", (2, 5, 10)),
+    "burst": ("up to so many commands one after the other at one server", (1, 2, 3)),
+    "suspicion": ("of 100 events, how many begin rounds of suspicions of one server", (5, 15, 30)),
+    "retry": ("of 100 events, how many suggest again, where a command waits", (2, 10)),
+    "loss": ("of 100 messages on their way to a server, how many are lost", (0, 0, 0, 5, 15)),
+    "repeats": ("of 100 deliveries, how many come again", (0, 5, 15)),
+    "delay": ("of 100 messages on their way to a server, how many are late", (0, 10, 30)),
+    "cuts": ("of 100 events, how many cut a server off for a while", (0, 0, 2, 4)),
+    "refusals": ("of 100 events, how many are such as a cluster refuses", (2, 5, 10)),
+}
+SERVERS = (1, 2, 2, 3, 3, 3, 3, 3, 3, 3, 3, 4, 4, 4, 5, 5, 6, 7)
+BETAS = (0, 0, 0, 0, 1, 2, 3, 5)
+KEYS = ("a", "a", "a", "a", "b", "A")
+TEXTS = ("x", "y", "", "")
+LATE = 60  # events for which a late message is on its way, at most
+
+
+class Dice:
+    """Random numbers of a seed. `random` alone gives the same ones in each version of Python."""
+
+    def __init__(self, seed):
+        self.source = random.Random(seed)
+
+    def below(self, count):
+        return int(self.source.random() * count)
+
+    def chance(self, rate):
+        return self.source.random() * 100 < rate
+
+    def pick(self, values):
+        return values[self.below(len(values))]
+
+    def order(self, values):
+        values = list(values)
+        places = sorted((self.source.random(), place) for place in range(len(values)))
+        return [values[place] for _, place in places]
+
+
+@dataclasses.dataclass
+class Wish:
+    """What the schedules are to be like; None is drawn. `rates` has those of RATES that are not to be drawn."""
+    events: int
+    servers: int = None
+    beta: int = None
+    has_cas: bool = True
+    has_refusals: bool = True
+    rates: dict = dataclasses.field(default_factory=dict)
+
+
+def draw(seed, wish):
+    """The schedule of a seed."""
+    drawing = Drawing(seed, wish)
+    while len(drawing.events) < wish.events:
+        drawing.draw_event()
+    return reference.Schedule(f"seed {seed}", drawing.count, drawing.beta, drawing.events[:wish.events])
+
+
+class Drawing:
+    """A schedule that grows, and what is known of the messages on their way."""
+
+    def __init__(self, seed, wish):
+        self.dice = Dice(seed)
+        servers, beta = self.dice.pick(SERVERS), self.dice.pick(BETAS)
+        self.rates = {name: wish.rates.get(name, self.dice.pick(rates)) for name, (_, rates) in RATES.items()}
+        self.count = servers if wish.servers is None else wish.servers
+        self.beta = beta if wish.beta is None else wish.beta
+        self.majority = self.count // 2 + 1
+        self.wish = wish
+        self.calm_from = wish.events * self.dice.pick((50, 60, 70, 80)) // 100
+        self.cluster = reference.Cluster(self.count, self.beta)
+        self.events, self.messages = [], []
+        self.identities = []  # each command's home with its identity
+        self.on_way = {}  # each message with a server that it is on its way to, and the event before which it is late
+        self.heard, self.lost = [], []
+        self.known = set()  # each server with an instance that it learned by a Learn or tells by one
+        self.room = self.count * self.dice.pick((2, 4, 8))  # above so many on their way, no new ones are brought about
+        self.cut = {}  # up to which event a server is cut off
+        self.victim = None  # whom the others suspect
+        self.plot = iter(())  # what goes on step by step, an event each
+
+    def attempt(self, event, refusal_rate=0):
+        """Takes the event if the cluster accepts it, and a refused one so often of 100 times."""
+        refusal, sent = self.cluster.step(event)
+        if refusal and not (self.wish.has_refusals and self.dice.chance(refusal_rate)):
+            return False
+        self.events.append(event)
+        for message in sent:
+            self.messages.append(message)
+            if message.kind == "Learn":
+                self.known.add((message.source, message.instance))
+            receivers = range(self.count) if message.to is None else [message.to]
+            for receiver in receivers:
+                late = self.dice.below(LATE) if self.dice.chance(self.rates["delay"]) else 0
+                self.on_way[message.number, receiver] = len(self.events) + late
+        return True
+
+    def draw_event(self):
+        """Adds an event, or several."""
+        if not self.is_calm() and self.dice.chance(self.rates["repeats"]) and self.repeat():
+            return
+        if self.dice.chance(92) and self.go_on():
+            return
+        if not self.is_calm() and self.disturb() or self.settle():
+            return
+        self.cut.clear()
+        if not self.submit(self.dice.below(self.count)):
+            self.repeat() or self.attempt(self.refused_event(), 100)
+
+    def is_calm(self):
+        """Whether nothing new is to happen, so that what did shows."""
+        return len(self.events) >= self.calm_from
+
+    def go_on(self):
+        """Goes on with the plot by an event; tells whether it had one."""
+        before = len(self.events)
+        for _ in self.plot:
+            if len(self.events) > before:
+                return True
+        return False
+
+    def disturb(self):
+        """Does what makes a calm schedule a hard one; tells whether that was an event."""
+        before = len(self.events)
+        if self.dice.chance(self.rates["cuts"]):
+            self.victim = self.dice.below(self.count)
+            self.cut[self.victim] = before + 10 + self.dice.below(40)
+        if self.dice.chance(self.rates["refusals"]):
+            return self.attempt(self.refused_event(), 100)
+        if self.dice.chance(self.rates["suspicion"]):
+            self.plot = self.fight()
+        elif self.dice.chance(self.rates["submissions"]) and len(self.on_way) <= self.room:
+            self.plot = self.submit_burst(self.dice.below(self.count))
+        elif self.dice.chance(self.rates["retry"]):
+            self.retry()
+        return len(self.events) > before or self.go_on()
+
+    def settle(self):
+        """Brings on what was begun; tells whether there was anything."""
+        if self.dice.chance(40) and self.anywhere("execute"):
+            return True
+        if self.is_calm() and self.dice.chance(15) and self.retry():
+            return True
+        return self.deliver() or self.anywhere("execute") or self.retry() or self.is_calm() and self.unblock()
+
+    def anywhere(self, word):
+        """Executes or suggests again at some server that can."""
+        rate = self.rates["refusals"] / 2
+        return any(self.attempt(f"{word} {server}", rate) for server in self.dice.order(range(self.count)))
+
+    def retry(self):
+        """Suggests again, and at times once more where nothing may wait any longer."""
+        if not self.anywhere("retry"):
+            return False
+        if self.dice.chance(30):
+            self.attempt(self.events[-1], 100)
+        return True
+
+    # ---- commands
+
+    def submit_burst(self, server):
+        for _ in range(1 + self.dice.below(self.rates["burst"])):
+            self.submit(server)
+            yield
+
+    def submit(self, server):
+        number = sum(home == server for home, _ in self.identities)
+        self.identities.append((server, f"{server + 1}.{number}"))
+        return self.attempt(f"submit {server} {server + 1}.{number} {self.operation()}")
+
+    def operation(self):
+        word = self.dice.pick(("set", "set", "get", "del", *["cas"] * 3 * self.wish.has_cas))
+        texts = {"set": 1, "cas": 2}.get(word, 0)
+        return " ".join([word, self.dice.pick(KEYS), *[self.dice.pick(TEXTS) for _ in range(texts)]])
+
+    # ---- suspicions
+
+    def fight(self):
+        """Rounds of suspicions of one server, mostly of the last one again. Each round gets as far as it happens to, by
+        a narrow part of the servers, so that votes and promises of several ballots stand beside each other."""
+        if self.victim is None or self.dice.chance(25):
+            self.victim = self.dice.below(self.count)
+        others = [server for server in range(self.count) if server != self.victim]
+        if not others:
+            return
+        first = len(self.messages)
+        if self.dice.chance(60):
+            yield from self.submit_burst(self.victim)
+        for message in self.messages[first:]:
+            yield from self.spread(message, self.dice.below(self.majority))
+        # Who accepted the suggestion mostly has no part in the first round, so that a no-op may win that.
+        left_out = {server for number, server in self.heard if number >= first and self.dice.chance(70)}
+        is_whole = self.dice.chance(30)
+        server = self.dice.pick(others)
+        for _ in range(self.dice.pick((1, 2, 3, 3, 4))):
+            server = server if self.dice.chance(40) else self.dice.pick(others)
+            first = len(self.messages)
+            if not self.suspect(server):
+                self.submit(server)
+                yield
+                first = len(self.messages)
+                if not self.suspect(server):
+                    continue
+            yield
+            prepares = self.messages[first:]
+            for prepare in prepares[:3] if self.dice.chance(40) else prepares[:1]:
+                yield from self.take_round(prepare, is_whole, left_out)
+            left_out = set()
+
+    def suspect(self, server):
+        return self.attempt(f"suspect {server} {self.victim}", 4 * self.rates["refusals"])
+
+    def take_round(self, prepare, is_whole, left_out):
+        """The messages that follow a Prepare, as far as it happens, or up to the Learns."""
+        first = len(self.messages)
+        yield from self.spread(prepare, self.majority + self.dice.below(2), left_out)
+        for kind in ("Promise", "Propose", "Accepted", "Learn"):
+            sent = [message for message in self.messages[first:]
+                    if message.kind == kind and message.instance == prepare.instance]
+            first = len(self.messages)
+            if kind == "Accepted" and not is_whole and self.dice.chance(70):
+                return
+            for message in self.dice.order(sent):
+                yield from self.spread(message, self.count if is_whole else 1 + self.dice.below(self.majority))
+
+    def spread(self, message, count, last=()):
+        """Delivers a message to so many of the servers that it is on its way to; to some only if others do not do."""
+        receivers = self.dice.order(pair for pair in self.on_way if pair[0] == message.number)
+        for pair in sorted(receivers, key=lambda pair: pair[1] in last)[:count]:
+            if pair in self.on_way:
+                self.hand_over(pair)
+                yield
+
+    def unblock(self):
+        """Lets somebody suspect somebody, so that what is still open comes to be decided."""
+        pairs = [(one, other) for one in range(self.count) for other in range(self.count) if one != other]
+        return any(self.attempt(f"suspect {one} {other}") for one, other in self.dice.order(pairs))
+
+    # ---- messages
+
+    def deliver(self):
+        """Delivers or loses a message."""
+        self.forget(40 if self.is_calm() else 10)
+        pairs = [pair for pair in self.on_way if self.is_calm() or self.reaches(pair)]
+        if not pairs:
+            return False
+        ready = [pair for pair in pairs if self.on_way[pair] <= len(self.events)]
+        if not ready:
+            pair = min(pairs, key=lambda pair: self.on_way[pair])
+        else:
+            pair = self.dice.pick(ready) if self.dice.chance(50) else ready[0]
+        self.hand_over(pair)
+        return True
+
+    def hand_over(self, pair):
+        """Delivers or loses a message that is on its way."""
+        del self.on_way[pair]
+        if not self.is_calm() and self.dice.chance(self.rates["loss"]):
+            self.lost.append(pair)
+            self.attempt(f"lose {pair[0]} {pair[1]}")
+            return
+        self.heard.append(pair)
+        message = self.messages[pair[0]]
+        if message.kind == "Learn":
+            self.known.add((pair[1], message.instance))
+        self.attempt(f"deliver {pair[0]} {pair[1]}")
+
+    def forget(self, rate):
+        """So many of 100 messages about what their receiver has learned are never delivered: mostly they show nothing.
+        Learns to an owner stay, whose command may wait."""
+        for pair in list(self.on_way):
+            message = self.messages[pair[0]]
+            if ((pair[1], message.instance) in self.known and message.kind not in ("Suggest", "Skip")
+                    and not (message.kind == "Learn" and message.instance % self.count == pair[1])):
+                if self.dice.chance(rate):
+                    del self.on_way[pair]
+                    self.heard.append(pair)
+
+    def repeat(self):
+        """Delivers again what was heard, mostly lately."""
+        recent = self.heard[-20:] if self.dice.chance(70) else self.heard
+        if not recent:
+            return False
+        number, server = self.dice.pick(recent)
+        return self.attempt(f"deliver {number} {server}")
+
+    def reaches(self, pair):
+        """Whether neither the sender nor the receiver is cut off."""
+        ends = (self.messages[pair[0]].source, pair[1])
+        return all(self.cut.get(end, 0) <= len(self.events) for end in ends)
+
+    # ---- refusals
+
+    def refused_event(self):
+        """An event that is mostly refused, often for two causes of which the first counts."""
+        server = self.dice.below(self.count)
+        beyond = self.count + self.dice.below(2)
+        somebody = self.dice.pick((server, server, beyond))
+        number = self.dice.below(len(self.messages) + 2)
+        lost = self.dice.pick(self.lost or [(number, server)])
+        _, identity = self.dice.pick(self.identities or [(0, "1.0")])
+        return self.dice.pick((
+            f"submit {somebody} {identity} {self.operation()}",
+            f"deliver {number} {somebody}",
+            f"lose {number} {somebody}",
+            f"deliver {lost[0]} {lost[1]}",
+            f"lose {lost[0]} {lost[1]}",
+            f"suspect {somebody} {server}",
+            f"suspect {server} {self.dice.below(self.count + 1)}",
+            f"suspect {beyond} {beyond}",
+            f"retry {somebody}",
+            f"execute {somebody}",
+        ))

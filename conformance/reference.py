@@ -1,0 +1,99 @@
+"""What is expected of a store: what store.py prints, or a program `mencius`."""
+import dataclasses
+import json
+import subprocess
+
+import answers
+import driver
+import store
+
+
+@dataclasses.dataclass
+class Schedule:
+    """A scenario of `mencius replay`, under a name."""
+    name: str
+    servers: int
+    beta: int
+    events: list
+
+    def version(self):
+        """2 where a compare and set is submitted, and else 1."""
+        return 2 if any(event.split(" ")[3:4] == ["cas"] for event in self.events) else 1
+
+    def front(self, count):
+        """The schedule of the first so many events."""
+        return Schedule(self.name, self.servers, self.beta, self.events[:count])
+
+    def text(self):
+        """The scenario as JSON, with an event a line."""
+        head = {"version": self.version(), "servers": self.servers, **({"beta": self.beta} if self.beta else {})}
+        events = ",\n  ".join(json.dumps(event) for event in self.events)
+        return json.dumps(head)[:-1] + ', "events": [' + (f"\n  {events}\n" if events else "") + "]}\n"
+
+
+def schedule_of(name, scenario):
+    """The schedule that a scenario is, as `json` reads it."""
+    return Schedule(name, scenario["servers"], scenario.get("beta", 0), scenario["events"])
+
+
+@dataclasses.dataclass
+class Sent:
+    """A message: who sent it, which server it goes to, or None for all, and its instance, or the first of several."""
+    number: int
+    kind: str
+    source: int
+    to: int
+    instance: int
+
+
+class Cluster:
+    """A cluster of store.py that is stepped event by event."""
+
+    def __init__(self, servers, beta):
+        self.driver = store.replay({"servers": servers, "beta": beta, "events": []})
+
+    def step(self, event):
+        """The name of the refusal, or None, and the messages that were sent."""
+        first = len(self.driver.messages)
+        try:
+            self.driver.step(event.split(" "))
+            name = None
+        except driver.Refused as refusal:
+            name = str(refusal)
+        return name, [sent_of(number, message) for number, message in enumerate(self.driver.messages[first:], first)]
+
+
+def sent_of(number, message):
+    """What is asked here of a message of store.py."""
+    to = None if message.to == "all" else message.to
+    return Sent(number, message.kind, message.source, to, message.says.get("instance", message.says.get("first")))
+
+
+class StoreReference:
+    """Expects what store.py prints: the report, and of the trace these kinds of lines."""
+    kinds = frozenset({"event", "sent"})
+
+    def expect(self, schedule):
+        replayed = store.replay(dataclasses.asdict(schedule))
+        return answers.read_texts("\n".join(replayed.trace + replayed.report()))
+
+
+class ProgramFailed(Exception):
+    """The program that says what to expect did not."""
+
+
+class ProgramReference:
+    """Expects what a program `mencius` prints: the report and the whole trace."""
+    kinds = answers.TRACE_KINDS | {"server", "unheard"}
+
+    def __init__(self, program):
+        self.program = program
+
+    def expect(self, schedule):
+        return answers.read_texts(self.printed("trace", schedule) + self.printed("replay", schedule))
+
+    def printed(self, task, schedule):
+        done = subprocess.run([self.program, task], input=schedule.text().encode(), stdout=subprocess.PIPE, check=False)
+        if done.returncode != 0:
+            raise ProgramFailed(f"{self.program} {task} ended with status {done.returncode}")
+        return done.stdout.decode()
