@@ -1,8 +1,9 @@
 """Ways in which a store may depart from docs/MODEL.md: edits of store.py and driver.py, for `store.py --break NAME`.
 
 They stand in edits/: in untellable.txt those for which each schedule has the same report, with the reason, and in the
-others those that the suite tells by the report. A block there is a line `NAME: RULE`, with the rule that is departed from, the old lines after `-`,
-which stand exactly once in the two files together, the new ones after `+`, and the reason after `=`.
+others those that the suite tells by the report. A block there is a line `NAME: RULE`, with the rule that is departed
+from, the old lines after `-`, which stand exactly once in the two files together, the new ones after `+`, and the
+reason after `=`.
 """
 import collections
 import os
