@@ -1,8 +1,8 @@
 //! A schedule that is given, and all that it sends once more.
 
 use mencius_input::Scenario;
-use mencius_watch::walk::{Stop, Walk};
 use std::alloc::Global;
+use test_watch::walk::{Stop, Walk};
 
 /// A cluster after the events of a schedule.
 pub fn follow(alloc: Global, scenario: Scenario) -> Result<Walk, Stop> {

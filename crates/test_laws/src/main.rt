@@ -29,11 +29,11 @@ use mencius_app::report;
 use mencius_base::{Event, GREATEST_BETA, Members};
 use mencius_cluster::Cluster;
 use mencius_input::{AppFault, Scenario, Std, read_all, read_scenario, write_all};
-use mencius_watch::again::again;
-use mencius_watch::same::first_difference;
-use mencius_watch::walk::{Stop, Walk};
 use std::alloc::{AllocError, Global};
 use std::process::ExitCode;
+use test_watch::again::again;
+use test_watch::same::first_difference;
+use test_watch::walk::{Stop, Walk};
 
 // The seed and the count.
 fn read_numbers(bytes: &[u8]) -> Option<(u64, u32)> {

@@ -6,10 +6,10 @@ use mencius_base::{Event, Refusal};
 use mencius_board::{Board, BoardFault, News, Reader};
 use mencius_cluster::Cluster;
 use mencius_input::{Scenario, read_scenario};
-use mencius_watch::same::first_difference;
 use std::alloc::Global;
 use std::marker::Model;
 use std::sync::Wait;
+use test_watch::same::first_difference;
 
 /// Why a course ends early.
 #[derive(Clone, Copy, Debug, PartialEq, Eq)]

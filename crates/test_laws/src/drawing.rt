@@ -4,8 +4,8 @@ use crate::dice::Dice;
 use crate::mail::Mail;
 use mencius_base::{Command, CommandId, Event, Key, Message, Op, Text, Vote};
 use mencius_cluster::Cluster;
-use mencius_watch::walk::Stop;
 use std::alloc::{AllocError, Global};
+use test_watch::walk::Stop;
 
 /// How often three kinds of events come: so many of 64 are submissions, are suspicions, and lose a message.
 #[derive(Clone, Copy, Debug)]
