@@ -2,7 +2,7 @@
 //! looks the key `a` up, with a reader that is told of it. Wherever memory runs out in one of these calls, it finds out
 //! whether anything changed, what the reader finds among it, and makes the call again.
 //!
-//! `growths/check` refuses this program each of its growths of memory in turn. What it prints, the report and what was
+//! `checks/memory` refuses this program each of its growths of memory in turn. What it prints, the report and what was
 //! found last, is the same then as if none had been refused.
 //!
 //! Or the scenario is one of a run with two workers. Then these run, and one line is printed: the name of their fault,

@@ -32,7 +32,7 @@ pub enum Call {
 }
 
 impl Call {
-    /// The call's name, as `growths/check` counts it.
+    /// The call's name, as `checks/memory` counts it.
     pub fn name(self) -> &'static str {
         match self {
             Call::Step => "step",

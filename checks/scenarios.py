@@ -1,0 +1,34 @@
+"""Scenarios for the checks: those of tests/, and some that are made here."""
+import json
+import os
+
+import shared
+
+TESTS = os.path.join(shared.TOP, "tests")
+
+
+def read(*parts):
+    """The text of a file of tests/."""
+    with open(os.path.join(TESTS, *parts), encoding="utf-8") as file:
+        return file.read()
+
+
+def names(folder, ending):
+    """The names of the files of a folder of tests/ that end so, without that ending."""
+    return [name[:-len(ending)] for name in sorted(os.listdir(os.path.join(TESTS, folder))) if name.endswith(ending)]
+
+
+def scenario(servers, events, version=1, beta=0):
+    fields = {"version": version, "servers": servers, "events": events}
+    if beta:
+        fields["beta"] = beta
+    return json.dumps(fields, ensure_ascii=False)
+
+
+def submissions(server, count):
+    return [f"submit {server} 1.{number} set a x" for number in range(count)]
+
+
+def long_skip():
+    """Server 2 submits so much that server 0 gives up 1,365 instances by one Skip, which server 1 hears."""
+    return submissions(2, 1365) + ["deliver 1364 0", "deliver 1365 1"]
