@@ -1,0 +1,9 @@
+pub mod Judged
+pub mod Words
+pub mod Grammar
+pub mod Spelled
+pub mod Steps
+pub mod Cas
+pub mod Texts
+pub mod Sayable
+pub mod Laws

@@ -1,0 +1,26 @@
+//! The text of an event and of a command, written and read.
+//!
+//! The two stand side by side, over definitions that they share: `writing` makes the text, `words`
+//! cuts it and reads its numbers, and `reading` makes the event or the command of it again, or says
+//! which fault it has. That what was written is read again is the law of [`laws`]. Where a text comes
+//! from, and where it goes to, is for the crates above.
+#![tactic(auto)]
+
+mod cas;
+mod judged;
+pub mod laws;
+mod reading;
+mod step;
+mod words;
+mod writing;
+
+pub use cas::{command_is_cas, event_is_cas, is_cas, submit_is_cas};
+pub use reading::{
+    behind_submit, parse_command, parse_event, parse_id, parse_step, parse_submission,
+};
+pub use step::Step;
+pub use words::{cut_at_dot, cut_at_space, parse_u8, parse_u32};
+pub use writing::{
+    push_command, push_deliver, push_event, push_execute, push_id, push_lose, push_retry,
+    push_submit, push_suspect,
+};

@@ -1,0 +1,146 @@
+//! The words of a text, and those that are numbers.
+
+ghost use Rattle.std.specs.Prelude.{ℕ, List, ◌≡◌, ◌≢◌, ◌∷◌, ◌++◌, [], ◌<◌, ◌==◌, IfSome, MatchOption, MatchResult, Some};
+ghost use Rattle.std.specs.List.{list_all, position};
+ghost use Rattle.std.specs.Char.{is_ascii_digit};
+ghost use Rattle.mencius_format.specs.Judged.{judged};
+ghost use Rattle.mencius_format.specs.Words.{is_number, is_u8, is_u32, number_of, parts, words};
+
+use mencius_ends::AppFault;
+
+// The text before the first byte `at` and the text behind it. A text that has none is a bad shape.
+fn cut(text: &str, at: u8) -> Result<(&str, &str), AppFault>
+    requires { at < 128 }
+    ensures { MatchResult result
+        (λ x. parts at text.now ≡ x.0.now ∷ parts at x.1.now)
+        (λ f. (f ≡ AppFault.BadShape) × (parts at text.now ≡ text.now ∷ [])) }
+{
+    match first_of(text, at) {
+        Some(place) => Ok((&text[..place], &text[place + 1..])),
+        None => Err(AppFault::BadShape),
+    }
+}
+
+/// The first word of a text and the text behind it, cut at the first space. A text that has no space
+/// is a bad shape.
+pub fn cut_at_space(text: &str) -> Result<(&str, &str), AppFault>
+    ensures { MatchResult result
+        (λ x. words text.now ≡ x.0.now ∷ words x.1.now)
+        (λ f. (f ≡ AppFault.BadShape) × (words text.now ≡ text.now ∷ [])) }
+{
+    cut(text, b' ')
+}
+
+/// The two numbers of an identity as words, cut at the first dot. A word that has no dot is a bad
+/// shape.
+pub fn cut_at_dot(word: &str) -> Result<(&str, &str), AppFault>
+    ensures { MatchResult result
+        (λ x. parts 46 word.now ≡ x.0.now ∷ parts 46 x.1.now)
+        (λ f. (f ≡ AppFault.BadShape) × (parts 46 word.now ≡ word.now ∷ [])) }
+{
+    cut(word, b'.')
+}
+
+/// What stands behind a word and one space, where the text begins with both.
+pub(crate) fn behind<'a>(text: &'a str, word: &str) -> Option<&'a str>
+    ensures { MatchOption result ((rest : List ℕ) → text.now ≢ word.now ++ 32 ∷ rest)
+        (λ rest. text.now ≡ word.now ++ 32 ∷ rest.now) }
+{
+    let bytes = text.as_bytes();
+    let place = word.len();
+    if place < bytes.len() && bytes[place] == b' ' && &text[..place] == word {
+        return Some(&text[place + 1..]);
+    }
+    None
+}
+
+// Where a byte stands first. Never inlined: a caller would work out the places behind the byte along
+// with the walk, in four times as many instructions for each byte that is passed.
+#[inline(never)]
+fn first_of(text: &str, wanted: u8) -> Option<usize>
+    ensures { result ≡ position (λ x. x == wanted) text.now }
+{
+    text.as_bytes().iter().position(|b| *b == wanted)
+}
+
+fn are_digits(bytes: &[u8]) -> bool
+    ensures { result ≡ list_all is_ascii_digit bytes.now }
+{
+    bytes.iter().all(|b| b.is_ascii_digit())
+}
+
+// Whether the word is `0`, or digits of which the first is not 0.
+fn is_number(word: &str) -> bool
+    ensures { result ≡ is_number word.now }
+{
+    match word.as_bytes().split_first() {
+        None => false,
+        Some((b'0', rest)) => rest.is_empty(),
+        Some((first, rest)) => first.is_ascii_digit() && are_digits(rest),
+    }
+}
+
+// The number that a word of one digit is, as most of a schedule's are.
+#[tactic(auto, unfolding(crate::specs::Words::number_of))]
+fn one_digit(word: &str) -> Option<u8>
+    ensures { IfSome result (λ n. (number_of word.now ≡ Some n) × (n < 10)) }
+{
+    match word.as_bytes() {
+        [digit] if digit.is_ascii_digit() => Some(*digit - b'0'),
+        _ => None,
+    }
+}
+
+// The number that a word is which begins with 1 to 9, where it is less than 4,294,967,296. The word is
+// gone through once.
+fn read_u32(word: &str) -> Option<u32>
+    ensures { IfSome result (λ n. number_of word.now ≡ Some n) }
+{
+    let bytes = word.as_bytes();
+    if bytes.is_empty() || bytes[0] < b'1' || bytes[0] > b'9' {
+        return None;
+    }
+    match word.parse::<u32>() {
+        Ok(n) => Some(n),
+        Err(_) => None,
+    }
+}
+
+/// The number that a word is, 0 to 255: digits, of which the first is a 0 only where it is the one
+/// digit. Another word is a bad shape, and a greater number is past a limit.
+#[tactic(auto, using(crate::proofs::NumberWords::parsed), unfolding(crate::specs::Words::number_of))]
+pub fn parse_u8(word: &str) -> Result<u8, AppFault>
+    ensures { result ≡ judged is_u8 (number_of word.now) }
+{
+    if let Some(digit) = one_digit(word) {
+        return Ok(digit);
+    }
+    if !is_number(word) {
+        return Err(AppFault::BadShape);
+    }
+    match word.parse::<u8>() {
+        Ok(n) => Ok(n),
+        Err(_) => Err(AppFault::BadLimit),
+    }
+}
+
+/// The number that a word is, 0 to 4,294,967,295: digits, of which the first is a 0 only where it is
+/// the one digit. Another word is a bad shape, and a greater number is past a limit.
+#[tactic(auto, using(crate::proofs::NumberWords::parsed), unfolding(crate::specs::Words::number_of))]
+pub fn parse_u32(word: &str) -> Result<u32, AppFault>
+    ensures { result ≡ judged is_u32 (number_of word.now) }
+{
+    if let Some(digit) = one_digit(word) {
+        return Ok(digit as u32);
+    }
+    if let Some(number) = read_u32(word) {
+        return Ok(number);
+    }
+    if !is_number(word) {
+        return Err(AppFault::BadShape);
+    }
+    match word.parse::<u32>() {
+        Ok(n) => Ok(n),
+        Err(_) => Err(AppFault::BadLimit),
+    }
+}
