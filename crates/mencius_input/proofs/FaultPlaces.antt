@@ -20,13 +20,13 @@ use Rattle.mencius_input.specs.declared.kind.Kind.{Kind}
 use Rattle.mencius_input.specs.declared.kind.Kind.TheVariants.{Replay, Run}
 use Rattle.mencius_input.specs.declared.places.Place.TheVariants.{Number, GreatNumber, Lists}
 use Rattle.mencius_input.specs.FieldsOf.{field_name, field_within, is_whole}
-use Rattle.mencius_input.specs.Grammar.{newest_version, takes_cas}
-use Rattle.mencius_input.specs.Judged.{judged}
+use Rattle.mencius_format.specs.Grammar.{newest_version, takes_cas}
+use Rattle.mencius_format.specs.Judged.{judged}
 use Rattle.mencius_input.specs.Newest.{has_command_cas, has_event_cas}
 use Rattle.mencius_input.specs.Place.{AreFine, AreItems, HasFields, IsAt, IsFine, IsInList, IsInLists, IsOtherNumber, NoneBefore, item_fault, item_has_cas}
 use Rattle.mencius_input.specs.Plan.{command_said}
 use Rattle.mencius_input.specs.Scenario.{item_said, json_of, whole_in, whole_of}
-use Rattle.mencius_input.proofs.CasWords.{command_said_in, item_said_in}
+use Rattle.mencius_input.proofs.CasItems.{command_said_in, item_said_in}
 
 fault_of : {X : Type 0} (left_out : Bool) (r s : Result X AppFault) → cond left_out (Err BadShape) r ≡ s
     → cond left_out (Some BadShape) (result_err r) ≡ result_err s

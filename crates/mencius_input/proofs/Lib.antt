@@ -1,6 +1,3 @@
-pub mod NumberWords
-pub mod JudgedParts
-pub mod CutWords
 pub mod FirstBytes
 pub mod StringEnds
 pub mod StringTexts
@@ -8,7 +5,6 @@ pub mod Punctuation
 pub mod ClosedLists
 pub mod NumeralEnds
 pub mod FirstWords
-pub mod EventWords
 pub mod JsonTexts
 pub mod Conversions
 pub mod NextValues
@@ -16,7 +12,7 @@ pub mod TokenKinds
 pub mod FirstTokens
 pub mod NotedItems
 pub mod NamedFields
-pub mod CasWords
+pub mod CasItems
 pub mod ScenarioFields
 pub mod RunFields
 pub mod StepsAndCommands

@@ -17,14 +17,14 @@ use Rattle.mencius_input.specs.declared.newest.Newest.{Newest}
 use Rattle.mencius_input.specs.declared.plan.Fields as code
 use Rattle.mencius_input.specs.declared.plan.Numbers.{Numbers}
 use Rattle.mencius_input.specs.Fields.{beta_said}
-use Rattle.mencius_input.specs.Grammar.{command_within}
-use Rattle.mencius_input.specs.Judged.{judged}
+use Rattle.mencius_format.specs.Grammar.{command_within}
+use Rattle.mencius_format.specs.Judged.{judged}
 use Rattle.mencius_input.specs.Named.{all_said, AreNamed, Says, is_one_of}
 use Rattle.mencius_input.specs.Plan.{WrittenPlan, commands_of, lists_fit, numbers_of, plan, plan_of, plan_within}
 use Rattle.mencius_input.specs.PlanFields.{AreFields, all_names, fitted_lists, lists_in, lists_kept, lists_within, noted, numbers_in, plan_names, plan_said, there, whole_names}
 use Rattle.mencius_input.specs.Scenario.{◌>>=◌, all_of, beta_of, json_of, one_there, or_not_json, read_there, whole_in, whole_of}
-use Rattle.mencius_input.proofs.JudgedParts.{judged_ok}
-use Rattle.mencius_input.proofs.CasWords.{lists_said_in}
+use Rattle.mencius_format.proofs.JudgedParts.{judged_ok}
+use Rattle.mencius_input.proofs.CasItems.{lists_said_in}
 use Rattle.mencius_input.proofs.NamedFields.{AllFound, are_ordered, beta_same, named_count_but, newest_says, no_names, no_shape, now_says, one_named, other_named, same_name, still_says, whole_field}
 
 abbrev written : Numbers → List (List Request) → WrittenPlan

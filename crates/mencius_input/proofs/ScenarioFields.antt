@@ -15,11 +15,11 @@ use Rattle.mencius_input.specs.declared.scenario.Name.{Name}
 use Rattle.mencius_input.specs.declared.scenario.Name.TheVariants.{Version, Servers, Beta, Events, Other}
 use Rattle.mencius_input.specs.declared.newest.Newest.{Newest}
 use Rattle.mencius_input.specs.Fields.{AreFields, all_names, beta_said, events_in, fitted_events, named, said, three_names}
-use Rattle.mencius_input.specs.Grammar.{event_within}
-use Rattle.mencius_input.specs.Judged.{judged}
+use Rattle.mencius_format.specs.Grammar.{event_within}
+use Rattle.mencius_format.specs.Judged.{judged}
 use Rattle.mencius_input.specs.Named.{all_said, is_one_of}
 use Rattle.mencius_input.specs.Scenario.{◌>>=◌, Written, beta_in, cluster_within, one_there, events_of, whole_in, within, written_of}
-use Rattle.mencius_input.proofs.CasWords.{events_said_in}
+use Rattle.mencius_input.proofs.CasItems.{events_said_in}
 use Rattle.mencius_input.proofs.NamedFields.{are_ordered, beta_same, named_count_but, no_names, no_shape, now_says, one_named, other_named, same_name, still_says, whole_field}
 
 ordered : are_ordered all_names ≡ true

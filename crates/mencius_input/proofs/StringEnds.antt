@@ -1,16 +1,36 @@
 -- One comparison that finds at which of sixteen bytes the text of a string stops.
-use Rattle.std.proofs.Common.{◌≡◌, ◌∙◌, ◌⊎◌, ℕ, ◌<◌, ◌≤◌, ◌+◌, ◌*◌, ◌%◌, ◌^◌, get_or, Some, ◌&&◌, Bool, true, false, cond, not, inl, inr, List, [], ◌∷◌, length, map, replicate, ap, ap₂, refl, sym, arith, zero, suc, nat_lt, Fits, w8}
-use Rattle.std.proofs.lemmas.Bool.{and_parts, cases_order}
+use Rattle.std.proofs.Common.{◌≡◌, ◌∙◌, ◌⊎◌, None, ℕ, ◌<◌, ◌≤◌, ◌+◌, ◌*◌, ◌%◌, ◌^◌, get_or, Some, ◌&&◌, Bool, true, false, cond, not, inl, inr, List, [], ◌∷◌, length, map, replicate, ap, ap₂, refl, sym, arith, zero, suc, nat_lt, Fits, w8}
+use Rattle.std.proofs.lemmas.Bool.{and_parts, cases_order, le-ltb, lt-ltb}
 use Rattle.std.proofs.lemmas.List.{length-map}
+use Rattle.std.proofs.lemmas.List.Sums.{position_or_len_is}
 use Rattle.std.proofs.lemmas.Simd.{bitmask_splat, length-chunk, map-map, none_from_empty_mask, run_in_chunk_fails, run_in_chunk_stops, trailing_mask_l, zip2_splat}
 use lib.Count.{count_trailing_zeros}
 use lib.Lanes.{Each1, chunk, top, zip2}
-use Rattle.std.specs.List.{position, prefix_len}
+use Rattle.std.specs.List.{position, position_or_len, prefix_len}
 use Rattle.std.specs.Simd.Lanes.{mask_l}
 use Rattle.std.specs.Int.Bits.{bit_xor}
 use Rattle.mencius_input.specs.Tokens.{is_stop}
-use Rattle.mencius_input.proofs.CutWords.{first_place}
 use Rattle.mencius_input.proofs.FirstBytes.{not_true}
+
+-- ---- the first place
+
+-- the first byte that passes stands here, since none before it does
+pub first_place : (test : ℕ → Bool) (text : List ℕ) (n : ℕ) → n < length text
+    → ((m : ℕ) → m < n → test (get_or text m 0) ≡ false) → test (get_or text n 0) ≡ true
+    → Some n ≡ position test text
+first_place test text n less before here =
+    let at : position_or_len test text ≡ n = position_or_len_is test text n 0 (omega arith) before (λ _. here) in
+    rw (at, lt-ltb n (length text) less) refl
+
+-- no byte passes
+pub nowhere : (test : ℕ → Bool) (text : List ℕ) (n : ℕ) → n ≤ length text → length text ≤ n
+    → ((m : ℕ) → m < n → test (get_or text m 0) ≡ false) → None ≡ position test text
+nowhere test text n within past before =
+    let at : position_or_len test text ≡ length text =
+    position_or_len_is test text n 0 within before (λ less. absurd (omega arith)) ∙ omega arith in
+    rw (at, le-ltb (length text) (length text) (omega arith)) refl
+
+-- ---- sixteen bytes at once
 
 -- each number below n passes
 passes : (ℕ → Bool) → ℕ → Bool

@@ -8,7 +8,7 @@ use Rattle.std.proofs.lemmas.List.Sums.{fails_before_first}
 use Rattle.json.specs.Lex.{between, lex, in_string}
 use Rattle.json.specs.Text.{content, plain, prepend}
 use Rattle.mencius_input.specs.Tokens.{is_plain, is_stop}
-use Rattle.mencius_input.proofs.CutWords.{at_place, no_place}
+use Rattle.mencius_format.proofs.CutWords.{at_place, no_place}
 use Rattle.mencius_input.proofs.FirstBytes.{eqb_false, last_of_four, neither, not_true, plain-drop, string_passes}
 
 -- ---- up to a place before which the text does not stop

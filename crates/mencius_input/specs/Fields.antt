@@ -10,8 +10,8 @@ use Rattle.mencius_input.specs.declared.newest.Newest.{Newest}
 use Rattle.mencius_input.specs.declared.scenario.Fields as code
 use Rattle.mencius_input.specs.declared.scenario.Name.{Name}
 use Rattle.mencius_input.specs.declared.scenario.Name.TheVariants.{Version, Servers, Beta, Events, Other}
-use Rattle.mencius_input.specs.Grammar.{event_within}
-use Rattle.mencius_input.specs.Judged.{judged}
+use Rattle.mencius_format.specs.Grammar.{event_within}
+use Rattle.mencius_format.specs.Judged.{judged}
 use Rattle.mencius_input.specs.Named.{AreNamed, Says}
 use Rattle.mencius_input.specs.Newest.{any_in, has_event_cas, in_version}
 use Rattle.mencius_input.specs.Noted.{list_in}

@@ -1,9 +1,6 @@
-pub mod Judged
-pub mod Words
 pub mod Tokens
 pub mod Steps
 pub mod Sources
-pub mod Grammar
 pub mod Scenario
 pub mod Plan
 pub mod Newest
@@ -17,4 +14,3 @@ pub mod Kinds
 pub mod FieldsOf
 pub mod Shown
 pub mod Place
-pub mod Spelled

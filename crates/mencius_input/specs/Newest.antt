@@ -1,41 +1,14 @@
 -- What is read of a list before the version is known: what it says in the newest version, and whether a `cas` stands
 -- in it, which no other version has; for private clauses.
-use Rattle.std.specs.Prelude.{ℕ, ◌&&◌, ◌||◌, List, [], ◌∷◌, Bool, true, false, not, codes, Option, Some, None, Result, Err, if◌then◌else◌}
-use Rattle.std.specs.Str.{bytes_eq}
+use Rattle.std.specs.Prelude.{ℕ, ◌&&◌, ◌||◌, List, Bool, false, not, Option, Some, None, Result, Err, if◌then◌else◌}
 use Rattle.serde_json.specs.Data.{Data, Items, no_items, item}
 use Rattle.serde_json.specs.Find.{as_array, as_str}
-use Rattle.mencius_base.specs.declared.command.Op.{Op}
-use Rattle.mencius_base.specs.declared.command.Op.TheVariants.{Set, Get, Del, Cas}
 use Rattle.mencius_ends.specs.declared.fault.AppFault.{AppFault}
 use Rattle.mencius_ends.specs.declared.fault.AppFault.TheVariants.{BadShape}
 use Rattle.mencius_input.specs.declared.newest.Newest.{Newest}
-use Rattle.mencius_input.specs.Grammar.{takes_cas}
-use Rattle.mencius_input.specs.Words.{words}
-
--- ---- by the place of the word, whatever else is wrong
-
-abbrev pub op_is_cas : List (List ℕ) → Bool
-op_is_cas [] = false
-op_is_cas (word ∷ ws) = bytes_eq word (codes "cas")
-
-abbrev pub command_is_cas : List (List ℕ) → Bool
-command_is_cas [] = false
-command_is_cas (id ∷ ws) = op_is_cas ws
-
-abbrev pub submit_is_cas : List (List ℕ) → Bool
-submit_is_cas [] = false
-submit_is_cas (server ∷ ws) = command_is_cas ws
-
-abbrev pub event_is_cas : List (List ℕ) → Bool
-event_is_cas [] = false
-event_is_cas (word ∷ ws) = bytes_eq word (codes "submit") && submit_is_cas ws
-
--- by what was read
-abbrev pub is_cas : Op → Bool
-is_cas (Set key text) = false
-is_cas (Get key) = false
-is_cas (Del key) = false
-is_cas (Cas key held text) = true
+use Rattle.mencius_format.specs.Cas.{command_is_cas, event_is_cas}
+use Rattle.mencius_format.specs.Grammar.{takes_cas}
+use Rattle.mencius_format.specs.Words.{words}
 
 -- ---- in what is read
 
@@ -64,11 +37,6 @@ abbrev pub any_in : (Data → Bool) → Data → Bool
 any_in test d = any_of_these test (as_array d)
 
 -- ---- once the version is known
-
--- what is said, unless there is a `cas` too many
-abbrev pub unless : {X : Type 0} → Bool → Option X → Option X
-unless true o = None
-unless false o = o
 
 -- what is said in a version
 abbrev pub in_version : {X : Type 0} → ℕ → Newest X → Result X AppFault

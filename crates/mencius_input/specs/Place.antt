@@ -1,5 +1,5 @@
 -- Where the value of a scenario has a fault, and the words that tell it.
-use Rattle.std.specs.Prelude.{ℕ, ◌≡◌, ◌≢◌, ◌⊎◌, ◌<◌, ◌++◌, List, [], ◌∷◌, codes, decimal, Bool, true, false, Option, Some, None, option_map, unwrap_or, IfSome, Err, string_bytes}
+use Rattle.std.specs.Prelude.{ℕ, ◌≡◌, ◌≢◌, ◌⊎◌, ◌<◌, ◌++◌, List, [], ◌∷◌, codes, decimal, Bool, true, false, Option, Some, None, option_map, unwrap_or, Err, string_bytes}
 use Rattle.std.specs.Result.{result_err}
 use Rattle.serde_json.specs.Data.{Data, Items, Members, Num}
 use Rattle.serde_json.specs.Events.{items_len}
@@ -7,14 +7,14 @@ use Rattle.serde_json.specs.Find.{as_array, as_number, as_object, as_str, as_u64
 use Rattle.mencius_ends.specs.declared.fault.AppFault.{AppFault}
 use Rattle.mencius_ends.specs.declared.fault.AppFault.TheVariants.{BadLimit, BadShape}
 use Rattle.mencius_input.specs.declared.field.Field.{Field}
-use Rattle.mencius_input.specs.declared.field.Field.TheVariants.{Version, Servers, Beta, Events, Workers, Seed, Turns, Loss, Commands}
+use Rattle.mencius_input.specs.declared.field.Field.TheVariants.{Version, Servers, Beta, Workers, Seed, Turns, Loss, Commands}
 use Rattle.mencius_input.specs.declared.kind.Kind.{Kind}
 use Rattle.mencius_input.specs.declared.kind.Kind.TheVariants.{Replay, Run}
 use Rattle.mencius_input.specs.declared.places.Place.{Place}
 use Rattle.mencius_input.specs.declared.places.Place.TheVariants as place
 use Rattle.mencius_input.specs.FieldsOf.{field_name, field_named, field_within, is_whole, list_field, needed}
-use Rattle.mencius_input.specs.Grammar.{newest_version}
-use Rattle.mencius_input.specs.Judged.{judged}
+use Rattle.mencius_format.specs.Grammar.{newest_version}
+use Rattle.mencius_format.specs.Judged.{judged}
 use Rattle.mencius_input.specs.Kinds.{has_many_objects}
 use Rattle.mencius_input.specs.Newest.{has_command_cas, has_event_cas}
 use Rattle.mencius_input.specs.Plan.{command_said}

@@ -9,8 +9,8 @@ use Rattle.mencius_base.specs.Request.{Request}
 use Rattle.mencius_ends.specs.declared.fault.AppFault.{AppFault}
 use Rattle.mencius_input.specs.declared.plan.Numbers.{Numbers}
 use Rattle.mencius_input.specs.declared.plan.RunInput as code
-use Rattle.mencius_input.specs.Judged.{judged}
-use Rattle.mencius_input.specs.Grammar.{command_of, command_within}
+use Rattle.mencius_format.specs.Judged.{judged}
+use Rattle.mencius_format.specs.Grammar.{command_of, command_within}
 use Rattle.mencius_input.specs.Scenario.{◌>>=◌, all_in, all_of, beta_of, betas, cluster_within, json_of, or_not_json, read_there, said_by, whole_of}
 
 -- the numbers, and a list of commands for each server

@@ -13,8 +13,8 @@ use Rattle.mencius_input.specs.declared.plan.Fields as code
 use Rattle.mencius_input.specs.declared.plan.Wholes as code_wholes
 use Rattle.mencius_input.specs.declared.plan.Numbers.{Numbers}
 use Rattle.mencius_input.specs.Fields.{beta_said}
-use Rattle.mencius_input.specs.Grammar.{command_within, newest_version}
-use Rattle.mencius_input.specs.Judged.{judged, seen}
+use Rattle.mencius_format.specs.Grammar.{command_within, newest_version}
+use Rattle.mencius_format.specs.Judged.{judged, seen}
 use Rattle.mencius_input.specs.Named.{AreNamed, Says, is_one_of, newest}
 use Rattle.mencius_input.specs.Newest.{any_in, has_command_cas, in_version}
 use Rattle.mencius_input.specs.Plan.{WrittenPlan, commands_of, lists_fit}

@@ -12,9 +12,9 @@ use Rattle.mencius_base.specs.declared.event.Event.{Event}
 use Rattle.mencius_ends.specs.declared.fault.AppFault.{AppFault}
 use Rattle.mencius_ends.specs.declared.fault.AppFault.TheVariants.{NotJson}
 use Rattle.mencius_input.specs.declared.scenario.Scenario as code
-use Rattle.mencius_input.specs.Judged.{judged}
-use Rattle.mencius_input.specs.Words.{words}
-use Rattle.mencius_input.specs.Grammar.{event_of, event_within, newest_version}
+use Rattle.mencius_format.specs.Judged.{judged}
+use Rattle.mencius_format.specs.Words.{words}
+use Rattle.mencius_format.specs.Grammar.{event_of, event_within, newest_version}
 
 infixl 10 ◌>>=◌
 abbrev pub ◌>>=◌ : {X Y : Type 0} → Option X → (X → Option Y) → Option Y

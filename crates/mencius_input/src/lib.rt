@@ -3,11 +3,9 @@
 #![tactic(auto)]
 
 mod commands;
-mod event;
 mod events;
 mod explaining;
 mod field;
-mod judged;
 mod kind;
 mod newest;
 mod places;
@@ -19,7 +17,6 @@ mod shown;
 mod stops;
 mod tokens;
 mod value;
-mod words;
 mod wrong;
 
 pub use events::{Events, EventsLeft};

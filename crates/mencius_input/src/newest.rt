@@ -1,7 +1,7 @@
 //! What is read before the version of a scenario is known.
 
 ghost use Rattle.std.specs.Prelude.{◌≡◌};
-ghost use Rattle.mencius_input.specs.Grammar.{takes_cas};
+ghost use Rattle.mencius_format.specs.Grammar.{takes_cas};
 ghost use Rattle.mencius_input.specs.Newest.{in_version};
 
 use mencius_ends::AppFault;

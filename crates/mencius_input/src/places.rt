@@ -7,14 +7,13 @@ ghost use Rattle.serde_json.specs.Data.{Data};
 ghost use Rattle.serde_json.specs.Find.{as_str, get};
 ghost use Rattle.serde_json.specs.View.{items_view, view};
 ghost use Rattle.mencius_input.specs.FieldsOf.{field_name, field_named, is_whole, needed};
-ghost use Rattle.mencius_input.specs.Grammar.{command_of, command_within, event_of, event_within, newest_version, takes_cas};
-ghost use Rattle.mencius_input.specs.Judged.{judged};
+ghost use Rattle.mencius_format.specs.Grammar.{command_of, command_within, event_of, event_within, newest_version, takes_cas};
+ghost use Rattle.mencius_format.specs.Judged.{judged};
 ghost use Rattle.mencius_input.specs.declared.kind.Kind.TheVariants.{Replay, Run};
 ghost use Rattle.mencius_input.specs.Place.{AreItems, AreThere, HasFields, IsAt, IsFine, IsFirst, IsInList, IsInLists, IsOtherNumber, NoneBefore, item_fault, item_has_cas, version_of};
 ghost use Rattle.mencius_input.specs.Scenario.{json_of, whole_of};
-ghost use Rattle.mencius_input.specs.Words.{words};
+ghost use Rattle.mencius_format.specs.Words.{words};
 
-use crate::event::{command_is_cas, event_is_cas, parse_command, parse_event};
 use crate::field::{Field, field_named, is_whole, is_within, list_field};
 use crate::kind::{Kind, tree_of};
 use crate::newest::{NEWEST_VERSION, takes_cas};
@@ -23,6 +22,7 @@ use crate::value::{MOST_DEPTH, next_name, pass};
 use json::Scratch;
 use mencius_base::NoMemory;
 use mencius_ends::AppFault;
+use mencius_format::{command_is_cas, event_is_cas, parse_command, parse_event};
 use serde_json::Value;
 use std::alloc::Global;
 

@@ -1,12 +1,13 @@
 //! Which word of an event or a command is wrong, in a person's words. Each word is judged by what reads it.
 
-use crate::event::{command_is_cas, event_is_cas, parse_id};
 use crate::kind::Kind;
 use crate::newest::takes_cas;
 use crate::shown::shown;
-use crate::words::{cut, parse_u8, parse_u32};
 use mencius_base::{BadCommand, Command, CommandId, Key, NoMemory, Op, Text};
 use mencius_ends::AppFault;
+use mencius_format::{
+    command_is_cas, cut_at_dot, cut_at_space, event_is_cas, parse_id, parse_u8, parse_u32,
+};
 use std::alloc::Global;
 
 // A word behind the first one of an event, or behind the operation of a command.
@@ -60,7 +61,7 @@ fn operands_of(operation: &str) -> Option<&'static [Part]> {
 // The next of the words that are left.
 fn next_word<'a>(left: &mut Option<&'a str>) -> Option<&'a str> {
     let text = (*left)?;
-    match cut(text, b' ') {
+    match cut_at_space(text) {
         Ok((word, behind)) => {
             *left = Some(behind);
             Some(word)
@@ -130,7 +131,7 @@ fn wrong_id(alloc: Global, word: &str, fault: AppFault) -> Result<Option<String>
     if parse_id(word).err() != Some(fault) {
         return Ok(None);
     }
-    let Ok((client, number)) = cut(word, b'.') else {
+    let Ok((client, number)) = cut_at_dot(word) else {
         let word = shown(alloc, word)?;
         return Ok(Some(format!(in alloc; "the command ID is no CLIENT.NUMBER: {word}")?));
     };

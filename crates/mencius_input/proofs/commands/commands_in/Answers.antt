@@ -1,7 +1,7 @@
 use Rattle.std.proofs.Common.{◌≡◌, None, Ok, refl, ap, ◌∙◌, ◌||◌, arith}
 use Rattle.std.specs.List.{list_all}
 use Rattle.json.specs.Json.{after_end_array}
-use Rattle.mencius_input.specs.Grammar.{command_of, command_within, newest_version}
+use Rattle.mencius_format.specs.Grammar.{command_of, command_within, newest_version}
 use Rattle.mencius_input.specs.Newest.{has_command_cas}
 use Rattle.mencius_input.specs.Scenario.{said_by}
 use Rattle.mencius_input.proofs.NextValues.{stops_at, stops_whole}

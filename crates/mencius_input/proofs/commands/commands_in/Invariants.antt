@@ -1,6 +1,6 @@
 use Rattle.std.proofs.Common.{length}
 use Rattle.std.specs.List.{list_all}
-use Rattle.mencius_input.specs.Grammar.{command_of, command_within, newest_version}
+use Rattle.mencius_format.specs.Grammar.{command_of, command_within, newest_version}
 use Rattle.mencius_input.specs.Newest.{has_command_cas}
 use Rattle.mencius_input.specs.Noted.{told}
 use Rattle.mencius_input.specs.Scenario.{said_by}

@@ -1,7 +1,7 @@
 use Rattle.std.proofs.Common.{sym, ◌∙◌}
-use Rattle.mencius_input.specs.Words.{words}
-use Rattle.mencius_input.proofs.CasWords.{command_cas}
-use Rattle.mencius_input.proofs.JudgedParts.{judged_ok}
+use Rattle.mencius_format.specs.Words.{words}
+use Rattle.mencius_format.proofs.CasWords.{command_cas}
+use Rattle.mencius_format.proofs.JudgedParts.{judged_ok}
 use Rattle.mencius_input.proofs.commands.has_cas.Goals as goal
 
 pub returns-in-Ok : goal.returns-in-Ok

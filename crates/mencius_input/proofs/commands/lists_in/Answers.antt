@@ -2,8 +2,8 @@ use Rattle.std.proofs.Common.{◌≡◌, None, Ok, length, map, nat_lt, refl, sy
 use Rattle.std.specs.List.{list_all}
 use Rattle.json.specs.Json.{after_end_array}
 use Rattle.mencius_base.specs.Limits.{most_servers}
-use Rattle.mencius_input.specs.Grammar.{command_within, newest_version}
-use Rattle.mencius_input.specs.Judged.{seen}
+use Rattle.mencius_format.specs.Grammar.{command_within, newest_version}
+use Rattle.mencius_format.specs.Judged.{seen}
 use Rattle.mencius_input.specs.Newest.{any_in, has_command_cas}
 use Rattle.mencius_input.specs.Plan.{commands_of}
 use Rattle.mencius_input.specs.PlanFields.{lists_within}

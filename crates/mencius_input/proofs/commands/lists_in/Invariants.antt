@@ -1,5 +1,5 @@
 use Rattle.std.proofs.Common.{length, map}
-use Rattle.mencius_input.specs.Grammar.{newest_version}
+use Rattle.mencius_format.specs.Grammar.{newest_version}
 use Rattle.mencius_input.specs.Newest.{any_in, has_command_cas}
 use Rattle.mencius_input.specs.Noted.{told}
 use Rattle.mencius_input.specs.Plan.{commands_of}

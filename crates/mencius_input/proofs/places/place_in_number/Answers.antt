@@ -1,6 +1,5 @@
-use Rattle.std.proofs.Common.{◌≡◌, ◌∙◌, Some, sym, ap, rules}
+use Rattle.std.proofs.Common.{rules}
 use Rattle.serde_json.specs.View.{view}
-use Rattle.mencius_input.specs.Scenario.{whole_in}
 use Rattle.mencius_input.proofs.FaultPlaces.{not_whole_at}
 use Rattle.mencius_input.proofs.places.place_in_number.Goals as goal
 

@@ -1,6 +1,6 @@
 use Rattle.std.proofs.Common.{◌≡◌, ◌∙◌, sym, get_or, true}
 use Rattle.mencius_input.specs.Tokens.{is_stop}
-use Rattle.mencius_input.proofs.CutWords.{first_place, nowhere}
+use Rattle.mencius_input.proofs.StringEnds.{first_place, nowhere}
 use Rattle.mencius_input.proofs.plain.stop_from.Goals as goal
 
 pub returns-then-is_stop : goal.returns-then-is_stop

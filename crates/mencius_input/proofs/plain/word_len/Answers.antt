@@ -1,6 +1,6 @@
 use Rattle.std.proofs.Common.{sym, arith}
 use Rattle.mencius_input.specs.Tokens.{is_delimiter}
-use Rattle.mencius_input.proofs.CutWords.{at_place, no_place}
+use Rattle.mencius_format.proofs.CutWords.{at_place, no_place}
 use Rattle.mencius_input.proofs.FirstWords.{parted}
 use Rattle.mencius_input.proofs.plain.word_len.Goals as goal
 

@@ -4,7 +4,7 @@ use Rattle.json.specs.Reads.{token_of}
 use Rattle.serde_json.specs.Data.{object}
 use Rattle.serde_json.specs.Read.{max_depth}
 use Rattle.mencius_ends.specs.declared.fault.AppFault.TheVariants.{NotJson}
-use Rattle.mencius_input.specs.Judged.{judged}
+use Rattle.mencius_format.specs.Judged.{judged}
 use Rattle.mencius_input.specs.Next.{next_value}
 use Rattle.mencius_input.specs.Scenario.{within}
 use Rattle.mencius_input.proofs.FirstTokens.{object_first, passed_first, passed_no_object}

@@ -1,6 +1,0 @@
-use Rattle.std.proofs.Common.{sym}
-use Rattle.mencius_input.proofs.CasWords.{no_submission}
-use Rattle.mencius_input.proofs.event.event_is_cas.Goals as goal
-
-pub returns-in-None : goal.returns-in-None
-returns-in-None c = sym (no_submission c.args.text.now c.in-None.ensures)
