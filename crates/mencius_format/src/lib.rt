@@ -16,7 +16,7 @@ mod writing;
 
 pub use cas::{command_is_cas, event_is_cas, is_cas, submit_is_cas};
 pub use reading::{
-    behind_submit, parse_command, parse_event, parse_id, parse_step, parse_submission,
+    behind_submit, fault_of, parse_command, parse_event, parse_id, parse_step, parse_submission,
 };
 pub use step::Step;
 pub use words::{cut_at_dot, cut_at_space, parse_u8, parse_u32};

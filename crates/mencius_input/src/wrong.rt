@@ -6,7 +6,7 @@ use crate::shown::shown;
 use mencius_base::{BadCommand, Command, CommandId, Key, NoMemory, Op, Text};
 use mencius_ends::AppFault;
 use mencius_format::{
-    command_is_cas, cut_at_dot, cut_at_space, event_is_cas, parse_id, parse_u8, parse_u32,
+    command_is_cas, cut_at_dot, cut_at_space, event_is_cas, fault_of, parse_id, parse_u8, parse_u32,
 };
 use std::alloc::Global;
 
@@ -155,11 +155,7 @@ fn wrong_op(
     let Err(bad) = Command::new(id, op) else {
         return Ok(None);
     };
-    let found = match bad {
-        BadCommand::KeyByte | BadCommand::TextByte => AppFault::BadShape,
-        BadCommand::KeyLength | BadCommand::TextLength => AppFault::BadLimit,
-    };
-    if found != fault {
+    if fault_of(bad) != fault {
         return Ok(None);
     }
     Ok(Some(words_of_bad(alloc, part, bad)?))
