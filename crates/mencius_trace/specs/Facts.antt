@@ -10,7 +10,8 @@ use Rattle.mencius_base.specs.declared.message.Vote.{Vote}
 use Rattle.mencius_base.specs.declared.refusal.Refusal.{Refusal}
 use Rattle.mencius_base.specs.Refusal.{refusal_name}
 use Rattle.mencius_model.specs.Trace.{Trace}
-use Rattle.mencius_trace.specs.Words.{event_text, line_feed, ticket_text}
+use Rattle.mencius_format.specs.Texts.{event_text}
+use Rattle.mencius_trace.specs.Words.{line_feed, ticket_text}
 
 -- ---- parts of lines
 

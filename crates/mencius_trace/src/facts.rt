@@ -4,9 +4,10 @@ ghost use Rattle.std.specs.Prelude.{◌≡◌, ◌++◌, ◌∷◌, decimal, str
 ghost use Rattle.mencius_cluster.specs.State.{trace_of};
 ghost use Rattle.mencius_trace.specs.Facts.{at_ballot, at_instance, content_text, event_line, executed_line, front_line, kind_text, learned_line, refused_line, sent_line, tally_line, to_all, to_one, value_text, vote_text, way_text, with_value};
 
-use crate::words::{push_event, push_ticket};
+use crate::words::push_ticket;
 use mencius_base::{Ballot, Event, Message, Refusal, Value, Vote};
 use mencius_cluster::Cluster;
+use mencius_format::push_event;
 use std::alloc::AllocError;
 
 /// Adds a value to a text: a command by its identity.

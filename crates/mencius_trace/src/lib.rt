@@ -12,4 +12,4 @@ mod words;
 pub use closing::push_closing;
 pub use hearing::Hearing;
 pub use telling::tell;
-pub use words::{push_answer, push_command, push_event, push_id};
+pub use words::push_answer;

@@ -21,9 +21,10 @@ use crate::facts::{
     push_value,
 };
 use crate::hearing::Hearing;
-use crate::words::{push_answer, push_id};
+use crate::words::push_answer;
 use mencius_base::{Event, Members, Message, NoMemory, Refusal, Value, Vote};
 use mencius_cluster::{Answered, Cluster, Effect, Glance};
+use mencius_format::push_id;
 use std::alloc::{AllocError, Global};
 
 /// Steps a cluster by an event, and adds the event and what came of it to a text.
