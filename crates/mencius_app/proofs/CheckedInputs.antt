@@ -5,7 +5,7 @@ use Rattle.mencius_ends.specs.declared.fault.AppFault.TheVariants.{BadShape, Boa
 use Rattle.mencius_ends.specs.Ends.{most_bytes}
 use Rattle.mencius_input.specs.declared.kind.Kind.{Kind}
 use Rattle.mencius_input.specs.declared.kind.Kind.TheVariants as kind
-use Rattle.mencius_input.specs.Judged.{FailsBy}
+use Rattle.mencius_format.specs.Judged.{FailsBy}
 use Rattle.mencius_input.specs.Kinds.{kind_in}
 use Rattle.mencius_input.specs.Place.{IsTold}
 use Rattle.mencius_input.specs.Plan.{WrittenPlan, plan}

@@ -9,7 +9,7 @@ use Rattle.serde_json.specs.Data.{Data}
 use Rattle.mencius_ends.specs.declared.fault.AppFault.{AppFault}
 use Rattle.mencius_ends.specs.declared.fault.AppFault.TheVariants.{NotJson, BadShape, BadLimit, ReadFailed, WriteFailed, BoardFailed, NoMemory}
 use Rattle.mencius_ends.specs.Ends.{HasFailed, WritesFront, most_bytes}
-use Rattle.mencius_input.specs.Judged.{FailsBy, Gives, judged, seen}
+use Rattle.mencius_format.specs.Judged.{FailsBy, Gives, judged, seen}
 use Rattle.mencius_input.specs.Plan.{plan, plan_of, plan_within}
 use Rattle.mencius_base.specs.Members.{Membership}
 use Rattle.mencius_input.specs.Scenario.{Written, json_of, members_of, or_not_json, read_there, scenario, within, written_of}

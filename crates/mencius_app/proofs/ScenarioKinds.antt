@@ -6,7 +6,7 @@ use Rattle.serde_json.specs.Find.{as_array, as_object, get}
 use Rattle.mencius_ends.specs.declared.fault.AppFault.TheVariants.{BadShape}
 use Rattle.mencius_input.specs.declared.kind.Kind.{Kind}
 use Rattle.mencius_input.specs.declared.kind.Kind.TheVariants.{Replay, Run}
-use Rattle.mencius_input.specs.Judged.{judged}
+use Rattle.mencius_format.specs.Judged.{judged}
 use Rattle.mencius_input.specs.Kinds.{has_many_objects, has_run_field, kind_in, kind_said}
 use Rattle.mencius_input.specs.Scenario.{beta_of, json_of, or_not_json, read_there, scenario, whole_of, within, written_of}
 

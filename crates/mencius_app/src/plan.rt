@@ -1,7 +1,7 @@
 //! The plan that the workers of a run follow, of the scenario that was read.
 
 ghost use Rattle.mencius_app.specs.Plan.{plan_in};
-ghost use Rattle.mencius_input.specs.Judged.{Gives, seen};
+ghost use Rattle.mencius_format.specs.Judged.{Gives, seen};
 ghost use Rattle.mencius_input.specs.Plan.{plan};
 
 use mencius_base::Members;

@@ -9,8 +9,9 @@ ghost use Rattle.mencius_cluster.specs.State.{trace_of};
 ghost use Rattle.mencius_trace.specs.Words.{spaced_ticket, tickets_text};
 
 use mencius_cluster::{Cluster, laws};
+use mencius_format::push_id;
 use mencius_input::{AppFault, Sink, write_all};
-use mencius_trace::{push_answer, push_id};
+use mencius_trace::push_answer;
 use std::alloc::{AllocError, Global};
 
 /// Writes the report of a cluster, whole. At most 1,001 calls of the writer fail.
