@@ -55,8 +55,8 @@ that the client chose.
                             .. to bind KEY to NEW where its text is OLD, in version 2 alone
   deliver K D               message K reaches server D, for the first time or again
   lose K D                  message K can no longer reach server D
-  suspect P Q               server P suspects that Q has stopped, and revokes what Q left open,
-                            with a beta also ahead of P's own front
+  suspect P Q               server P suspects that Q has stopped, and revokes what Q left open
+                            up to P's own front, with a beta also ahead of it
   retry P                   server P suggests a command again that lost its instance
   execute S                 server S executes its next instance
 
