@@ -1,4 +1,4 @@
--- One comparison that finds at which of sixteen bytes the text of a string stops.
+-- Where the text of a string stops: the first such place, and one comparison that finds it among sixteen bytes.
 use Rattle.std.proofs.Common.{◌≡◌, ◌∙◌, ◌⊎◌, None, ℕ, ◌<◌, ◌≤◌, ◌+◌, ◌*◌, ◌%◌, ◌^◌, get_or, Some, ◌&&◌, Bool, true, false, cond, not, inl, inr, List, [], ◌∷◌, length, map, replicate, ap, ap₂, refl, sym, arith, zero, suc, nat_lt, Fits, w8}
 use Rattle.std.proofs.lemmas.Bool.{and_parts, cases_order, le-ltb, lt-ltb}
 use Rattle.std.proofs.lemmas.List.{length-map}
