@@ -5,12 +5,13 @@
 
 ghost use Rattle.mencius_base.specs.Message.{is_for};
 ghost use Rattle.mencius_base.specs.Outbox.{outbox_full};
+ghost use Rattle.mencius_base.specs.Refusal.{IsRefusedFor};
 ghost use Rattle.mencius_base.specs.declared.event.Event.TheVariants.{Deliver};
 ghost use Rattle.mencius_model.specs.Next.{early_cause, with_event};
 ghost use Rattle.mencius_model.specs.Trace.{Trace, sent};
-ghost use Rattle.mencius_server.specs.Machine.{IsUndone};
+ghost use Rattle.mencius_server.specs.Machine.{IsUndone, learned_on, sent_on};
 ghost use Rattle.mencius_conclusions.specs.Hands.{AreAt};
-ghost use Rattle.std.specs.Prelude.{IsTrue, None, OnErr, OnOk, Some, slice_get, ◌≡◌, ◌≢◌, ℕ};
+ghost use Rattle.std.specs.Prelude.{IfOk, IsTrue, None, OnErr, OnOk, Some, length, slice_get, ◌≡◌, ◌≢◌, ℕ};
 
 use mencius_base::{Message, Outbox, Refusal};
 use mencius_server::{Server, laws};
@@ -43,6 +44,9 @@ pub fn deliver(
         → early_cause receiver.old.members w (Deliver k receiver.old.id) ≡ None
         → AreAt (with_event receiver.old.members w (Deliver k receiver.old.id))
         receiver.new second.now third.now out.new) }
+    ensures learned { IfOk result (λ n. n ≡ learned_on receiver.old message.now) }
+    ensures refusal { IsRefusedFor
+        (outbox_full out.old (length (sent_on receiver.old message.now))) result }
     ensures err { OnErr result (IsUndone receiver.old receiver.new out.old out.new) }
 {
     // The two others are asked for nothing but their numbers.

@@ -1,10 +1,11 @@
 //! What a caller can conclude of lookups from the public clauses of a board, its News and its readers
 //! alone.
 
-ghost use Rattle.std.specs.Prelude.{◌≡◌, OnOk, IfOk, length, option_map};
+ghost use Rattle.std.specs.Prelude.{◌≡◌, ◌⊎◌, IfErr, IfOk, OnOk, length, option_map};
 ghost use Rattle.std.specs.String.{string_bytes};
 ghost use mathlib.Core.List.{IsPrefix};
 ghost use Rattle.mencius_board.specs.Boards.{longest};
+ghost use Rattle.mencius_board.specs.Faults.{IsLookupFault, IsShowFault};
 ghost use Rattle.mencius_model.specs.Store.{value_at};
 
 use mencius_board::{Board, BoardFault, News, Reader};
@@ -32,6 +33,7 @@ pub fn look_up_told(
         ≡ value_at key.now reader.new.log) }
     ensures count { IfOk result (λ x. x.count ≡ length reader.new.log) }
     ensures board { reader.new.book ≡ reader.old.book }
+    ensures fault { IfErr result IsLookupFault }
 {
     reader.learn(news);
     look_up(alloc, reader, key)
@@ -53,6 +55,7 @@ pub fn look_up_within(
     ensures count { IfOk result (λ x. x.count ≡ length reader.new.log) }
     ensures board { reader.new.book ≡ reader.old.book }
     ensures same { board.new ≡ board.old }
+    ensures fault { IfErr result IsLookupFault }
 {
     let reading = look_up(alloc, reader, key);
     // Called for its promise alone.
@@ -75,6 +78,7 @@ pub fn look_up_shown<R: Wait>(
         ≡ value_at key.now (longest board.old.cluster)) }
     ensures board { (reader.new.book ≡ reader.old.book) × (board.new.book ≡ board.old.book) }
     ensures cluster { board.new.cluster ≡ board.old.cluster }
+    ensures fault { IfErr result (λ f. IsShowFault f ⊎ IsLookupFault f) }
 {
     let news = board.show(rt, alloc)?;
     let reading = look_up_told(alloc, reader, news, key);
@@ -90,6 +94,7 @@ fn look_up(alloc: Global, reader: &mut Reader, key: &str) -> Result<Reading, Boa
     ensures text { IfOk result (λ x. option_map string_bytes x.text
         ≡ value_at key.now reader.new.log) }
     ensures count { IfOk result (λ x. x.count ≡ length reader.new.log) }
+    ensures fault { IfErr result IsLookupFault }
 {
     let text = reader.lookup(alloc, key)?;
     let count = reader.count();
