@@ -2,6 +2,7 @@ ghost use Rattle.std.specs.Prelude.{◌≡◌};
 ghost use Rattle.mencius_ends.specs.Fault.{fault_name, fault_number};
 ghost use Rattle.mencius_ends.specs.Status.{status_of};
 
+use json::Invalid;
 use std::alloc::{AllocError, AllocFailed};
 use thiserror::Error;
 
@@ -73,6 +74,16 @@ impl<T: Drop> From<AllocFailed<T>> for AppFault {
 
     fn from(_refused: AllocFailed<T>) -> AppFault {
         AppFault::NoMemory
+    }
+}
+
+impl From<Invalid> for AppFault {
+    ghost use Rattle.mencius_ends.specs.declared.fault.AppFault.TheVariants as fault;
+
+    ghost from_gives = { λ _ f. f ≡ fault.NotJson };
+
+    fn from(_invalid: Invalid) -> AppFault {
+        AppFault::NotJson
     }
 }
 

@@ -1,15 +1,5 @@
-pub mod FirstBytes
-pub mod StringEnds
-pub mod StringTexts
-pub mod Punctuation
-pub mod ClosedLists
-pub mod NumeralEnds
-pub mod FirstWords
 pub mod JsonTexts
-pub mod Conversions
-pub mod NextValues
-pub mod TokenKinds
-pub mod FirstTokens
+pub mod Stops
 pub mod NotedItems
 pub mod NamedFields
 pub mod CasItems
@@ -17,4 +7,3 @@ pub mod ScenarioFields
 pub mod RunFields
 pub mod StepsAndCommands
 pub mod FaultPlaces
-pub mod EmptyText

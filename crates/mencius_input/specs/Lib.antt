@@ -1,10 +1,7 @@
-pub mod Tokens
-pub mod Steps
-pub mod Sources
+pub mod Stops
 pub mod Scenario
 pub mod Plan
 pub mod Newest
-pub mod Next
 pub mod Noted
 pub mod Named
 pub mod Fields

@@ -8,10 +8,10 @@ use crate::field::Field;
 use crate::kind::{Kind, has_many_objects};
 use crate::places::{Place, place_of};
 use crate::shown::shown;
-use crate::stops::stop_in;
 use crate::wrong::wrong_item;
 use mencius_base::NoMemory;
 use mencius_ends::AppFault;
+use mencius_json::stop_in;
 use std::alloc::Global;
 
 // What a number past the limits of a field is.

@@ -9,14 +9,10 @@ mod field;
 mod kind;
 mod newest;
 mod places;
-mod plain;
 mod plan;
 mod scenario;
 mod schedule;
 mod shown;
-mod stops;
-mod tokens;
-mod value;
 mod wrong;
 
 pub use events::{Events, EventsLeft};

@@ -17,12 +17,11 @@ ghost use Rattle.mencius_format.specs.Words.{words};
 use crate::field::{Field, field_named, is_whole, is_within, list_field};
 use crate::kind::{Kind, tree_of};
 use crate::newest::{NEWEST_VERSION, takes_cas};
-use crate::tokens::Tokens;
-use crate::value::{MOST_DEPTH, next_name, pass};
 use json::Scratch;
 use mencius_base::NoMemory;
 use mencius_ends::AppFault;
 use mencius_format::{command_is_cas, event_is_cas, parse_command, parse_event};
+use mencius_json::{MOST_DEPTH, Tokens, next_name, pass};
 use serde_json::Value;
 use std::alloc::Global;
 

@@ -4,7 +4,7 @@ use Rattle.json.specs.Json.{after_end_array}
 use Rattle.mencius_format.specs.Grammar.{command_of, command_within, newest_version}
 use Rattle.mencius_input.specs.Newest.{has_command_cas}
 use Rattle.mencius_input.specs.Scenario.{said_by}
-use Rattle.mencius_input.proofs.NextValues.{stops_at, stops_whole}
+use Rattle.mencius_input.proofs.Stops.{stops_at, stops_whole}
 use Rattle.mencius_input.proofs.NotedItems.{answer_known, list_close, list_further, list_start, list_stop}
 use Rattle.mencius_input.proofs.commands.commands_in.Goals as goal
 

@@ -4,7 +4,7 @@ use Rattle.serde_json.specs.Data.{object}
 use Rattle.serde_json.specs.Read.{max_depth}
 use Rattle.mencius_format.specs.Judged.{judged}
 use Rattle.mencius_input.specs.Plan.{plan_within}
-use Rattle.mencius_input.proofs.FirstTokens.{entered, not_entered}
+use Rattle.mencius_json.proofs.FirstTokens.{entered, not_entered}
 use Rattle.mencius_input.proofs.RunFields.{no_object_planned, plan_fields_say}
 use Rattle.mencius_input.proofs.plan.next_run_input.Goals as goal
 

@@ -1,9 +1,10 @@
-use Rattle.std.proofs.Common.{◌≡◌, Some, inr, arith}
+use Rattle.std.proofs.Common.{◌≡◌, Some, inr, refl, arith}
 use Rattle.json.specs.Json.{read_key}
 use Rattle.json.proofs.Grammar.{read_key-shorter}
 use Rattle.serde_json.specs.Data.{no_members}
 use Rattle.mencius_input.proofs.ScenarioFields.{no_fields}
-use Rattle.mencius_input.proofs.NextValues.{members_close, members_further, members_no_name, members_start, members_stop, stops_at, stops_whole}
+use Rattle.mencius_json.proofs.NextValues.{members_close, members_further, members_no_name, members_start, members_stop}
+use Rattle.mencius_input.proofs.Stops.{stops_at, stops_whole}
 use Rattle.mencius_input.proofs.scenario.next_fields.Goals as goal
 
 pub fields-init : goal.fields-init
@@ -13,7 +14,7 @@ pub returns-in_err-name-clause-err : goal.returns-in_err-name-clause-err
 returns-in_err-name-clause-err c =
     let l = c.fields in
     stops_at _ _ _ c.from_residual.ensures.1
-    (inr (c.in_err-name.ensures.0, members_no_name _ _ l.reader l.invariant.0 l.invariant.1 c.in_err-name.ensures.1))
+    (inr (refl, members_no_name _ _ l.reader l.invariant.0 l.invariant.1 c.in_err-name.ensures))
 
 pub fields-preserved : goal.fields-preserved
 fields-preserved c =

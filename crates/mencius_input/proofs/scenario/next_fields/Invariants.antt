@@ -1,7 +1,7 @@
 use Rattle.std.proofs.Common.{length}
 use Rattle.serde_json.specs.Data.{Members}
 use Rattle.mencius_input.specs.Fields.{AreFields}
-use Rattle.mencius_input.proofs.NextValues.{MembersSoFar}
+use Rattle.mencius_json.proofs.NextValues.{MembersSoFar}
 use Rattle.mencius_input.proofs.scenario.next_fields.Given as goal
 
 abbrev pub invariant-fields : goal.invariant-fields

@@ -5,11 +5,12 @@ use Rattle.serde_json.specs.Data.{object}
 use Rattle.serde_json.specs.Read.{max_depth}
 use Rattle.mencius_ends.specs.declared.fault.AppFault.TheVariants.{NotJson}
 use Rattle.mencius_format.specs.Judged.{judged}
-use Rattle.mencius_input.specs.Next.{next_value}
+use Rattle.mencius_json.specs.Next.{next_value}
 use Rattle.mencius_input.specs.Scenario.{within}
-use Rattle.mencius_input.proofs.FirstTokens.{object_first, passed_first, passed_no_object}
+use Rattle.mencius_json.proofs.FirstTokens.{object_first, passed_first, passed_no_object}
 use Rattle.mencius_input.proofs.ScenarioFields.{fields_say, no_object_said}
-use Rattle.mencius_input.proofs.NextValues.{next_none, stops_at, stops_whole}
+use Rattle.mencius_json.proofs.NextValues.{next_none}
+use Rattle.mencius_input.proofs.Stops.{stops_at, stops_whole}
 use Rattle.mencius_input.proofs.scenario.next_scenario.Goals as goal
 
 pub returns-in_err-token-clause-err : goal.returns-in_err-token-clause-err

@@ -1,5 +1,0 @@
-use Rattle.mencius_input.proofs.TokenKinds.{no_array}
-use Rattle.mencius_input.proofs.value.opens_array.Goals as goal
-
-pub returns-in_default : goal.returns-in_default
-returns-in_default c = no_array c.args.token c.in_default.not-BeginArray

@@ -1,5 +1,0 @@
-use Rattle.mencius_input.proofs.TokenKinds.{no_object}
-use Rattle.mencius_input.proofs.value.opens_object.Goals as goal
-
-pub returns-in_default : goal.returns-in_default
-returns-in_default c = no_object c.args.token c.in_default.not-BeginObject

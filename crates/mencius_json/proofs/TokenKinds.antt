@@ -1,0 +1,20 @@
+-- What is told of a token by the kind that it is not.
+use Rattle.std.specs.Borrow.{Bor}
+use Rattle.std.proofs.Common.{◌≡◌, ℕ, List, false, Option, None, refl}
+use Rattle.json.specs.Reads.{token_of}
+use Rattle.json.specs.declared.token.Token.{Token}
+use Rattle.json.specs.declared.token.Token.TheVariants.{BeginArray, BeginObject, Number}
+use Rattle.mencius_json.specs.Next.{number_text, opens_array, opens_object}
+
+pub no_array : (symbol : Token) → (symbol ≡ BeginArray → ⊥) → false ≡ opens_array (token_of symbol)
+no_array BeginArray other = absurd (other refl)
+no_array symbol other = refl
+
+pub no_object : (symbol : Token) → (symbol ≡ BeginObject → ⊥) → false ≡ opens_object (token_of symbol)
+no_object BeginObject other = absurd (other refl)
+no_object symbol other = refl
+
+pub no_number : (symbol : Token) → ((text : Bor (List ℕ)) → symbol ≡ Number text → ⊥)
+    → ◌≡◌ {A = Option (List ℕ)} None (number_text (token_of symbol))
+no_number (Number text) other = absurd (other text refl)
+no_number symbol other = refl

@@ -1,0 +1,12 @@
+use Rattle.std.proofs.Common.{◌≡◌, ◌≤◌, ◌<◌, ◌-◌, ℕ, length, get_or, false}
+use Rattle.mencius_json.specs.Tokens.{is_stop}
+use Rattle.mencius_json.proofs.plain.stop_in.Given as goal
+
+abbrev pub invariant-chunks : goal.invariant-chunks
+invariant-chunks l = record {
+  within : l.place ≤ length l.inside;
+  before : (n : ℕ) → n < l.place → is_stop (get_or l.inside n 0) ≡ false;
+}
+
+abbrev pub decreases-chunks : goal.decreases-chunks
+decreases-chunks l = length l.inside - l.place

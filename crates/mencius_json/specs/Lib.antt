@@ -1,0 +1,4 @@
+pub mod Tokens
+pub mod Steps
+pub mod Sources
+pub mod Next

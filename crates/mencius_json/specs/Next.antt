@@ -1,0 +1,47 @@
+-- The next value of a row of tokens.
+use Rattle.std.specs.Prelude.{◌≡◌, ◌-◌, ℕ, List, length, Bool, true, false, Option, Some, None}
+use Rattle.json.specs.Token.{Token}
+use Rattle.json.specs.Token as token
+use Rattle.json.specs.Json.{items, members, parse_map, value}
+use Rattle.serde_json.specs.Data.{Data, Items, Members, array, no_members, object}
+use Rattle.serde_json.specs.Find.{as_array, as_object}
+use Rattle.serde_json.specs.Read.{converted, of_items, of_json, of_members}
+
+-- the value that tokens begin with, and the tokens behind it
+abbrev pub next_value : ℕ → List Token → Option (Data × List Token)
+next_value depth ts = converted of_json (value depth ts)
+
+-- the same of the items of a list, behind its bracket
+abbrev pub next_items : ℕ → List Token → Option (Items × List Token)
+next_items depth ts = converted of_items (items (value depth) (length ts) ts)
+
+-- the same of the fields of an object, behind its brace
+abbrev pub next_members : ℕ → List Token → Option (Members × List Token)
+next_members depth ts = converted (λ ms. of_members ms no_members) (members (value depth) (length ts) ts)
+
+-- a list or an object was entered, or another value was passed
+abbrev pub EntersArray : ℕ → List Token → List Token → Bool → Type 0
+EntersArray depth old new true = next_value depth old ≡ parse_map array (next_items (depth - 1) new)
+EntersArray depth old new false = (d : Data) × (next_value depth old ≡ Some (d, new)) × (as_array d ≡ None)
+
+abbrev pub EntersObject : ℕ → List Token → List Token → Bool → Type 0
+EntersObject depth old new true = next_value depth old ≡ parse_map object (next_members (depth - 1) new)
+EntersObject depth old new false = (d : Data) × (next_value depth old ≡ Some (d, new)) × (as_object d ≡ None)
+
+-- ---- what the first token of a value tells
+
+abbrev pub text_of : Token → Option (List ℕ)
+text_of (token.string s) = Some s
+text_of _ = None
+
+abbrev pub number_text : Token → Option (List ℕ)
+number_text (token.number s) = Some s
+number_text _ = None
+
+abbrev pub opens_array : Token → Bool
+opens_array token.begin_array = true
+opens_array _ = false
+
+abbrev pub opens_object : Token → Bool
+opens_object token.begin_object = true
+opens_object _ = false
