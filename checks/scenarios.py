@@ -18,6 +18,12 @@ def names(folder, ending):
     return [name[:-len(ending)] for name in sorted(os.listdir(os.path.join(TESTS, folder))) if name.endswith(ending)]
 
 
+def schema(task):
+    """The schema of the scenarios of a task, as JSON, with the fields in their order."""
+    with open(os.path.join(shared.TOP, "docs", task + ".schema.json"), encoding="utf-8") as file:
+        return json.load(file)
+
+
 def scenario(servers, events, version=1, beta=0):
     fields = {"version": version, "servers": servers, "events": events}
     if beta:

@@ -11,6 +11,7 @@ mod judged;
 pub mod laws;
 mod reading;
 mod step;
+mod version;
 mod words;
 mod writing;
 
@@ -19,6 +20,7 @@ pub use reading::{
     behind_submit, fault_of, parse_command, parse_event, parse_id, parse_step, parse_submission,
 };
 pub use step::Step;
+pub use version::{FIRST_VERSION, NEWEST_VERSION};
 pub use words::{cut_at_dot, cut_at_space, parse_u8, parse_u32};
 pub use writing::{
     push_command, push_deliver, push_event, push_execute, push_id, push_lose, push_retry,

@@ -1,9 +1,9 @@
 -- The first item that has a fault, and a place in a field and in what bytes say.
-use Rattle.std.proofs.Common.{codes, is_some, ◌≡◌, ◌⊎◌, ◌<◌, ◌+◌, ◌∙◌, ◌&&◌, ℕ, Bool, true, false, not, cond, List, length, get_or, Option, Some, None, Result, Ok, Err, IfOk, IfSome, refl, sym, ap, subst, inl, inr, arith, nat_lt}
+use Rattle.std.proofs.Common.{is_some, ◌≡◌, ◌⊎◌, ◌<◌, ◌+◌, ◌∙◌, ◌&&◌, ℕ, Bool, true, false, not, cond, List, [], ◌∷◌, length, get_or, Option, Some, None, Result, Ok, Err, IfOk, IfSome, refl, sym, ap, subst, inl, inr, arith, nat_lt}
 use Rattle.std.specs.Prelude.{MatchOption, unwrap_or}
-use Rattle.std.specs.Option.{option_or}
+use Rattle.std.specs.List.{Contains, filter, list_any}
 use Rattle.std.specs.Result.{result_err}
-use Rattle.std.proofs.lemmas.Bool.{cases_Bool}
+use Rattle.std.proofs.lemmas.Bool.{cases_Bool, or_parts}
 use Rattle.std.proofs.lemmas.Bool.Decides.{nat_tests}
 use Rattle.serde_json.specs.Data.{Data, Items}
 use Rattle.serde_json.specs.Find.{as_array, get, get_item}
@@ -16,16 +16,17 @@ use Rattle.mencius_base.specs.declared.refusal.NoMemory.{NoMemory}
 use Rattle.mencius_input.specs.declared.places.Place.{Place}
 use Rattle.mencius_ends.specs.declared.fault.AppFault.TheVariants.{BadLimit, BadShape}
 use Rattle.mencius_input.specs.declared.field.Field.{Field}
+use Rattle.mencius_input.specs.declared.field.Field.TheVariants.{Servers}
 use Rattle.mencius_input.specs.declared.kind.Kind.{Kind}
 use Rattle.mencius_input.specs.declared.kind.Kind.TheVariants.{Replay, Run}
 use Rattle.mencius_input.specs.declared.places.Place.TheVariants.{Number, GreatNumber, Lists}
-use Rattle.mencius_input.specs.FieldsOf.{field_name, field_within, is_whole}
+use Rattle.mencius_input.specs.FieldsOf.{default_of, field_name, field_within, whole_fields}
 use Rattle.mencius_format.specs.Grammar.{newest_version, takes_cas}
 use Rattle.mencius_format.specs.Judged.{judged}
 use Rattle.mencius_input.specs.Newest.{has_command_cas, has_event_cas}
-use Rattle.mencius_input.specs.Place.{AreFine, AreItems, HasFields, IsAt, IsFine, IsInList, IsInLists, IsOtherNumber, NoneBefore, item_fault, item_has_cas}
+use Rattle.mencius_input.specs.Place.{AreFine, AreItems, AreThere, HasFields, IsAt, IsFine, IsInList, IsInLists, IsOtherNumber, NoneBefore, item_fault, item_has_cas}
 use Rattle.mencius_input.specs.Plan.{command_said}
-use Rattle.mencius_input.specs.Scenario.{item_said, json_of, whole_in, whole_of}
+use Rattle.mencius_input.specs.Scenario.{item_said, json_of, number_of, whole_in}
 use Rattle.mencius_input.proofs.CasItems.{command_said_in, item_said_in}
 
 fault_of : {X : Type 0} (left_out : Bool) (r s : Result X AppFault) → cond left_out (Err BadShape) r ≡ s
@@ -103,30 +104,45 @@ fine_none fault version n list None none fine = fine
 pub lists_at : (fault : AppFault) (d : Data) (lists : List Value) (count : ℕ) (found : Option Place)
     → AreItems Run d (items_view lists) → count ≡ length lists
     → IfSome found (λ x. (fault ≡ BadLimit) × (servers : ℕ) × (x ≡ Lists count servers)
-    × (whole_of (codes "servers") d ≡ Some servers) × (count ≡ servers → ⊥))
+    × (number_of Servers d ≡ Some servers) × (count ≡ servers → ⊥))
     → IfSome found (λ x. IsAt Run fault d x)
 lists_at fault d lists count None are same h = tt
 lists_at fault d lists count (Some x) are same (limit, servers, is, said, apart) =
     subst (λ x. IsAt Run fault d x) (sym is)
     (refl, limit, items_view lists, are, same ∙ sym (items_len-items_view lists), said, apart)
 
--- of two fields one is not there, or both are
-pub either_lack : (L : Field → Type 0) (A B : Type 0) (found r s : Option Field) → found ≡ option_or r s
-    → MatchOption r A L → MatchOption s B L → MatchOption found (A × B) L
-either_lack L A B found r s is here there = subst (λ o. MatchOption o (A × B) L) (sym is) (by_cases r s here there)
-  where
-    by_cases : (r s : Option Field) → MatchOption r A L → MatchOption s B L → MatchOption (option_or r s) (A × B) L
-    by_cases (Some field) s lacks other = lacks
-    by_cases None (Some field) here lacks = lacks
-    by_cases None None here there = (here, there)
+-- a field lacks that must be there
+abbrev pub is_lacking : Data → Field → Bool
+is_lacking d field = not (is_some (default_of field)) && not (is_some (get (field_name field) d))
 
-pub lack_known : (L : Field → Type 0) (A B : Type 0) (r : Option Field) → (A → B) → MatchOption r A L → MatchOption r B L
-lack_known L A B (Some field) f lacks = lacks
-lack_known L A B None f all = f all
+pub lacking : (d : Data) (field : Field) → is_lacking d field ≡ true → get (field_name field) d ≡ None
+lacking d field e = by_tests (is_some (default_of field)) (get (field_name field) d) e
+  where
+    by_tests : (a : Bool) (o : Option Data) → (not a && not (is_some o)) ≡ true → o ≡ None
+    by_tests true o e = absurd (cc)
+    by_tests false None e = refl
+    by_tests false (Some value) e = absurd (cc)
+
+-- where no field lacks, those are there that must be
+pub none_lacks : (d : Data) (fs : List Field) → list_any (is_lacking d) fs ≡ false
+    → AreThere (filter (λ field. not (is_some (default_of field))) fs) d
+none_lacks d [] none = tt
+none_lacks d (f ∷ fs) none =
+    let parts = or_parts (is_lacking d f) (list_any (is_lacking d) fs) none in
+    by_tests (not (is_some (default_of f))) (get (field_name f) d) refl parts.0 (none_lacks d fs parts.1)
+  where
+    needed_too : List Field
+    needed_too = filter (λ field. not (is_some (default_of field))) fs
+
+    by_tests : (a : Bool) (o : Option Data) → get (field_name f) d ≡ o → (a && not (is_some o)) ≡ false
+        → AreThere needed_too d → AreThere (cond a (f ∷ needed_too) needed_too) d
+    by_tests false o is e others = others
+    by_tests true (Some value) is e others = ((λ missing. let both = sym is ∙ missing in absurd cc), others)
+    by_tests true None is e others = absurd (cc)
 
 -- a field that is no whole number
 pub not_whole_at : (kind : Kind) (fault : AppFault) (d value : Data) (field : Field) (found : Option Place)
-    → is_whole kind field ≡ true → get (field_name field) d ≡ Some value → whole_in value ≡ None
+    → Contains (whole_fields kind) field → get (field_name field) d ≡ Some value → whole_in value ≡ None
     → IfSome found (λ x. (fault ≡ BadShape) × ((x ≡ Number field) ⊎ ((x ≡ GreatNumber field) × IsOtherNumber value)))
     → IfSome found (λ x. IsAt kind fault d x)
 not_whole_at kind fault d value field None whole there none h = tt

@@ -1,361 +1,250 @@
 -- The fields of an object, read one after the other, by their names.
-use Rattle.std.proofs.Common.{suc, is_eq, Ordering, Less, Equal, Greater, ne_eqb, ◌≡◌, ℕ, ◌+◌, ◌≤◌, ◌==◌, ◌&&◌, ◌||◌, arith, List, [], ◌∷◌, length, Bool, true, false, not, cond, Err, option_and_then, Option, Some, None, option_map, refl, sym, ap, ap₂, ◌∙◌, true≢false}
-use Rattle.std.specs.List.{list_all}
+use Rattle.std.proofs.Common.{is_eq, Ordering, Less, Equal, Greater, Vec, Global, ◌≡◌, ◌<◌, ◌+◌, ℕ, zero, suc, ◌&&◌, ◌||◌, arith, List, [], ◌∷◌, length, map, get_or, set, nat_lt, Bool, true, false, not, cond, Option, Some, None, option_map, refl, sym, ap, ap₂, ◌∙◌, true≢false}
+use Rattle.std.specs.List.{list_any, position, position_or_len}
 use Rattle.std.specs.Ordering.{nat_cmp, match_ordering}
 use Rattle.std.specs.Cmp.Lexicographic.{slice_cmp}
 use Rattle.std.specs.Str.{bytes_eq}
-use Rattle.std.proofs.lemmas.Bool.{and_parts, eq-eqb, or_parts}
+use Rattle.std.proofs.lemmas.Bool.{and_parts, or_parts}
+use Rattle.std.proofs.lemmas.Bool.Decides.{nat_tests}
+use Rattle.std.proofs.lemmas.List.Folds.{list_any-append, list_any_at}
+use Rattle.std.proofs.lemmas.List.Quantifiers.{position-Some}
 use Rattle.std.proofs.lemmas.Map.Text.{is_eq-slice_cmp}
 use Rattle.std.proofs.lemmas.Slice.Eq.{bytes_eq-Decides}
 use Rattle.serde_json.specs.Data.{Data, Members, member, no_members, object, put}
-use Rattle.serde_json.specs.Events.{members_len}
 use Rattle.serde_json.specs.Find.{get_member}
 use Rattle.serde_json.proofs.Views.{get_member-put, get_member-put_other}
-use Rattle.mencius_ends.specs.declared.fault.AppFault.TheVariants.{BadShape}
-use Rattle.mencius_input.specs.Fields.{beta_said}
-use Rattle.mencius_input.specs.Named.{all_said, AreNamed, Says, field, is_one_of, newest, these}
-use Rattle.mencius_input.specs.Scenario.{beta_in, one_there, whole_in, whole_of}
+use Rattle.mencius_input.specs.declared.field.Field.{Field}
+use Rattle.mencius_input.specs.declared.field.Field.TheVariants.{Version}
+use Rattle.mencius_input.specs.declared.fields.Fields as code
+use Rattle.mencius_input.specs.declared.fields.KeptList as code_list
+use Rattle.mencius_input.specs.declared.kind.Kind.{Kind}
+use Rattle.mencius_input.specs.declared.kind.Kind.TheVariants.{Replay, Run}
+use Rattle.mencius_input.specs.Fields.{AreFields, Says, list_kept, list_said, wholes_of}
+use Rattle.mencius_input.specs.FieldsOf.{default_of, field_name, fields, is_one_of, list_field, names, whole_fields}
+use Rattle.mencius_input.specs.Scenario.{has_only, number_in, number_of, whole_in}
 
 -- ---- names
 
-pub same_name : (key l : List ℕ) → bytes_eq key l ≡ true → key ≡ l
+same_name : (key l : List ℕ) → bytes_eq key l ≡ true → key ≡ l
 same_name key l e = let same = bytes_eq-Decides key l in same.0 e
 
 other_name : (key l : List ℕ) → bytes_eq key l ≡ false → key ≡ l → ⊥
 other_name key l e same = let decided = bytes_eq-Decides key l in true≢false (sym (decided.1 same) ∙ e)
 
-abbrev is_less : Ordering → Bool
-is_less Less = true
-is_less Equal = false
-is_less Greater = false
+-- the field has this name
+abbrev pub is_named : List ℕ → Field → Bool
+is_named name field = bytes_eq name (field_name field)
 
-abbrev is_greater : Ordering → Bool
-is_greater Less = false
-is_greater Equal = false
-is_greater Greater = true
+one_of_fields : (name : List ℕ) (fs : List Field) → is_one_of name (map field_name fs) ≡ list_any (is_named name) fs
+one_of_fields name [] = refl
+one_of_fields name (f ∷ fs) = ap (λ bit. is_named name f || bit) (one_of_fields name fs)
 
--- a name that comes before another, by both comparisons
-abbrev is_before : List ℕ → List ℕ → Bool
-is_before name l = is_less (slice_cmp nat_cmp name l) && is_greater (slice_cmp nat_cmp l name)
+-- a name of a kind is that of a number or of the list
+one_of_names : (kind : Kind) (name : List ℕ) → is_one_of name (names kind)
+    ≡ (list_any (is_named name) (whole_fields kind) || (is_named name (list_field kind) || false))
+one_of_names kind name =
+    one_of_fields name (fields kind)
+    ∙ list_any-append (is_named name) (whole_fields kind) (list_field kind ∷ [])
 
--- names in order, each once
-abbrev pub are_ordered : List (List ℕ) → Bool
-are_ordered [] = true
-are_ordered (name ∷ names) = list_all (is_before name) names && are_ordered names
+-- no name of a number is that of the list
+list_apart : (kind : Kind) → list_any (is_named (field_name (list_field kind))) (whole_fields kind) ≡ false
+list_apart Replay = refl
+list_apart Run = refl
 
-compared : (o x : Ordering) → (is_less o && is_greater x) ≡ true → (o ≡ Less) × (x ≡ Greater)
-compared Less Less e = absurd (cc)
-compared Less Equal e = absurd (cc)
-compared Less Greater e = (refl, refl)
-compared Equal x e = absurd (cc)
-compared Greater x e = absurd (cc)
+-- no name twice
+abbrev are_apart : List Field → Bool
+are_apart [] = true
+are_apart (f ∷ fs) = not (list_any (is_named (field_name f)) fs) && are_apart fs
 
-before : (key l : List ℕ) → is_before key l ≡ true
-    → (slice_cmp nat_cmp key l ≡ Less) × (slice_cmp nat_cmp l key ≡ Greater)
-before key l e = compared (slice_cmp nat_cmp key l) (slice_cmp nat_cmp l key) e
+wholes_apart : (kind : Kind) → are_apart (whole_fields kind) ≡ true
+wholes_apart Replay = refl
+wholes_apart Run = refl
 
-before_apart : (key l : List ℕ) → is_before key l ≡ true → bytes_eq key l ≡ false
-before_apart key l e = sym (is_eq-slice_cmp key l) ∙ ap is_eq (before key l e).0
-
--- a name behind all that come first
-behind_first : (key name : List ℕ) (ks : List (List ℕ)) → list_all (is_before key) ks ≡ true → is_one_of name ks ≡ true
-    → slice_cmp nat_cmp name key ≡ Greater
-behind_first key name [] e one = absurd (true≢false (sym one))
-behind_first key name (l ∷ ls) e one =
-    let parts = and_parts (is_before key l) (list_all (is_before key) ls) e in
-    by_test parts.0 (behind_first key name ls parts.1) (bytes_eq name l) refl
+found_one : {X : Type 0} (p : X → Bool) (xs : List X) → list_any p xs ≡ nat_lt (position_or_len p xs) (length xs)
+found_one p [] = refl
+found_one p (x ∷ xs) = by_test (p x) (found_one p xs)
   where
-    by_test : is_before key l ≡ true → (is_one_of name ls ≡ true → slice_cmp nat_cmp name key ≡ Greater)
-        → (a : Bool) → bytes_eq name l ≡ a → slice_cmp nat_cmp name key ≡ Greater
-    by_test first later true is = ap (λ n. slice_cmp nat_cmp n key) (same_name name l is) ∙ (before key l first).1
-    by_test first later false is = later (sym (ap (λ a. a || is_one_of name ls) is) ∙ one)
+    by_test : (a : Bool) → list_any p xs ≡ nat_lt (position_or_len p xs) (length xs)
+        → (a || list_any p xs) ≡ nat_lt (cond (not a) (1 + position_or_len p xs) 0) (suc (length xs))
+    by_test true e = grind (arith, nat_tests)
+    by_test false e = grind (arith, nat_tests, e)
+
+pub none_named : {X : Type 0} (p : X → Bool) (xs : List X) → position p xs ≡ None → list_any p xs ≡ false
+none_named p xs e = found_one p xs ∙ by_test (nat_lt (position_or_len p xs) (length xs)) e
+  where
+    by_test : (a : Bool) → cond a (Some (position_or_len p xs)) None ≡ None → a ≡ false
+    by_test true e = absurd (cc)
+    by_test false e = refl
+
+-- neither that of a number nor that of the list
+pub no_name : (kind : Kind) (name : List ℕ) → position (is_named name) (whole_fields kind) ≡ None
+    → is_named name (list_field kind) ≡ false → is_one_of name (names kind) ≡ false
+no_name kind name none apart =
+    one_of_names kind name
+    ∙ ap₂ (λ a x. a || (x || false)) (none_named (is_named name) (whole_fields kind) none) apart
 
 -- ---- what a field more leaves
 
-put_before : (key : List ℕ) (d : Data) (ks : List (List ℕ)) (found : List ℕ → Option Data)
-    → list_all (is_before key) ks ≡ true → put key d (these ks found) ≡ member key d (these ks found)
-put_before key d [] found e = refl
-put_before key d (l ∷ ls) found e =
-    let parts = and_parts (is_before key l) (list_all (is_before key) ls) e in
-    by_value (before key l parts.0).0 (put_before key d ls found parts.1) (found l)
-  where
-    by_value : slice_cmp nat_cmp key l ≡ Less → put key d (these ls found) ≡ member key d (these ls found)
-        → (o : Option Data)
-        → put key d (field l o (these ls found)) ≡ member key d (field l o (these ls found))
-    by_value less later None = later
-    by_value less later (Some value) =
-        let rest = these ls found in
-        ap (λ o. match_ordering o (member key d (member l value rest)) (member l d rest)
-        (member l value (put key d rest))) less
+module _ (name : List ℕ) (d : Data) where
+  swapped : (a x z : Bool) → (a && (x && z)) ≡ (x && (a && z))
+  swapped true x z = refl
+  swapped false true z = refl
+  swapped false false z = refl
 
--- what was found is the same but at one name
-abbrev SameBut : List ℕ → (List ℕ → Option Data) → (List ℕ → Option Data) → Type 0
-SameBut name found next = (l : List ℕ) → (l ≡ name → ⊥) → next l ≡ found l
+  twice : (a x : Bool) → (a && x) ≡ (a && (a && x))
+  twice true x = refl
+  twice false x = refl
 
-these_behind : (name : List ℕ) (ks : List (List ℕ)) (found next : List ℕ → Option Data)
-    → list_all (is_before name) ks ≡ true → SameBut name found next → these ks found ≡ these ks next
-these_behind name [] found next e same = refl
-these_behind name (l ∷ ls) found next e same =
-    let parts = and_parts (is_before name l) (list_all (is_before name) ls) e in
-    let apart : l ≡ name → ⊥ = λ is. other_name name l (before_apart name l parts.0) (sym is) in
-    ap₂ (field l) (sym (same l apart)) (these_behind name ls found next parts.1 same)
+  pub has_only_put : (all : List (List ℕ)) (ms : Members)
+      → has_only all (put name d ms) ≡ (is_one_of name all && has_only all ms)
+  unfolding has_only
+  has_only_put all no_members = refl
+  has_only_put all (member l e ms) =
+      by_order (has_only_put all ms) (slice_cmp nat_cmp name l) refl
+    where
+      by_order : has_only all (put name d ms) ≡ (is_one_of name all && has_only all ms)
+          → (o : Ordering) → slice_cmp nat_cmp name l ≡ o
+          → has_only all
+          (match_ordering o (member name d (member l e ms)) (member l d ms) (member l e (put name d ms)))
+          ≡ (is_one_of name all && (is_one_of l all && has_only all ms))
+      by_order later Less is = refl
+      by_order later Equal is =
+          let same : name ≡ l = same_name name l (sym (is_eq-slice_cmp name l) ∙ ap is_eq is) in
+          twice (is_one_of l all) (has_only all ms)
+          ∙ ap (λ n. is_one_of n all && (is_one_of l all && has_only all ms)) (sym same)
+      by_order later Greater is =
+          ap (λ bit. is_one_of l all && bit) later ∙ swapped (is_one_of l all) (is_one_of name all) (has_only all ms)
 
-put_here : (name : List ℕ) (d : Data) (ks : List (List ℕ)) (found next : List ℕ → Option Data)
-    → list_all (is_before name) ks ≡ true → next name ≡ Some d → SameBut name found next
-    → put name d (field name (found name) (these ks found)) ≡ field name (next name) (these ks next)
-put_here name d ks found next e is same =
-    by_value (found name) ∙ ap (member name d) (these_behind name ks found next e same)
-    ∙ ap (λ o. field name o (these ks next)) (sym is)
-  where
-    by_order : (o : Ordering) (a ms ns : Members) → is_eq o ≡ true → match_ordering o a ms ns ≡ ms
-    by_order Less a ms ns h = absurd (cc)
-    by_order Equal a ms ns h = refl
-    by_order Greater a ms ns h = absurd (cc)
+module _ (name : List ℕ) (d : Data) (ms : Members) where
+  number_stays : (field : Field) → is_named name field ≡ false
+      → number_of field (object (put name d ms)) ≡ number_of field (object ms)
+  unfolding number_of
+  number_stays field e =
+      ap (number_in field)
+      (get_member-put_other (field_name field) name d ms (λ same. other_name name (field_name field) e (sym same)))
 
-    itself : is_eq (slice_cmp nat_cmp name name) ≡ true
-    itself = let same = bytes_eq-Decides name name in is_eq-slice_cmp name name ∙ same.1 refl
+  number_read : (field : Field) → is_named name field ≡ true
+      → number_of field (object (put name d ms)) ≡ whole_in d
+  unfolding number_of
+  number_read field e =
+      ap (number_in field)
+      (ap (λ n. get_member (field_name field) (put n d ms)) (same_name name (field_name field) e)
+      ∙ get_member-put (field_name field) d ms)
 
-    by_value : (o : Option Data) → put name d (field name o (these ks found)) ≡ member name d (these ks found)
-    by_value None = put_before name d ks found e
-    by_value (Some value) = by_order (slice_cmp nat_cmp name name) _ _ _ itself
+  wholes_stay : (fs : List Field) → list_any (is_named name) fs ≡ false
+      → wholes_of fs (object ms) ≡ wholes_of fs (object (put name d ms))
+  wholes_stay [] none = refl
+  wholes_stay (f ∷ fs) none =
+      let parts = or_parts (is_named name f) (list_any (is_named name) fs) none in
+      ap₂ (λ n ns. n ∷ ns) (sym (number_stays f parts.0)) (wholes_stay fs parts.1)
 
-put_these : (name : List ℕ) (d : Data) (names : List (List ℕ)) (found next : List ℕ → Option Data)
-    → are_ordered names ≡ true → is_one_of name names ≡ true → next name ≡ Some d → SameBut name found next
-    → put name d (these names found) ≡ these names next
-put_these name d [] found next e one is same = absurd (true≢false (sym one))
-put_these name d (first_name ∷ ks) found next e one is same =
-    let parts = and_parts (list_all (is_before first_name) ks) (are_ordered ks) e in
-    by_test parts.0 (λ later. put_these name d ks found next parts.1 later is same) (bytes_eq name first_name) refl
-  where
-    further : (o : Option Data) → slice_cmp nat_cmp name first_name ≡ Greater
-        → put name d (field first_name o (these ks found)) ≡ field first_name o (put name d (these ks found))
-    further None h = refl
-    further (Some value) h =
-        let rest = these ks found in
-        ap (λ o. match_ordering o (member name d (member first_name value rest)) (member first_name d rest)
-        (member first_name value (put name d rest))) h
+  wholes_set : (fs : List Field) (i : ℕ) → are_apart fs ≡ true → i < length fs
+      → is_named name (get_or fs i Version) ≡ true
+      → ((k : ℕ) → k < i → is_named name (get_or fs k Version) ≡ false)
+      → set (wholes_of fs (object ms)) i (whole_in d) ≡ wholes_of fs (object (put name d ms))
+  wholes_set [] i apart less here before = absurd (omega arith)
+  wholes_set (f ∷ fs) zero apart less here before =
+      let parts = and_parts (not (list_any (is_named (field_name f)) fs)) (are_apart fs) apart in
+      let others : list_any (is_named name) fs ≡ false =
+      ap (λ n. list_any (is_named n) fs) (same_name name (field_name f) here)
+      ∙ turned (list_any (is_named (field_name f)) fs) parts.0 in
+      ap₂ (λ n ns. n ∷ ns) (sym (number_read f here)) (wholes_stay fs others)
+    where
+      turned : (a : Bool) → not a ≡ true → a ≡ false
+      turned true e = absurd (cc)
+      turned false e = refl
+  wholes_set (f ∷ fs) (suc i) apart less here before =
+      let parts = and_parts (not (list_any (is_named (field_name f)) fs)) (are_apart fs) apart in
+      ap₂ (λ n ns. n ∷ ns) (sym (number_stays f (before 0 (omega arith))))
+      (wholes_set fs i parts.1 (omega arith) here (λ k below. before (suc k) (omega arith)))
 
-    by_test : list_all (is_before first_name) ks ≡ true
-        → (is_one_of name ks ≡ true → put name d (these ks found) ≡ these ks next)
-        → (a : Bool) → bytes_eq name first_name ≡ a
-        → put name d (these (first_name ∷ ks) found) ≡ these (first_name ∷ ks) next
-    by_test first behind true h =
-        let n = same_name name first_name h in
-        ap (λ x. put x d (these (first_name ∷ ks) found)) n
-        ∙ put_here first_name d ks found next first (ap next (sym n) ∙ is) (λ l apart. same l (λ x. apart (x ∙ n)))
-    by_test first behind false h =
-        let later = sym (ap (λ a. a || is_one_of name ks) h) ∙ one in
-        further (found first_name) (behind_first first_name name ks first later)
-        ∙ ap₂ (field first_name) (sym (same first_name (λ x. other_name name first_name h (sym x)))) (behind later)
-
-pub no_names : (names : List (List ℕ)) → AreNamed names false no_members
-no_names names = record {
-  only = λ e. none names;
-  other = λ e. absurd (cc);
-}
-  where
-    none : (ks : List (List ℕ)) → no_members ≡ these ks (λ name. get_member name no_members)
-    none [] = refl
-    none (one ∷ others) = none others
-
-module _ (names : List (List ℕ)) (name : List ℕ) (d : Data) (ms : Members) where
-  pub one_named : are_ordered names ≡ true → (has_other : Bool) → AreNamed names has_other ms
-      → is_one_of name names ≡ true → AreNamed names has_other (put name d ms)
-  one_named ordered has_other h one = record {
-    only = λ e. ap (put name d) (h.only e)
-        ∙ put_these name d names (λ key. get_member key ms) (λ key. get_member key (put name d ms)) ordered one
-        (get_member-put name d ms) (λ key apart. get_member-put_other key name d ms apart);
-    other = λ e. let o = h.other e in (
-      o.0,
-      o.1,
-      o.2,
-      get_member-put_other o.0 name d ms
-          (λ same. true≢false (sym one ∙ ap (λ name. is_one_of name names) (sym same) ∙ o.2)) ∙ o.3,
-    );
-  }
-
-  pub other_named : is_one_of name names ≡ false → AreNamed names true (put name d ms)
-  other_named none = record {
-    only = λ e. absurd (cc);
-    other = λ e. (name, d, none, get_member-put name d ms);
-  }
-
--- what is known of a field
-module _ {X : Type 0} (says : Data → X) (name : List ℕ) (d : Data) (ms : Members) where
-  pub still_says : (key : List ℕ) (known : Option X) → bytes_eq name key ≡ false → Says says key known ms
-      → Says says key known (put name d ms)
-  still_says key known e h =
+  -- what is known of a field
+  pub still_says : {X : Type 0} (says : Data → X) (key : List ℕ) (known : Option X) → bytes_eq name key ≡ false
+      → Says says key known ms → Says says key known (put name d ms)
+  still_says says key known e h =
       h ∙ ap (option_map says) (sym (get_member-put_other key name d ms (λ same. other_name name key e (sym same))))
 
-  pub now_says : (new : X) → new ≡ says d → Says says name (Some new) (put name d ms)
-  now_says new is = ap Some is ∙ ap (option_map says) (sym (get_member-put name d ms))
+  pub now_says : {X : Type 0} (says : Data → X) (key : List ℕ) (new : X) → bytes_eq name key ≡ true → new ≡ says d
+      → Says says key (Some new) (put name d ms)
+  now_says says key new e is =
+      ap Some is
+      ∙ ap (option_map says)
+      (sym (ap (λ n. get_member key (put n d ms)) (same_name name key e) ∙ get_member-put key d ms))
 
-pub newest_says : {X : Type 0} (says : Data → X) (name : List ℕ) (d : Data) (ms : Members) (key : List ℕ) (new : X)
-    (old : Option X) → new ≡ says d → Says says key old ms → Says says key (newest key name new old) (put name d ms)
-newest_says {X} says name d ms key new old is h = by_test (bytes_eq name key) refl
-  where
-    by_test : (a : Bool) → bytes_eq name key ≡ a → Says says key (cond a (Some new) old) (put name d ms)
-    by_test true e = rw (same_name name key e) (now_says says key d ms new is)
-    by_test false e = still_says says name d ms key old e h
+-- ---- all fields
 
--- ---- how many fields there are
+wholes_none : (fs : List Field) → map default_of fs ≡ wholes_of fs (object no_members)
+unfolding number_of
+wholes_none [] = refl
+wholes_none (f ∷ fs) = ap (λ ns. default_of f ∷ ns) (wholes_none fs)
 
--- the fields without those of a name
-abbrev without : List ℕ → Members → Members
-without name no_members = no_members
-without name (member l e ms) = cond (bytes_eq name l) (without name ms) (member l e (without name ms))
+pub no_fields : (kind : Kind) (wholes : Vec (Option ℕ) Global) → wholes.items ≡ map default_of (whole_fields kind)
+    → AreFields kind (record { wholes = wholes; list = None; has_other = false }) no_members
+unfolding has_only
+no_fields kind wholes e = record {
+  wholes = e ∙ wholes_none (whole_fields kind);
+  list = refl;
+  other = refl;
+}
 
-get_first : (key l : List ℕ) (e : Data) (ms : Members)
-    → get_member key (member l e ms) ≡ cond (bytes_eq key l) (Some e) (get_member key ms)
-get_first key l e ms =
-    by_order (slice_cmp nat_cmp key l) ∙ ap (λ bit. cond bit (Some e) (get_member key ms)) (is_eq-slice_cmp key l)
-  where
-    by_order : (o : Ordering) → match_ordering o (get_member key ms) (Some e) (get_member key ms)
-        ≡ cond (is_eq o) (Some e) (get_member key ms)
-    by_order Less = refl
-    by_order Equal = refl
-    by_order Greater = refl
+module _ (kind : Kind) (f : code.Fields) (ms : Members) (name : List ℕ) (d : Data) (h : AreFields kind f ms) where
+  -- a field more that a scenario of the kind has
+  known : (f.has_other ≡ not (has_only (names kind) ms)) → is_one_of name (names kind) ≡ true
+      → f.has_other ≡ not (has_only (names kind) (put name d ms))
+  known e one =
+      e ∙ ap not (sym (has_only_put name d (names kind) ms ∙ ap (λ bit. bit && has_only (names kind) ms) one))
 
-get_without : (ys key : List ℕ) (ms : Members) → bytes_eq ys key ≡ false
-    → get_member ys (without key ms) ≡ get_member ys ms
-get_without ys key no_members apart = refl
-get_without ys key (member l e ms) apart = by_test (get_without ys key ms apart) (bytes_eq key l) refl
-  where
-    by_test : get_member ys (without key ms) ≡ get_member ys ms → (a : Bool) → bytes_eq key l ≡ a
-        → get_member ys (cond a (without key ms) (member l e (without key ms))) ≡ get_member ys (member l e ms)
-    by_test later true is =
-        later
-        ∙ sym (get_first ys l e ms ∙ ap (λ a. cond a (Some e) (get_member ys ms))
-        (ap (bytes_eq ys) (sym (same_name key l is)) ∙ apart))
-    by_test later false is =
-        get_first ys l e (without key ms)
-        ∙ ap (cond (bytes_eq ys l) (Some e)) later
-        ∙ sym (get_first ys l e ms)
+  first_one : (a x : Bool) → a ≡ true → (a || x) ≡ true
+  first_one a x e = ap (λ bit. bit || x) e
 
-no_longer : (key : List ℕ) (ms : Members) → members_len (without key ms) ≤ members_len ms
-no_longer key no_members = omega arith
-no_longer key (member l e ms) = by_test (no_longer key ms) (bytes_eq key l)
-  where
-    by_test : members_len (without key ms) ≤ members_len ms → (a : Bool)
-        → members_len (cond a (without key ms) (member l e (without key ms))) ≤ members_len (member l e ms)
-    by_test later true = omega arith
-    by_test later false = omega arith
+  pub whole_set : (i : ℕ) (wholes : Vec (Option ℕ) Global) → position (is_named name) (whole_fields kind) ≡ Some i
+      → wholes.items ≡ set f.wholes.items i (whole_in d)
+      → AreFields kind (record f { wholes = wholes }) (put name d ms)
+  whole_set i wholes is e =
+      let place = position-Some (is_named name) (whole_fields kind) i Version is in
+      let found : list_any (is_named name) (whole_fields kind) ≡ true =
+      list_any_at (is_named name) (whole_fields kind) i Version place.0 place.1 in
+      let apart : is_named name (list_field kind) ≡ false = by_test found (is_named name (list_field kind)) refl in
+      record {
+        wholes = e
+            ∙ ap (λ ns. set ns i (whole_in d)) h.wholes
+            ∙ wholes_set name d ms (whole_fields kind) i (wholes_apart kind) place.0 place.1 place.2;
+        list = still_says name d ms (list_said kind) (field_name (list_field kind)) (option_map list_kept f.list) apart h.list;
+        other = known h.other (one_of_names kind name ∙ first_one _ _ found);
+      }
+    where
+      by_test : list_any (is_named name) (whole_fields kind) ≡ true → (a : Bool) → is_named name (list_field kind) ≡ a
+          → a ≡ false
+      by_test found true same =
+          absurd (true≢false (sym found
+          ∙ ap (λ n. list_any (is_named n) (whole_fields kind)) (same_name name (field_name (list_field kind)) same)
+          ∙ list_apart kind))
+      by_test found false same = refl
 
-shorter : (key : List ℕ) (d : Data) (ms : Members) → get_member key ms ≡ Some d
-    → members_len (without key ms) + 1 ≤ members_len ms
-shorter key d no_members there = absurd (cc)
-shorter key d (member l e ms) there = by_test (shorter key d ms) (bytes_eq key l) (sym (get_first key l e ms) ∙ there)
-  where
-    by_test : (get_member key ms ≡ Some d → members_len (without key ms) + 1 ≤ members_len ms) → (a : Bool)
-        → cond a (Some e) (get_member key ms) ≡ Some d
-        → members_len (cond a (without key ms) (member l e (without key ms))) + 1 ≤ members_len (member l e ms)
-    by_test later true h = omega (arith, no_longer key ms)
-    by_test later false h = omega (arith, later h)
+  pub list_set : (kept : code_list.KeptList) → position (is_named name) (whole_fields kind) ≡ None
+      → is_named name (list_field kind) ≡ true → list_kept kept ≡ list_said kind d
+      → AreFields kind (record f { list = Some kept }) (put name d ms)
+  list_set kept none here e =
+      let others = none_named (is_named name) (whole_fields kind) none in record {
+        wholes = h.wholes ∙ wholes_stay name d ms (whole_fields kind) others;
+        list = now_says name d ms (list_said kind) (field_name (list_field kind)) (list_kept kept) here e;
+        other = known h.other
+            (one_of_names kind name ∙ ap₂ (λ a x. a || (x || false)) others here);
+      }
 
--- each of these names is found
-abbrev pub AllFound : List (List ℕ) → (List ℕ → Option Data) → Type 0
-AllFound [] found = Unit {0}
-AllFound (name ∷ names) found = ((d : Data) × (found name ≡ Some d)) × AllFound names found
+  pub other_set : position (is_named name) (whole_fields kind) ≡ None → is_named name (list_field kind) ≡ false
+      → AreFields kind (record f { has_other = true }) (put name d ms)
+  other_set none apart =
+      let others = none_named (is_named name) (whole_fields kind) none in record {
+        wholes = h.wholes ∙ wholes_stay name d ms (whole_fields kind) others;
+        list = still_says name d ms (list_said kind) (field_name (list_field kind)) (option_map list_kept f.list) apart h.list;
+        other = sym (ap not (has_only_put name d (names kind) ms
+            ∙ ap (λ bit. bit && has_only (names kind) ms) (no_name kind name none apart)));
+      }
 
--- no name twice
-abbrev AreApart : List (List ℕ) → Type 0
-AreApart [] = Unit {0}
-AreApart (name ∷ names) = (is_one_of name names ≡ false) × AreApart names
-
-flipped : (key ys : List ℕ) → bytes_eq key ys ≡ false → bytes_eq ys key ≡ false
-flipped key ys e = by_test (bytes_eq ys key) refl
-  where
-    by_test : (a : Bool) → bytes_eq ys key ≡ a → a ≡ false
-    by_test true is = absurd (other_name key ys e (sym (same_name ys key is)))
-    by_test false is = refl
-
-found_still : (key : List ℕ) (ks : List (List ℕ)) (ms : Members) → is_one_of key ks ≡ false
-    → AllFound ks (λ n. get_member n ms) → AllFound ks (λ n. get_member n (without key ms))
-found_still key [] ms apart there = tt
-found_still key (l ∷ ls) ms apart there =
-    let parts = or_parts (bytes_eq key l) (is_one_of key ls) apart in (
-      (there.0.0, get_without l key ms (flipped key l parts.0) ∙ there.0.1),
-      found_still key ls ms parts.1 there.1,
-    )
-
--- there are at least as many fields as names that are found
-room : (names : List (List ℕ)) (ms : Members) → AreApart names → AllFound names (λ n. get_member n ms)
-    → length names ≤ members_len ms
-room [] ms apart there = omega arith
-room (name ∷ names) ms apart there =
-    let others = room names (without name ms) apart.1 (found_still name names ms apart.0 there.1) in
-    let one = shorter name there.0.0 ms there.0.1 in
-    omega (arith, others, one)
-
-none_first : (key : List ℕ) (ks : List (List ℕ)) → list_all (is_before key) ks ≡ true → is_one_of key ks ≡ false
-none_first key [] e = refl
-none_first key (l ∷ ls) e =
-    let parts = and_parts (is_before key l) (list_all (is_before key) ls) e in
-    ap (λ bit. bit || is_one_of key ls) (before_apart key l parts.0) ∙ none_first key ls parts.1
-
-ordered_apart : (names : List (List ℕ)) → are_ordered names ≡ true → AreApart names
-ordered_apart [] e = tt
-ordered_apart (name ∷ names) e =
-    let parts = and_parts (list_all (is_before name) names) (are_ordered names) e in
-    (none_first name names parts.0, ordered_apart names parts.1)
-
-these_many : (names : List (List ℕ)) (found : List ℕ → Option Data) → AllFound names found
-    → members_len (these names found) ≡ length names
-these_many [] found there = refl
-these_many (name ∷ names) found there =
-    ap (λ o. members_len (field name o (these names found))) there.0.1 ∙ ap suc (these_many names found there.1)
-
--- where all of these names are found, there are as many fields only if there is no other
-pub named_count : (names : List (List ℕ)) (has_other : Bool) (ms : Members) → are_ordered names ≡ true
-    → AreNamed names has_other ms → AllFound names (λ n. get_member n ms)
-    → (members_len ms == length names) ≡ not has_other
-named_count names false ms ordered h there =
-    eq-eqb (members_len ms) (length names)
-    (ap members_len (h.only refl) ∙ these_many names (λ n. get_member n ms) there)
-named_count names true ms ordered h there =
-    let o = h.other refl in
-    let many = room (o.0 ∷ names) ms (o.2, ordered_apart names ordered) ((o.1, o.3), there) in
-    ne_eqb (members_len ms) (length names) (λ same. omega (arith, many, same))
-
--- the same where one name more may be found or not
-pub named_count_but : (key : List ℕ) (names : List (List ℕ)) (has_other : Bool) (ms : Members)
-    → are_ordered (key ∷ names) ≡ true → AreNamed (key ∷ names) has_other ms
-    → AllFound names (λ n. get_member n ms)
-    → (members_len ms == length names + one_there (get_member key ms)) ≡ not has_other
-named_count_but key names has_other ms ordered h there = go (get_member key ms) refl
-  where
-    go : (o : Option Data) → get_member key ms ≡ o
-        → (members_len ms == length names + one_there o) ≡ not has_other
-    go (Some d) e =
-        let more : length names + 1 ≡ suc (length names) = omega arith in
-        ap (λ n. members_len ms == n) more ∙ named_count (key ∷ names) has_other ms ordered h ((d, e), there)
-    go None e =
-        let all : length names + 0 ≡ length names = omega arith in
-        let parts = and_parts (list_all (is_before key) names) (are_ordered names) ordered in
-        ap (λ n. members_len ms == n) all
-        ∙ named_count names has_other ms parts.1 (record {
-          only = λ none. h.only none ∙ ap (λ o. field key o (these names (λ name. get_member name ms))) e;
-          other = λ some. let o = h.other some in (
-            o.0,
-            o.1,
-            (or_parts (bytes_eq o.0 key) (is_one_of o.0 names) o.2).1,
-            o.3,
-          );
-        }) there
-
--- ---- what the fields say
-
--- the beta, in the two ways in which it is said
-pub beta_same : (o : Option Data) → beta_said (option_map whole_in o) ≡ beta_in o
-beta_same None = refl
-beta_same (Some d) = refl
-
-pub no_shape : {X : Type 0} (has_other : Bool) → all_said {X = X} has_other (Err BadShape) ≡ Err BadShape
-no_shape true = refl
-no_shape false = refl
-
--- a whole number, in the two ways in which it is said
-pub whole_field : (name : List ℕ) (ms : Members)
-    → whole_of name (object ms) ≡ option_and_then whole_in (get_member name ms)
-unfolding whole_of
-whole_field name ms = refl
+  pub has_length : length f.wholes.items ≡ length (whole_fields kind)
+  has_length = ap length h.wholes ∙ many (whole_fields kind)
+    where
+      many : (fs : List Field) → length (wholes_of fs (object ms)) ≡ length fs
+      many [] = refl
+      many (one ∷ others) = ap suc (many others)

@@ -1,73 +1,90 @@
--- The fields of the two kinds of scenario, by their names, and the limits of those that are whole numbers.
-use Rattle.std.specs.Prelude.{ℕ, ◌&&◌, List, [], ◌∷◌, codes, Bool, true, false, Option, Some, None, nat_le, if◌then◌else◌}
+-- The fields of the two kinds of scenario: one table of their names, their ranges and what a missing one is.
+use Rattle.std.specs.Prelude.{ℕ, ◌&&◌, ◌++◌, List, [], ◌∷◌, codes, map, not, Bool, false, Option, Some, None, is_some, nat_le}
+use Rattle.std.specs.List.{filter, list_any}
 use Rattle.std.specs.Str.{bytes_eq}
-use Rattle.mencius_base.specs.Limits.{greatest_loss, most_turns, most_workers}
+use Rattle.mencius_base.specs.Limits.{greatest_beta, greatest_loss, most_servers, most_turns, most_workers}
+use Rattle.mencius_format.specs.Grammar.{first_version, newest_version}
 use Rattle.mencius_input.specs.declared.field.Field.{Field}
 use Rattle.mencius_input.specs.declared.field.Field.TheVariants.{Version, Servers, Beta, Events, Workers, Seed, Turns, Loss, Commands}
+use Rattle.mencius_input.specs.declared.field.Shape.{Shape}
+use Rattle.mencius_input.specs.declared.field.Shape.TheVariants as shape
 use Rattle.mencius_input.specs.declared.kind.Kind.{Kind}
 use Rattle.mencius_input.specs.declared.kind.Kind.TheVariants.{Replay, Run}
-use Rattle.mencius_input.specs.Scenario.{are_servers, is_beta, is_version}
 
-abbrev pub field_name : Field → List ℕ
-field_name Version = codes "version"
-field_name Servers = codes "servers"
-field_name Beta = codes "beta"
-field_name Events = codes "events"
-field_name Workers = codes "workers"
-field_name Seed = codes "seed"
-field_name Turns = codes "turns"
-field_name Loss = codes "loss"
-field_name Commands = codes "commands"
+-- ---- the table
 
--- the field of a name that only a run's scenario has
-abbrev pub plan_field : List ℕ → Option Field
-plan_field name =
-    if bytes_eq name (codes "workers") then Some Workers
-    else (if bytes_eq name (codes "seed") then Some Seed
-    else (if bytes_eq name (codes "turns") then Some Turns
-    else (if bytes_eq name (codes "loss") then Some Loss
-    else (if bytes_eq name (codes "commands") then Some Commands
-    else None))))
+-- a field: its name, and what its value is
+pub record Row : Type 0 where
+  pub name : List ℕ
+  pub shape : Shape
 
--- the field of a name that not every scenario has
-abbrev pub own_field : Kind → List ℕ → Option Field
-own_field Replay name = if bytes_eq name (codes "events") then Some Events else None
-own_field Run name = plan_field name
+-- a whole number from the least to the greatest, and what it is where the field is missing, if it may be
+abbrev pub whole : List ℕ → ℕ → ℕ → Option ℕ → Row
+whole name least greatest default = record { name = name; shape = shape.Whole least greatest default }
 
--- the field of a name that a scenario of the kind has
-abbrev pub field_named : Kind → List ℕ → Option Field
-field_named kind name =
-    if bytes_eq name (codes "version") then Some Version
-    else (if bytes_eq name (codes "servers") then Some Servers
-    else (if bytes_eq name (codes "beta") then Some Beta
-    else own_field kind name))
+-- a list
+abbrev pub list : List ℕ → Row
+list name = record { name = name; shape = shape.List }
 
--- the field is a whole number, in a scenario of the kind
-abbrev pub is_whole : Kind → Field → Bool
-is_whole kind Version = true
-is_whole kind Servers = true
-is_whole kind Beta = true
-is_whole kind Events = false
-is_whole kind Commands = false
-is_whole Replay field = false
-is_whole Run field = true
+abbrev pub row : Field → Row
+row Version = whole (codes "version") first_version newest_version None
+row Servers = whole (codes "servers") 1 most_servers None
+row Beta = whole (codes "beta") 0 greatest_beta (Some 0)
+row Workers = whole (codes "workers") 1 most_workers None
+row Seed = whole (codes "seed") 0 18446744073709551615 None
+row Turns = whole (codes "turns") 0 most_turns None
+row Loss = whole (codes "loss") 0 greatest_loss None
+row Events = list (codes "events")
+row Commands = list (codes "commands")
 
--- the fields that must be there
-abbrev pub needed : Kind → List Field
-needed Replay = Version ∷ Servers ∷ Events ∷ []
-needed Run = Version ∷ Servers ∷ Workers ∷ Seed ∷ Turns ∷ Loss ∷ Commands ∷ []
+-- the fields of both kinds that are whole numbers, and those of a run alone
+abbrev pub shared_fields : List Field
+shared_fields = Version ∷ Servers ∷ Beta ∷ []
 
--- the field that is a list
+abbrev pub run_fields : List Field
+run_fields = Workers ∷ Seed ∷ Turns ∷ Loss ∷ []
+
+-- the fields of a kind that are whole numbers, and the one that is a list
+abbrev pub whole_fields : Kind → List Field
+whole_fields Replay = shared_fields
+whole_fields Run = shared_fields ++ run_fields
+
 abbrev pub list_field : Kind → Field
 list_field Replay = Events
 list_field Run = Commands
 
+-- ---- what the table says
+
+abbrev pub field_name : Field → List ℕ
+field_name field = (row field).name
+
+-- what a field is that is not there, if it may be missing
+abbrev pub shape_default : Shape → Option ℕ
+shape_default (shape.Whole least greatest default) = default
+shape_default shape.List = None
+
+abbrev pub default_of : Field → Option ℕ
+default_of field = shape_default (row field).shape
+
 -- a whole number is within the limits of the field
-abbrev pub field_within : Field → ℕ → Bool
-field_within Version n = is_version n
-field_within Servers n = are_servers n
-field_within Beta n = is_beta n
-field_within Workers n = nat_le 1 n && nat_le n most_workers
-field_within Turns n = nat_le n most_turns
-field_within Loss n = nat_le n greatest_loss
-field_within field n = true
+abbrev pub shape_within : Shape → ℕ → Bool
+shape_within (shape.Whole least greatest default) n = nat_le least n && nat_le n greatest
+shape_within shape.List n = false
+
+unfoldable pub field_within : Field → ℕ → Bool
+field_within field n = shape_within (row field).shape n
+
+-- all fields of a kind
+abbrev pub fields : Kind → List Field
+fields kind = whole_fields kind ++ list_field kind ∷ []
+
+-- their names
+abbrev pub names : Kind → List (List ℕ)
+names kind = map field_name (fields kind)
+
+-- the fields that must be there
+abbrev pub needed : Kind → List Field
+needed kind = filter (λ field. not (is_some (default_of field))) (fields kind)
+
+abbrev pub is_one_of : List ℕ → List (List ℕ) → Bool
+is_one_of name names = list_any (bytes_eq name) names

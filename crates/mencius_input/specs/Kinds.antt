@@ -1,25 +1,26 @@
 -- Which of the two kinds of scenario a text is meant as.
-use Rattle.std.specs.Prelude.{ℕ, ◌==◌, ◌&&◌, ◌||◌, List, length, Bool, not, codes, Option, Some, None, is_some, nat_lt, if◌then◌else◌}
-use Rattle.std.specs.List.{filter}
+use Rattle.std.specs.Prelude.{ℕ, ◌==◌, ◌&&◌, ◌||◌, List, length, Bool, not, Option, Some, None, is_some, nat_lt, if◌then◌else◌}
+use Rattle.std.specs.List.{filter, list_any}
 use Rattle.serde_json.specs.Data.{Data}
 use Rattle.serde_json.specs.Find.{get}
+use Rattle.mencius_input.specs.declared.field.Field.{Field}
+use Rattle.mencius_input.specs.declared.field.Field.TheVariants.{Commands, Events}
 use Rattle.mencius_input.specs.declared.kind.Kind.{Kind}
 use Rattle.mencius_input.specs.declared.kind.Kind.TheVariants.{Replay, Run}
+use Rattle.mencius_input.specs.FieldsOf.{field_name, run_fields}
 use Rattle.mencius_input.specs.Scenario.{json_of}
 
--- a field of the name is there
-abbrev pub has : List ℕ → Data → Bool
-has name d = is_some (get name d)
+-- a field is there
+abbrev pub has : Field → Data → Bool
+has field d = is_some (get (field_name field) d)
 
--- a field that only the scenario of a run has
-abbrev pub has_run_field : Data → Bool
-has_run_field d =
-    has (codes "workers") d || has (codes "seed") d || has (codes "turns") d || has (codes "loss") d
-    || has (codes "commands") d
+-- one that only the scenario of a run has
+unfoldable pub has_run_field : Data → Bool
+has_run_field d = list_any (λ field. has field d) run_fields || has Commands d
 
 -- what has events is meant for `replay`, whatever else it has
 abbrev pub kind_of : Data → Kind
-kind_of d = if not (has (codes "events") d) && has_run_field d then Run else Replay
+kind_of d = if not (has Events d) && has_run_field d then Run else Replay
 
 abbrev pub kind_said : Option Data → Kind
 kind_said None = Replay

@@ -1,13 +1,11 @@
+pub mod FieldsOf
 pub mod Stops
 pub mod Scenario
 pub mod Plan
 pub mod Newest
 pub mod Noted
-pub mod Named
 pub mod Fields
-pub mod PlanFields
 pub mod Events
 pub mod Kinds
-pub mod FieldsOf
 pub mod Shown
 pub mod Place

@@ -1,5 +1,6 @@
 -- Where the value of a scenario has a fault, and the words that tell it.
-use Rattle.std.specs.Prelude.{ℕ, ◌≡◌, ◌≢◌, ◌⊎◌, ◌<◌, ◌++◌, List, [], ◌∷◌, codes, decimal, Bool, true, false, Option, Some, None, option_map, unwrap_or, Err, string_bytes}
+use Rattle.std.specs.Prelude.{ℕ, ◌≡◌, ◌≢◌, ◌⊎◌, ◌<◌, ◌+◌, ◌++◌, ◌==◌, List, [], ◌∷◌, codes, decimal, drop, flat_map, Bool, true, false, Option, Some, None, option_map, unwrap_or, Err, string_bytes, if◌then◌else◌}
+use Rattle.std.specs.List.{Contains}
 use Rattle.std.specs.Result.{result_err}
 use Rattle.serde_json.specs.Data.{Data, Items, Members, Num}
 use Rattle.serde_json.specs.Events.{items_len}
@@ -7,23 +8,25 @@ use Rattle.serde_json.specs.Find.{as_array, as_number, as_object, as_str, as_u64
 use Rattle.mencius_ends.specs.declared.fault.AppFault.{AppFault}
 use Rattle.mencius_ends.specs.declared.fault.AppFault.TheVariants.{BadLimit, BadShape}
 use Rattle.mencius_input.specs.declared.field.Field.{Field}
-use Rattle.mencius_input.specs.declared.field.Field.TheVariants.{Version, Servers, Beta, Workers, Seed, Turns, Loss, Commands}
+use Rattle.mencius_input.specs.declared.field.Field.TheVariants.{Version, Servers, Commands}
+use Rattle.mencius_input.specs.declared.field.Shape.{Shape}
+use Rattle.mencius_input.specs.declared.field.Shape.TheVariants as shape
 use Rattle.mencius_input.specs.declared.kind.Kind.{Kind}
 use Rattle.mencius_input.specs.declared.kind.Kind.TheVariants.{Replay, Run}
 use Rattle.mencius_input.specs.declared.places.Place.{Place}
 use Rattle.mencius_input.specs.declared.places.Place.TheVariants as place
-use Rattle.mencius_input.specs.FieldsOf.{field_name, field_named, field_within, is_whole, list_field, needed}
+use Rattle.mencius_input.specs.FieldsOf.{field_name, field_within, is_one_of, list_field, names, needed, row, whole_fields}
 use Rattle.mencius_format.specs.Grammar.{newest_version}
 use Rattle.mencius_format.specs.Judged.{judged}
 use Rattle.mencius_input.specs.Kinds.{has_many_objects}
 use Rattle.mencius_input.specs.Newest.{has_command_cas, has_event_cas}
 use Rattle.mencius_input.specs.Plan.{command_said}
-use Rattle.mencius_input.specs.Scenario.{item_said, json_of, whole_in, whole_of}
+use Rattle.mencius_input.specs.Scenario.{item_said, json_of, number_of, whole_in}
 use Rattle.mencius_input.specs.Shown.{shown_text}
 
 -- the version in which events and commands are judged: that of the scenario, and where it says none, the newest
 abbrev pub version_of : Data → ℕ
-version_of d = unwrap_or (whole_of (codes "version") d) newest_version
+version_of d = unwrap_or (number_of Version d) newest_version
 
 -- ---- items: events of a schedule, or commands of a run
 
@@ -88,14 +91,14 @@ IsOtherNumber d = (n : Num) × (as_number d ≡ Some n) × (as_u64 n ≡ None)
 abbrev pub IsAt : Kind → AppFault → Data → Place → Type 0
 IsAt kind fault d place.Whole = (fault ≡ BadShape) × (as_object d ≡ None)
 IsAt kind fault d (place.Unknown name) =
-    (fault ≡ BadShape) × (field_named kind (string_bytes name) ≡ None) × (value : Data) × (get (string_bytes name) d ≡ Some value)
+    (fault ≡ BadShape) × (is_one_of (string_bytes name) (names kind) ≡ false) × (value : Data) × (get (string_bytes name) d ≡ Some value)
 IsAt kind fault d (place.Missing field) =
     (fault ≡ BadShape) × (get (field_name field) d ≡ None) × (fields : Members) × (as_object d ≡ Some fields)
 IsAt kind fault d (place.Number field) =
-    (is_whole kind field ≡ true) × (value : Data) × (get (field_name field) d ≡ Some value)
+    Contains (whole_fields kind) field × (value : Data) × (get (field_name field) d ≡ Some value)
     × (judged (field_within field) (whole_in value) ≡ Err fault)
 IsAt kind fault d (place.GreatNumber field) =
-    (is_whole kind field ≡ true) × (value : Data) × (get (field_name field) d ≡ Some value) × (fault ≡ BadShape) × IsOtherNumber value
+    Contains (whole_fields kind) field × (value : Data) × (get (field_name field) d ≡ Some value) × (fault ≡ BadShape) × IsOtherNumber value
 IsAt kind fault d (place.NoList field) =
     (field ≡ list_field kind) × (value : Data) × (get (field_name field) d ≡ Some value) × (fault ≡ BadShape) × (as_array value ≡ None)
 IsAt kind fault d (place.Event index version text) =
@@ -107,7 +110,7 @@ IsAt kind fault d (place.Command n index version text) =
     (kind ≡ Run) × (lists : Items) × AreItems Run d lists × IsInLists fault (version_of d) lists (place.Command n index version text)
 IsAt kind fault d (place.Lists count servers) =
     (kind ≡ Run) × (fault ≡ BadLimit) × (lists : Items) × AreItems Run d lists × (count ≡ items_len lists)
-    × (whole_of (codes "servers") d ≡ Some servers) × (count ≢ servers)
+    × (number_of Servers d ≡ Some servers) × (count ≢ servers)
 
 -- these fields are there
 abbrev pub AreThere : List Field → Data → Type 0
@@ -120,16 +123,17 @@ HasFields kind d = (as_object d ≢ None) × AreThere (needed kind) d
 
 -- ---- the words that tell a place
 
--- what a number past the limits of a field is
-abbrev pub limit_words : Field → List ℕ
-limit_words Version = codes "not 1 or 2"
-limit_words Servers = codes "not 1 to 7"
-limit_words Beta = codes "not 0 to 4095"
-limit_words Workers = codes "not 1 to 8"
-limit_words Seed = codes "not 0 to 18446744073709551615"
-limit_words Turns = codes "not 0 to 100000"
-limit_words Loss = codes "not 0 to 32"
-limit_words field = codes "no list"
+-- what a number past the limits is
+abbrev pub range_words : ℕ → ℕ → List ℕ
+range_words least greatest =
+    codes "not " ++ decimal least ++ (if greatest == least + 1 then codes " or " else codes " to ") ++ decimal greatest
+
+abbrev pub shape_words : Shape → List ℕ
+shape_words (shape.Whole least greatest default) = range_words least greatest
+shape_words shape.List = codes "no list"
+
+unfoldable pub limit_words : Field → List ℕ
+limit_words field = shape_words (row field).shape
 
 abbrev pub number_words : AppFault → Field → List ℕ
 number_words BadShape field = codes "no whole number"
@@ -141,11 +145,19 @@ field_words field said = codes "the field \"" ++ (field_name field ++ (codes "\"
 abbrev pub counts_words : ℕ → ℕ → List ℕ
 counts_words lists servers = codes "lists " ++ decimal lists ++ codes ", servers " ++ decimal servers
 
+-- the names of fields, each behind a comma
+abbrev pub further_names : List Field → List ℕ
+further_names fields = flat_map (λ field. codes ", " ++ field_name field) fields
+
+abbrev pub kind_name : Kind → List ℕ
+kind_name Replay = codes "replay"
+kind_name Run = codes "run"
+
 -- which fields there are, behind the name of one that there is not
-abbrev pub unknown_words : Kind → List ℕ
-unknown_words Replay = codes " is no field: a scenario of replay has version, servers, beta and events"
-unknown_words Run =
-    codes " is no field: a scenario of run has version, servers, beta, workers, seed, turns, loss and commands"
+unfoldable pub unknown_words : Kind → List ℕ
+unknown_words kind =
+    codes " is no field: a scenario of " ++ kind_name kind ++ codes " has version" ++ further_names (drop 1 (whole_fields kind))
+    ++ codes " and " ++ field_name (list_field kind)
 
 -- of an item that is a string its text comes first
 abbrev pub IsItemTold : Option (List ℕ) → List ℕ → Type 0

@@ -1,17 +1,18 @@
 -- What the bytes of a run's scenario say: a cluster, and the plan that workers follow on it.
-use Rattle.std.specs.Prelude.{ℕ, ◌+◌, ◌==◌, ◌&&◌, List, length, map, codes, Bool, Option, Some, None, option_and_then, Result, nat_le, if◌then◌else◌}
+use Rattle.std.specs.Prelude.{ℕ, ◌==◌, ◌&&◌, List, length, map, codes, Bool, Option, Some, None, option_and_then, Result, if◌then◌else◌}
 use Rattle.std.specs.List.{list_all}
 use Rattle.serde_json.specs.Data.{Data}
 use Rattle.serde_json.specs.Find.{as_object, as_array, get}
-use Rattle.serde_json.specs.Events.{members_len}
-use Rattle.mencius_base.specs.Limits.{greatest_loss, most_turns, most_workers}
 use Rattle.mencius_base.specs.Request.{Request}
 use Rattle.mencius_ends.specs.declared.fault.AppFault.{AppFault}
+use Rattle.mencius_input.specs.declared.field.Field.TheVariants.{Version, Servers, Beta, Workers, Seed, Turns, Loss}
+use Rattle.mencius_input.specs.declared.kind.Kind.TheVariants.{Run}
 use Rattle.mencius_input.specs.declared.plan.Numbers.{Numbers}
 use Rattle.mencius_input.specs.declared.plan.RunInput as code
 use Rattle.mencius_format.specs.Judged.{judged}
 use Rattle.mencius_format.specs.Grammar.{command_of, command_within}
-use Rattle.mencius_input.specs.Scenario.{◌>>=◌, all_in, all_of, beta_of, betas, cluster_within, json_of, or_not_json, read_there, said_by, whole_of}
+use Rattle.mencius_input.specs.FieldsOf.{field_within, names}
+use Rattle.mencius_input.specs.Scenario.{◌>>=◌, all_in, all_of, cluster_within, has_only, json_of, number_of, or_not_json, read_there, said_by}
 
 -- the numbers, and a list of commands for each server
 pub record WrittenPlan : Type 0 where
@@ -22,13 +23,13 @@ pub record WrittenPlan : Type 0 where
 
 unfoldable pub numbers_of : Data → Option Numbers
 numbers_of d = do
-  version ← whole_of (codes "version") d
-  servers ← whole_of (codes "servers") d
-  beta ← beta_of d
-  workers ← whole_of (codes "workers") d
-  seed ← whole_of (codes "seed") d
-  turns ← whole_of (codes "turns") d
-  loss ← whole_of (codes "loss") d
+  version ← number_of Version d
+  servers ← number_of Servers d
+  beta ← number_of Beta d
+  workers ← number_of Workers d
+  seed ← number_of Seed d
+  turns ← number_of Turns d
+  loss ← number_of Loss d
   Some (record {
     version = version;
     servers = servers;
@@ -43,21 +44,21 @@ numbers_of d = do
 abbrev pub commands_of : ℕ → Data → Option (List Request)
 commands_of version d = all_in (said_by (command_of version)) d
 
--- an object with these seven fields, maybe a beta, and no other
+-- an object with these fields and no other
 unfoldable pub plan_of : Data → Option WrittenPlan
 plan_of d = do
   fields ← as_object d
   numbers ← numbers_of d
   lists ← option_and_then as_array (get (codes "commands") d)
   commands ← all_of (commands_of numbers.version) lists
-  if members_len fields == 7 + betas d then Some (record { numbers = numbers; commands = commands }) else None
+  if has_only (names Run) fields then Some (record { numbers = numbers; commands = commands }) else None
 
 -- ---- the limits
 
 abbrev pub numbers_within : Numbers → Bool
 numbers_within n =
-    cluster_within n.version n.servers n.beta && (nat_le 1 n.workers && nat_le n.workers most_workers)
-    && nat_le n.turns most_turns && nat_le n.loss greatest_loss
+    cluster_within n.version n.servers n.beta && field_within Workers n.workers && field_within Seed n.seed
+    && field_within Turns n.turns && field_within Loss n.loss
 
 -- and as many lists as there are servers
 abbrev pub lists_fit : Numbers → ℕ → Bool

@@ -1,20 +1,22 @@
 -- What the bytes of a scenario say, or what is wrong with them.
-use Rattle.std.specs.Prelude.{ℕ, ◌+◌, ◌==◌, ◌&&◌, ◌||◌, List, [], ◌∷◌, codes, Bool, Option, Some, None, option_and_then, Result, Ok, Err, nat_le, if◌then◌else◌}
+use Rattle.std.specs.Prelude.{ℕ, ◌&&◌, List, [], ◌∷◌, codes, Bool, true, Option, Some, None, option_and_then, Result, Ok, Err, if◌then◌else◌}
 use Rattle.std.specs.List.{list_all}
 use Rattle.std.specs.Str.{is_utf8}
-use Rattle.serde_json.specs.Data.{Data, Items, no_items, item}
+use Rattle.serde_json.specs.Data.{Data, Items, Members, no_items, item, no_members, member}
 use Rattle.serde_json.specs.Find.{as_object, as_array, as_str, as_number, as_u64, get}
-use Rattle.serde_json.specs.Events.{members_len}
 use Rattle.serde_json.specs.Read.{read}
-use Rattle.mencius_base.specs.Limits.{greatest_beta, most_servers}
 use Rattle.mencius_base.specs.Members.{Membership}
 use Rattle.mencius_base.specs.declared.event.Event.{Event}
 use Rattle.mencius_ends.specs.declared.fault.AppFault.{AppFault}
 use Rattle.mencius_ends.specs.declared.fault.AppFault.TheVariants.{NotJson}
+use Rattle.mencius_input.specs.declared.field.Field.{Field}
+use Rattle.mencius_input.specs.declared.field.Field.TheVariants.{Version, Servers, Beta}
+use Rattle.mencius_input.specs.declared.kind.Kind.TheVariants.{Replay}
 use Rattle.mencius_input.specs.declared.scenario.Scenario as code
 use Rattle.mencius_format.specs.Judged.{judged}
 use Rattle.mencius_format.specs.Words.{words}
-use Rattle.mencius_format.specs.Grammar.{event_of, event_within, newest_version}
+use Rattle.mencius_format.specs.Grammar.{event_of, event_within}
+use Rattle.mencius_input.specs.FieldsOf.{default_of, field_name, field_within, is_one_of, names}
 
 infixl 10 ◌>>=◌
 abbrev pub ◌>>=◌ : {X Y : Type 0} → Option X → (X → Option Y) → Option Y
@@ -53,57 +55,37 @@ events_of version = all_of (said_by (event_of version))
 abbrev pub whole_in : Data → Option ℕ
 whole_in d = option_and_then as_u64 (as_number d)
 
--- a field that is a whole number
-unfoldable pub whole_of : List ℕ → Data → Option ℕ
-whole_of name d = option_and_then whole_in (get name d)
+-- the whole number that a field says, and what it is where it is missing
+abbrev pub number_in : Field → Option Data → Option ℕ
+number_in field None = default_of field
+number_in field (Some d) = whole_in d
 
--- the beta that a field says, and 0 where there is no such field
-abbrev pub beta_in : Option Data → Option ℕ
-beta_in None = Some 0
-beta_in (Some d) = whole_in d
+unfoldable pub number_of : Field → Data → Option ℕ
+number_of field d = number_in field (get (field_name field) d)
 
-abbrev pub beta_of : Data → Option ℕ
-beta_of d = beta_in (get (codes "beta") d)
+-- each of some fields has one of these names
+unfoldable pub has_only : List (List ℕ) → Members → Bool
+has_only names no_members = true
+has_only names (member name d ms) = is_one_of name names && has_only names ms
 
--- how many fields that is
-abbrev pub one_there : Option Data → ℕ
-one_there None = 0
-one_there (Some d) = 1
-
-abbrev pub betas : Data → ℕ
-betas d = one_there (get (codes "beta") d)
-
--- an object with these three fields, maybe a beta, and no other
+-- an object with these fields and no other
 unfoldable pub written_of : Data → Option Written
 written_of d = do
   fields ← as_object d
-  version ← whole_of (codes "version") d
-  servers ← whole_of (codes "servers") d
-  beta ← beta_of d
+  version ← number_of Version d
+  servers ← number_of Servers d
+  beta ← number_of Beta d
   items ← option_and_then as_array (get (codes "events") d)
   events ← events_of version items
-  if members_len fields == 3 + betas d
+  if has_only (names Replay) fields
       then Some (record { version = version; servers = servers; beta = beta; events = events }) else None
 
 -- ---- the limits
 
--- the versions that there are
-abbrev pub first_version : ℕ
-first_version = 1
-
-abbrev pub is_version : ℕ → Bool
-is_version version = version == first_version || version == newest_version
-
--- a cluster may have so many servers
-abbrev pub are_servers : ℕ → Bool
-are_servers servers = nat_le 1 servers && nat_le servers most_servers
-
--- and this beta
-abbrev pub is_beta : ℕ → Bool
-is_beta beta = nat_le beta greatest_beta
-
+-- of the numbers that both kinds of scenario have
 abbrev pub cluster_within : ℕ → ℕ → ℕ → Bool
-cluster_within version servers beta = (is_version version && are_servers servers) && is_beta beta
+cluster_within version servers beta =
+    (field_within Version version && field_within Servers servers) && field_within Beta beta
 
 abbrev pub within : Written → Bool
 within x = cluster_within x.version x.servers x.beta && list_all event_within x.events

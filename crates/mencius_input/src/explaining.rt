@@ -1,10 +1,10 @@
 //! Where a scenario is wrong, in a person's words.
 
-ghost use Rattle.std.specs.Prelude.{◌≡◌, ◌∷◌, ◌++◌, IfOk, codes, decimal, option_map, string_bytes};
-ghost use Rattle.mencius_input.specs.Place.{IsItemTold, IsPlaced, IsTold, IsToldBy, IsToldUnread, counts_words, field_words, limit_words, number_words, unknown_words, unplaced_words};
+ghost use Rattle.std.specs.Prelude.{◌≡◌, ◌∷◌, ◌++◌, IfOk, OnOk, codes, decimal, option_map, string_bytes};
+ghost use Rattle.mencius_input.specs.Place.{IsItemTold, IsPlaced, IsTold, IsToldBy, IsToldUnread, counts_words, field_words, kind_name, limit_words, number_words, range_words, unknown_words, unplaced_words};
 ghost use Rattle.mencius_input.specs.Shown.{shown_text};
 
-use crate::field::Field;
+use crate::field::{Field, Shape, list_field, whole_fields};
 use crate::kind::{Kind, has_many_objects};
 use crate::places::{Place, place_of};
 use crate::shown::shown;
@@ -14,44 +14,66 @@ use mencius_ends::AppFault;
 use mencius_json::stop_in;
 use std::alloc::Global;
 
-// What a number past the limits of a field is.
-fn limit_words(field: Field) -> &'static str
-    ensures { result.now ≡ limit_words field }
+// What a number past a range is.
+fn range_words(alloc: Global, least: u64, greatest: u64) -> Result<String, NoMemory>
+    ensures { IfOk result (λ s. string_bytes s ≡ range_words least greatest) }
 {
-    match field {
-        Field::Version => "not 1 or 2",
-        Field::Servers => "not 1 to 7",
-        Field::Beta => "not 0 to 4095",
-        Field::Workers => "not 1 to 8",
-        Field::Seed => "not 0 to 18446744073709551615",
-        Field::Turns => "not 0 to 100000",
-        Field::Loss => "not 0 to 32",
-        Field::Events | Field::Commands => "no list",
+    if greatest > least && greatest - least == 1 {
+        Ok(format!(in alloc; "not {least} or {greatest}")?)
+    } else {
+        Ok(format!(in alloc; "not {least} to {greatest}")?)
+    }
+}
+
+// What a number past the limits of a field is.
+#[tactic(auto, unfolding(crate::specs::Place::limit_words))]
+fn limit_words(alloc: Global, field: Field) -> Result<String, NoMemory>
+    ensures { IfOk result (λ s. string_bytes s ≡ limit_words field) }
+{
+    match field.shape() {
+        Shape::Whole {
+            least,
+            greatest,
+            ..
+        } => range_words(alloc, least, greatest),
+        Shape::List => Ok(String::from_str(alloc, "no list")?),
     }
 }
 
 // What is wrong with a field that should be a whole number.
-fn number_words(field: Field, fault: AppFault) -> &'static str
-    ensures { result.now ≡ number_words fault field }
+fn number_words(alloc: Global, field: Field, fault: AppFault) -> Result<String, NoMemory>
+    ensures { IfOk result (λ s. string_bytes s ≡ number_words fault field) }
 {
     match fault {
-        AppFault::BadShape => "no whole number",
-        _ => limit_words(field),
+        AppFault::BadShape => Ok(String::from_str(alloc, "no whole number")?),
+        _ => limit_words(alloc, field),
     }
 }
 
-// Which fields there are, behind the name of one that there is not.
-fn unknown_words(kind: Kind) -> &'static str
-    ensures { result.now ≡ unknown_words kind }
+// What a kind of scenario is called.
+fn kind_name(kind: Kind) -> &'static str
+    ensures { result.now ≡ kind_name kind }
 {
     match kind {
-        Kind::Replay => {
-            " is no field: a scenario of replay has version, servers, beta and events"
-        }
-        Kind::Run => {
-            " is no field: a scenario of run has version, servers, beta, workers, seed, turns, loss and commands"
-        }
+        Kind::Replay => "replay",
+        Kind::Run => "run",
     }
+}
+
+// Adds which fields there are, behind the name of one that there is not.
+fn push_unknown(words: &mut String, kind: Kind) -> Result<(), NoMemory>
+    ensures { OnOk result (string_bytes words.new ≡ string_bytes words.old ++ unknown_words kind) }
+{
+    words.push_str(" is no field: a scenario of ")?;
+    words.push_str(kind_name(kind))?;
+    words.push_str(" has version")?;
+    for field in &whole_fields(kind)[1..] {
+        words.push_str(", ")?;
+        words.push_str(field.name())?;
+    }
+    words.push_str(" and ")?;
+    words.push_str(list_field(kind).name())?;
+    Ok(())
 }
 
 // What is said of a field that a scenario has.
@@ -67,7 +89,7 @@ fn of_unknown(alloc: Global, kind: Kind, name: &str) -> Result<String, NoMemory>
     ensures { IfOk result (λ s. string_bytes s ≡ shown_text name.now ++ unknown_words kind) }
 {
     let mut words = shown(alloc, name)?;
-    words.push_str(unknown_words(kind))?;
+    push_unknown(&mut words, kind)?;
     Ok(words)
 }
 
@@ -152,8 +174,14 @@ fn wrong_place(
         Place::Whole => Ok(String::from_str(alloc, "the text is no JSON object")?),
         Place::Unknown { name } => of_unknown(alloc, kind, name.as_str()),
         Place::Missing { field } => of_field(alloc, *field, "missing"),
-        Place::Number { field } => of_field(alloc, *field, number_words(*field, fault)),
-        Place::GreatNumber { field } => of_field(alloc, *field, limit_words(*field)),
+        Place::Number { field } => {
+            let said = number_words(alloc, *field, fault)?;
+            of_field(alloc, *field, said.as_str())
+        }
+        Place::GreatNumber { field } => {
+            let said = limit_words(alloc, *field)?;
+            of_field(alloc, *field, said.as_str())
+        }
         Place::NoList { field } => of_field(alloc, *field, "no list"),
         Place::Event {
             index,

@@ -1,11 +1,13 @@
-//! The fields of the scenarios, and their limits.
+//! The fields of the scenarios: one table of their names, their ranges and what a missing one is.
+//! Definitions have the same table in `specs/FieldsOf.antt`.
 
-ghost use Rattle.std.specs.Prelude.{◌≡◌};
-ghost use Rattle.mencius_input.specs.FieldsOf.{field_name, field_named, field_within, is_whole, list_field, plan_field};
+ghost use Rattle.std.specs.Prelude.{◌≡◌, position};
+ghost use Rattle.std.specs.Str.{bytes_eq};
+ghost use Rattle.mencius_input.specs.FieldsOf.{default_of, field_name, field_within, fields, list_field, row, run_fields, whole_fields};
 
 use crate::kind::Kind;
-use crate::scenario::{are_servers, is_beta, is_version};
-use mencius_base::{GREATEST_LOSS, MOST_TURNS, MOST_WORKERS};
+use mencius_base::{GREATEST_BETA, GREATEST_LOSS, MOST_SERVERS, MOST_TURNS, MOST_WORKERS};
+use mencius_format::{FIRST_VERSION, NEWEST_VERSION};
 
 /// A field of a scenario of `replay`, of one of `run`, or of both.
 #[derive(Clone, Copy, Debug, PartialEq, Eq)]
@@ -13,96 +15,147 @@ pub enum Field {
     Version,
     Servers,
     Beta,
-    Events,
     Workers,
     Seed,
     Turns,
     Loss,
+    Events,
     Commands,
 }
 
+/// What the value of a field is.
+#[derive(Clone, Copy)]
+pub(crate) enum Shape {
+    /// A whole number from the least to the greatest, and what it is where the field is missing, if it may be.
+    Whole {
+        least: u64,
+        greatest: u64,
+        default: Option<u64>,
+    },
+    /// A list.
+    List,
+}
+
+// A row of the table: the name of a field, and what its value is.
+#[derive(Clone, Copy)]
+pub(crate) struct Row {
+    pub name: &'static str,
+    pub shape: Shape,
+}
+
+// The fields that are whole numbers: those of both kinds come first.
+const WHOLE_FIELDS: [Field; 7] = [
+    Field::Version,
+    Field::Servers,
+    Field::Beta,
+    Field::Workers,
+    Field::Seed,
+    Field::Turns,
+    Field::Loss,
+];
+
+// How many of them both kinds have.
+const SHARED: usize = 3;
+
+// The row of a field that is a whole number.
+fn whole(name: &'static str, least: u64, greatest: u64, default: Option<u64>) -> Row
+    ensures name { result.name.now ≡ name.now }
+    ensures shape { result.shape ≡ Shape.Whole least greatest default }
+{
+    let shape = Shape::Whole {
+        least,
+        greatest,
+        default,
+    };
+    Row { name, shape }
+}
+
+// The row of a field that is a list.
+fn list(name: &'static str) -> Row
+    ensures name { result.name.now ≡ name.now }
+    ensures shape { result.shape ≡ Shape.List }
+{
+    let shape = Shape::List;
+    Row { name, shape }
+}
+
 impl Field {
-    /// The name of the field.
-    pub fn name(self) -> &'static str
-        ensures { result.now ≡ field_name self }
+    // The row of the field.
+    fn row(self) -> Row
+        ensures name { result.name.now ≡ field_name self }
+        ensures shape { result.shape ≡ (row self).shape }
     {
         match self {
-            Field::Version => "version",
-            Field::Servers => "servers",
-            Field::Beta => "beta",
-            Field::Events => "events",
-            Field::Workers => "workers",
-            Field::Seed => "seed",
-            Field::Turns => "turns",
-            Field::Loss => "loss",
-            Field::Commands => "commands",
+            Field::Version => whole("version", FIRST_VERSION, NEWEST_VERSION, None),
+            Field::Servers => whole("servers", 1, MOST_SERVERS as u64, None),
+            Field::Beta => whole("beta", 0, GREATEST_BETA as u64, Some(0)),
+            Field::Workers => whole("workers", 1, MOST_WORKERS as u64, None),
+            Field::Seed => whole("seed", 0, u64::MAX, None),
+            Field::Turns => whole("turns", 0, MOST_TURNS as u64, None),
+            Field::Loss => whole("loss", 0, GREATEST_LOSS as u64, None),
+            Field::Events => list("events"),
+            Field::Commands => list("commands"),
+        }
+    }
+
+    /// The name of the field.
+    pub(crate) fn name(self) -> &'static str
+        ensures { result.now ≡ field_name self }
+    {
+        self.row().name
+    }
+
+    /// What the value of the field is.
+    pub(crate) fn shape(self) -> Shape
+        ensures { result ≡ (row self).shape }
+    {
+        self.row().shape
+    }
+
+    /// What the field is where it is missing, if it may be.
+    pub(crate) fn default(self) -> Option<u64>
+        ensures { result ≡ default_of self }
+    {
+        match self.shape() {
+            Shape::Whole { default, .. } => default,
+            Shape::List => None,
+        }
+    }
+
+    /// Whether a whole number is within the limits of the field.
+    #[tactic(auto, unfolding(crate::specs::FieldsOf::field_within))]
+    pub(crate) fn is_within(self, number: u64) -> bool
+        ensures { result ≡ field_within self number }
+    {
+        match self.shape() {
+            Shape::Whole {
+                least,
+                greatest,
+                ..
+            } => least <= number && number <= greatest,
+            Shape::List => false,
         }
     }
 }
 
-// The field of this name that only a run's scenario has.
-fn plan_field(name: &str) -> Option<Field>
-    ensures { result ≡ plan_field name.now }
+/// The fields of a kind that are whole numbers.
+pub(crate) fn whole_fields(kind: Kind) -> &'static [Field]
+    ensures { result.now ≡ whole_fields kind }
 {
-    match name {
-        "workers" => Some(Field::Workers),
-        "seed" => Some(Field::Seed),
-        "turns" => Some(Field::Turns),
-        "loss" => Some(Field::Loss),
-        "commands" => Some(Field::Commands),
-        _ => None,
+    match kind {
+        Kind::Replay => &WHOLE_FIELDS[..SHARED],
+        Kind::Run => &WHOLE_FIELDS,
     }
 }
 
-/// The field of this name that a scenario of the kind has.
-pub(crate) fn field_named(kind: Kind, name: &str) -> Option<Field>
-    ensures { result ≡ field_named kind name.now }
+/// The fields of a run alone that are whole numbers.
+pub(crate) fn run_fields() -> &'static [Field]
+    ensures { result.now ≡ run_fields }
 {
-    match name {
-        "version" => Some(Field::Version),
-        "servers" => Some(Field::Servers),
-        "beta" => Some(Field::Beta),
-        _ => match kind {
-            Kind::Replay => if name == "events" {
-                Some(Field::Events)
-            } else {
-                None
-            },
-            Kind::Run => plan_field(name),
-        },
-    }
+    &WHOLE_FIELDS[SHARED..]
 }
 
-/// Whether a number is within the limits of a field.
-pub(crate) fn is_within(field: Field, number: u64) -> bool
-    ensures { result ≡ field_within field number }
-{
-    match field {
-        Field::Version => is_version(number),
-        Field::Servers => are_servers(number),
-        Field::Beta => is_beta(number),
-        Field::Workers => number >= 1 && number <= u64::from(MOST_WORKERS),
-        Field::Turns => number <= u64::from(MOST_TURNS),
-        Field::Loss => number <= u64::from(GREATEST_LOSS),
-        Field::Seed | Field::Events | Field::Commands => true,
-    }
-}
-
-/// Whether a field is a whole number in a scenario of the kind.
-pub(crate) fn is_whole(kind: Kind, field: Field) -> bool
-    ensures { result ≡ is_whole kind field }
-{
-    match field {
-        Field::Version | Field::Servers | Field::Beta => true,
-        Field::Workers | Field::Seed | Field::Turns | Field::Loss => match kind {
-            Kind::Replay => false,
-            Kind::Run => true,
-        },
-        Field::Events | Field::Commands => false,
-    }
-}
-
-/// The field that is a list.
+/// The field of a kind that is a list.
 pub(crate) fn list_field(kind: Kind) -> Field
     ensures { result ≡ list_field kind }
 {
@@ -110,4 +163,13 @@ pub(crate) fn list_field(kind: Kind) -> Field
         Kind::Replay => Field::Events,
         Kind::Run => Field::Commands,
     }
+}
+
+/// The index, among the fields of a kind that are whole numbers, of the one of this name.
+pub(crate) fn index_of_name(kind: Kind, name: &str) -> Option<usize>
+    ensures { result ≡ position (λ field. bytes_eq name.now (field_name field)) (whole_fields kind) }
+{
+    whole_fields(kind)
+        .iter()
+        .position(|field| name == field.name())
 }

@@ -1,12 +1,12 @@
 //! Which of the two kinds of scenario a text is meant as.
 
-ghost use Rattle.std.specs.Prelude.{◌≡◌, ◌==◌, IfOk, codes, is_some, length, option_map};
+ghost use Rattle.std.specs.Prelude.{◌≡◌, ◌==◌, IfOk, length, option_map};
 ghost use Rattle.std.specs.List.{filter};
-ghost use Rattle.serde_json.specs.Find.{get};
 ghost use Rattle.serde_json.specs.Read.{read};
 ghost use Rattle.serde_json.specs.View.{view};
-ghost use Rattle.mencius_input.specs.Kinds.{has_many_objects, has_run_field, kind_in, kind_of};
+ghost use Rattle.mencius_input.specs.Kinds.{has, has_many_objects, has_run_field, kind_in, kind_of};
 
+use crate::field::{Field, run_fields};
 use mencius_base::NoMemory;
 use serde_json::Value;
 use std::alloc::Global;
@@ -49,22 +49,31 @@ pub(crate) fn tree_of(alloc: Global, text: &str) -> Result<Option<Value>, NoMemo
     }
 }
 
+// Whether a field is there.
+fn has(field: Field, value: &Value) -> bool
+    ensures { result ≡ has field (view value.now) }
+{
+    value.get(field.name()).is_some()
+}
+
 // Whether a field is there that only the scenario of a run has.
+#[tactic(auto, unfolding(crate::specs::Kinds::has_run_field))]
 fn has_run_field(value: &Value) -> bool
     ensures { result ≡ has_run_field (view value.now) }
 {
-    value.get("workers").is_some()
-        || value.get("seed").is_some()
-        || value.get("turns").is_some()
-        || value.get("loss").is_some()
-        || value.get("commands").is_some()
+    for field in run_fields() {
+        if has(*field, value) {
+            return true;
+        }
+    }
+    has(Field::Commands, value)
 }
 
 // The kind that a value is meant as.
 fn kind_of_value(value: &Value) -> Kind
     ensures { result ≡ kind_of (view value.now) }
 {
-    if value.get("events").is_none() && has_run_field(value) {
+    if !has(Field::Events, value) && has_run_field(value) {
         Kind::Run
     } else {
         Kind::Replay
@@ -72,7 +81,7 @@ fn kind_of_value(value: &Value) -> Kind
 }
 
 /// The kind of scenario that a text is meant as, by its fields: a run's, where it has no field
-/// `events` and one of `workers`, `seed`, `turns`, `loss` and `commands`, and else one of `replay`. So
+/// `events` and a field that a run alone has, as `workers` or `commands`, and else one of `replay`. So
 /// is what is no JSON, and a text in which more than 65,536 `{` stand. A tree of the text is made.
 ///
 /// # Errors

@@ -6,6 +6,7 @@ mod commands;
 mod events;
 mod explaining;
 mod field;
+mod fields;
 mod kind;
 mod newest;
 mod places;

@@ -5,9 +5,7 @@ ghost use Rattle.mencius_format.specs.Grammar.{takes_cas};
 ghost use Rattle.mencius_input.specs.Newest.{in_version};
 
 use mencius_ends::AppFault;
-
-/// The newest version of a scenario.
-pub(crate) const NEWEST_VERSION: u64 = 2;
+use mencius_format::NEWEST_VERSION;
 
 /// What a list says in the newest version, and whether a `cas` stands in it. No other version has
 /// that word, and each other text means the same in all of them: so a list may be read before the

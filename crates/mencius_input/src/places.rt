@@ -1,26 +1,28 @@
 //! Where a scenario has a fault.
 
-ghost use Rattle.std.specs.Prelude.{ℕ, ◌≡◌, ◌≢◌, ◌⊎◌, ◌&&◌, IfOk, IfSome, IsTrue, MatchOption, None, Ok, Some, codes, length, not, option_map, string_bytes, true};
+ghost use Rattle.std.specs.Prelude.{ℕ, ◌≡◌, ◌≢◌, ◌⊎◌, ◌&&◌, IfOk, IfSome, IsTrue, MatchOption, None, Ok, Some, false, is_some, length, not, option_map, string_bytes};
 ghost use Rattle.std.specs.Bool.{MatchBool};
+ghost use Rattle.std.specs.List.{Contains};
 ghost use Rattle.std.specs.Result.{result_err};
 ghost use Rattle.serde_json.specs.Data.{Data};
 ghost use Rattle.serde_json.specs.Find.{as_str, get};
 ghost use Rattle.serde_json.specs.View.{items_view, view};
-ghost use Rattle.mencius_input.specs.FieldsOf.{field_name, field_named, is_whole, needed};
+ghost use Rattle.mencius_input.specs.FieldsOf.{default_of, field_name, is_one_of, names, needed, whole_fields};
+ghost use Rattle.mencius_input.specs.declared.field.Field.TheVariants.{Servers};
 ghost use Rattle.mencius_format.specs.Grammar.{command_of, command_within, event_of, event_within, newest_version, takes_cas};
 ghost use Rattle.mencius_format.specs.Judged.{judged};
 ghost use Rattle.mencius_input.specs.declared.kind.Kind.TheVariants.{Replay, Run};
 ghost use Rattle.mencius_input.specs.Place.{AreItems, AreThere, HasFields, IsAt, IsFine, IsFirst, IsInList, IsInLists, IsOtherNumber, NoneBefore, item_fault, item_has_cas, version_of};
-ghost use Rattle.mencius_input.specs.Scenario.{json_of, whole_of};
+ghost use Rattle.mencius_input.specs.Scenario.{json_of, number_of};
 ghost use Rattle.mencius_format.specs.Words.{words};
 
-use crate::field::{Field, field_named, is_whole, is_within, list_field};
+use crate::field::{Field, index_of_name, list_field, whole_fields};
 use crate::kind::{Kind, tree_of};
-use crate::newest::{NEWEST_VERSION, takes_cas};
+use crate::newest::takes_cas;
 use json::Scratch;
 use mencius_base::NoMemory;
 use mencius_ends::AppFault;
-use mencius_format::{command_is_cas, event_is_cas, parse_command, parse_event};
+use mencius_format::{NEWEST_VERSION, command_is_cas, event_is_cas, parse_command, parse_event};
 use mencius_json::{MOST_DEPTH, Tokens, next_name, pass};
 use serde_json::Value;
 use std::alloc::Global;
@@ -74,12 +76,15 @@ pub enum Place {
     },
 }
 
-// The whole number that a field is.
-#[tactic(auto, unfolding(crate::specs::Scenario::whole_of))]
+// The whole number that a field says, and what it is where it is missing.
+#[tactic(auto, unfolding(crate::specs::Scenario::number_of))]
 fn said_number(scenario: &Value, field: Field) -> Option<u64>
-    ensures { result ≡ whole_of (field_name field) (view scenario.now) }
+    ensures { result ≡ number_of field (view scenario.now) }
 {
-    scenario.get(field.name())?.as_u64()
+    match scenario.get(field.name()) {
+        Some(value) => value.as_u64(),
+        None => field.default(),
+    }
 }
 
 // The version in which events and commands are judged: that of the scenario, and where it says none,
@@ -266,13 +271,13 @@ fn first_in_lists(
 fn lists_amiss(scenario: &Value, count: usize, fault: AppFault) -> Option<Place>
     ensures { IfSome result (λ x. (fault ≡ AppFault.BadLimit) × (servers : ℕ)
         × (x ≡ Place.Lists count servers)
-        × (whole_of (codes "servers") (view scenario.now) ≡ Some servers) × (count ≢ servers)) }
+        × (number_of Servers (view scenario.now) ≡ Some servers) × (count ≢ servers)) }
 {
     if fault != AppFault::BadLimit {
         return None;
     }
     let servers = said_number(scenario, Field::Servers)?;
-    if count as u64 == servers || !is_within(Field::Servers, servers) {
+    if count as u64 == servers || !Field::Servers.is_within(servers) {
         return None;
     }
     Some(Place::Lists { count, servers })
@@ -372,14 +377,14 @@ fn not_whole(field: Field, value: &Value, fault: AppFault) -> Option<Place>
 
 // The place in a field that should be a whole number.
 fn place_in_number(kind: Kind, scenario: &Value, field: Field, fault: AppFault) -> Option<Place>
-    requires { is_whole kind field ≡ true }
+    requires { Contains (whole_fields kind) field }
     ensures { IfSome result (λ x. IsAt kind fault (view scenario.now) x) }
 {
     let value = scenario.get(field.name())?;
     match value.as_u64() {
         None => not_whole(field, value, fault),
         Some(number) => {
-            if fault != AppFault::BadLimit || is_within(field, number) {
+            if fault != AppFault::BadLimit || field.is_within(number) {
                 return None;
             }
             Some(Place::Number { field })
@@ -395,7 +400,7 @@ fn place_of_unknown(
     name: &str,
     fault: AppFault,
 ) -> Result<Option<Place>, NoMemory>
-    requires { field_named kind name.now ≡ None }
+    requires { is_one_of name.now (names kind) ≡ false }
     ensures { IfOk result (λ o. IfSome o (λ x. IsAt kind fault (view scenario.now) x)) }
 {
     if fault != AppFault::BadShape {
@@ -424,14 +429,17 @@ fn place_named(
     ensures kept { IfSome in_list.new (λ x. IsAt kind fault (view scenario.now) x) }
     ensures found { IfOk result (λ o. IfSome o (λ x. IsAt kind fault (view scenario.now) x)) }
 {
-    match field_named(kind, name) {
-        Some(field) => {
-            if is_whole(kind, field) {
-                return Ok(place_in_number(kind, scenario, field, fault));
-            }
-            Ok(in_list.take())
+    match index_of_name(kind, name) {
+        Some(index) => {
+            let field = whole_fields(kind)[index];
+            Ok(place_in_number(kind, scenario, field, fault))
         }
-        None => place_of_unknown(alloc, kind, scenario, name, fault),
+        None => {
+            if name == list_field(kind).name() {
+                return Ok(in_list.take());
+            }
+            place_of_unknown(alloc, kind, scenario, name, fault)
+        }
     }
 }
 
@@ -474,50 +482,29 @@ fn first_in_fields(
     first_named(alloc, kind, &mut reader, scenario, fault)
 }
 
-// A field, where it is not there.
-fn lack_of(scenario: &Value, field: Field) -> Option<Field>
-    ensures { MatchOption result (get (field_name field) (view scenario.now) ≢ None)
-        (λ x. get (field_name x) (view scenario.now) ≡ None) }
+// Whether a field lacks that must be there.
+fn is_lacking(scenario: &Value, field: Field) -> bool
+    ensures { result ≡ (not (is_some (default_of field))
+        && not (is_some (get (field_name field) (view scenario.now)))) }
 {
-    match scenario.get(field.name()) {
-        Some(_) => None,
-        None => Some(field),
-    }
+    field.default().is_none() && scenario.get(field.name()).is_none()
 }
 
-// The first field that is not there, of those that a scenario of `replay` needs.
-fn lack_of_schedule(scenario: &Value) -> Option<Field>
-    ensures { MatchOption result (AreThere (needed Replay) (view scenario.now))
-        (λ x. get (field_name x) (view scenario.now) ≡ None) }
-{
-    lack_of(scenario, Field::Version)
-        .or(lack_of(scenario, Field::Servers))
-        .or(lack_of(scenario, Field::Events))
-}
-
-// The first field that is not there, of those that a scenario of `run` needs.
-fn lack_of_plan(scenario: &Value) -> Option<Field>
-    ensures { MatchOption result (AreThere (needed Run) (view scenario.now))
-        (λ x. get (field_name x) (view scenario.now) ≡ None) }
-{
-    lack_of(scenario, Field::Version)
-        .or(lack_of(scenario, Field::Servers))
-        .or(lack_of(scenario, Field::Workers))
-        .or(lack_of(scenario, Field::Seed))
-        .or(lack_of(scenario, Field::Turns))
-        .or(lack_of(scenario, Field::Loss))
-        .or(lack_of(scenario, Field::Commands))
-}
-
-// The first field that is not there.
+// The first field that is not there, of those that must be.
 fn first_lack(kind: Kind, scenario: &Value) -> Option<Field>
     ensures { MatchOption result (AreThere (needed kind) (view scenario.now))
         (λ x. get (field_name x) (view scenario.now) ≡ None) }
 {
-    match kind {
-        Kind::Replay => lack_of_schedule(scenario),
-        Kind::Run => lack_of_plan(scenario),
+    for field in whole_fields(kind) {
+        if is_lacking(scenario, *field) {
+            return Some(*field);
+        }
     }
+    let list = list_field(kind);
+    if is_lacking(scenario, list) {
+        return Some(list);
+    }
+    None
 }
 
 // What the value lacks as a whole: that it is an object, or the first field that is not there.

@@ -6,7 +6,8 @@ use crate::shown::shown;
 use mencius_base::{BadCommand, Command, CommandId, Key, NoMemory, Op, Text};
 use mencius_ends::AppFault;
 use mencius_format::{
-    command_is_cas, cut_at_dot, cut_at_space, event_is_cas, fault_of, parse_id, parse_u8, parse_u32,
+    NEWEST_VERSION, command_is_cas, cut_at_dot, cut_at_space, event_is_cas, fault_of, parse_id,
+    parse_u8, parse_u32,
 };
 use std::alloc::Global;
 
@@ -339,7 +340,8 @@ pub(crate) fn wrong_item(
     fault: AppFault,
 ) -> Result<String, NoMemory> {
     if is_cas(kind, text) && !takes_cas(version) {
-        return Ok(String::from_str(alloc, "only version 2 has the operation cas")?);
+        let newest = NEWEST_VERSION;
+        return Ok(format!(in alloc; "only version {newest} has the operation cas")?);
     }
     match kind {
         Kind::Replay => wrong_event(alloc, text, fault),

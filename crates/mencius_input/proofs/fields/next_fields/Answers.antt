@@ -2,13 +2,13 @@ use Rattle.std.proofs.Common.{◌≡◌, Some, inr, refl, arith}
 use Rattle.json.specs.Json.{read_key}
 use Rattle.json.proofs.Grammar.{read_key-shorter}
 use Rattle.serde_json.specs.Data.{no_members}
-use Rattle.mencius_input.proofs.ScenarioFields.{no_fields}
+use Rattle.mencius_input.proofs.NamedFields.{no_fields}
 use Rattle.mencius_json.proofs.NextValues.{members_close, members_further, members_no_name, members_start, members_stop}
 use Rattle.mencius_input.proofs.Stops.{stops_at, stops_whole}
-use Rattle.mencius_input.proofs.scenario.next_fields.Goals as goal
+use Rattle.mencius_input.proofs.fields.next_fields.Goals as goal
 
 pub fields-init : goal.fields-init
-fields-init c = (no_members, members_start _ _, no_fields)
+fields-init c = (no_members, members_start _ _, no_fields _ _ c.in-Ok.ensures)
 
 pub returns-in_err-name-clause-err : goal.returns-in_err-name-clause-err
 returns-in_err-name-clause-err c =

@@ -1,0 +1,7 @@
+//! The versions of a scenario, by number. Definitions have the same numbers in `specs/Grammar.antt`.
+
+/// The first version of a scenario.
+pub const FIRST_VERSION: u64 = 1;
+
+/// The newest version of a scenario.
+pub const NEWEST_VERSION: u64 = 2;

@@ -1,0 +1,136 @@
+//! The fields of a scenario's object, read one after the other.
+
+ghost use Rattle.std.specs.Prelude.{◌≡◌, ◌<◌, IfErr, IfOk, OnOk, Some, length, map, option_map};
+ghost use Rattle.serde_json.specs.Data.{Data, Members, put};
+ghost use Rattle.mencius_input.specs.Fields.{AreFields, list_kept, list_said};
+ghost use Rattle.mencius_input.specs.FieldsOf.{default_of, whole_fields};
+ghost use Rattle.mencius_json.specs.Next.{next_members, next_value};
+ghost use Rattle.mencius_input.specs.Stops.{StopsBy};
+
+use crate::commands::next_lists;
+use crate::events::Events;
+use crate::field::{index_of_name, list_field, whole_fields};
+use crate::kind::Kind;
+use crate::newest::Newest;
+use crate::schedule::next_events;
+use mencius_base::{Command, NoMemory};
+use mencius_ends::AppFault;
+use mencius_json::{Tokens, next_name, next_whole, pass};
+use std::alloc::Global;
+
+/// What is known of the fields that were read. A field that was written twice says what was written
+/// last.
+#[derive(Drop)]
+pub(crate) struct Fields {
+    /// The number that each field is which has to be one, in the order of the table.
+    pub wholes: Vec<Option<u64>>,
+    /// What the list says.
+    pub list: Option<KeptList>,
+    /// Whether there is a field that no scenario of the kind has.
+    pub has_other: bool,
+}
+
+/// What was kept of the list of a scenario.
+#[derive(Drop)]
+pub(crate) enum KeptList {
+    Events(Newest<Events>),
+    Commands(Newest<Vec<Vec<Command>>>),
+}
+
+// What the fields are that are whole numbers, before any was read.
+fn defaults(alloc: Global, kind: Kind) -> Result<Vec<Option<u64>>, NoMemory>
+    ensures { IfOk result (λ wholes. wholes.items ≡ map default_of (whole_fields kind)) }
+{
+    let mut wholes = Vec::new(alloc);
+    for field in whole_fields(kind) {
+        wholes.push(field.default())?;
+    }
+    Ok(wholes)
+}
+
+/// The fields of the object whose brace was read, which is meant as a scenario of the kind.
+pub(crate) fn next_fields(
+    alloc: Global,
+    kind: Kind,
+    reader: &mut Tokens<'_>,
+    depth: usize,
+) -> Result<Fields, AppFault>
+    requires { 1 < depth }
+    ensures ok { IfOk result
+        (λ f. (ms : Members) × (next_members depth reader.old ≡ Some (ms, reader.new))
+        × AreFields kind f ms) }
+    ensures err { IfErr result (λ f. StopsBy (next_members depth reader.old) f) }
+{
+    let Ok(wholes) = defaults(alloc, kind) else {
+        return Err(AppFault::NoMemory);
+    };
+    let mut fields = Fields {
+        wholes,
+        list: None,
+        has_other: false,
+    };
+    'fields: while let Some(name) = next_name(reader)? {
+        read_field(alloc, kind, reader, depth, &mut fields, name)?;
+    }
+    Ok(fields)
+}
+
+// Reads the value of a field.
+fn read_field(
+    alloc: Global,
+    kind: Kind,
+    reader: &mut Tokens<'_>,
+    depth: usize,
+    fields: &mut Fields,
+    name: &str,
+) -> Result<(), AppFault>
+    requires depth { 1 < depth }
+    requires known { (ms : Members) × AreFields kind fields.old ms }
+    ensures ok { OnOk result ((d : Data) × (next_value depth reader.old ≡ Some (d, reader.new))
+        × ((ms : Members) → AreFields kind fields.old ms
+        → AreFields kind fields.new (put name.now d ms))) }
+    ensures shorter { OnOk result (length reader.new < length reader.old) }
+    ensures err { IfErr result (λ f. StopsBy (next_value depth reader.old) f) }
+{
+    match index_of_name(kind, name) {
+        Some(index) => {
+            let whole = next_whole(reader, depth)?;
+            fields.wholes[index] = whole;
+        }
+        None => {
+            if name == list_field(kind).name() {
+                let kept = next_list(alloc, kind, reader, depth)?;
+                fields.list = Some(kept);
+            } else {
+                pass(reader, depth)?;
+                fields.has_other = true;
+            }
+        }
+    }
+    Ok(())
+}
+
+// What the next value says as the list of a scenario of the kind.
+fn next_list(
+    alloc: Global,
+    kind: Kind,
+    reader: &mut Tokens<'_>,
+    depth: usize,
+) -> Result<KeptList, AppFault>
+    requires { 1 < depth }
+    ensures ok { IfOk result (λ r. (d : Data) × (next_value depth reader.old ≡ Some (d, reader.new))
+        × (list_kept r ≡ list_said kind d)) }
+    ensures shorter { OnOk result (length reader.new < length reader.old) }
+    ensures err { IfErr result (λ f. StopsBy (next_value depth reader.old) f) }
+{
+    match kind {
+        Kind::Replay => {
+            let events = next_events(alloc, reader, depth)?;
+            Ok(KeptList::Events(events))
+        }
+        Kind::Run => {
+            let commands = next_lists(alloc, reader, depth)?;
+            Ok(KeptList::Commands(commands))
+        }
+    }
+}
