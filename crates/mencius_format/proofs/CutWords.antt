@@ -172,3 +172,11 @@ not_first word text n e none is =
     ∙ ap (λ (l : List ℕ). l ++ drop n text) is
     ∙ ap (λ (l : List ℕ). word ++ l)
     (drop_more text n 0 found.0 ∙ ap (λ (first_byte : ℕ). first_byte ∷ drop (n + 1) text) found.1))
+
+-- ---- another word
+
+pub other_text : (word text : List ℕ) → (word ≡ text → ⊥) → bytes_eq word text ≡ false
+other_text word text other = elim (cases_Bool (bytes_eq word text)) [
+  | inl e ↦ absurd (let same = bytes_eq-Decides word text in other (same.0 e))
+  | inr e ↦ e
+]

@@ -7,6 +7,14 @@ use Rattle.mencius_ends.specs.declared.fault.AppFault.{AppFault}
 use Rattle.mencius_ends.specs.declared.fault.AppFault.TheVariants.{NotJson, BadShape, BadLimit, ReadFailed, WriteFailed, NoMemory, BoardFailed}
 use Rattle.mencius_format.specs.Judged.{judged, joined, seen, FailsBy, Gives}
 
+pub zip_none : {X Y : Type 0} (o : Option X) → option_zip {T = X} {U = Y} o None ≡ None
+zip_none None = refl
+zip_none (Some x) = refl
+
+pub either_way : {X : Type 0} (a : Bool) (x : X) → cond a x x ≡ x
+either_way true x = refl
+either_way false x = refl
+
 -- two things that were judged
 pub joined_judged : {X Y : Type 0} (f : X → Bool) (g : Y → Bool) (o : Option X) (s : Option Y)
     → joined (judged f o) (judged g s) ≡ judged (λ z. f z.0 && g z.1) (option_zip o s)

@@ -1,6 +1,9 @@
 pub mod NumberWords
 pub mod JudgedParts
 pub mod CutWords
+pub mod WrittenWords
+pub mod PlainWords
+pub mod OperationWords
 pub mod EventWords
 pub mod CasWords
 pub mod TextWords

@@ -1,18 +1,11 @@
 -- Which commands compare and set: the one thing that only the newest version has.
-use Rattle.std.specs.Prelude.{ℕ, ◌&&◌, List, [], ◌∷◌, Bool, true, false, codes}
+use Rattle.std.specs.Prelude.{ℕ, ◌&&◌, List, [], ◌∷◌, Bool, false, codes}
 use Rattle.std.specs.Str.{bytes_eq}
-use Rattle.mencius_base.specs.declared.command.Op.{Op}
-use Rattle.mencius_base.specs.declared.command.Op.TheVariants.{Set, Get, Del, Cas}
 use Rattle.mencius_base.specs.declared.event.Event.{Event}
 use Rattle.mencius_base.specs.declared.event.Event.TheVariants.{Submit, Deliver, Lose, Suspect, Retry, Execute}
+use Rattle.mencius_format.specs.Operations.{is_cas, op_is_cas}
 
 -- ---- by what is said
-
-abbrev pub is_cas : Op → Bool
-is_cas (Set key text) = false
-is_cas (Get key) = false
-is_cas (Del key) = false
-is_cas (Cas key held text) = true
 
 abbrev pub submits_cas : Event → Bool
 submits_cas (Submit server command) = is_cas command.op
@@ -23,10 +16,6 @@ submits_cas (Retry server) = false
 submits_cas (Execute server) = false
 
 -- ---- of words, by the place of `cas` among them, whatever else is wrong
-
-abbrev pub op_is_cas : List (List ℕ) → Bool
-op_is_cas [] = false
-op_is_cas (word ∷ ws) = bytes_eq word (codes "cas")
 
 abbrev pub command_is_cas : List (List ℕ) → Bool
 command_is_cas [] = false

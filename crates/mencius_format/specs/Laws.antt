@@ -2,8 +2,9 @@
 use Rattle.std.specs.Prelude.{ℕ, ◌≡◌, Some, true}
 use Rattle.mencius_base.specs.Request.{Request}
 use Rattle.mencius_base.specs.declared.event.Event.{Event}
-use Rattle.mencius_format.specs.Cas.{is_cas, submits_cas}
-use Rattle.mencius_format.specs.Grammar.{command_of, command_within, event_of, event_within, takes_cas}
+use Rattle.mencius_format.specs.Cas.{submits_cas}
+use Rattle.mencius_format.specs.Grammar.{command_of, command_within, event_of, event_within}
+use Rattle.mencius_format.specs.Operations.{is_cas, takes_cas}
 use Rattle.mencius_format.specs.Sayable.{IsCommand, IsSayable}
 use Rattle.mencius_format.specs.Texts.{command_text, event_text}
 use Rattle.mencius_format.specs.Words.{words}

@@ -1,5 +1,6 @@
 pub mod Judged
 pub mod Words
+pub mod Operations
 pub mod Grammar
 pub mod Spelled
 pub mod Steps

@@ -1,20 +1,12 @@
 -- An operation before its key and its texts are judged.
-use Rattle.std.specs.Prelude.{◌≡◌, ◌&&◌, Bool, Option, Some, None, Result, Ok, Err, if◌then◌else◌}
-use Rattle.mencius_base.specs.Command.{is_name}
+use Rattle.std.specs.Prelude.{◌≡◌, Option, Some, None, Result, Ok, Err, if◌then◌else◌}
 use Rattle.mencius_base.specs.declared.command.BadCommand.{BadCommand}
 use Rattle.mencius_base.specs.declared.command.BadCommand.TheVariants.{KeyByte, TextByte, KeyLength, TextLength}
 use Rattle.mencius_base.specs.declared.command.Op.{Op}
-use Rattle.mencius_base.specs.declared.command.Op.TheVariants.{Set, Get, Del, Cas}
 use Rattle.mencius_ends.specs.declared.fault.AppFault.{AppFault}
 use Rattle.mencius_ends.specs.declared.fault.AppFault.TheVariants.{BadShape, BadLimit}
 use Rattle.mencius_format.specs.Judged.{judged, unlimited, FailsBy}
-
--- neither the key nor a text has a byte that may not stand there
-abbrev pub has_names : Op → Bool
-has_names (Set key text) = is_name key && is_name text
-has_names (Get key) = is_name key
-has_names (Del key) = is_name key
-has_names (Cas key held text) = is_name key && (is_name held && is_name text)
+use Rattle.mencius_format.specs.Operations.{has_names}
 
 -- the operation, where it has no bad byte
 abbrev pub spelled : Op → Option Op

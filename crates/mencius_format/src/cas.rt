@@ -1,29 +1,12 @@
-//! Which commands compare and set, which only the newest version has.
+//! Which texts say a command that compares and sets, which only the newest version has.
 
 ghost use Rattle.std.specs.Prelude.{◌≡◌};
-ghost use Rattle.mencius_format.specs.Cas.{command_is_cas, event_is_cas, is_cas, op_is_cas, submit_is_cas};
+ghost use Rattle.mencius_format.specs.Cas.{command_is_cas, event_is_cas, submit_is_cas};
 ghost use Rattle.mencius_format.specs.Words.{words};
 
+use crate::operations::op_is_cas;
 use crate::reading::behind_submit;
 use crate::words::cut_at_space;
-use mencius_base::{Command, Op};
-
-/// Whether a command compares and sets.
-pub fn is_cas(command: &Command) -> bool
-    ensures { result ≡ is_cas command.now.op }
-{
-    matches!(command.op(), Op::Cas { .. })
-}
-
-// Whether the word of an operation is `cas`.
-fn op_is_cas(text: &str) -> bool
-    ensures { result ≡ op_is_cas (words text.now) }
-{
-    match cut_at_space(text) {
-        Ok((word, _)) => word == "cas",
-        Err(_) => text == "cas",
-    }
-}
 
 /// Whether the text of a command has the word `cas` where the word of its operation stands. The text
 /// may have any fault elsewhere.

@@ -2,20 +2,25 @@
 //!
 //! The two stand side by side, over definitions that they share: `writing` makes the text, `words`
 //! cuts it and reads its numbers, and `reading` makes the event or the command of it again, or says
-//! which fault it has. That what was written is read again is the law of [`laws`]. Where a text comes
-//! from, and where it goes to, is for the crates above.
+//! which fault it has. What differs from operation to operation is in `operations`. That what was
+//! written is read again is the law of [`laws`]. Where a text comes from, and where it goes to, is for
+//! the crates above.
 #![tactic(auto)]
 
 mod cas;
 mod judged;
 pub mod laws;
+mod operations;
+mod part;
 mod reading;
 mod step;
 mod version;
 mod words;
 mod writing;
 
-pub use cas::{command_is_cas, event_is_cas, is_cas, submit_is_cas};
+pub use cas::{command_is_cas, event_is_cas, submit_is_cas};
+pub use operations::{OPERATIONS, is_cas, operands_of};
+pub use part::Part;
 pub use reading::{
     behind_submit, fault_of, parse_command, parse_event, parse_id, parse_step, parse_submission,
 };

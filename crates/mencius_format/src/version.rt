@@ -1,4 +1,4 @@
-//! The versions of a scenario, by number. Definitions have the same numbers in `specs/Grammar.antt`.
+//! The versions of a scenario, by number. Definitions have the same numbers in `specs/Operations.antt`.
 
 /// The first version of a scenario.
 pub const FIRST_VERSION: u64 = 1;

@@ -11,7 +11,8 @@ use Rattle.mencius_format.specs.Cas.{command_is_cas, event_is_cas}
 use Rattle.mencius_format.specs.Grammar.{command_of, command_within, event_of, event_within, newest_version, takes_cas}
 use Rattle.mencius_format.specs.Judged.{judged}
 use Rattle.mencius_format.specs.Words.{words}
-use Rattle.mencius_format.proofs.CasWords.{command_in, event_in, unless}
+use Rattle.mencius_format.proofs.CasWords.{command_in, event_in}
+use Rattle.mencius_format.proofs.OperationWords.{unless}
 use Rattle.mencius_input.specs.Newest.{any_in, any_of, any_of_these, has_command_cas, has_event_cas, in_version, text_is}
 use Rattle.mencius_input.specs.Plan.{command_said, commands_of}
 use Rattle.mencius_input.specs.Scenario.{all_in, all_of, item_said, said_by}

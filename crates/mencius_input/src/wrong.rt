@@ -6,37 +6,10 @@ use crate::shown::shown;
 use mencius_base::{BadCommand, Command, CommandId, Key, NoMemory, Op, Text};
 use mencius_ends::AppFault;
 use mencius_format::{
-    NEWEST_VERSION, command_is_cas, cut_at_dot, cut_at_space, event_is_cas, fault_of, parse_id,
-    parse_u8, parse_u32,
+    NEWEST_VERSION, OPERATIONS, Part, command_is_cas, cut_at_dot, cut_at_space, event_is_cas,
+    fault_of, operands_of, parse_id, parse_u8, parse_u32,
 };
 use std::alloc::Global;
-
-// A word behind the first one of an event, or behind the operation of a command.
-#[derive(Clone, Copy)]
-enum Part {
-    Server,
-    Suspected,
-    Message,
-    Id,
-    Key,
-    Text,
-    HeldText,
-    NewText,
-}
-
-// What a word is called.
-fn name_of(part: Part) -> &'static str {
-    match part {
-        Part::Server => "the server",
-        Part::Suspected => "the suspected server",
-        Part::Message => "the message number",
-        Part::Id => "the command ID",
-        Part::Key => "the key",
-        Part::Text => "the text",
-        Part::HeldText => "the old text",
-        Part::NewText => "the new text",
-    }
-}
 
 // What the words behind the first one are, up to the operation of a command.
 fn parts_behind(first: &str) -> Option<&'static [Part]> {
@@ -45,16 +18,6 @@ fn parts_behind(first: &str) -> Option<&'static [Part]> {
         "suspect" => Some(&[Part::Server, Part::Suspected]),
         "retry" | "execute" => Some(&[Part::Server]),
         "submit" => Some(&[Part::Server, Part::Id]),
-        _ => None,
-    }
-}
-
-// What the words behind an operation are.
-fn operands_of(operation: &str) -> Option<&'static [Part]> {
-    match operation {
-        "set" => Some(&[Part::Key, Part::Text]),
-        "get" | "del" => Some(&[Part::Key]),
-        "cas" => Some(&[Part::Key, Part::HeldText, Part::NewText]),
         _ => None,
     }
 }
@@ -167,7 +130,7 @@ fn words_of_bad(alloc: Global, part: Part, bad: BadCommand) -> Result<String, No
     let words = format!(in alloc; "{bad}")?;
     match (part, words.as_str().strip_prefix("a text")) {
         (Part::HeldText | Part::NewText, Some(rest)) => {
-            let name = name_of(part);
+            let name = part.name();
             Ok(format!(in alloc; "{name}{rest}")?)
         }
         _ => Ok(words),
@@ -198,8 +161,8 @@ fn wrong_word(
     fault: AppFault,
 ) -> Result<Option<String>, NoMemory> {
     match part {
-        Part::Server | Part::Suspected => wrong_u8(alloc, name_of(part), word, fault),
-        Part::Message => wrong_u32(alloc, name_of(part), word, fault),
+        Part::Server | Part::Suspected => wrong_u8(alloc, part.name(), word, fault),
+        Part::Message => wrong_u32(alloc, part.name(), word, fault),
         Part::Id => wrong_id(alloc, word, fault),
         Part::Key => wrong_key(alloc, word, fault),
         Part::Text | Part::HeldText | Part::NewText => wrong_text(alloc, part, word, fault),
@@ -216,7 +179,7 @@ fn empty(alloc: Global, name: &str, is_last: bool) -> Result<String, NoMemory> {
 
 // What is said of a word that is not there.
 fn missing(alloc: Global, part: Part) -> Result<String, NoMemory> {
-    let name = name_of(part);
+    let name = part.name();
     if let Part::Text | Part::HeldText | Part::NewText = part {
         return Ok(format!(in alloc; "{name} is missing: an empty one has a space before it")?);
     }
@@ -236,7 +199,7 @@ fn wrong_words(
         };
         if let Some(words) = wrong_word(alloc, *part, word, fault)? {
             if word.is_empty() && !matches!(part, Part::Key) {
-                return Ok(Some(empty(alloc, name_of(*part), left.is_none())?));
+                return Ok(Some(empty(alloc, part.name(), left.is_none())?));
             }
             return Ok(Some(words));
         }
@@ -259,7 +222,7 @@ fn wrong_operation(
     }
     let Some(operands) = operands_of(operation) else {
         let word = shown(alloc, operation)?;
-        return Ok(Some(format!(in alloc; "{name} is none of set, get, del and cas: {word}")?));
+        return Ok(Some(format!(in alloc; "{name} is none of {OPERATIONS}: {word}")?));
     };
     wrong_words(alloc, operands, left, fault)
 }
