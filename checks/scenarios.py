@@ -1,8 +1,13 @@
 """Scenarios for the checks: those of tests/, and some that are made here."""
 import json
 import os
+import sys
 
 import shared
+
+sys.path.insert(1, os.path.join(shared.TOP, "conformance"))
+
+import operations
 
 TESTS = os.path.join(shared.TOP, "tests")
 

@@ -9,6 +9,7 @@ import dataclasses
 import random
 
 import reference
+from operations import NEWEST, OPERATIONS, of_version
 
 # How often a thing happens, in a hundred: the name, what it is, and the rates that are drawn where none is asked for.
 RATES = {
@@ -182,8 +183,8 @@ class Drawing:
         return self.attempt(f"submit {server} {server + 1}.{number} {self.operation()}")
 
     def operation(self):
-        word = self.dice.pick(("set", "set", "get", "del", *["cas"] * 3 * self.wish.has_cas))
-        texts = {"set": 1, "cas": 2}.get(word, 0)
+        word = self.dice.pick(of_version(NEWEST if self.wish.has_cas else 1))
+        texts = OPERATIONS[word].texts
         return " ".join([word, self.dice.pick(KEYS), *[self.dice.pick(TEXTS) for _ in range(texts)]])
 
     # ---- suspicions

@@ -6,6 +6,7 @@ import subprocess
 import answers
 import driver
 import store
+from operations import version_of
 
 
 @dataclasses.dataclass
@@ -17,8 +18,8 @@ class Schedule:
     events: list
 
     def version(self):
-        """2 where a compare and set is submitted, and else 1."""
-        return 2 if any(event.split(" ")[3:4] == ["cas"] for event in self.events) else 1
+        """The least version that has all of its operations."""
+        return version_of(self.events)
 
     def front(self, count):
         """The schedule of the first so many events."""

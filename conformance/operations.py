@@ -1,0 +1,35 @@
+"""The operations of commands: all that draws commands or tells their version asks here."""
+from typing import NamedTuple
+
+
+class Operation(NamedTuple):
+    """How many texts stand behind the key, the version of scenarios that it came with, and how often it is drawn."""
+    texts: int
+    version: int
+    times: int
+
+
+OPERATIONS = {
+    "set": Operation(texts=1, version=1, times=2),
+    "get": Operation(texts=0, version=1, times=1),
+    "del": Operation(texts=0, version=1, times=1),
+    "cas": Operation(texts=2, version=2, times=3),
+}
+NEWEST = max(operation.version for operation in OPERATIONS.values())
+
+
+def version_of(events):
+    """The least version of a scenario with these events."""
+    submitted = [event.split(" ")[3] for event in events if event.startswith("submit ")]
+    return max((OPERATIONS[word].version for word in submitted), default=1)
+
+
+def of_version(version):
+    """The words of the operations that a version has, each as often as it is drawn."""
+    return [word for word, operation in OPERATIONS.items() if operation.version <= version
+            for _ in range(operation.times)]
+
+
+def samples(key="a", texts=("x", "y")):
+    """Each operation at this key, with the first of these texts that it needs."""
+    return [" ".join([word, key, *texts[:operation.texts]]) for word, operation in OPERATIONS.items()]
