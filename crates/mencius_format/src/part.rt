@@ -1,5 +1,5 @@
 /// A word behind the first one of an event, or behind the operation of a command.
-#[derive(Clone, Copy, Debug, PartialEq, Eq)]
+#[derive(Clone, Copy, Debug)]
 pub enum Part {
     /// A server, 0 to 255.
     Server,
@@ -13,10 +13,8 @@ pub enum Part {
     Key,
     /// The one text of an operation.
     Text,
-    /// The text that a key should hold.
-    HeldText,
-    /// The text that it then gets.
-    NewText,
+    /// One of several texts of an operation, by what a person calls it.
+    NamedText(&'static str),
 }
 
 impl Part {
@@ -29,8 +27,7 @@ impl Part {
             Part::Id => "the command ID",
             Part::Key => "the key",
             Part::Text => "the text",
-            Part::HeldText => "the old text",
-            Part::NewText => "the new text",
+            Part::NamedText(name) => name,
         }
     }
 }

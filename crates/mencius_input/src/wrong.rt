@@ -129,10 +129,7 @@ fn wrong_op(
 fn words_of_bad(alloc: Global, part: Part, bad: BadCommand) -> Result<String, NoMemory> {
     let words = format!(in alloc; "{bad}")?;
     match (part, words.as_str().strip_prefix("a text")) {
-        (Part::HeldText | Part::NewText, Some(rest)) => {
-            let name = part.name();
-            Ok(format!(in alloc; "{name}{rest}")?)
-        }
+        (Part::NamedText(name), Some(rest)) => Ok(format!(in alloc; "{name}{rest}")?),
         _ => Ok(words),
     }
 }
@@ -165,7 +162,7 @@ fn wrong_word(
         Part::Message => wrong_u32(alloc, part.name(), word, fault),
         Part::Id => wrong_id(alloc, word, fault),
         Part::Key => wrong_key(alloc, word, fault),
-        Part::Text | Part::HeldText | Part::NewText => wrong_text(alloc, part, word, fault),
+        Part::Text | Part::NamedText(_) => wrong_text(alloc, part, word, fault),
     }
 }
 
@@ -180,7 +177,7 @@ fn empty(alloc: Global, name: &str, is_last: bool) -> Result<String, NoMemory> {
 // What is said of a word that is not there.
 fn missing(alloc: Global, part: Part) -> Result<String, NoMemory> {
     let name = part.name();
-    if let Part::Text | Part::HeldText | Part::NewText = part {
+    if let Part::Text | Part::NamedText(_) = part {
         return Ok(format!(in alloc; "{name} is missing: an empty one has a space before it")?);
     }
     Ok(format!(in alloc; "{name} is missing")?)
