@@ -20,8 +20,8 @@ NEWEST = max(operation.version for operation in OPERATIONS.values())
 
 def version_of(events):
     """The least version of a scenario with these events."""
-    submitted = [event.split(" ")[3] for event in events if event.startswith("submit ")]
-    return max((OPERATIONS[word].version for word in submitted), default=1)
+    submitted = [word for event in events if event.startswith("submit ") for word in event.split(" ")[3:4]]
+    return max((OPERATIONS[word].version for word in submitted if word in OPERATIONS), default=1)
 
 
 def of_version(version):

@@ -2,7 +2,8 @@
 
 use crate::dice::Dice;
 use crate::mail::Mail;
-use mencius_base::{Command, CommandId, Event, Key, Message, Op, Text, Vote};
+use crate::operations::draw_op;
+use mencius_base::{Command, CommandId, Event, Message, Vote};
 use mencius_cluster::Cluster;
 use std::alloc::{AllocError, Global};
 use test_watch::walk::Stop;
@@ -122,41 +123,4 @@ fn draw_command(alloc: Global, dice: &mut Dice, cluster: &Cluster) -> Result<Com
     Command::new(CommandId { client, number }, op).map_err(|_| Stop::Broken(
         "a bad command is drawn",
     ))
-}
-
-// A command at one of three keys. Four of ten set a text, and three compare and set.
-fn draw_op(alloc: Global, dice: &mut Dice, number: u32) -> Result<Op, AllocError> {
-    let name = match dice.below(3) {
-        0 => "a",
-        1 => "b",
-        _ => "c",
-    };
-    let key = Key::new(String::from_str(alloc, name)?);
-    Ok(match dice.below(10) {
-        0 | 1 => Op::Set {
-            key,
-            text: Text::new(format!(in alloc; "{number}")?),
-        },
-        2 | 3 => Op::Set {
-            key,
-            text: draw_text(alloc, dice)?,
-        },
-        4 | 5 => Op::Get { key },
-        6 => Op::Del { key },
-        _ => Op::Cas {
-            key,
-            held: draw_text(alloc, dice)?,
-            text: draw_text(alloc, dice)?,
-        },
-    })
-}
-
-// One of few texts, so that a command which compares often finds the same.
-fn draw_text(alloc: Global, dice: &mut Dice) -> Result<Text, AllocError> {
-    let text = match dice.below(3) {
-        0 => "",
-        1 => "x",
-        _ => "y",
-    };
-    Ok(Text::new(String::from_str(alloc, text)?))
 }

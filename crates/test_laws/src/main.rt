@@ -18,6 +18,7 @@ mod dice;
 mod drawing;
 mod given;
 mod mail;
+mod operations;
 mod tally;
 
 use crate::dice::Dice;

@@ -1,6 +1,7 @@
 //! What happened in all schedules together.
 
-use mencius_base::{Entry, Op};
+use crate::operations::has_bound;
+use mencius_base::Entry;
 use mencius_cluster::{Answered, Cluster};
 use std::alloc::{AllocError, Global};
 
@@ -90,11 +91,14 @@ impl Tally {
         let Some(Answered::Given(found)) = cluster.reply(command.id()) else {
             return;
         };
-        if let Op::Cas { held, .. } = command.op() {
-            match found {
-                Some(text) if text.as_str() == held.as_str() => count(&mut self.bound),
-                _ => count(&mut self.unbound),
-            }
+        let found = match found {
+            Some(text) => Some(text.as_str()),
+            None => None,
+        };
+        match has_bound(command.op(), found) {
+            Some(true) => count(&mut self.bound),
+            Some(false) => count(&mut self.unbound),
+            None => {}
         }
     }
 

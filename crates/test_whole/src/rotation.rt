@@ -4,14 +4,16 @@ ghost use Rattle.std.specs.Prelude.{◌≡◌};
 
 use crate::courses::new_cluster;
 use mencius_app::read_plan;
-use mencius_base::{Command, CommandId, Op};
+use mencius_base::{Command, CommandId};
 use mencius_board::{Board, BoardFault, Chooser, Plan, Reader, worker_turn};
 use mencius_cluster::{Answered, Cluster};
 use std::alloc::{AllocError, Global};
+use std::collections::BTreeMap;
 use std::marker::Model;
 use std::process::Abort;
 use std::sync::Wait;
 use std::test::Fail;
+use test_watch::plain_map::change;
 
 // Five servers and eight workers, and half of the choices lose a message.
 const EIGHT_WORKERS: &str = "{\"version\":1,\"servers\":5,\"workers\":8,\"seed\":7,\"turns\":2000,\
@@ -20,36 +22,11 @@ const EIGHT_WORKERS: &str = "{\"version\":1,\"servers\":5,\"workers\":8,\"seed\"
 
 // What a list of commands leaves at a key.
 fn left_at(alloc: Global, commands: &[Command], key: &str) -> Result<Option<String>, AllocError> {
-    let mut left = None;
+    let mut texts = BTreeMap::new(alloc);
     for command in commands {
-        match command.op() {
-            Op::Set { key: name, text } => {
-                if name.as_str() == key {
-                    left = Some(String::from_str(alloc, text.as_str())?);
-                }
-            }
-            Op::Del { key: name } => {
-                if name.as_str() == key {
-                    left = None;
-                }
-            }
-            Op::Cas {
-                key: name,
-                held,
-                text,
-            } => {
-                let is_held = match &left {
-                    Some(former) => former.as_str() == held.as_str(),
-                    None => false,
-                };
-                if name.as_str() == key && is_held {
-                    left = Some(String::from_str(alloc, text.as_str())?);
-                }
-            }
-            Op::Get { .. } => {}
-        }
+        change(&mut texts, alloc, command.op())?;
     }
-    Ok(left)
+    Ok(texts.remove(key))
 }
 
 // A board and a reader of it.
