@@ -9,9 +9,13 @@ use crate::salt::{BuildSaltedHasher, Identity};
 use crate::submission::{Answered, Submission};
 use indexmap::IndexMap;
 use map_exec::Executor;
-use mencius_base::{Command, CommandId, NoMemory, Value};
+use mencius_base::{Command, CommandId, INSTANCES, NoMemory, Value};
 use std::alloc::Global;
 use std::marker::Model;
+
+// Room for so many commands is taken with the first: a cluster accepts no more of them. To grow from
+// none on would copy each of them twice, and look for a place for each again.
+const FIRST_COMMANDS: usize = INSTANCES as usize;
 
 /// The submitted commands, in the order of their tickets. No two have the same identity.
 ///
@@ -71,7 +75,12 @@ impl Submissions {
         ensures entries { self.new.entries ≡ self.old.entries }
         ensures room { OnOk result (0 < self.new.room) }
     {
-        self.rows.reserve(1)?;
+        let count = if self.rows.is_empty() {
+            FIRST_COMMANDS
+        } else {
+            1
+        };
+        self.rows.reserve(count)?;
         Ok(())
     }
 
