@@ -76,7 +76,7 @@ class Grammar(NamedTuple):
 
 # ---- asking
 
-def told(program, scenario):
+def words_of_check(program, scenario):
     """The words of a check of a scenario, or None where it is one."""
     ended = start([program, "check"], json.dumps(scenario))
     if ended.status == 0:
@@ -89,14 +89,14 @@ def told(program, scenario):
 
 def answer(program, scenario, pattern):
     """The groups of a pattern that the words of a check have to be."""
-    words = told(program, scenario)
+    words = words_of_check(program, scenario)
     found = re.fullmatch(pattern, words or "")
     if not found:
         fail(f"a check of {json.dumps(scenario)} says {words!r}, where {pattern!r} is looked for")
     return found.groups()
 
 
-def listed(words):
+def items_of(words):
     """The items of a list that is written as `a, b and c` or `a, b or c`."""
     return re.split(", | and | or ", words)
 
@@ -107,10 +107,10 @@ def fields_of(program, task):
     # A field that only a run has tells the tasks apart.
     mark = {"loss": 0} if task == "run" else {}
     names, = answer(program, {**mark, NOTHING: 0}, f'"{NOTHING}" is no field: a scenario of {task} has (.*)')
-    drafts = [field_of(program, mark, name) for name in listed(names)]
+    drafts = [field_of(program, mark, name) for name in items_of(names)]
     good = {field.name: good_value(field) for field in drafts}
-    if told(program, good) is not None:
-        fail(f"the least numbers of all fields make no scenario of {task}: {told(program, good)}")
+    if words_of_check(program, good) is not None:
+        fail(f"the least numbers of all fields make no scenario of {task}: {words_of_check(program, good)}")
     for field in drafts:
         try_range(program, good, field)
     return {field.name: field._replace(is_needed=is_needed(program, good, field.name)) for field in drafts}
@@ -137,15 +137,15 @@ def try_range(program, good, field):
     if field.is_list:
         return
     lists = {"commands": [[]] * field.greatest} if field.name == "servers" and "commands" in good else {}
-    if told(program, {**good, **lists, field.name: field.greatest}) is not None:
+    if words_of_check(program, {**good, **lists, field.name: field.greatest}) is not None:
         fail(f"{field.greatest} is refused as {field.name}")
     for number in (field.least - 1, field.greatest + 1):
-        if told(program, {**good, field.name: number}) is None:
+        if words_of_check(program, {**good, field.name: number}) is None:
             fail(f"{number} is taken as {field.name}")
 
 
 def is_needed(program, good, name):
-    words = told(program, {other: value for other, value in good.items() if other != name})
+    words = words_of_check(program, {other: value for other, value in good.items() if other != name})
     if words not in (None, f'the field "{name}" is missing'):
         fail(f"a scenario without {name} is said to be wrong in another way: {words}")
     return words is not None
@@ -161,7 +161,7 @@ def scenario_of(task, version, text):
 
 def fault(program, task, version, text):
     """What is said of a text, without its place, or None where it is one."""
-    words = told(program, scenario_of(task, version, text))
+    words = words_of_check(program, scenario_of(task, version, text))
     if words is None:
         return None
     place = "event 0" if task == "replay" else "command 0 of list 0"
@@ -175,7 +175,7 @@ def fault(program, task, version, text):
 def forms_of(program, task, versions):
     newest = max(versions)
     forms = []
-    for words in grown(program, task, newest, ()):
+    for words in forms_behind(program, task, newest, ()):
         having = [version for version in versions if fault(program, task, version, sample(words)) is None]
         if having != [version for version in versions if version >= min(having)]:
             fail(f"{sample(words)!r} is in the versions {having}")
@@ -185,7 +185,7 @@ def forms_of(program, task, versions):
     return forms
 
 
-def grown(program, task, version, words):
+def forms_behind(program, task, version, words):
     """The texts that begin with these words: the check says which word is missing, or which ones there are."""
     said = fault(program, task, version, sample(words)) if words else "it is empty" if task == "replay" else \
         fault(program, task, version, "")
@@ -193,11 +193,11 @@ def grown(program, task, version, words):
         return [words]
     if said in ("it is empty", "the operation is missing"):
         return [form for word in choices(program, task, version, words)
-                for form in grown(program, task, version, (*words, word))]
+                for form in forms_behind(program, task, version, (*words, word))]
     missing = re.fullmatch("(.*?) is missing(: an empty one has a space before it)?", said)
     if not missing or missing.group(1) not in PARTS:
         fail(f"{sample(words)!r} lacks something that is not known here: {said}")
-    return grown(program, task, version, (*words, missing.group(1)))
+    return forms_behind(program, task, version, (*words, missing.group(1)))
 
 
 def choices(program, task, version, words):
@@ -207,7 +207,7 @@ def choices(program, task, version, words):
         or re.fullmatch(f'the operation is none of (.*): "{NOTHING}"', said or "")
     if not found:
         fail(f"{sample((*words, NOTHING))!r} is said to be wrong in another way: {said}")
-    return listed(found.group(1))
+    return items_of(found.group(1))
 
 
 def sample(words):
@@ -249,20 +249,20 @@ class Place(NamedTuple):
 def kind_of(place):
     great = place.find(".* is greater than ([0-9]+)", str(TOO_GREAT))
     if great:
-        return tried(place, Kind("number", 0, int(great.group(1))), str)
+        return with_ends_tried(place, Kind("number", 0, int(great.group(1))), str)
     if place.find("the command ID is no CLIENT.NUMBER: .*", str(TOO_GREAT)):
         great = place.find("the client of the command ID is greater than ([0-9]+)", f"{TOO_GREAT}.0")
-        kind = tried(place, Kind("ID", 0, int(great.group(1))), "{}.0".format)
-        return tried(place, kind, "0.{}".format)
+        kind = with_ends_tried(place, Kind("ID", 0, int(great.group(1))), "{}.0".format)
+        return with_ends_tried(place, kind, "0.{}".format)
     long = place.find("a key has no byte, or more than ([0-9]+)", "k" * TOO_LONG)
     least = 1 if long else 0
     long = long or place.find(".* has more than ([0-9]+) bytes", "k" * TOO_LONG)
     if not long or not place.find(f".* has a byte {re.escape(LETTERS)}", "!"):
         fail(f"it is not said which bytes and how many may be the part {place.place} of {sample(place.words)!r}")
-    return tried(place, Kind("name", least, int(long.group(1))), lambda length: "k" * length)
+    return with_ends_tried(place, Kind("name", least, int(long.group(1))), lambda length: "k" * length)
 
 
-def tried(place, kind, written):
+def with_ends_tried(place, kind, written):
     """The kind, of which the ends are taken, and what is past them is not."""
     for number in (kind.least, kind.greatest):
         if place.fault(written(number)) is not None:
