@@ -1,27 +1,32 @@
 -- A run before its first turn, after one turn more, and at its end.
-use Rattle.std.specs.Prelude.{slice_get, IfSome}
-use Rattle.std.specs.List.{list_all}
-use Rattle.std.proofs.Common.{◌≡◌, ◌≢◌, ℕ, zero, suc, ◌+◌, ◌<◌, ◌≤◌, ◌==◌, ◌⊎◌, Bool, true, false, Option, None, List, [], ◌∷◌, ◌++◌, Some, Result, Ok, Err, length, map, replicate, set, get_or, refl, sym, ◌∙◌, ap, subst, arith, zero-add, ⊎_elim, inl, inr}
+use Rattle.std.specs.Prelude.{slice_get, IfErr, OnOk, if◌then◌else◌}
+use Rattle.std.specs.Result.{is_ok}
+use Rattle.std.proofs.Common.{◌≡◌, ◌≢◌, ℕ, zero, suc, ◌+◌, ◌<◌, ◌≤◌, ◌==◌, ◌⊎◌, Bool, true, false, List, [], ◌∷◌, ◌++◌, Some, Result, Ok, Err, length, map, replicate, set, get_or, refl, sym, ◌∙◌, ap, subst, arith, zero-add, ⊎_elim, inl, inr}
 use Rattle.std.proofs.lemmas.Bool.{cases_eq, cases_lt}
 use Rattle.std.proofs.lemmas.Bool.Decides.{nat_tests}
-use Rattle.std.proofs.lemmas.List.{get_or-replicate, get_or-set_other, get_or_past, length-map, length-replicate, length-set}
+use Rattle.std.proofs.lemmas.List.{get_or-replicate, get_or-set_other, get_or_default, get_or_past, length-map, length-replicate, length-set}
 use Rattle.std.proofs.lemmas.List.FromFn.{map-range_with_len_more}
-use Rattle.std.proofs.lemmas.Grind.{get_or-set_at, get_or_default_zero}
+use Rattle.std.proofs.lemmas.Grind.{get_or-set_at}
 use Rattle.std.proofs.lemmas.Option.{slice_get_read}
 use Rattle.mencius_base.specs.Members.{below}
 use Rattle.mencius_model.proofs.Lists.{length_below}
 use Rattle.mencius_choices.specs.Choices.{ChooserState, first_chooser}
 use Rattle.mencius_choices.specs.Plans.{PlanState}
 use Rattle.mencius_board.specs.declared.fault.BoardFault.{BoardFault}
+use Rattle.mencius_board.specs.declared.fault.BoardFault.TheVariants.{NoWorker}
 use Rattle.mencius_board.specs.Boards.{BoardState}
 use Rattle.mencius_board.specs.Faults.{IsRunFault, IsTurnFault}
-use Rattle.mencius_board.specs.Runs.{HasRun, IsRun, IsUnderWay, turns_of}
+use Rattle.mencius_board.specs.Runs.{Befalls, HasFailed, HasRun, IsFaultAt, IsRun, TurnOf, Way, first_fault, way_after, way_of}
 use Rattle.mencius_board.specs.Turns.{TakesTurn, is_to_show}
 
-zeros : (n i : ℕ) → get_or (replicate n zero) i zero ≡ zero
-zeros n i =
-    ⊎_elim (λ (within : i < n). get_or-replicate n i 0 0 within)
-    (λ (past : n ≤ i). get_or_past (replicate n 0) i 0 (omega (arith, past, length-replicate n zero)))
+abbrev none_taken : Way
+none_taken = Ok 0
+
+no_turns : (n i : ℕ) → get_or (replicate n none_taken) i none_taken ≡ none_taken
+no_turns n i =
+    ⊎_elim (λ (within : i < n). get_or-replicate n i none_taken none_taken within)
+    (λ (past : n ≤ i).
+    get_or_past (replicate n none_taken) i none_taken (omega (arith, past, length-replicate n none_taken)))
     (cases_lt i n)
 
 -- the seats of a plan, from none on
@@ -34,156 +39,223 @@ unfolding below
 one_seat f n x e = ap (λ y. map f (below n) ++ y ∷ []) e ∙ sym (map-range_with_len_more f 0 n n (zero-add n))
 
 -- a run before its first turn
-pub begun : (plan : PlanState) (board : BoardState) (choosers : List ChooserState) (taken : List ℕ) (turns : ℕ)
+pub begun : (plan : PlanState) (board : BoardState) (choosers : List ChooserState) (ways : List Way) (turns : ℕ)
     → turns ≡ plan.turns → choosers ≡ map (first_chooser plan) (below plan.workers)
-    → taken ≡ replicate plan.workers 0
-    → IsRun plan board board choosers taken turns None
-begun plan board choosers taken turns limit are none = record {
-  limit = limit;
-  seats = ap length are ∙ (length-map (below plan.workers) (first_chooser plan) ∙ length_below plan.workers);
-  counts = ap length none ∙ length-replicate plan.workers 0;
-  under_way = λ _. record {
-    order = [];
-    comes = ap (λ xs. record { board = board; choosers = xs }) are;
-    counted = λ worker. ap (λ xs. get_or xs worker 0) none ∙ zeros plan.workers worker;
-  };
-  fault_is = tt;
-}
+    → ways ≡ replicate plan.workers (Ok 0)
+    → IsRun plan board board choosers ways turns
+begun plan board choosers ways turns limit are none =
+    let noted : (worker : ℕ) → get_or ways worker (Ok 0) ≡ Ok 0 =
+    λ worker. ap (λ xs. get_or xs worker (Ok 0)) none ∙ no_turns plan.workers worker in
+    record {
+      limit = limit;
+      seats = ap length are ∙ (length-map (below plan.workers) (first_chooser plan) ∙ length_below plan.workers);
+      counts = ap length none ∙ length-replicate plan.workers none_taken;
+      order = [];
+      comes = ap (λ xs. record { board = board; choosers = xs }) are;
+      counted = noted;
+      faults = λ worker. subst (λ way. IfErr way (IsRunFault turns)) (sym (noted worker)) tt;
+    }
 
-counted_here : (taken : List ℕ) (seat n : ℕ) (order : List ℕ) (b : Bool) → (seat == seat) ≡ b → seat < length taken
-    → n ≡ turns_of seat order → get_or (set taken seat (n + 1)) seat 0 ≡ turns_of seat (seat ∷ order)
-counted_here taken seat n order true same within counted =
-    rw same (get_or-set_at taken seat seat (n + 1) 0 refl within ∙ omega (arith, counted))
-counted_here taken seat n order false same within counted = absurd (grind (arith, nat_tests, same))
+noted_here : (ways : List Way) (seat : ℕ) (way : Way) (answer : Result (Unit {0}) BoardFault) (order : List TurnOf)
+    (b : Bool) → (seat == seat) ≡ b → seat < length ways → way ≡ way_after answer (way_of seat order)
+    → get_or (set ways seat way) seat (Ok 0) ≡ way_of seat ((seat, answer) ∷ order)
+noted_here ways seat way answer order true same within is =
+    rw same (get_or-set_at ways seat seat way (Ok 0) refl within ∙ is)
+noted_here ways seat way answer order false same within is = absurd (grind (arith, nat_tests, same))
 
-counted_there : (taken : List ℕ) (seat worker n : ℕ) (order : List ℕ) (b : Bool) → (seat == worker) ≡ b
-    → worker ≢ seat → get_or taken worker 0 ≡ turns_of worker order
-    → get_or (set taken seat (n + 1)) worker 0 ≡ turns_of worker (seat ∷ order)
-counted_there taken seat worker n order false same other counted =
-    rw same (get_or-set_other taken seat worker (n + 1) 0 other ∙ (counted ∙ sym (zero-add _)))
-counted_there taken seat worker n order true same other counted = absurd (grind (arith, nat_tests, same, other))
+noted_there : (ways : List Way) (seat worker : ℕ) (way : Way) (answer : Result (Unit {0}) BoardFault)
+    (order : List TurnOf) (b : Bool) → (seat == worker) ≡ b → worker ≢ seat
+    → get_or ways worker (Ok 0) ≡ way_of worker order
+    → get_or (set ways seat way) worker (Ok 0) ≡ way_of worker ((seat, answer) ∷ order)
+noted_there ways seat worker way answer order false same other noted =
+    rw same (get_or-set_other ways seat worker way (Ok 0) other ∙ noted)
+noted_there ways seat worker way answer order true same other noted =
+    absurd (grind (arith, nat_tests, same, other))
 
--- one turn more is counted where it is the worker's
-counted_more : (taken : List ℕ) (seat worker n : ℕ) (order : List ℕ) → seat < length taken
-    → get_or taken seat 0 ≡ n → ((w : ℕ) → get_or taken w 0 ≡ turns_of w order)
-    → get_or (set taken seat (n + 1)) worker 0 ≡ turns_of worker (seat ∷ order)
-counted_more taken seat worker n order within there counted =
+-- one turn more is noted of its worker alone
+noted_more : (ways : List Way) (seat worker : ℕ) (way : Way) (answer : Result (Unit {0}) BoardFault)
+    (order : List TurnOf) → seat < length ways → way ≡ way_after answer (way_of seat order)
+    → get_or ways worker (Ok 0) ≡ way_of worker order
+    → get_or (set ways seat way) worker (Ok 0) ≡ way_of worker ((seat, answer) ∷ order)
+noted_more ways seat worker way answer order within is noted =
     ⊎_elim
     (λ (e : worker ≡ seat).
-    subst (λ (w : ℕ). get_or (set taken seat (n + 1)) w 0 ≡ turns_of w (seat ∷ order)) (sym e)
-    (counted_here taken seat n order (seat == seat) refl within (sym there ∙ counted seat)))
+    subst (λ (w : ℕ). get_or (set ways seat way) w (Ok 0) ≡ way_of w ((seat, answer) ∷ order)) (sym e)
+    (noted_here ways seat way answer order (seat == seat) refl within is))
     (λ (other : worker ≢ seat).
-    counted_there taken seat worker n order (seat == worker) refl other (counted worker))
+    noted_there ways seat worker way answer order (seat == worker) refl other noted)
     (cases_eq worker seat)
 
--- a turn that ended well
-pub advanced : (plan : PlanState) (first board after : BoardState) (choosers : List ChooserState) (chooser : ChooserState)
-    (taken : List ℕ) (seat n : ℕ)
-    → IsUnderWay plan first board choosers taken → seat < length taken → get_or taken seat 0 ≡ n
-    → slice_get choosers seat ≡ Some chooser → (next : ChooserState)
-    → TakesTurn chooser next board after (is_to_show seat n) (Ok tt)
-    → IsUnderWay plan first after (set choosers seat next) (set taken seat (n + 1))
-advanced plan first board after choosers chooser taken seat n way within at there next turn =
-    let same : n ≡ turns_of seat way.order = sym at ∙ way.counted seat in
-    record {
-      order = seat ∷ way.order;
-      comes = (
-        record { board = board; choosers = choosers },
-        way.comes,
-        record {
-          chooser = chooser;
-          then_chooser = next;
-          there = there;
-          turn = subst (λ (m : ℕ). TakesTurn chooser next board after (is_to_show seat m) (Ok tt)) same turn;
-          rest = refl;
-        },
-      );
-      counted = λ worker. counted_more taken seat worker n way.order within at way.counted;
-    }
+fault_more : (ways : List Way) (seat worker turns : ℕ) (way : Way) → seat < length ways → IfErr way (IsRunFault turns)
+    → IfErr (get_or ways worker (Ok 0)) (IsRunFault turns)
+    → IfErr (get_or (set ways seat way) worker (Ok 0)) (IsRunFault turns)
+fault_more ways seat worker turns way within is was =
+    ⊎_elim
+    (λ (e : worker ≡ seat).
+    subst (λ w. IfErr w (IsRunFault turns)) (sym (get_or-set_at ways seat worker way (Ok 0) e within)) is)
+    (λ (other : worker ≢ seat).
+    subst (λ w. IfErr w (IsRunFault turns)) (sym (get_or-set_other ways seat worker way (Ok 0) other)) was)
+    (cases_eq worker seat)
 
--- what lies under the lock after a turn that ended well
-pub goes_on : (plan : PlanState) (first board after : BoardState) (choosers : List ChooserState)
-    (chooser next : ChooserState) (taken : List ℕ) (turns seat n : ℕ)
-    (fault : Option (ℕ × BoardFault)) (shows : Bool) (answer : Result (Unit {0}) BoardFault)
-    → IsRun plan first board choosers taken turns fault → seat < plan.workers
-    → chooser ≡ get_or choosers seat chooser → n ≡ get_or taken seat n → shows ≡ is_to_show seat n
-    → TakesTurn chooser next board after shows answer → answer ≡ Ok tt
-    → IsRun plan first after (set choosers seat next) (set taken seat (n + 1)) turns fault
-goes_on plan first board after choosers chooser next taken turns seat n fault shows (Ok _) run seated there at is turn well =
-    let within : seat < length taken = omega (arith, run.counts, seated) in
-    let counted : get_or taken seat 0 ≡ n = sym (get_or_default_zero taken seat n within) ∙ sym at in
-    let sits : slice_get choosers seat ≡ Some chooser =
-    slice_get_read choosers plan.workers seat chooser (sym run.seats) seated there in
-    let turn' : TakesTurn chooser next board after (is_to_show seat n) (Ok tt) =
-    subst (λ b. TakesTurn chooser next board after b (Ok tt)) is turn in
+-- what lies under the lock after one turn more
+goes_on : (plan : PlanState) (first old new : BoardState) (choosers choosers' : List ChooserState)
+    (ways : List Way) (turns seat taken : ℕ) (answer : Result (Unit {0}) BoardFault) (way : Way)
+    → IsRun plan first old choosers ways turns → seat < plan.workers → get_or ways seat (Ok 0) ≡ Ok taken
+    → Befalls seat taken answer (record { board = old; choosers = choosers })
+    (record { board = new; choosers = choosers' })
+    → length choosers' ≡ length choosers → way ≡ way_after answer (Ok taken) → IfErr way (IsRunFault turns)
+    → IsRun plan first new choosers' (set ways seat way) turns
+goes_on plan first old new choosers choosers' ways turns seat taken answer way run seated at befalls many is fault =
+    let within : seat < length ways = omega (arith, run.counts, seated) in
+    let came : way_of seat run.order ≡ Ok taken = sym (run.counted seat) ∙ at in
+    let then_is : way ≡ way_after answer (way_of seat run.order) = is ∙ ap (way_after answer) (sym came) in
     record {
       limit = run.limit;
-      seats = length-set choosers seat next ∙ run.seats;
-      counts = length-set taken seat (n + 1) ∙ run.counts;
-      under_way = λ e. advanced plan first board after choosers chooser taken seat n (run.under_way e) within counted sits next turn';
-      fault_is = run.fault_is;
+      seats = many ∙ run.seats;
+      counts = length-set ways seat way ∙ run.counts;
+      order = (seat, answer) ∷ run.order;
+      comes = (record { board = old; choosers = choosers }, run.comes, taken, came, befalls);
+      counted = λ worker. noted_more ways seat worker way answer run.order within then_is (run.counted worker);
+      faults = λ worker. fault_more ways seat worker turns way within fault (run.faults worker);
     }
-goes_on plan first board after choosers chooser next taken turns seat n fault shows (Err f) run seated there at is turn well = absurd (cc)
+
+-- what is read of how far a worker came
+read_way : (plan : PlanState) (first board : BoardState) (choosers : List ChooserState) (ways : List Way)
+    (turns seat : ℕ) (read : Way) → IsRun plan first board choosers ways turns → seat < plan.workers
+    → read ≡ get_or ways seat read → get_or ways seat (Ok 0) ≡ read
+read_way plan first board choosers ways turns seat read run seated is =
+    get_or_default ways seat (Ok 0) read (omega (arith, run.counts, seated)) ∙ sym is
+
+-- after the next turn of a worker, whatever it answered
+pub turned : (plan : PlanState) (first board after : BoardState) (choosers : List ChooserState)
+    (chooser next : ChooserState) (ways : List Way) (turns seat taken : ℕ) (read way : Way) (shows : Bool)
+    (answer : Result (Unit {0}) BoardFault)
+    → IsRun plan first board choosers ways turns → seat < plan.workers
+    → chooser ≡ get_or choosers seat chooser → read ≡ get_or ways seat read → read ≡ Ok taken
+    → shows ≡ is_to_show seat taken → TakesTurn chooser next board after shows answer
+    → way ≡ way_after answer (Ok taken) → IfErr way (IsRunFault turns)
+    → IsRun plan first after (set choosers seat next) (set ways seat way) turns
+turned plan first board after choosers chooser next ways turns seat taken read way shows answer run seated there at came is turn then_is fault =
+    let sits : slice_get choosers seat ≡ Some chooser =
+    slice_get_read choosers plan.workers seat chooser (sym run.seats) seated there in
+    goes_on plan first board after choosers (set choosers seat next) ways turns seat taken answer way run seated
+    (read_way plan first board choosers ways turns seat read run seated at ∙ came)
+    (inl (record {
+      chooser = chooser;
+      then_chooser = next;
+      there = sits;
+      turn = subst (λ b. TakesTurn chooser next board after b answer) is turn;
+      rest = refl;
+    }))
+    (length-set choosers seat next) then_is fault
+
+-- after a thread that could not be started
+pub refused : (plan : PlanState) (first board : BoardState) (choosers : List ChooserState) (ways : List Way)
+    (turns seat : ℕ) (read : Way) (ok : Bool)
+    → IsRun plan first board choosers ways turns → seat < plan.workers → read ≡ get_or ways seat read
+    → ok ≡ is_ok read → ok ≡ true → IsRun plan first board choosers (set ways seat (Err NoWorker)) turns
+refused plan first board choosers ways turns seat (Ok taken) ok run seated at is well =
+    goes_on plan first board board choosers choosers ways turns seat taken (Err NoWorker) (Err NoWorker) run seated
+    (read_way plan first board choosers ways turns seat (Ok taken) run seated at) (inr (refl, refl)) refl refl
+    (inr (inl refl))
+refused plan first board choosers ways turns seat (Err f) ok run seated at is well = absurd (cc)
 
 -- a fault of a turn is one of a run
-turn_is_run : (seat n turns : ℕ) (shows : Bool) (f : BoardFault) → shows ≡ is_to_show seat n → n < turns
+pub turn_is_run : (seat n turns : ℕ) (shows : Bool) (f : BoardFault) → shows ≡ is_to_show seat n → n < turns
     → IsTurnFault shows f → IsRunFault turns f
 turn_is_run seat n turns shows f is below (inl memory) = inl memory
 turn_is_run seat n turns shows f is below (inr refused) =
     let test : is_to_show seat n ≡ true = sym is ∙ refused.1 in
     inr (inr (refused.0, grind (arith, nat_tests, test, below)))
 
-one_is_run : (turns : ℕ) (f : BoardFault) (fault next : Option (ℕ × BoardFault)) → IsRunFault turns f
-    → IfSome fault (λ x. IsRunFault turns x.1) → IfSome next (λ x. (x.1 ≡ f) ⊎ (fault ≡ next))
-    → IfSome next (λ x. IsRunFault turns x.1)
-one_is_run turns f fault None is was one = tt
-one_is_run turns f fault (Some x) is was (inl same) = subst (IsRunFault turns) (sym same) is
-one_is_run turns f fault (Some x) is was (inr same) = subst (λ o. IfSome o (λ y. IsRunFault turns y.1)) same was
+-- ---- how each worker ended
 
--- what lies under the lock once a worker ended at a fault that a run may have
-pub fails : (plan : PlanState) (first old new : BoardState) (choosers choosers' : List ChooserState)
-    (taken taken' : List ℕ) (turns : ℕ) (fault next : Option (ℕ × BoardFault)) (f : BoardFault)
-    → IsRun plan first old choosers taken turns fault → length choosers' ≡ length choosers
-    → length taken' ≡ length taken → IsRunFault turns f → next ≢ None
-    → IfSome next (λ x. (x.1 ≡ f) ⊎ (fault ≡ next))
-    → IsRun plan first new choosers' taken' turns next
-fails plan first old new choosers choosers' taken taken' turns fault next f run seats counts is some one = record {
-  limit = run.limit;
-  seats = seats ∙ run.seats;
-  counts = counts ∙ run.counts;
-  under_way = λ none. absurd (some none);
-  fault_is = one_is_run turns f fault next is run.fault_is one;
-}
+took : (turns taken : ℕ) (ways : List Way) (b : Bool) (x : Unit {0}) → (taken == turns) ≡ b
+    → (if b then first_fault turns ways else Err NoWorker) ≡ Ok x
+    → (taken ≡ turns) × (first_fault turns ways ≡ Ok x)
+took turns taken ways true x same e = (grind (arith, nat_tests, same), e)
+took turns taken ways false x same e = absurd (cc)
 
--- after a turn that ended at a fault
-pub stops : (plan : PlanState) (first old new : BoardState) (choosers : List ChooserState) (next : ChooserState)
-    (taken : List ℕ) (turns seat n : ℕ) (fault then_fault : Option (ℕ × BoardFault)) (shows : Bool) (f : BoardFault)
-    → IsRun plan first old choosers taken turns fault → shows ≡ is_to_show seat n → n < turns
-    → IsTurnFault shows f → then_fault ≢ None → IfSome then_fault (λ x. (x.1 ≡ f) ⊎ (fault ≡ then_fault))
-    → IsRun plan first new (set choosers seat next) (set taken seat (n + 1)) turns then_fault
-stops plan first old new choosers next taken turns seat n fault then_fault shows f run is below of_turn some one =
-    fails plan first old new choosers (set choosers seat next) taken (set taken seat (n + 1)) turns fault then_fault f
-    run (length-set choosers seat next) (length-set taken seat (n + 1)) (turn_is_run seat n turns shows f is below of_turn)
-    some one
+all_took : (turns : ℕ) (ways : List Way) (worker : ℕ) (x : Unit {0}) → first_fault turns ways ≡ Ok x
+    → worker < length ways → get_or ways worker (Ok 0) ≡ Ok turns
+all_took turns [] worker x e within = absurd (omega (arith, within))
+all_took turns (Err f ∷ ways) worker x e within = absurd (cc)
+all_took turns (Ok taken ∷ ways) zero x e within = ap Ok (took turns taken ways (taken == turns) x refl e).0
+all_took turns (Ok taken ∷ ways) (suc worker) x e within =
+    all_took turns ways worker x (took turns taken ways (taken == turns) x refl e).1 (omega (arith, within))
 
-each_is : (taken : List ℕ) (turns worker : ℕ) → list_all (λ n. n == turns) taken ≡ true → worker < length taken
-    → get_or taken worker 0 ≡ turns
-each_is [] turns worker all within = absurd (omega (arith, within))
-each_is (n ∷ taken) turns zero all within = grind (arith, nat_tests, all)
-each_is (n ∷ taken) turns (suc worker) all within =
-    each_is taken turns worker (grind (arith, all)) (omega (arith, within))
+-- the first of these workers that did not take all turns
+abbrev IsFirst : ℕ → List Way → BoardFault → ℕ → Type 0
+IsFirst turns ways f worker =
+    (worker < length ways) × IsFaultAt turns (get_or ways worker (Ok 0)) f
+    × ((other : ℕ) → other < worker → get_or ways other (Ok 0) ≡ Ok turns)
 
--- all turns of all workers were taken
-pub finished : (plan : PlanState) (first board : BoardState) (choosers : List ChooserState) (taken : List ℕ) (turns : ℕ)
-    (fault : Option (ℕ × BoardFault)) → IsRun plan first board choosers taken turns fault → fault ≡ None
-    → list_all (λ n. n == turns) taken ≡ true → HasRun plan first board
-finished plan first board choosers taken turns fault run none all =
-    let way = run.under_way none in
-    record {
-      order = way.order;
-      each = λ worker below.
-          sym (way.counted worker)
-          ∙ (each_is taken turns worker all (omega (arith, run.counts, below)) ∙ run.limit);
-      choosers = choosers;
-      comes = way.comes;
-    }
+before_next : (turns taken worker : ℕ) (ways : List Way) → taken ≡ turns
+    → ((other : ℕ) → other < worker → get_or ways other (Ok 0) ≡ Ok turns) → (other : ℕ) → other < suc worker
+    → get_or (Ok taken ∷ ways) other (Ok 0) ≡ Ok turns
+before_next turns taken worker ways same least zero below = ap Ok same
+before_next turns taken worker ways same least (suc other) below = least other (omega (arith, below))
+
+next_failed : (turns taken : ℕ) (ways : List Way) (f : BoardFault) (b : Bool) → (taken == turns) ≡ b
+    → (first_fault turns ways ≡ Err f → (worker : ℕ) × IsFirst turns ways f worker)
+    → (if b then first_fault turns ways else Err NoWorker) ≡ Err f
+    → (worker : ℕ) × IsFirst turns (Ok taken ∷ ways) f worker
+next_failed turns taken ways f true same behind e =
+    let next = behind e in (
+      suc next.0,
+      (
+        omega (arith, next.1.0),
+        next.1.1,
+        before_next turns taken next.0 ways (grind (arith, nat_tests, same)) next.1.2,
+      ),
+    )
+next_failed turns taken ways f false same behind e =
+    (0, (omega arith, (cc, grind (arith, nat_tests, same)), λ other below. absurd (omega (arith, below))))
+
+first_failed : (turns : ℕ) (ways : List Way) (f : BoardFault) → first_fault turns ways ≡ Err f
+    → (worker : ℕ) × IsFirst turns ways f worker
+first_failed turns [] f e = absurd (cc)
+first_failed turns (Err g ∷ ways) f e = (0, (omega arith, cc, λ other below. absurd (omega (arith, below))))
+first_failed turns (Ok taken ∷ ways) f e =
+    next_failed turns taken ways f (taken == turns) refl (first_failed turns ways f) e
+
+fault_at : (turns : ℕ) (way : Way) (f : BoardFault) → IsFaultAt turns way f → IfErr way (IsRunFault turns)
+    → IsRunFault turns f
+fault_at turns (Ok taken) f is of = inr (inl is.0)
+fault_at turns (Err g) f is of = subst (IsRunFault turns) (sym is) of
+
+-- all turns of all workers were taken, or the least worker that took fewer has a fault
+pub ended : (plan : PlanState) (first board : BoardState) (choosers : List ChooserState) (ways : List Way) (turns : ℕ)
+    (answer : Result (Unit {0}) BoardFault) → IsRun plan first board choosers ways turns
+    → answer ≡ first_fault turns ways
+    → OnOk answer (HasRun plan first board) × IfErr answer (HasFailed plan first board)
+    × IfErr answer (IsRunFault plan.turns)
+ended plan first board choosers ways turns (Ok x) run is = (
+  record {
+    order = run.order;
+    each = λ worker below.
+        sym (run.counted worker)
+        ∙ (all_took turns ways worker x (sym is) (omega (arith, run.counts, below)) ∙ ap Ok run.limit);
+    choosers = choosers;
+    comes = run.comes;
+  },
+  tt,
+  tt,
+)
+ended plan first board choosers ways turns (Err f) run is =
+    let found = first_failed turns ways f (sym is) in
+    let worker : ℕ = found.0 in (
+      tt,
+      record {
+        order = run.order;
+        choosers = choosers;
+        comes = run.comes;
+        worker = worker;
+        there = omega (arith, run.counts, found.1.0);
+        fault = subst (λ n. IsFaultAt n (way_of worker run.order) f) run.limit
+            (subst (λ way. IsFaultAt turns way f) (run.counted worker) found.1.1);
+        least = λ other below. sym (run.counted other) ∙ (found.1.2 other below ∙ ap Ok run.limit);
+      },
+      subst (λ n. IsRunFault n f) run.limit
+          (fault_at turns (get_or ways worker (Ok 0)) f found.1.1 (run.faults worker)),
+    )

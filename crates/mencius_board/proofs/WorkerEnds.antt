@@ -6,7 +6,7 @@ use Rattle.mencius_board.specs.declared.fault.BoardFault.{BoardFault}
 use Rattle.mencius_choices.specs.Choices.{ChooserState, HasTurned, ProgressState, chooser_at, first_chooser}
 use Rattle.mencius_board.specs.Faults.{IsRunFault}
 use Rattle.mencius_choices.specs.Plans.{PlanState}
-use Rattle.mencius_board.specs.Running.{EndState, HaveEnded, HaveTurned, IsEndOf, TakesTurns, settled, settled_behind}
+use Rattle.mencius_board.specs.Running.{EndState, HaveEnded, HaveFailed, HaveTurned, IsEndOf, TakesTurns, settled, settled_behind}
 use Rattle.mencius_board.proofs.ListSteps.{more_of}
 
 -- each end, by its place behind n that came before
@@ -76,11 +76,12 @@ pub come_to : {V : Type 0} (plan : PlanState) (ends : List EndState) (items : V 
     (r : Result V BoardFault) → ((x : V) → many x ≡ length (items x)) → length ends ≡ plan.workers
     → HaveEnded ends plan plan.workers
     → MatchResult r (λ x. settled plan ends ≡ Ok (items x)) (λ fault. settled plan ends ≡ Err fault)
-    → IfOk r (λ x. many x ≡ plan.workers) × IfOk r (λ x. HaveTurned (items x) plan) × IfErr r (IsRunFault plan.turns)
+    → IfOk r (λ x. many x ≡ plan.workers) × IfOk r (λ x. HaveTurned (items x) plan) × IfErr r (HaveFailed plan)
+    × IfErr r (IsRunFault plan.turns)
 come_to plan ends items many (Ok x) counts len h e =
     let from : EndFrom plan 0 ends = ends_from plan plan.workers ends len h in
     let all = settled_turned plan [] ends (items x) e from (λ m y below. absurd (omega (arith, below))) in
     let as_many : length (items x) ≡ plan.workers = omega (arith, all.0, len) in
-    (counts x ∙ as_many, (λ m y below. all.1 m y (omega (arith, as_many, below))), tt)
+    (counts x ∙ as_many, (λ m y below. all.1 m y (omega (arith, as_many, below))), tt, tt)
 come_to plan ends items many (Err f) counts len h e =
-    (tt, tt, settled_fault plan [] 0 ends f e (ends_from plan plan.workers ends len h))
+    (tt, tt, inr (ends, len, h, e), settled_fault plan [] 0 ends f e (ends_from plan plan.workers ends len h))

@@ -1,9 +1,9 @@
 -- Which worker a running thread is, and how workers end.
-use Rattle.std.specs.Prelude.{ℕ, zero, suc, ◌≡◌, ◌<◌, ◌⊎◌, List, [], ◌∷◌, ◌++◌, slice_index_or, Option, Some, None, Result, Ok}
+use Rattle.std.specs.Prelude.{ℕ, zero, suc, ◌≡◌, ◌<◌, ◌⊎◌, List, [], ◌∷◌, ◌++◌, slice_index_or, length, Option, Some, None, Result, Ok}
 use Rattle.std.specs.Prelude.{Err}
 use Rattle.core.specs.declared.thread.PromisedHandle.{PromisedHandle}
 use Rattle.mencius_board.specs.declared.fault.BoardFault.{BoardFault}
-use Rattle.mencius_board.specs.declared.fault.BoardFault.TheVariants.{NoWorker}
+use Rattle.mencius_board.specs.declared.fault.BoardFault.TheVariants.{NoMemory, NoWorker}
 use Rattle.mencius_board.specs.declared.workers.ProgressOf.{ProgressOf}
 use Rattle.mencius_board.specs.Boards.{BoardState}
 use Rattle.mencius_board.specs.Faults.{IsWorkerFault}
@@ -58,3 +58,10 @@ HaveTurned xs plan =
     (worker : ℕ) (d : ChooserState) → worker < plan.workers
     → HasTurned (slice_index_or xs worker d) plan worker plan.turns
     × TakesTurns worker plan.turns (first_chooser plan worker) (slice_index_or xs worker d)
+
+-- memory ran out before any worker began, or each worker of the plan ended, and the first that has a fault has this one
+abbrev pub HaveFailed : PlanState → BoardFault → Type 0
+HaveFailed plan f =
+    (f ≡ NoMemory)
+    ⊎ ((ends : List EndState) × (length ends ≡ plan.workers) × HaveEnded ends plan plan.workers
+    × (settled plan ends ≡ Err f))

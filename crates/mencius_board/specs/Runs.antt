@@ -1,10 +1,11 @@
 -- Workers that take turns on one board, and what a board comes to by all turns of a plan.
-use Rattle.std.specs.Prelude.{ℕ, ◌≡◌, ◌<◌, ◌+◌, ◌==◌, List, [], ◌∷◌, map, set, get_or, slice_get, Option, Some, None, Ok, IfSome, if◌then◌else◌, length}
+use Rattle.std.specs.Prelude.{ℕ, ◌≡◌, ◌≢◌, ◌⊎◌, ◌<◌, ◌+◌, ◌==◌, List, [], ◌∷◌, map, set, get_or, slice_get, Some, Result, Ok, Err, IfErr, if◌then◌else◌, length}
 use Rattle.mencius_base.specs.Members.{below}
 use Rattle.mencius_choices.specs.Choices.{ChooserState, first_chooser}
 use Rattle.mencius_choices.specs.Plans.{PlanState, plan_of}
 use Rattle.mencius_board.specs.Boards.{BoardState, new_board}
 use Rattle.mencius_board.specs.declared.fault.BoardFault.{BoardFault}
+use Rattle.mencius_board.specs.declared.fault.BoardFault.TheVariants.{NoMemory, NoWorker}
 use Rattle.mencius_board.specs.Faults.{IsRunFault}
 use Rattle.mencius_board.specs.Turns.{TakesTurn, is_to_show}
 
@@ -17,48 +18,88 @@ pub record RunState : Type 0 where
 abbrev pub first_run : PlanState → BoardState → RunState
 first_run plan board = record { board = board; choosers = map (first_chooser plan) (below plan.workers) }
 
--- how many of these turns are the worker's
-abbrev pub turns_of : ℕ → List ℕ → ℕ
-turns_of worker [] = 0
-turns_of worker (other ∷ order) = (if other == worker then 1 else 0) + turns_of worker order
+-- a worker's turn by the worker's number, and what it answered. NoWorker: the worker's thread could not be started
+abbrev pub TurnOf : Type 0
+TurnOf = ℕ × Result (Unit {0}) BoardFault
 
--- a worker that took so many turns takes the next one; the choices of the others stay
-pub record Advances (worker taken : ℕ) (old new : RunState) : Type 0 where
+-- how far a worker came: how many turns it took, or the fault that it ended at
+abbrev pub Way : Type 0
+Way = Result ℕ BoardFault
+
+abbrev pub way_after : Result (Unit {0}) BoardFault → Way → Way
+way_after (Ok _) (Ok taken) = Ok (taken + 1)
+way_after (Ok _) (Err f) = Err f
+way_after (Err f) way = Err f
+
+-- how far the worker came by turns in this order, the last turn first
+abbrev pub way_of : ℕ → List TurnOf → Way
+way_of worker [] = Ok 0
+way_of worker (turn ∷ order) =
+    if turn.0 == worker then way_after turn.1 (way_of worker order) else way_of worker order
+
+-- a worker that took so many turns takes the next one, which answers so; the choices of the others stay
+pub record Advances (worker taken : ℕ) (answer : Result (Unit {0}) BoardFault) (old new : RunState) : Type 0 where
   pub chooser : ChooserState
   pub then_chooser : ChooserState
   pub there : slice_get old.choosers worker ≡ Some chooser
-  pub turn : TakesTurn chooser then_chooser old.board new.board (is_to_show worker taken) (Ok tt)
+  pub turn : TakesTurn chooser then_chooser old.board new.board (is_to_show worker taken) answer
   pub rest : new.choosers ≡ set old.choosers worker then_chooser
 
--- what turns in this order come to, each by the worker of this number, the last turn first
-abbrev pub ComesTo : RunState → List ℕ → RunState → Type 0
+-- that a thread could not be started changes nothing
+abbrev pub Befalls : ℕ → ℕ → Result (Unit {0}) BoardFault → RunState → RunState → Type 0
+Befalls worker taken answer old new =
+    Advances worker taken answer old new ⊎ ((answer ≡ Err NoWorker) × (new ≡ old))
+
+-- what turns in this order come to, the last turn first. A worker that ended at a fault takes no further turn
+abbrev pub ComesTo : RunState → List TurnOf → RunState → Type 0
 ComesTo first [] last = last ≡ first
-ComesTo first (worker ∷ order) last =
-    (before : RunState) × ComesTo first order before × Advances worker (turns_of worker order) before last
+ComesTo first (turn ∷ order) last =
+    (before : RunState) × ComesTo first order before
+    × (taken : ℕ) × (way_of turn.0 order ≡ Ok taken) × Befalls turn.0 taken turn.1 before last
 
 -- in some order each worker of the plan took all of its turns on this board
 pub record HasRun (plan : PlanState) (old new : BoardState) : Type 0 where
-  pub order : List ℕ
-  pub each : (worker : ℕ) → worker < plan.workers → turns_of worker order ≡ plan.turns
+  pub order : List TurnOf
+  pub each : (worker : ℕ) → worker < plan.workers → way_of worker order ≡ Ok plan.turns
   pub choosers : List ChooserState
   pub comes : ComesTo (first_run plan old) order (record { board = new; choosers = choosers })
 
--- some turns were taken, and this is how many each worker took
-pub record IsUnderWay (plan : PlanState) (old board : BoardState) (choosers : List ChooserState) (taken : List ℕ)
-    : Type 0 where
-  pub order : List ℕ
-  pub comes : ComesTo (first_run plan old) order (record { board = board; choosers = choosers })
-  pub counted : (worker : ℕ) → get_or taken worker 0 ≡ turns_of worker order
+-- the fault of a worker that came so far is its own, or that its thread took another number of turns than this
+abbrev pub IsFaultAt : ℕ → Way → BoardFault → Type 0
+IsFaultAt turns (Ok taken) f = (f ≡ NoWorker) × (taken ≢ turns)
+IsFaultAt turns (Err own) f = f ≡ own
 
--- what lies under the lock of a run: as long as no worker ended at a fault, a board that turns of the plan brought here.
--- The fault of one that did is with its number
-pub record IsRun (plan : PlanState) (first board : BoardState) (choosers : List ChooserState) (taken : List ℕ)
-    (turns : ℕ) (fault : Option (ℕ × BoardFault)) : Type 0 where
+-- in some order workers of the plan took turns on this board, and the least one that did not take all of its turns has
+-- this fault
+pub record HasFailed (plan : PlanState) (old new : BoardState) (f : BoardFault) : Type 0 where
+  pub order : List TurnOf
+  pub choosers : List ChooserState
+  pub comes : ComesTo (first_run plan old) order (record { board = new; choosers = choosers })
+  pub worker : ℕ
+  pub there : worker < plan.workers
+  pub fault : IsFaultAt plan.turns (way_of worker order) f
+  pub least : (other : ℕ) → other < worker → way_of other order ≡ Ok plan.turns
+
+-- memory ran out before any turn, or workers have failed
+abbrev pub HasStopped : PlanState → BoardState → BoardState → BoardFault → Type 0
+HasStopped plan old new f = ((f ≡ NoMemory) × (new ≡ old)) ⊎ HasFailed plan old new f
+
+-- the fault of the first of these workers that did not come so far, if there is one
+abbrev pub first_fault : ℕ → List Way → Result (Unit {0}) BoardFault
+first_fault turns [] = Ok tt
+first_fault turns (Err f ∷ ways) = Err f
+first_fault turns (Ok taken ∷ ways) = if taken == turns then first_fault turns ways else Err NoWorker
+
+-- what lies under the lock of a run: the board that turns of the plan brought here, and how far each worker came by them
+pub record IsRun (plan : PlanState) (first board : BoardState) (choosers : List ChooserState) (ways : List Way)
+    (turns : ℕ) : Type 0 where
   pub limit : turns ≡ plan.turns
   pub seats : length choosers ≡ plan.workers
-  pub counts : length taken ≡ plan.workers
-  pub under_way : fault ≡ None → IsUnderWay plan first board choosers taken
-  pub fault_is : IfSome fault (λ x. IsRunFault turns x.1)
+  pub counts : length ways ≡ plan.workers
+  pub order : List TurnOf
+  pub comes : ComesTo (first_run plan first) order (record { board = board; choosers = choosers })
+  pub counted : (worker : ℕ) → get_or ways worker (Ok 0) ≡ way_of worker order
+  pub faults : (worker : ℕ) → IfErr (get_or ways worker (Ok 0)) (IsRunFault turns)
 
 -- ---- a job of nothing, for the type that stands for any
 

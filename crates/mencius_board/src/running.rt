@@ -1,10 +1,9 @@
 //! A run: all turns of a plan's workers on one board, each worker in a thread of its own.
-ghost use Rattle.std.specs.Prelude.{◌≡◌, ◌≢◌, ◌⊎◌, ◌<◌, ◌==◌, map, replicate, IfErr, IfOk, IfSome, None, OnOk};
-ghost use Rattle.std.specs.List.{list_all};
+ghost use Rattle.std.specs.Prelude.{◌≡◌, ◌<◌, map, replicate, IfErr, IfOk, Ok, OnOk};
 ghost use Rattle.mencius_base.specs.Members.{below};
 ghost use Rattle.mencius_board.specs.Boards.{BoardState};
 ghost use Rattle.mencius_board.specs.Faults.{IsRunFault};
-ghost use Rattle.mencius_board.specs.Runs.{HasRun};
+ghost use Rattle.mencius_board.specs.Runs.{HasFailed, HasRun, HasStopped, first_fault};
 ghost use Rattle.mencius_choices.specs.Choices.{first_chooser};
 ghost use Rattle.mencius_choices.specs.Plans.{PlanState};
 
@@ -36,17 +35,18 @@ impl Job for Brand {
     ghost first = { no_board };
 }
 
-// What lies under the lock of a run. As long as no worker ended at a fault, its type keeps that the
-// board is one that turns of the plan brought here.
+// How many turns a worker took, or the fault that it ended at.
+type Way = Result<u32, BoardFault>;
+
+// What lies under the lock of a run. Its type keeps that the board is one that turns of the plan brought
+// here, and that these turns brought each worker as far as is noted.
 struct Run<'p, J: Job> {
     board: Board,
-    // By worker number: the choices, and how many turns were taken.
+    // By worker number: the choices, and how far the worker came.
     choosers: Vec<Chooser<'p>>,
-    taken: Vec<u32>,
+    ways: Vec<Way>,
     // So many turns each worker is to take.
     turns: u32,
-    // The fault of the worker of least number that ended at one, and that number.
-    fault: Option<(u8, BoardFault)>,
     job: PhantomData<J>,
 }
 
@@ -58,99 +58,92 @@ impl<'p, J: Job> Model for Run<'p, J> {
 
     ghost view = { λ x. x.board };
 
-    ghost invariant = { λ x. IsRun J.plan J.first x.board x.choosers.items x.taken.items
-        x.turns x.fault };
+    ghost invariant = { λ x. IsRun J.plan J.first x.board x.choosers.items x.ways.items x.turns };
 }
 
 impl<'p, J: Job> Run<'p, J> {
-    fn new(board: Board, choosers: Vec<Chooser<'p>>, taken: Vec<u32>, turns: u32) -> Run<'p, J>
+    fn new(board: Board, choosers: Vec<Chooser<'p>>, ways: Vec<Way>, turns: u32) -> Run<'p, J>
         requires first { board ≡ J.first }
         requires turns { turns ≡ J.plan.turns }
         requires choosers { choosers.items ≡ map (first_chooser J.plan) (below J.plan.workers) }
-        requires taken { taken.items ≡ replicate J.plan.workers 0 }
+        requires ways { ways.items ≡ replicate J.plan.workers (Ok 0) }
+        ensures { result ≡ board }
     {
         Run {
             board,
             choosers,
-            taken,
+            ways,
             turns,
-            fault: None,
             job: PhantomData,
         }
     }
 
-    // The next turn of a worker, if one is left, after which worker 0 shows where it is to. Whether
-    // the worker goes on.
+    // The next turn of a worker, if one is left and it has no fault, after which worker 0 shows where
+    // it is to. Whether the worker goes on.
     fn advance<R: Wait>(&mut self, rt: &R, alloc: Global, worker: u8) -> bool
         requires { worker < J.plan.workers }
     {
         let seat = usize::from(worker);
-        let taken = self.taken[seat];
+        let Ok(taken) = self.ways[seat] else {
+            return false;
+        };
         if taken >= self.turns {
             return false;
         }
         let shows = is_to_show(worker, taken);
         let answer = take_turn(rt, alloc, &mut self.board, &mut self.choosers[seat], shows);
-        self.taken[seat] = taken + 1;
         match answer {
-            Ok(()) => true,
+            Ok(()) => {
+                self.ways[seat] = Ok(taken + 1);
+                true
+            }
             Err(fault) => {
-                self.fault = least_of(self.fault, worker, fault);
+                self.ways[seat] = Err(fault);
                 false
             }
         }
     }
 
     // The thread of a worker could not be started.
-    fn refuse(&mut self, worker: u8) {
-        self.fault = least_of(self.fault, worker, BoardFault::NoWorker);
+    fn refuse(&mut self, worker: u8)
+        requires { worker < J.plan.workers }
+    {
+        let seat = usize::from(worker);
+        if self.ways[seat].is_ok() {
+            self.ways[seat] = Err(BoardFault::NoWorker);
+        }
     }
 
     // The board, and whether each worker took all of its turns or which fault the first has that did
     // not.
     fn into_board(self) -> (Board, Result<(), BoardFault>)
         ensures ran { OnOk result.1 (HasRun J.plan J.first result.0) }
+        ensures failed { IfErr result.1 (HasFailed J.plan J.first result.0) }
         ensures fault { IfErr result.1 (IsRunFault J.plan.turns) }
     {
         let Run {
             board,
             choosers: _choosers,
-            taken,
+            ways,
             turns,
-            fault,
             job: _,
         } = self;
-        if let Some((_, fault)) = fault {
-            return (board, Err(fault));
-        }
-        if !are_all(taken.as_slice(), turns) {
+        (board, first_fault(ways.as_slice(), turns))
+    }
+}
+
+// The fault of the first worker that did not take so many turns, if there is one.
+fn first_fault(ways: &[Way], turns: u32) -> Result<(), BoardFault>
+    ensures { result ≡ first_fault turns ways.now }
+{
+    for way in ways {
+        let taken = (*way)?;
+        if taken != turns {
             // A worker takes all of its turns, or has a fault. But no clause of a thread says so.
-            return (board, Err(BoardFault::NoWorker));
+            return Err(BoardFault::NoWorker);
         }
-        (board, Ok(()))
     }
-}
-
-// Of the fault that was found so far, by the worker's number, and one more: that of the least worker.
-fn least_of(
-    found: Option<(u8, BoardFault)>,
-    worker: u8,
-    fault: BoardFault,
-) -> Option<(u8, BoardFault)>
-    ensures some { result ≢ None }
-    ensures one { IfSome result (λ x. (x.1 ≡ fault) ⊎ (found ≡ result)) }
-{
-    match found {
-        Some((least, _)) if least < worker => found,
-        _ => Some((worker, fault)),
-    }
-}
-
-// Whether each of these counts is this one.
-fn are_all(counts: &[u32], wanted: u32) -> bool
-    ensures { result ≡ list_all (λ n. n == wanted) counts.now }
-{
-    counts.iter().all(|count| *count == wanted)
+    Ok(())
 }
 
 // All turns of one worker, up to its first fault.
@@ -212,19 +205,19 @@ fn run_threads<'p, J: Job + Send, R: Threads + Wait + Sync, G: Gate + Sync>(
     );
 }
 
-// The choosers of a plan before any turn, and as many counts of turns, by worker number.
-fn seats<'p>(alloc: Global, plan: &'p Plan) -> Result<(Vec<Chooser<'p>>, Vec<u32>), NoMemory>
+// The choosers of a plan before any turn, and that no worker took one, by worker number.
+fn seats<'p>(alloc: Global, plan: &'p Plan) -> Result<(Vec<Chooser<'p>>, Vec<Way>), NoMemory>
     ensures choosers { IfOk result (λ x. x.0.items
         ≡ map (first_chooser plan.now) (below plan.now.workers)) }
-    ensures taken { IfOk result (λ x. x.1.items ≡ replicate plan.now.workers 0) }
+    ensures ways { IfOk result (λ x. x.1.items ≡ replicate plan.now.workers (Ok 0)) }
 {
     let many = usize::from(plan.workers());
     let mut choosers = Vec::with_capacity(alloc, many)?;
     for worker in 0..plan.workers() {
         choosers.push_reserved(Chooser::new(plan, worker));
     }
-    let taken = vec![in alloc; 0; many]?;
-    Ok((choosers, taken))
+    let ways = vec![in alloc; Ok(0); many]?;
+    Ok((choosers, ways))
 }
 
 // A run of this plan on this board, both of which the type knows.
@@ -238,12 +231,13 @@ fn run_job<'p, J: Job + Send, R: Threads + Wait + Sync, G: Gate + Sync>(
     requires first { board ≡ J.first }
     requires plan { plan.now ≡ J.plan }
     ensures ran { OnOk result.1 (HasRun J.plan J.first result.0) }
+    ensures stopped { IfErr result.1 (HasStopped J.plan J.first result.0) }
     ensures fault { IfErr result.1 (IsRunFault plan.now.turns) }
 {
-    let Ok((choosers, taken)) = seats(alloc, plan) else {
+    let Ok((choosers, ways)) = seats(alloc, plan) else {
         return (board, Err(BoardFault::NoMemory));
     };
-    let run = Mutex::new(Run::<J>::new(board, choosers, taken, plan.turns()));
+    let run = Mutex::new(Run::<J>::new(board, choosers, ways, plan.turns()));
     run_threads(rt, alloc, &run, plan, gate);
     run.into_inner().into_board()
 }
@@ -268,6 +262,7 @@ pub fn run_plan<R: Threads + Wait + Sync, G: Gate + Sync>(
     gate: &G,
 ) -> (Board, Result<(), BoardFault>)
     ensures ran { OnOk result.1 (HasRun plan.now board result.0) }
+    ensures stopped { IfErr result.1 (HasStopped plan.now board result.0) }
     ensures fault { IfErr result.1 (IsRunFault plan.now.turns) }
 {
     run_job::<Brand, R, G>(rt, alloc, board, plan, gate)

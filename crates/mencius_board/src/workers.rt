@@ -4,7 +4,7 @@ ghost use Rattle.std.specs.Fn.{FnOnceReturnsAtMut};
 ghost use Rattle.mencius_choices.specs.Choices.{chooser_at, drawn};
 ghost use Rattle.mencius_board.specs.Turns.{EndsTurn, IsAfterTurn, TakesTurn, is_to_show};
 ghost use Rattle.mencius_board.specs.Faults.{IsRunFault, IsTurnFault};
-ghost use Rattle.mencius_board.specs.Running.{Answers, HasEnded, HaveEnded, HaveTurned, settled};
+ghost use Rattle.mencius_board.specs.Running.{Answers, HasEnded, HaveEnded, HaveFailed, HaveTurned, settled};
 ghost use Rattle.mencius_board.specs.declared.fault.BoardFault.TheVariants.{NoWorker};
 
 use crate::board::Board;
@@ -272,6 +272,7 @@ pub fn run_workers<'p, R: Threads + Wait + Sync, G: Gate + Sync>(
 ) -> Result<Vec<Chooser<'p>>, BoardFault>
     ensures len { IfOk result (λ x. vec_len x ≡ plan.now.workers) }
     ensures each { IfOk result (λ x. HaveTurned x.items plan.now) }
+    ensures failed { IfErr result (HaveFailed plan.now) }
     ensures fault { IfErr result (IsRunFault plan.now.turns) }
 {
     let Ok(choosers) = Vec::with_capacity(alloc, usize::from(plan.workers())) else {

@@ -10,4 +10,4 @@ returns g c =
     let all =
     come_to c.args.plan.now ends.items (λ list. list.items) vec_len c.settle.result (λ list. list.ok.0) many ended.1
     c.settle.ensures in
-    record { len = all.0; each = all.1; fault = all.2 }
+    record { len = all.0; each = all.1; failed = all.2; fault = all.3 }

@@ -1,14 +1,12 @@
-use Rattle.std.specs.List.{list_all}
-use Rattle.std.proofs.Common.{◌==◌, ◌∙◌, ap, sym}
-use Rattle.mencius_board.proofs.RunSteps.{finished}
+use Rattle.std.proofs.Common.{◌∙◌, ap}
+use Rattle.mencius_board.specs.Runs.{first_fault}
+use Rattle.mencius_board.proofs.RunSteps.{ended}
 use Rattle.mencius_board.proofs.running.Run.into_board.Goals as goal
 
 pub returns : goal.returns
-returns g c = record {
-  ran =
-      finished g.J.Job.plan g.J.Job.first c.self.inside.board c.self.inside.choosers.items c.self.inside.taken.items
-      c.self.inside.turns c.self.inside.fault c.self.invariant c.in_default.is
-      (ap (λ counts. list_all (λ n. n == c.self.inside.turns) counts) (sym c.as_slice.ensures.value)
-      ∙ (sym c.are_all.ensures ∙ c.if-not-are_all.false));
-  fault = tt;
-}
+returns g c =
+    let all =
+    ended g.J.Job.plan g.J.Job.first c.self.inside.board c.self.inside.choosers.items c.self.inside.ways.items
+    c.self.inside.turns c.first_fault.result c.self.invariant
+    (c.first_fault.ensures ∙ ap (first_fault c.self.inside.turns) c.as_slice.ensures.value) in
+    record { ran = all.0; failed = all.1; fault = all.2 }

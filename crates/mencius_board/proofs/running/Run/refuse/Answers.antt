@@ -1,11 +1,12 @@
-use Rattle.std.proofs.Common.{refl, inl, inr}
-use Rattle.mencius_board.proofs.RunSteps.{fails}
-use Rattle.mencius_board.specs.declared.fault.BoardFault.TheVariants.{NoWorker}
+use Rattle.std.proofs.Common.{◌≡◌, ◌<◌, subst, sym, ℕ}
+use Rattle.mencius_board.proofs.RunSteps.{refused}
 use Rattle.mencius_board.proofs.running.Run.refuse.Goals as goal
 
 pub invariant_of-self : goal.invariant_of-self
 invariant_of-self g c =
-    fails g.J.Job.plan g.J.Job.first c.self.inside.board c.self.inside.board c.self.inside.choosers.items
-    c.self.inside.choosers.items c.self.inside.taken.items c.self.inside.taken.items c.self.inside.turns
-    c.self.inside.fault c.least_of-self-inside.result NoWorker c.self.invariant refl refl (inr (inl refl)) c.least_of-self-inside.ensures.some
-    c.least_of-self-inside.ensures.one
+    let seat : c.from-seat.result ≡ c.args.worker = c.from-seat.ensures in
+    let seated : c.from-seat.result < g.J.Job.plan.workers =
+    subst (λ (n : ℕ). n < g.J.Job.plan.workers) (sym seat) c.requires in
+    refused g.J.Job.plan g.J.Job.first c.self.inside.board c.self.inside.choosers.items c.self.inside.ways.items
+    c.self.inside.turns c.from-seat.result c.index.result.now c.is_ok.result c.self.invariant seated c.index.ensures
+    c.is_ok.ensures.value c.if-is_ok.true
