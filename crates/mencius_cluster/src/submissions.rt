@@ -11,6 +11,7 @@ use indexmap::IndexMap;
 use map_exec::Executor;
 use mencius_base::{Command, CommandId, INSTANCES, NoMemory, Value};
 use std::alloc::Global;
+use std::hash::BuildHasher;
 use std::marker::Model;
 
 // Room for so many commands is taken with the first: a cluster accepts no more of them. To grow from
@@ -68,6 +69,11 @@ impl Submissions {
         ensures value { option_copied result ≡ lookup (is_same_id id) self.now.entries }
     {
         self.rows.get(&Identity { id })
+    }
+
+    /// The hash by which a command of this identity is looked for.
+    pub fn hash_of(&self, id: CommandId) -> u64 {
+        self.rows.hasher().hash_one(Identity { id })
     }
 
     /// Makes room for one more command. The commands that are there stay either way.
