@@ -1,8 +1,9 @@
 use Rattle.std.proofs.Common.{◌≡◌, ◌≢◌, ◌⊎◌, Err, inl, inr, rules, subst, sym}
 use Rattle.mencius_ends.specs.declared.fault.AppFault.TheVariants.{BadShape, NoMemory}
+use Rattle.mencius_input.specs.declared.kind.Kind.TheVariants.{Replay}
 use Rattle.mencius_input.specs.Scenario.{written_in}
 use Rattle.mencius_app.specs.Check.{checked, checked_replay}
-use Rattle.mencius_app.proofs.CheckedInputs.{other_fault, replay_checked}
+use Rattle.mencius_app.proofs.CheckedInputs.{AreWordsByFields, other_fault, replay_checked, words_as, words_of_memory}
 use Rattle.mencius_app.proofs.checking.line_in.Goals as goal
 
 pub returns-in_ok-replay_line-in-Ok-clause-line : goal.returns-in_ok-replay_line-in-Ok-clause-line
@@ -19,4 +20,15 @@ returns-else-eq-clause-fault c =
     (elim (other_fault c.args.bytes.now c.in-Err.fault other c.in-Err.ensures) [
       | inl memory ↦ inl memory
       | inr both ↦ inr both.1
+    ])
+
+pub returns-else-eq-clause-words : goal.returns-else-eq-clause-words
+returns-else-eq-clause-words c =
+    let other : c.in-Err.fault ≢ BadShape = search rules in
+    let bytes = c.args.bytes.now in
+    let words = c.misread.result.words in
+    subst (λ fault. AreWordsByFields fault bytes words) (sym c.misread.ensures.fault)
+    (elim (other_fault bytes c.in-Err.fault other c.in-Err.ensures) [
+      | inl memory ↦ words_of_memory Replay c.in-Err.fault bytes words memory c.misread.ensures.words
+      | inr both ↦ words_as Replay c.in-Err.fault bytes words both.0 c.misread.ensures.words
     ])
