@@ -13,7 +13,7 @@ ghost use Rattle.mencius_app.specs.Findings.{IsFoundIn, IsToldByFields};
 ghost use Rattle.mencius_trace.specs.Words.{line_feed};
 
 use crate::finding::{Finding, misread, unread};
-use mencius_base::{Command, NoMemory};
+use mencius_base::Command;
 use mencius_input::{
     AppFault, Kind, RunInput, Scenario, Sink, Source, kind_of, read_all, read_run_input,
     read_scenario, write_all,
@@ -101,10 +101,9 @@ fn line_of_other_shape(alloc: Global, bytes: &[u8]) -> Result<String, Finding>
     ensures words { IfErr result (λ found. IfSome found.words (λ line. (words : List ℕ)
         × IsToldByFields found.fault bytes.now words × (string_bytes line ≡ words ++ line_feed))) }
 {
-    match kind_of(alloc, bytes) {
-        Ok(Kind::Replay) => Err(misread(alloc, Kind::Replay, bytes, AppFault::BadShape)),
-        Ok(Kind::Run) => line_of_run(alloc, bytes),
-        Err(NoMemory) => Err(Finding::from(AppFault::NoMemory)),
+    match kind_of(alloc, bytes)? {
+        Kind::Replay => Err(misread(alloc, Kind::Replay, bytes, AppFault::BadShape)),
+        Kind::Run => line_of_run(alloc, bytes),
     }
 }
 

@@ -5,6 +5,7 @@ ghost use Rattle.mencius_input.specs.Place.{IsTold, IsToldUnread};
 ghost use Rattle.mencius_app.specs.Findings.{IsOtherKind, IsToldAs, other_kind_words};
 ghost use Rattle.mencius_trace.specs.Words.{line_feed};
 
+use mencius_base::NoMemory;
 use mencius_input::{AppFault, Kind, explain, explain_unread, read_run_input, read_scenario};
 use std::alloc::{AllocError, Global};
 
@@ -35,6 +36,17 @@ impl From<AllocError> for Finding {
     ghost from_gives = { λ _ found. (found.fault ≡ fault.NoMemory) × (found.words ≡ None) };
 
     fn from(_refused: AllocError) -> Finding {
+        Finding::from(AppFault::NoMemory)
+    }
+}
+
+impl From<NoMemory> for Finding {
+    ghost use Rattle.std.specs.Prelude.{◌≡◌, None};
+    ghost use Rattle.mencius_ends.specs.declared.fault.AppFault.TheVariants as fault;
+
+    ghost from_gives = { λ _ found. (found.fault ≡ fault.NoMemory) × (found.words ≡ None) };
+
+    fn from(_refused: NoMemory) -> Finding {
         Finding::from(AppFault::NoMemory)
     }
 }
