@@ -308,7 +308,9 @@ fn place_in_events(
     fault: AppFault,
 ) -> Result<Option<Place>, NoMemory>
     requires { AreItems Replay (view scenario.now) (items_view events.now) }
-    ensures { IfOk result (λ o. IfSome o (λ x. IsAt Replay fault (view scenario.now) x)) }
+    ensures found { IfOk result (λ o. IfSome o (λ x. IsAt Replay fault (view scenario.now) x)) }
+    ensures none { IfOk result (λ o. o ≡ None → NoneBefore Replay fault
+        (version_of (view scenario.now)) (items_view events.now) (length events.now)) }
 {
     let version = version_of(scenario);
     match first_item(alloc, Kind::Replay, version, events, fault)? {
@@ -401,7 +403,9 @@ fn place_of_unknown(
     fault: AppFault,
 ) -> Result<Option<Place>, NoMemory>
     requires { is_one_of name.now (names kind) ≡ false }
-    ensures { IfOk result (λ o. IfSome o (λ x. IsAt kind fault (view scenario.now) x)) }
+    ensures found { IfOk result (λ o. IfSome o (λ x. IsAt kind fault (view scenario.now) x)) }
+    ensures none { IfOk result (λ o. o ≡ None → fault ≡ AppFault.BadShape
+        → get name.now (view scenario.now) ≡ None) }
 {
     if fault != AppFault::BadShape {
         return Ok(None);
