@@ -37,6 +37,8 @@ impl Server {
     /// # Errors
     ///
     /// `MessagesFull` where `out` can't take the messages that are sent, then `NoMemory`.
+    // Always inlined: its caller has just copied the message out of a list.
+    #[inline(always)]
     pub fn hear(&mut self, message: &Message, out: &mut Outbox) -> Result<u32, Refusal>
         requires { IsTrue (is_for self.old.members self.old.id message.now) }
         // What it does by the server's own state, whatever was heard before; `laws::events` says
