@@ -14,7 +14,7 @@ use std::alloc::Global;
 use std::hash::BuildHasher;
 use std::marker::Model;
 
-// Room for so many commands is taken with the first: a cluster accepts no more of them. To grow from
+// Room for so many commands is asked for with the first: a cluster accepts no more of them. To grow from
 // none on would copy each of them twice, and look for a place for each again.
 const FIRST_COMMANDS: usize = INSTANCES as usize;
 
@@ -81,12 +81,10 @@ impl Submissions {
         ensures entries { self.new.entries ≡ self.old.entries }
         ensures room { OnOk result (0 < self.new.room) }
     {
-        let count = if self.rows.is_empty() {
-            FIRST_COMMANDS
-        } else {
-            1
-        };
-        self.rows.reserve(count)?;
+        if self.rows.is_empty() && self.rows.reserve(FIRST_COMMANDS).is_ok() {
+            return Ok(());
+        }
+        self.rows.reserve(1)?;
         Ok(())
     }
 
