@@ -1,0 +1,26 @@
+use Rattle.std.proofs.Common.{inr, refl, ap, ◌∙◌}
+use Rattle.mencius_ends.specs.declared.fault.AppFault.TheVariants.{BadShape}
+use Rattle.mencius_input.specs.Noted.{told}
+use Rattle.mencius_input.proofs.NotedItems.{noted_fault}
+use Rattle.mencius_input.proofs.Stops.{stops_at}
+use Rattle.mencius_input.proofs.commands.next_command.Goals as goal
+
+pub returns-in_err-text-clause-err : goal.returns-in_err-text-clause-err
+returns-in_err-text-clause-err c = stops_at _ _ _ c.from_residual.ensures.1 (inr (refl, c.in_err-text.ensures.err))
+
+pub returns-in-Ok-clause-ok : goal.returns-in-Ok-clause-ok
+returns-in-Ok-clause-ok c =
+    let read = c.in_ok-text.ensures.ok in
+    let text = rw c.in-Some.is at read.2 in
+    (read.0, read.1, rw (← text) c.in-Ok.ensures.noted, rw (← text) c.in-Ok.ensures.cas)
+
+pub returns-in-None-clause-ok : goal.returns-in-None-clause-ok
+returns-in-None-clause-ok c =
+    let read = c.in_ok-text.ensures.ok in
+    let none = rw c.in-None.is at read.2 in
+    let kept = c.args.commands.now.items in (
+      read.0,
+      read.1,
+      rw (← none) (ap (told kept) c.note_fault.ensures ∙ noted_fault kept c.args.fault.now BadShape),
+      rw (← none) refl,
+    )
