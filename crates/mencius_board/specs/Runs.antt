@@ -1,5 +1,5 @@
 -- Workers that take turns on one board, and what a board comes to by all turns of a plan.
-use Rattle.std.specs.Prelude.{ℕ, ◌≡◌, ◌≢◌, ◌⊎◌, ◌<◌, ◌+◌, ◌==◌, List, [], ◌∷◌, map, set, get_or, slice_get, Some, Result, Ok, Err, IfErr, if◌then◌else◌, length}
+use Rattle.std.specs.Prelude.{ℕ, Bool, true, false, ◌≡◌, ◌≢◌, ◌⊎◌, ◌<◌, ◌+◌, ◌==◌, List, [], ◌∷◌, map, set, get_or, slice_get, Some, Result, Ok, Err, IfErr, if◌then◌else◌, length}
 use Rattle.mencius_base.specs.Members.{below}
 use Rattle.mencius_choices.specs.Choices.{ChooserState, first_chooser}
 use Rattle.mencius_choices.specs.Plans.{PlanState, plan_of}
@@ -83,6 +83,17 @@ pub record HasFailed (plan : PlanState) (old new : BoardState) (f : BoardFault) 
 -- memory ran out before any turn, or workers have failed
 abbrev pub HasStopped : PlanState → BoardState → BoardState → BoardFault → Type 0
 HasStopped plan old new f = ((f ≡ NoMemory) × (new ≡ old)) ⊎ HasFailed plan old new f
+
+-- a worker took its next turn, with what is shown after it, and goes on; or it ends, at a fault of such a turn or with
+-- none left
+abbrev pub GoesOn : ℕ → BoardState → BoardState → Bool → Type 0
+GoesOn worker before after true =
+    (old : ChooserState) × (new : ChooserState) × (taken : ℕ)
+    × TakesTurn old new before after (is_to_show worker taken) (Ok tt)
+GoesOn worker before after false =
+    (after ≡ before)
+    ⊎ ((old : ChooserState) × (new : ChooserState) × (taken : ℕ) × (f : BoardFault)
+    × TakesTurn old new before after (is_to_show worker taken) (Err f))
 
 -- the fault of the first of these workers that did not come so far, if there is one
 abbrev pub first_fault : ℕ → List Way → Result (Unit {0}) BoardFault

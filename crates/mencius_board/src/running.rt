@@ -3,7 +3,7 @@ ghost use Rattle.std.specs.Prelude.{◌≡◌, ◌<◌, map, replicate, IfErr, I
 ghost use Rattle.mencius_base.specs.Members.{below};
 ghost use Rattle.mencius_board.specs.Boards.{BoardState};
 ghost use Rattle.mencius_board.specs.Faults.{IsRunFault};
-ghost use Rattle.mencius_board.specs.Runs.{HasFailed, HasRun, HasStopped, first_fault};
+ghost use Rattle.mencius_board.specs.Runs.{GoesOn, HasFailed, HasRun, HasStopped, first_fault};
 ghost use Rattle.mencius_choices.specs.Choices.{first_chooser};
 ghost use Rattle.mencius_choices.specs.Plans.{PlanState};
 
@@ -82,6 +82,7 @@ impl<'p, J: Job> Run<'p, J> {
     // it is to. Whether the worker goes on.
     fn advance<R: Wait>(&mut self, rt: &R, alloc: Global, worker: u8) -> bool
         requires { worker < J.plan.workers }
+        ensures { GoesOn worker self.old self.new result }
     {
         let seat = usize::from(worker);
         let Ok(taken) = self.ways[seat] else {
@@ -107,6 +108,7 @@ impl<'p, J: Job> Run<'p, J> {
     // The thread of a worker could not be started.
     fn refuse(&mut self, worker: u8)
         requires { worker < J.plan.workers }
+        ensures { self.new ≡ self.old }
     {
         let seat = usize::from(worker);
         if self.ways[seat].is_ok() {

@@ -1,6 +1,6 @@
 use Rattle.std.proofs.Common.{◌≡◌, ◌<◌, ◌+◌, ◌∙◌, Ok, Err, ap, subst, sym, ℕ}
 use Rattle.mencius_board.specs.Runs.{way_after}
-use Rattle.mencius_board.specs.Turns.{is_to_show}
+use Rattle.mencius_board.specs.Turns.{TakesTurn, is_to_show}
 use Rattle.mencius_board.proofs.RunSteps.{turn_is_run, turned}
 use Rattle.mencius_board.proofs.running.Run.advance.Goals as goal
 
@@ -29,3 +29,19 @@ invariant_of-self-in-Err g c =
     c.take_turn-answer.ensures.turn (ap (λ answer. way_after answer (Ok c.in-Ok.taken)) (sym c.in-Err.is))
     (turn_is_run c.from-seat.result c.in-Ok.taken c.self.inside.turns c.is_to_show-shows.result c.in-Err.fault shows
     c.if-taken-self.false c.in-Err.ensures.fault)
+
+pub returns-in-Ok-answer : goal.returns-in-Ok-answer
+returns-in-Ok-answer g c =
+    let old = c.index_mut.result.now in
+    let new = c.take_turn-answer.new.chooser in
+    let after = c.take_turn-answer.new.board in
+    let from = subst (λ before. TakesTurn old new before after c.is_to_show-shows.result c.take_turn-answer.result)
+    c.self.view_is c.take_turn-answer.ensures.turn in
+    let turn = subst (λ shows. TakesTurn old new c.args.self.now after shows c.take_turn-answer.result)
+    c.is_to_show-shows.ensures from in (
+      old,
+      new,
+      c.in-Ok.taken,
+      subst (λ answer. TakesTurn old new c.args.self.now after (is_to_show c.args.worker c.in-Ok.taken) answer)
+          c.in-Ok-answer.is turn,
+    )
