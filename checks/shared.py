@@ -5,6 +5,7 @@ its top, whose line `    checks/NAME ..` says which words it takes.
 """
 import itertools
 import os
+import shlex
 import subprocess
 import sys
 from typing import NamedTuple
@@ -83,6 +84,19 @@ def programs(words, defaults):
 
 def is_program(path):
     return os.path.isfile(path) and os.access(path, os.X_OK)
+
+
+# ---- compiling C
+
+def compiled(source, path, *options):
+    """Compiles a file of this folder in C, and answers the path of what it becomes."""
+    compiler = shlex.split(os.environ.get("CC", "cc"))
+    source = os.path.join(TOP, "checks", source)
+    try:
+        subprocess.run([*compiler, "-O2", "-o", path, source, *options], check=True)
+    except (OSError, subprocess.CalledProcessError) as error:
+        fail(f"{os.path.basename(source)} is not compiled: {error}")
+    return path
 
 
 # ---- starting a program
