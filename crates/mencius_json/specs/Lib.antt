@@ -2,3 +2,4 @@ pub mod Tokens
 pub mod Steps
 pub mod Sources
 pub mod Next
+pub mod Stops

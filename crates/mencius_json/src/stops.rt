@@ -1,5 +1,8 @@
 //! Where a text stops being JSON.
 
+ghost use Rattle.std.specs.Prelude.{◌≡◌, IfOk, string_bytes};
+ghost use Rattle.mencius_json.specs.Stops.{NamesPlace, stop_words};
+
 use crate::tokens::Tokens;
 use crate::value::{MOST_DEPTH, pass, whole_number};
 use json::{Reader, Scratch, Token};
@@ -8,6 +11,8 @@ use serde_json::Value;
 use std::alloc::Global;
 
 const NO_JSON: &str = "not JSON";
+
+const NO_COLON: &str = "a colon is missing behind this name";
 
 // Where the byte at an offset stands: its line and its column in characters, both from 1.
 fn line_and_column(bytes: &[u8], offset: usize) -> (usize, usize) {
@@ -32,31 +37,48 @@ fn read_to(alloc: Global, text: &str) -> Result<usize, NoMemory> {
     Ok(tokens.offset().unwrap_or(0))
 }
 
-// Whether bytes are a value or the front of one.
-fn is_front(alloc: Global, bytes: &[u8]) -> Result<bool, NoMemory> {
+// Where bytes are the front of a value, whether they are all of one.
+fn front_of(alloc: Global, bytes: &[u8]) -> Result<Option<bool>, NoMemory> {
     match Value::from_slice(alloc, bytes) {
-        Ok(_) => Ok(true),
+        Ok(_) => Ok(Some(true)),
         Err(e) if e.is_memory() => Err(NoMemory),
-        Err(e) => Ok(e.is_eof()),
+        Err(e) if e.is_eof() => Ok(Some(false)),
+        Err(_) => Ok(None),
     }
 }
 
-// How deep lists and objects nest behind a token.
-fn depth_behind(depth: usize, token: Token<'_>) -> usize {
+// Opens or closes the bracket that a token is, in the brackets that are open, from the outermost on.
+fn pass_bracket(open: &mut Vec<u8>, token: Token<'_>) -> Result<(), NoMemory> {
     match token {
-        Token::BeginArray | Token::BeginObject => depth.saturating_add(1),
-        Token::EndArray | Token::EndObject => depth.saturating_sub(1),
-        _ => depth,
+        Token::BeginArray => open.push(b'[')?,
+        Token::BeginObject => open.push(b'{')?,
+        Token::EndArray | Token::EndObject => {
+            open.pop();
+        }
+        _ => {}
     }
+    Ok(())
 }
 
-// What is wrong with a token at which reading stopped.
-fn wrong_token(token: Token<'_>, depth: usize) -> &'static str {
-    match token {
-        Token::Number(text) if whole_number(text).is_none() => "the number is too great",
-        Token::BeginArray | Token::BeginObject if depth > MOST_DEPTH => "nested more than 127 deep",
+// What is wrong with a token at which reading stopped, where these brackets are open; behind a name it is its value.
+fn wrong_token(token: Token<'_>, open: &[u8], is_behind_name: bool) -> &'static str {
+    match (token, open.last()) {
+        (Token::Number(text), _) if whole_number(text).is_none() => "the number is too great",
+        (Token::BeginArray | Token::BeginObject, _) if open.len() >= MOST_DEPTH => {
+            "nested more than 127 deep"
+        }
+        (Token::String(_), Some(b'{')) if !is_behind_name => NO_COLON,
+        (Token::EndObject, Some(b'[')) => "a ] is missing before this",
+        (Token::EndArray, Some(b'{')) => "a } is missing before this",
         _ => NO_JSON,
     }
+}
+
+// Where a token begins before which a comma may stand.
+fn past_comma(bytes: &[u8], offset: usize) -> usize {
+    let behind = &bytes[offset.min(bytes.len())..];
+    let passed = behind.iter().position(|b| !is_blank(*b) && *b != b',');
+    offset.saturating_add(passed.unwrap_or(0))
 }
 
 // The last token that begins before an offset: where it begins, and what is wrong with it.
@@ -68,26 +90,29 @@ fn last_before(
     let mut scratch = Scratch::new(alloc);
     let mut reader = Reader::new(text, &mut scratch)?;
     let mut last = (0, NO_JSON);
-    let mut depth = 0usize;
-    let mut start = reader.offset();
+    let mut open = Vec::new(alloc);
+    let mut is_behind_name = false;
+    let mut start = past_comma(text.as_bytes(), reader.offset());
     'tokens: while let Some(token) = reader.next() {
         if start >= offset {
             break;
         }
-        depth = depth_behind(depth, token);
-        last = (start, wrong_token(token, depth));
-        start = reader.offset();
+        last = (start, wrong_token(token, open.as_slice(), is_behind_name));
+        is_behind_name = matches!(token, Token::Key(_));
+        pass_bracket(&mut open, token)?;
+        start = past_comma(text.as_bytes(), reader.offset());
     }
     Ok(last)
 }
 
+// Whether a byte is a blank.
+fn is_blank(byte: u8) -> bool {
+    matches!(byte, b' ' | b'\t' | b'\n' | b'\r')
+}
+
 // The last byte that is no blank.
 fn last_solid(bytes: &[u8]) -> Option<u8> {
-    bytes
-        .iter()
-        .rev()
-        .find(|b| !matches!(**b, b' ' | b'\t' | b'\n' | b'\r'))
-        .copied()
+    bytes.iter().rev().find(|b| !is_blank(**b)).copied()
 }
 
 // What is wrong with a string of which the opening quote was read.
@@ -105,14 +130,34 @@ fn wrong_string(inside: &[u8]) -> &'static str {
     "a string does not end"
 }
 
+// What is wrong with what stands where a value or a name has to.
+fn wrong_beginning(rest: &[u8]) -> &'static str {
+    match rest {
+        [b'"', inside @ ..] => wrong_string(inside),
+        [b'A'..=b'Z' | b'a'..=b'z' | b'_', ..] => "a word in no quotes",
+        _ => NO_JSON,
+    }
+}
+
+// What is wrong with what stands behind a value whose last byte this is, where a comma or a bracket has to.
+fn wrong_next(last: u8, rest: &[u8]) -> &'static str {
+    match (last, rest) {
+        (_, [b':', ..]) => NO_JSON,
+        (b'"', [b'"', ..]) => "a comma is missing before this",
+        (b'"', _) => "a comma or a quote is missing before this",
+        _ => "a comma is missing before this",
+    }
+}
+
 // What is wrong with what stands behind the front of a value.
-fn wrong_behind(front: &[u8], rest: &[u8]) -> &'static str {
+fn wrong_behind(front: &[u8], rest: &[u8], is_whole: bool) -> &'static str {
     match (last_solid(front), rest) {
         (_, [b'/', b'/' | b'*', ..]) => "a comment, which JSON does not have",
         (_, [b'\'', ..]) => "a single quote, where a string of JSON stands in double quotes",
         (Some(b','), [b']' | b'}', ..]) => "a comma stands before the closing bracket",
-        (None | Some(b'[' | b'{' | b',' | b':'), [b'"', inside @ ..]) => wrong_string(inside),
-        _ => NO_JSON,
+        (None | Some(b'[' | b'{' | b',' | b':'), _) => wrong_beginning(rest),
+        (Some(_), _) if is_whole => "the text goes on behind its value",
+        (Some(last), _) => wrong_next(last, rest),
     }
 }
 
@@ -122,14 +167,7 @@ fn open_brackets(alloc: Global, front: &str) -> Result<Vec<u8>, NoMemory> {
     let mut reader = Reader::new(front, &mut scratch)?;
     let mut open = Vec::new(alloc);
     'tokens: while let Some(token) = reader.next() {
-        match token {
-            Token::BeginArray => open.push(b'[')?,
-            Token::BeginObject => open.push(b'{')?,
-            Token::EndArray | Token::EndObject => {
-                open.pop();
-            }
-            _ => {}
-        }
+        pass_bracket(&mut open, token)?;
     }
     Ok(open)
 }
@@ -147,13 +185,17 @@ fn wrong_end(alloc: Global, front: &str) -> Result<&'static str, NoMemory> {
 fn stop_of(alloc: Global, text: &str) -> Result<(usize, &'static str), NoMemory> {
     let offset = read_to(alloc, text)?.min(text.len());
     let (front, rest) = text.as_bytes().split_at(offset);
-    if !is_front(alloc, front)? {
+    let Some(is_whole) = front_of(alloc, front)? else {
         return last_before(alloc, text, offset);
-    }
+    };
     if rest.is_empty() {
         return Ok((offset, wrong_end(alloc, text)?));
     }
-    Ok((offset, wrong_behind(front, rest)))
+    let (name, wrong) = last_before(alloc, text, offset)?;
+    if wrong == NO_COLON {
+        return Ok((name, wrong));
+    }
+    Ok((offset, wrong_behind(front, rest, is_whole)))
 }
 
 // Where bytes that are no JSON stop being it, and what is wrong there.
@@ -167,10 +209,20 @@ fn wrong_bytes(alloc: Global, bytes: &[u8]) -> Result<(usize, &'static str), NoM
     }
 }
 
-/// Where bytes that are no JSON stop being it, in a person's words: `line 1, column 7: not JSON`, say.
-/// Lines and columns count from 1, and columns are characters. It fails for want of memory alone.
-pub fn stop_in(alloc: Global, bytes: &[u8]) -> Result<String, NoMemory> {
+// What is wrong at a line and a column.
+fn wrong_at(alloc: Global, line: usize, column: usize, wrong: &str) -> Result<String, NoMemory>
+    ensures { IfOk result (λ s. string_bytes s ≡ stop_words line column wrong.now) }
+{
+    Ok(format!(in alloc; "line {line}, column {column}: {wrong}")?)
+}
+
+/// Where bytes that are no JSON stop being it, and what is wrong there, in a person's words, as in
+/// `line 1, column 7: a comma is missing before this`. Lines and columns count from 1, and columns are
+/// characters. It fails for want of memory alone.
+pub fn stop_in(alloc: Global, bytes: &[u8]) -> Result<String, NoMemory>
+    ensures { IfOk result (λ s. NamesPlace (string_bytes s)) }
+{
     let (offset, what) = wrong_bytes(alloc, bytes)?;
     let (line, column) = line_and_column(bytes, offset);
-    Ok(format!(in alloc; "line {line}, column {column}: {what}")?)
+    wrong_at(alloc, line, column, what)
 }
