@@ -1,5 +1,8 @@
-/* Prints identities of commands for which a map with room for 4,096 of them begins to search at one place, if the hash
- * of an identity begins with the salt 0: `identities COUNT`, one CLIENT.NUMBER a line.
+/* Prints identities of commands for which a map with room for 4,096 of them begins to search at one place, one
+ * CLIENT.NUMBER a line. The hash of an identity begins with a salt:
+ *
+ *     identities 0 COUNT      the salt 0
+ *     identities 1 COUNT      the salt that comes of 0 and no command
  *
  * The hash is SipHash-1-3 with the keys 0, of two words: the salt, and the identity. Of its two halves, joined by xor,
  * the map asks nine bits for a place, and eight more before it compares an identity at all. */
@@ -39,22 +42,33 @@ static State after(State s, uint64_t word)
     return s;
 }
 
-static uint32_t hash(State salted, uint64_t identity)
+/* The hash of what a state has taken in, so many words. */
+static uint64_t hash(State s, uint64_t count)
 {
-    State s = after(after(salted, identity), (uint64_t)16 << 56);
+    s = after(s, count * 8 << 56);
     s.c ^= 0xff;
     s = rounded(rounded(rounded(s)));
-    uint64_t whole = s.a ^ s.b ^ s.c ^ s.d;
-    return (uint32_t)(whole ^ whole >> 32);
+    return s.a ^ s.b ^ s.c ^ s.d;
+}
+
+/* What the map asks of an identity's hash. */
+static uint32_t place(State salted, uint64_t identity)
+{
+    uint64_t whole = hash(after(salted, identity), 2);
+    return (uint32_t)(whole ^ whole >> 32) & 0xff0001ff;
 }
 
 int main(int count, char **words)
 {
     State first = {0x736f6d6570736575, 0x646f72616e646f6d, 0x6c7967656e657261, 0x7465646279746573};
     State salted = after(first, 0);
-    long left = count == 2 ? atol(words[1]) : 0;
+    if (count != 3)
+        return 2;
+    if (atol(words[1]) == 1)
+        salted = after(first, hash(salted, 1));
+    long left = atol(words[2]);
     for (uint64_t identity = 0; left > 0; identity++) {
-        if ((hash(salted, identity) & 0xff0001ff) == 0x5a000000) {
+        if (place(salted, identity) == 0x5a000000) {
             printf("%" PRIu64 ".%" PRIu64 "\n", identity >> 32, identity & 0xffffffff);
             left--;
         }
