@@ -8,8 +8,8 @@ use Rattle.mencius_input.specs.declared.kind.Kind.TheVariants as kind
 use Rattle.mencius_format.specs.Judged.{FailsBy}
 use Rattle.mencius_input.specs.Kinds.{kind_in}
 use Rattle.mencius_input.specs.Place.{IsTold}
-use Rattle.mencius_input.specs.Plan.{WrittenPlan, plan}
-use Rattle.mencius_input.specs.Scenario.{Written, scenario}
+use Rattle.mencius_input.specs.Plan.{plan}
+use Rattle.mencius_input.specs.Scenario.{scenario}
 use Rattle.mencius_trace.specs.Words.{line_feed}
 use Rattle.mencius_app.specs.Calls.{IsReadingCause}
 use Rattle.mencius_app.specs.Check.{Checked, IsCheckFaultOf, IsCheckOf, as_replay, as_run, checked, checked_as, checked_replay, checked_run, ok_line}
@@ -19,6 +19,9 @@ use Rattle.mencius_app.specs.declared.finding.Finding.{Finding}
 use Rattle.mencius_app.proofs.FindingWords.{of_bytes}
 use Rattle.mencius_app.proofs.Inputs.{bad_there, failing, flipped, no_board, no_read, no_write, own_fault, plan_bad, says_by_bytes, scenario_bad}
 use Rattle.mencius_app.proofs.ScenarioKinds.{meant_as_replay}
+use Rattle.mencius_input.specs.declared.scenario.Scenario.{Scenario}
+use Rattle.mencius_base.specs.declared.event.Event.{Event}
+use Rattle.mencius_base.specs.Plan.{PlanState}
 
 -- ---- by kind
 
@@ -41,7 +44,7 @@ words_of_memory kind fault bytes (Some line) memory h =
     (h.0, subst (λ f. IsTold (kind_in bytes) f bytes h.0) (sym memory) tt, h.2)
 
 -- what is read as a scenario of `replay` is checked as one
-pub replay_checked : (bytes : List ℕ) (written : Written) → scenario bytes ≡ Ok written
+pub replay_checked : (bytes : List ℕ) (written : Scenario (List Event)) → scenario bytes ≡ Ok written
     → checked bytes ≡ Ok (checked_replay written)
 replay_checked bytes written e =
     let meant = meant_as_replay bytes (λ bad. (let other = sym e ∙ bad in absurd (cc))) in
@@ -56,7 +59,7 @@ replay_fault bytes fault meant fails = elim (failing fault (scenario bytes) fail
 ]
 
 -- so of a run's
-pub run_checked : (bytes : List ℕ) (written : WrittenPlan) → kind_in bytes ≡ kind.Run → plan bytes ≡ Ok written
+pub run_checked : (bytes : List ℕ) (written : Scenario PlanState) → kind_in bytes ≡ kind.Run → plan bytes ≡ Ok written
     → checked bytes ≡ Ok (checked_run written)
 run_checked bytes written meant e =
     subst (λ k. checked_as k bytes ≡ Ok (checked_run written)) (sym meant) (ap as_run e)
@@ -79,11 +82,11 @@ other_fault bytes fault other fails = elim (failing fault (scenario bytes) fails
 
 -- ---- the faults
 
-of_replay : (r : Result Written AppFault) (fault : AppFault) → as_replay r ≡ Err fault → r ≡ Err fault
+of_replay : (r : Result (Scenario (List Event)) AppFault) (fault : AppFault) → as_replay r ≡ Err fault → r ≡ Err fault
 of_replay (Ok written) fault e = absurd (cc)
 of_replay (Err other) fault e = cc
 
-of_run : (r : Result WrittenPlan AppFault) (fault : AppFault) → as_run r ≡ Err fault → r ≡ Err fault
+of_run : (r : Result (Scenario PlanState) AppFault) (fault : AppFault) → as_run r ≡ Err fault → r ≡ Err fault
 of_run (Ok written) fault e = absurd (cc)
 of_run (Err other) fault e = cc
 

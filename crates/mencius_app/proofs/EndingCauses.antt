@@ -2,7 +2,6 @@
 use Rattle.std.proofs.Common.{◌≡◌, inr, ℕ, Bool, false, List, [], Option, Some, None, IfSome, IfErr, Result, Ok, Err, String, Global, refl, sym, subst}
 use Rattle.clap.specs.Words.{Text}
 use Rattle.mencius_ends.specs.declared.fault.AppFault.{AppFault}
-use Rattle.mencius_input.specs.Scenario.{members_of}
 use Rattle.mencius_app.specs.Calls.{IsCause}
 use Rattle.mencius_app.specs.Replay.{IsReplayOf, accepts_all}
 use Rattle.mencius_app.specs.Run.{IsRunOf}
@@ -27,7 +26,7 @@ as_text also h = record {
 pub text_of_replay : (is_strict : Bool) (known : Option (List ℕ)) (text : List ℕ) → IsReplayOf known text
     → IsTextOf (asked_replay is_strict) known text
 text_of_replay is_strict known text h =
-    let all = accepts_all (members_of h.written) h.written.events in
+    let all = accepts_all h.written.members h.written.course in
     (tells_of_refusals is_strict all, (all, (h, refl), refl))
 
 pub text_of_run : (known : Option (List ℕ)) (with_journal : Bool) (key there : Option (List ℕ)) (text : List ℕ)

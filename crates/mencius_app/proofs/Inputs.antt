@@ -10,15 +10,17 @@ use Rattle.mencius_ends.specs.declared.fault.AppFault.{AppFault}
 use Rattle.mencius_ends.specs.declared.fault.AppFault.TheVariants.{NotJson, BadShape, BadLimit, ReadFailed, WriteFailed, BoardFailed, NoMemory}
 use Rattle.mencius_ends.specs.Ends.{HasFailed, WritesFront, most_bytes}
 use Rattle.mencius_format.specs.Judged.{FailsBy, Gives, judged, seen}
-use Rattle.mencius_input.specs.Plan.{plan, plan_of, plan_within}
+use Rattle.mencius_input.specs.declared.kind.Kind.TheVariants.{Run}
+use Rattle.mencius_input.specs.Plan.{plan, plan_read, plan_within}
 use Rattle.mencius_base.specs.Members.{Membership}
-use Rattle.mencius_input.specs.Scenario.{Written, json_of, members_of, or_not_json, read_there, scenario, within, written_of}
+use Rattle.mencius_input.specs.Scenario.{json_of, or_not_json, read_there, scenario, scenario_of, scenario_within, within, written_of}
 use Rattle.mencius_app.specs.Calls.{IsCause, IsReadingCause}
 use Rattle.mencius_app.specs.Input.{HasFault, IsBadInput, Says, input_of, unless_long}
 use Rattle.mencius_app.specs.Replay.{IsMadeOf}
 use Rattle.mencius_app.specs.declared.finding.Finding.{Finding}
 use Rattle.mencius_base.specs.declared.event.Event.{Event}
 use Rattle.mencius_app.specs.Run.{IsOwnFault}
+use Rattle.mencius_input.specs.declared.scenario.Scenario.{Scenario}
 
 -- ---- long inputs
 
@@ -55,7 +57,7 @@ pub scenario_bad : (bytes : List ℕ) (fault : AppFault) → scenario bytes ≡ 
 scenario_bad bytes fault e = json_bad within written_of (json_of bytes) fault e
 
 pub plan_bad : (bytes : List ℕ) (fault : AppFault) → plan bytes ≡ Err fault → IsBadInput fault
-plan_bad bytes fault e = json_bad plan_within plan_of (json_of bytes) fault e
+plan_bad bytes fault e = json_bad (scenario_within plan_within) (scenario_of Run plan_read) (json_of bytes) fault e
 
 -- a bad input is no failed reader or writer, and no failed board
 other_bad : (fault other : AppFault) → fault ≡ other → (other ≢ NotJson) × (other ≢ BadShape) × (other ≢ BadLimit)
@@ -212,8 +214,8 @@ written P old new (Err fault) made text is same h = tt
 -- ---- a check
 
 -- the line of a check that a scenario's servers and events make
-pub made : (text_of : Membership → List Event → List ℕ) (known : Option (List ℕ)) (said_there : Written) (text : List ℕ)
-    → Says input_of known said_there → text ≡ text_of (members_of said_there) said_there.events → IsMadeOf text_of known text
+pub made : (text_of : Membership → List Event → List ℕ) (known : Option (List ℕ)) (said_there : Scenario (List Event)) (text : List ℕ)
+    → Says input_of known said_there → text ≡ text_of said_there.members said_there.course → IsMadeOf text_of known text
 made text_of known said_there text says is = record { written = said_there; says = says; is = is }
 
 -- what holds of the fault holds of what was found

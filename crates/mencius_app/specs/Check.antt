@@ -6,21 +6,24 @@ use Rattle.mencius_ends.specs.declared.fault.AppFault.{AppFault}
 use Rattle.mencius_input.specs.declared.kind.Kind.{Kind}
 use Rattle.mencius_input.specs.declared.kind.Kind.TheVariants as kind
 use Rattle.mencius_input.specs.Kinds.{kind_in}
-use Rattle.mencius_input.specs.Plan.{WrittenPlan, plan}
-use Rattle.mencius_input.specs.Scenario.{Written, scenario}
+use Rattle.mencius_input.specs.Plan.{plan}
+use Rattle.mencius_input.specs.Scenario.{scenario}
 use Rattle.mencius_app.specs.Input.{HasFault, Says, unless_long}
 use Rattle.mencius_trace.specs.Words.{line_feed}
+use Rattle.mencius_input.specs.declared.scenario.Scenario.{Scenario}
+use Rattle.mencius_base.specs.declared.event.Event.{Event}
+use Rattle.mencius_base.specs.Plan.{PlanState}
 
 -- a scenario of `replay`, or of `run`
 pub data Checked : Type 0 where
-  checked_replay : (written : Written) → Checked
-  checked_run : (written : WrittenPlan) → Checked
+  checked_replay : (written : Scenario (List Event)) → Checked
+  checked_run : (written : Scenario PlanState) → Checked
 
-abbrev pub as_replay : Result Written AppFault → Result Checked AppFault
+abbrev pub as_replay : Result (Scenario (List Event)) AppFault → Result Checked AppFault
 as_replay (Ok written) = Ok (checked_replay written)
 as_replay (Err fault) = Err fault
 
-abbrev pub as_run : Result WrittenPlan AppFault → Result Checked AppFault
+abbrev pub as_run : Result (Scenario PlanState) AppFault → Result Checked AppFault
 as_run (Ok written) = Ok (checked_run written)
 as_run (Err fault) = Err fault
 
@@ -36,17 +39,17 @@ checked bytes = checked_as (kind_in bytes) bytes
 -- ---- the line
 
 -- how many servers and how many events
-abbrev pub replay_line : Written → List ℕ
-replay_line x = codes "ok servers " ++ decimal x.servers ++ codes " events " ++ decimal (length x.events) ++ line_feed
+abbrev pub replay_line : Scenario (List Event) → List ℕ
+replay_line x = codes "ok servers " ++ decimal x.members.count ++ codes " events " ++ decimal (length x.course) ++ line_feed
 
 abbrev pub count_text : List Request → List ℕ
 count_text commands = 32 ∷ decimal (length commands)
 
 -- how many servers, workers and turns, and how many commands in each list
-abbrev pub run_line : WrittenPlan → List ℕ
+abbrev pub run_line : Scenario PlanState → List ℕ
 run_line x =
-    codes "ok servers " ++ decimal x.numbers.servers ++ codes " workers " ++ decimal x.numbers.workers
-    ++ codes " turns " ++ decimal x.numbers.turns ++ codes " commands" ++ flat_map count_text x.commands ++ line_feed
+    codes "ok servers " ++ decimal x.members.count ++ codes " workers " ++ decimal x.course.workers
+    ++ codes " turns " ++ decimal x.course.turns ++ codes " commands" ++ flat_map count_text x.course.commands ++ line_feed
 
 abbrev pub ok_line : Checked → List ℕ
 ok_line (checked_replay written) = replay_line written

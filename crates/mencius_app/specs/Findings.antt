@@ -7,10 +7,13 @@ use Rattle.mencius_input.specs.declared.kind.Kind.{Kind}
 use Rattle.mencius_input.specs.declared.kind.Kind.TheVariants.{Replay, Run}
 use Rattle.mencius_input.specs.Kinds.{kind_in}
 use Rattle.mencius_input.specs.Place.{IsTold, too_long_words}
-use Rattle.mencius_input.specs.Plan.{WrittenPlan, plan}
-use Rattle.mencius_input.specs.Scenario.{Written, scenario}
+use Rattle.mencius_input.specs.Plan.{plan}
+use Rattle.mencius_input.specs.Scenario.{scenario}
 use Rattle.mencius_trace.specs.Words.{line_feed}
 use Rattle.mencius_app.specs.declared.finding.Finding.{Finding}
+use Rattle.mencius_input.specs.declared.scenario.Scenario.{Scenario}
+use Rattle.mencius_base.specs.declared.event.Event.{Event}
+use Rattle.mencius_base.specs.Plan.{PlanState}
 
 -- ---- what may be said of a fault that bytes have
 
@@ -20,8 +23,8 @@ Telling = AppFault → List ℕ → List ℕ → Type 0
 
 -- the bytes are no scenario of this kind, but one of the other
 abbrev pub IsOtherKind : Kind → List ℕ → Type 0
-IsOtherKind Replay bytes = (written : WrittenPlan) × (plan bytes ≡ Ok written)
-IsOtherKind Run bytes = (written : Written) × (scenario bytes ≡ Ok written)
+IsOtherKind Replay bytes = (written : Scenario PlanState) × (plan bytes ≡ Ok written)
+IsOtherKind Run bytes = (written : Scenario (List Event)) × (scenario bytes ≡ Ok written)
 
 abbrev pub other_kind_words : Kind → List ℕ
 other_kind_words Replay = codes "this is a scenario of a run: `mencius run` takes it"

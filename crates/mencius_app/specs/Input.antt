@@ -3,17 +3,20 @@ use Rattle.std.specs.Prelude.{◌≡◌, ◌⊎◌, ℕ, nat_lt, if◌then◌els
 use Rattle.mencius_ends.specs.declared.fault.AppFault.{AppFault}
 use Rattle.mencius_ends.specs.declared.fault.AppFault.TheVariants.{NotJson, BadShape, BadLimit}
 use Rattle.mencius_ends.specs.Ends.{most_bytes}
-use Rattle.mencius_input.specs.Plan.{WrittenPlan, plan}
-use Rattle.mencius_input.specs.Scenario.{Written, scenario}
+use Rattle.mencius_input.specs.Plan.{plan}
+use Rattle.mencius_input.specs.Scenario.{scenario}
+use Rattle.mencius_input.specs.declared.scenario.Scenario.{Scenario}
+use Rattle.mencius_base.specs.declared.event.Event.{Event}
+use Rattle.mencius_base.specs.Plan.{PlanState}
 
 -- what the bytes say as they are read, unless they are too many
 abbrev pub unless_long : {X : Type 0} → (List ℕ → Result X AppFault) → List ℕ → Result X AppFault
 unless_long read bytes = if nat_lt most_bytes (length bytes) then Err BadLimit else read bytes
 
-abbrev pub input_of : List ℕ → Result Written AppFault
+abbrev pub input_of : List ℕ → Result (Scenario (List Event)) AppFault
 input_of bytes = unless_long scenario bytes
 
-abbrev pub plan_input_of : List ℕ → Result WrittenPlan AppFault
+abbrev pub plan_input_of : List ℕ → Result (Scenario PlanState) AppFault
 plan_input_of bytes = unless_long plan bytes
 
 -- all that a reader has, so far as that is known, says this as it is read

@@ -9,9 +9,10 @@ use Rattle.mencius_ends.specs.declared.fault.AppFault.TheVariants.{BoardFailed, 
 use Rattle.mencius_app.specs.Input.{Says, plan_input_of}
 use Rattle.mencius_app.specs.Journal.{ReadsBack, journal_text}
 use Rattle.mencius_app.specs.Plan.{IsOutcome}
-use Rattle.mencius_input.specs.Plan.{WrittenPlan}
 use Rattle.mencius_app.specs.Report.{report_text}
 use Rattle.mencius_trace.specs.Words.{former_text, line_feed}
+use Rattle.mencius_input.specs.declared.scenario.Scenario.{Scenario}
+use Rattle.mencius_base.specs.Plan.{PlanState}
 
 -- ---- the text
 
@@ -55,7 +56,7 @@ IsOwnFault fault = (fault ≡ NoMemory) ⊎ (fault ≡ BoardFailed)
 -- came, whose journal replays, and whose journal's line says it again
 pub record IsRunOf (known : Option (List ℕ)) (with_journal : Bool) (key : Option (List ℕ)) (text : List ℕ)
     : Type 0 where
-  pub written : WrittenPlan
+  pub written : Scenario PlanState
   pub says : Says plan_input_of known written
   pub cluster : ClusterState
   pub outcome : IsOutcome written cluster

@@ -5,18 +5,17 @@ ghost use Rattle.std.specs.List.{flat_map};
 ghost use Rattle.std.specs.Io.KnownBytes.{Appends, IsAtEnd};
 ghost use Rattle.mencius_input.specs.Kinds.{kind_in};
 ghost use Rattle.mencius_input.specs.Place.{IsTold};
-ghost use Rattle.mencius_input.specs.Plan.{run_in};
-ghost use Rattle.mencius_input.specs.Scenario.{scenario, written_in};
+ghost use Rattle.mencius_input.specs.Scenario.{scenario};
 ghost use Rattle.mencius_app.specs.Calls.{AsksLittle, AsksReader, IsCause, IsReadingCause};
 ghost use Rattle.mencius_app.specs.Check.{IsCheckFaultOf, IsCheckOf, Checked, checked, count_text, ok_line, replay_line, run_line};
 ghost use Rattle.mencius_app.specs.Findings.{IsFoundIn, IsToldByFields};
 ghost use Rattle.mencius_trace.specs.Words.{line_feed};
 
 use crate::finding::{Finding, misread, unread};
-use mencius_base::Command;
+use mencius_base::{Command, Plan};
 use mencius_input::{
-    AppFault, Kind, RunInput, Scenario, Sink, Source, kind_of, read_all, read_run_input,
-    read_scenario, write_all,
+    AppFault, Events, Kind, Scenario, Sink, Source, kind_of, read_all, read_plan, read_scenario,
+    write_all,
 };
 use std::alloc::{AllocError, Global};
 
@@ -117,36 +116,36 @@ fn line_of_run(alloc: Global, bytes: &[u8]) -> Result<String, Finding>
     ensures words { IfErr result (λ found. IfSome found.words (λ line. (words : List ℕ)
         × IsToldByFields found.fault bytes.now words × (string_bytes line ≡ words ++ line_feed))) }
 {
-    match read_run_input(alloc, bytes) {
-        Ok(input) => Ok(run_line(alloc, &input)?),
+    match read_plan(alloc, bytes) {
+        Ok(scenario) => Ok(run_line(alloc, &scenario)?),
         Err(fault) => Err(misread(alloc, Kind::Run, bytes, fault)),
     }
 }
 
 // What is printed of a scenario of `replay`.
-fn replay_line(alloc: Global, scenario: &Scenario) -> Result<String, AllocError>
-    ensures { IfOk result (λ s. string_bytes s ≡ replay_line (written_in scenario.now)) }
+fn replay_line(alloc: Global, scenario: &Scenario<Events>) -> Result<String, AllocError>
+    ensures { IfOk result (λ s. string_bytes s ≡ replay_line scenario.now) }
 {
     let servers = scenario.members.count();
-    let events = scenario.events.len();
+    let events = scenario.course.len();
     let mut line = String::new(alloc);
     writeln!(line, "ok servers {servers} events {events}")?;
     Ok(line)
 }
 
 // What is printed of a scenario of `run`.
-fn run_line(alloc: Global, input: &RunInput) -> Result<String, AllocError>
-    ensures { IfOk result (λ s. string_bytes s ≡ run_line (run_in input.now)) }
+fn run_line(alloc: Global, scenario: &Scenario<Plan>) -> Result<String, AllocError>
+    ensures { IfOk result (λ s. string_bytes s ≡ run_line scenario.now) }
 {
-    let servers = input.members.count();
-    let workers = input.workers;
-    let turns = input.turns;
+    let servers = scenario.members.count();
+    let workers = scenario.course.workers();
+    let turns = scenario.course.turns();
     let mut line = String::new(alloc);
     write!(
         line,
         "ok servers {servers} workers {workers} turns {turns} commands"
     )?;
-    push_counts(&mut line, input.commands.as_slice())?;
+    push_counts(&mut line, scenario.course.commands())?;
     line.push('\n')?;
     Ok(line)
 }

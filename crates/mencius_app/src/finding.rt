@@ -6,7 +6,7 @@ ghost use Rattle.mencius_app.specs.Findings.{IsOtherKind, IsToldAs, other_kind_w
 ghost use Rattle.mencius_trace.specs.Words.{line_feed};
 
 use mencius_base::NoMemory;
-use mencius_input::{AppFault, Kind, explain, explain_unread, read_run_input, read_scenario};
+use mencius_input::{AppFault, Kind, explain, explain_unread, read_plan, read_scenario};
 use std::alloc::{AllocError, Global};
 
 /// Why a task ended: a fault, and where its scenario has it.
@@ -97,7 +97,7 @@ fn is_other_kind(alloc: Global, kind: Kind, bytes: &[u8]) -> bool
     ensures { result ≡ true → IsOtherKind kind bytes.now }
 {
     match kind {
-        Kind::Replay => read_run_input(alloc, bytes).is_ok(),
+        Kind::Replay => read_plan(alloc, bytes).is_ok(),
         Kind::Run => read_scenario(alloc, bytes).is_ok(),
     }
 }

@@ -9,7 +9,6 @@ mod ending;
 mod fault;
 mod finding;
 mod journal;
-mod plan;
 mod printed;
 mod reading;
 mod replaying;
@@ -23,8 +22,9 @@ pub use ending::{Ending, end};
 pub use finding::Finding;
 pub use mencius_board::{Gate, Open};
 pub use mencius_command_line::{Task, read_command_line};
-pub use mencius_input::{AppFault, Scenario, Sink, Source, Std, exit_status, read_scenario};
-pub use plan::{RunScenario, read_plan};
+pub use mencius_input::{
+    AppFault, Events, Scenario, Sink, Source, Std, exit_status, read_plan, read_scenario,
+};
 pub use printed::report;
 pub use replaying::{replay, replay_judged};
 pub use running::run;

@@ -2,19 +2,21 @@
 
 ghost use Rattle.std.specs.Prelude.{◌≡◌, ◌≢◌, IfErr, IfOk, OnOk};
 ghost use Rattle.std.specs.Io.KnownBytes.{IsAtEnd};
-ghost use Rattle.mencius_input.specs.Scenario.{written_in};
 ghost use Rattle.mencius_app.specs.Calls.{AsksReader, IsReadingCause};
 ghost use Rattle.mencius_app.specs.Findings.{IsFoundIn, IsToldAs};
 ghost use Rattle.mencius_app.specs.Input.{IsFaultOf, Says, input_of};
 
 use crate::finding::{Finding, misread_as, unread};
-use mencius_input::{AppFault, Kind, Scenario, Source, read_all, read_scenario};
+use mencius_input::{AppFault, Events, Kind, Scenario, Source, read_all, read_scenario};
 use std::alloc::Global;
 
 /// The scenario of `replay` that a reader has, or what is wrong with it.
-pub(crate) fn read_input<R: Source>(alloc: Global, source: &mut R) -> Result<Scenario, Finding>
+pub(crate) fn read_input<R: Source>(
+    alloc: Global,
+    source: &mut R,
+) -> Result<Scenario<Events>, Finding>
     ensures end { OnOk result (IsAtEnd (R.remaining source.new)) }
-    ensures said { IfOk result (λ s. Says input_of (R.remaining source.old) (written_in s)) }
+    ensures said { IfOk result (λ s. Says input_of (R.remaining source.old) s) }
     ensures fault { IfErr result (λ found. IsReadingCause (IsFaultOf (R.remaining source.old))
         (R.failed source.old) (R.failed source.new) found.fault) }
     ensures no_board { IfErr result (λ found. found.fault ≢ AppFault.BoardFailed) }

@@ -38,7 +38,7 @@ pub fn trace<R: Source, W: Sink>(alloc: Global, source: &mut R, sink: &mut W) ->
         (R.failed source.old) (R.failed source.new) (W.failed sink.old) (W.failed sink.new) }
 {
     let scenario = read_input(alloc, source)?;
-    let text = traced(alloc, scenario.members, scenario.events)?;
+    let text = traced(alloc, scenario.members, scenario.course)?;
     write_all(sink, text.as_bytes())?;
     Ok(())
 }

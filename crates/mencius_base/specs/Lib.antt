@@ -6,3 +6,4 @@ pub mod Command
 pub mod Message
 pub mod Refusal
 pub mod Outbox
+pub mod Plan

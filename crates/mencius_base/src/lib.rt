@@ -1,5 +1,5 @@
 //! The words of the protocol: the members of a cluster and its ballots, what clients ask for, what
-//! servers send, what happens to a cluster, and why a call is refused.
+//! servers send, what happens to a cluster, why a call is refused, and what workers are to do.
 //!
 //! Nothing here decides anything. Each type keeps its own limits, so that the crates above never
 //! test them again.
@@ -12,6 +12,7 @@ mod limits;
 mod members;
 mod message;
 mod outbox;
+mod plan;
 mod refusal;
 
 pub use ballot::Ballot;
@@ -25,4 +26,5 @@ pub use limits::{
 pub use members::Members;
 pub use message::{Answer, Message, Value, Vote};
 pub use outbox::Outbox;
+pub use plan::Plan;
 pub use refusal::{NoMemory, Refusal};

@@ -11,7 +11,7 @@ use Rattle.std.proofs.lemmas.Option.{slice_get_read}
 use Rattle.mencius_base.specs.Members.{below}
 use Rattle.mencius_model.proofs.Lists.{length_below}
 use Rattle.mencius_choices.specs.Choices.{ChooserState, first_chooser}
-use Rattle.mencius_choices.specs.Plans.{PlanState}
+use Rattle.mencius_base.specs.Plan.{PlanState}
 use Rattle.mencius_board.specs.declared.fault.BoardFault.{BoardFault}
 use Rattle.mencius_board.specs.declared.fault.BoardFault.TheVariants.{NoWorker}
 use Rattle.mencius_board.specs.Boards.{BoardState}

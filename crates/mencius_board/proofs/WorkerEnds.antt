@@ -5,7 +5,7 @@ use Rattle.std.proofs.Common.{length-append, refl, sym, ◌∙◌, subst, inl, i
 use Rattle.mencius_board.specs.declared.fault.BoardFault.{BoardFault}
 use Rattle.mencius_choices.specs.Choices.{ChooserState, HasTurned, ProgressState, chooser_at, first_chooser}
 use Rattle.mencius_board.specs.Faults.{IsRunFault}
-use Rattle.mencius_choices.specs.Plans.{PlanState}
+use Rattle.mencius_base.specs.Plan.{PlanState}
 use Rattle.mencius_board.specs.Running.{EndState, HaveEnded, HaveFailed, HaveTurned, IsEndOf, TakesTurns, settled, settled_behind}
 use Rattle.mencius_board.proofs.ListSteps.{more_of}
 

@@ -8,7 +8,7 @@ use Rattle.mencius_board.specs.declared.workers.ProgressOf.{ProgressOf}
 use Rattle.mencius_board.specs.Boards.{BoardState}
 use Rattle.mencius_board.specs.Faults.{IsWorkerFault}
 use Rattle.mencius_board.specs.Turns.{TakesTurn, is_to_show}
-use Rattle.mencius_choices.specs.Plans.{PlanState}
+use Rattle.mencius_base.specs.Plan.{PlanState}
 use Rattle.mencius_choices.specs.Choices.{ChooserState, HasTurned, ProgressState, chooser_at, drawing_after, first_chooser}
 
 -- how a worker ended

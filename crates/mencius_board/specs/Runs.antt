@@ -2,7 +2,7 @@
 use Rattle.std.specs.Prelude.{ℕ, Bool, true, false, ◌≡◌, ◌≢◌, ◌⊎◌, ◌<◌, ◌+◌, ◌==◌, List, [], ◌∷◌, map, set, get_or, slice_get, Some, Result, Ok, Err, IfErr, if◌then◌else◌, length}
 use Rattle.mencius_base.specs.Members.{below}
 use Rattle.mencius_choices.specs.Choices.{ChooserState, first_chooser}
-use Rattle.mencius_choices.specs.Plans.{PlanState, plan_of}
+use Rattle.mencius_base.specs.Plan.{PlanState, plan_of}
 use Rattle.mencius_board.specs.Boards.{BoardState, new_board}
 use Rattle.mencius_board.specs.declared.fault.BoardFault.{BoardFault}
 use Rattle.mencius_board.specs.declared.fault.BoardFault.TheVariants.{NoMemory, NoWorker}

@@ -25,7 +25,8 @@ mod workers;
 
 pub use board::Board;
 pub use fault::BoardFault;
-pub use mencius_choices::{Chooser, Pick, Plan, pick};
+pub use mencius_base::Plan;
+pub use mencius_choices::{Chooser, Pick, pick};
 pub use news::News;
 pub use reader::Reader;
 pub use running::run_plan;

@@ -5,13 +5,13 @@ ghost use Rattle.mencius_board.specs.Boards.{BoardState};
 ghost use Rattle.mencius_board.specs.Faults.{IsRunFault};
 ghost use Rattle.mencius_board.specs.Runs.{GoesOn, HasFailed, HasRun, HasStopped, first_fault};
 ghost use Rattle.mencius_choices.specs.Choices.{first_chooser};
-ghost use Rattle.mencius_choices.specs.Plans.{PlanState};
+ghost use Rattle.mencius_base.specs.Plan.{PlanState};
 
 use crate::board::Board;
 use crate::fault::BoardFault;
 use crate::workers::{Gate, is_to_show, lend, take_turn};
-use mencius_base::NoMemory;
-use mencius_choices::{Chooser, Plan};
+use mencius_base::{NoMemory, Plan};
+use mencius_choices::Chooser;
 use std::alloc::Global;
 use std::marker::{Brand, Model, PhantomData, Send, Sync};
 use std::sync::{Mutex, Wait};

@@ -9,8 +9,8 @@ ghost use Rattle.mencius_board.specs.declared.fault.BoardFault.TheVariants.{NoWo
 
 use crate::board::Board;
 use crate::fault::BoardFault;
-use mencius_base::{NoMemory, Refusal};
-use mencius_choices::{Chooser, Plan, Progress};
+use mencius_base::{NoMemory, Plan, Refusal};
+use mencius_choices::{Chooser, Progress};
 use std::alloc::Global;
 use std::sync::{Mutex, Wait};
 use std::thread;

@@ -3,9 +3,10 @@ use Rattle.std.proofs.Common.{◌≡◌, ℕ, suc, ◌+◌, ◌-◌, ◌<◌, �
 use Rattle.std.proofs.Common.{length, refl, sym, ap, ◌∙◌, arith, filter_map}
 use Rattle.std.specs.List.{cons_option, flat_map, range_with_len}
 use Rattle.mencius_base.specs.declared.command.Command.{Command}
-use Rattle.mencius_choices.specs.declared.plan.Place.{Place}
-use Rattle.mencius_choices.specs.Plans.{IsFound, IsLed, PlanState, after_place, from_to, own_command, row_count, row_from}
-use Rattle.mencius_choices.specs.Plans.{rows_from}
+use Rattle.mencius_choices.specs.declared.order.Place.{Place}
+use Rattle.mencius_base.specs.Plan.{PlanState}
+use Rattle.mencius_choices.specs.Order.{IsFound, IsLed, after_place, from_to, own_command, row_count, row_from}
+use Rattle.mencius_choices.specs.Order.{rows_from}
 use Rattle.mencius_choices.specs.Choices.{left_at, led_by}
 
 from_to-more : (first stop : ℕ) → first < stop → from_to first stop ≡ first ∷ from_to (first + 1) stop

@@ -8,7 +8,8 @@ use Rattle.mencius_base.specs.Members.{below, instances, most_messages, most_eve
 use Rattle.mencius_cluster.specs.State.{ClusterState}
 use Rattle.mencius_choices.specs.declared.choice.Pick.TheVariants.{NextCommand, Is}
 use Rattle.mencius_choices.specs.Picks.{pick_of}
-use Rattle.mencius_choices.specs.Plans.{PlanState, commands_of_worker, plan_of}
+use Rattle.mencius_base.specs.Plan.{PlanState, plan_of}
+use Rattle.mencius_choices.specs.Order.{commands_of_worker}
 
 -- client 1 reads the key `a`
 abbrev get : ℕ → Command

@@ -8,10 +8,11 @@ use Rattle.mencius_base.specs.declared.event.Event.{Event}
 use Rattle.mencius_base.specs.declared.event.Event.TheVariants.{Submit}
 use Rattle.mencius_choices.specs.declared.choice.Pick.{Pick}
 use Rattle.mencius_choices.specs.declared.choice.Pick.TheVariants.{NextCommand, Is}
-use Rattle.mencius_choices.specs.declared.plan.Place.{Place}
+use Rattle.mencius_choices.specs.declared.order.Place.{Place}
 use Rattle.mencius_cluster.specs.State.{ClusterState}
 use Rattle.mencius_choices.specs.Picks.{pick_of}
-use Rattle.mencius_choices.specs.Plans.{PlanState, after_place, commands_of_worker, own_command}
+use Rattle.mencius_base.specs.Plan.{PlanState}
+use Rattle.mencius_choices.specs.Order.{after_place, commands_of_worker, own_command}
 
 -- a worker's number, and the generator that it draws from
 pub record Drawing : Type 0 where

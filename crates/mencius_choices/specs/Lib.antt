@@ -1,3 +1,3 @@
-pub mod Plans
+pub mod Order
 pub mod Picks
 pub mod Choices

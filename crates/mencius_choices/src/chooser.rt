@@ -2,13 +2,13 @@
 ghost use Rattle.std.specs.Prelude.{◌≡◌, ◌+◌, ◌<◌, ◌^◌, ◌∷◌, [], MatchOption, MatchResult, OnSome, IfSome};
 ghost use Rattle.mencius_base.specs.Limits.{most_servers};
 ghost use Rattle.mencius_base.specs.declared.event.Event.TheVariants.{Submit};
-ghost use Rattle.mencius_choices.specs.Plans.{after_place};
+ghost use Rattle.mencius_choices.specs.Order.{after_place};
 ghost use Rattle.mencius_choices.specs.Choices.{IsChosen, IsPutOff, chooser_at, drawn, first_chooser, words_of};
 
 use crate::choice::Pick;
-use crate::plan::{Place, Plan};
+use crate::order::{Place, find_after, find_from_row, own_command};
 use crate::table::pick;
-use mencius_base::{Command, Event, NoMemory};
+use mencius_base::{Command, Event, NoMemory, Plan};
 use mencius_cluster::Cluster;
 use rand_core::utils::NextWord;
 use rand_pcg::Lcg64Xsh32;
@@ -63,7 +63,7 @@ impl<'a> Chooser<'a> {
         let progress = Progress {
             worker,
             generator: Lcg64Xsh32::new(plan.seed(), u64::from(worker)),
-            next: plan.find_from_row(worker, 0),
+            next: find_from_row(plan, worker, 0),
         };
         Chooser { plan, progress }
     }
@@ -118,7 +118,7 @@ impl<'a> Chooser<'a> {
             (λ _. self.new ≡ self.old) }
     {
         let command = command.clone()?;
-        self.progress.next = self.plan.find_after(self.progress.worker, place);
+        self.progress.next = find_after(self.plan, self.progress.worker, place);
         let server = place.server;
         Ok(Event::Submit { server, command })
     }
@@ -132,7 +132,7 @@ impl<'a> Chooser<'a> {
         ensures row { IfSome result (λ x. x.0.row + 1 < 2 ^ 64) }
     {
         let place = self.progress.next?;
-        let command = self.plan.own_command(self.progress.worker, place)?;
+        let command = own_command(self.plan, self.progress.worker, place)?;
         Some((place, command))
     }
 

@@ -3,6 +3,7 @@ pub mod Stops
 pub mod NotedItems
 pub mod NamedFields
 pub mod CasItems
+pub mod SharedFields
 pub mod ScenarioFields
 pub mod RunFields
 pub mod StepsAndCommands

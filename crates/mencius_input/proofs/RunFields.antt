@@ -1,151 +1,129 @@
 -- The fields of a scenario of `run`, and what they say.
-use Rattle.std.proofs.Common.{nat_le, ◌≡◌, ◌≤◌, ℕ, arith, ◌&&◌, Bool, true, false, not, cond, List, length, Option, Some, None, Ok, Err, refl, ap, ap₂, sym, ◌∙◌, codes, option_and_then, option_map}
-use Rattle.std.specs.Prelude.{if◌then◌else◌}
+use Rattle.std.proofs.Common.{nat_le, ◌≡◌, ℕ, ◌==◌, arith, ◌&&◌, Bool, true, false, cond, List, [], ◌∷◌, length, Option, Some, None, Ok, Err, refl, ap, sym, ◌∙◌, codes, option_and_then, option_map}
 use Rattle.std.specs.List.{list_all}
 use Rattle.std.proofs.Math.Bool.{and-true, and-false}
-use Rattle.std.proofs.lemmas.Bool.{and_parts}
 use Rattle.std.proofs.lemmas.Bool.Decides.{nat_tests}
 use Rattle.serde_json.specs.Data.{Data, Items, Members, object}
-use Rattle.serde_json.specs.Find.{as_array, as_object, get_member}
-use Rattle.mencius_base.specs.Limits.{greatest_loss, most_servers, most_turns, most_workers}
+use Rattle.serde_json.specs.Find.{as_array, get_member}
+use Rattle.mencius_base.specs.Limits.{most_servers}
+use Rattle.mencius_base.specs.Plan.{PlanState, plan_of}
 use Rattle.mencius_base.specs.Request.{Request}
 use Rattle.mencius_ends.specs.declared.fault.AppFault.TheVariants.{BadLimit}
 use Rattle.mencius_format.specs.Grammar.{command_within}
 use Rattle.mencius_format.specs.Judged.{judged}
-use Rattle.mencius_format.proofs.JudgedParts.{judged_ok}
+use Rattle.mencius_input.specs.declared.field.Field.TheVariants.{Workers, Seed, Turns, Loss}
 use Rattle.mencius_input.specs.declared.fields.Fields as code
 use Rattle.mencius_input.specs.declared.kind.Kind.TheVariants.{Run}
-use Rattle.mencius_input.specs.declared.plan.Numbers.{Numbers}
-use Rattle.mencius_input.specs.Fields.{AreFields, all_said, fitted_lists, list_kept, list_said, lists_in, lists_within, numbers_in, of_lists, plan_said, wholes_of}
-use Rattle.mencius_input.specs.FieldsOf.{field_within, names, whole_fields}
-use Rattle.mencius_input.specs.Plan.{WrittenPlan, commands_of, lists_fit, numbers_of, plan, plan_of, plan_within}
-use Rattle.mencius_input.specs.Scenario.{◌>>=◌, all_of, has_only, json_of, or_not_json, read_there}
+use Rattle.mencius_input.specs.declared.scenario.Shared.{Shared}
+use Rattle.mencius_input.specs.Fields.{AreFields, fitted, fitted_plan, list_kept, list_said, lists_within, plan_fits, plan_said, said_of, shared_in, shared_within}
+use Rattle.mencius_input.specs.FieldsOf.{field_within, names}
+use Rattle.mencius_input.specs.Plan.{commands_of, numbers_within, plan_read, plan_within}
+use Rattle.mencius_input.specs.Scenario.{all_in, all_of, has_only, number_of, scenario_of, scenario_within}
 use Rattle.mencius_input.proofs.CasItems.{lists_said_in}
+use Rattle.mencius_input.proofs.SharedFields.{fitted_judged, members_in, shared_say}
 
-abbrev written : Numbers → List (List Request) → WrittenPlan
-written n cs = record { numbers = n; commands = cs }
+-- ---- what an object says as a plan, by its fields
 
--- ---- what an object says, by its fields
+abbrev planned : ℕ → Option ℕ → Option ℕ → Option ℕ → Option ℕ → Option Data → Option PlanState
+planned version ow os ot ol value =
+    option_and_then (λ workers. option_and_then (λ seed. option_and_then (λ turns. option_and_then (λ loss.
+    option_and_then (λ lists. option_and_then (λ commands. Some (plan_of workers seed turns loss commands))
+    (all_of (commands_of version) lists)) (option_and_then as_array value)) ol) ot) os) ow
 
--- the numbers and the value of the commands, where there is no other field
-abbrev bound : Bool → Option Numbers → Option Data → Option WrittenPlan
-bound only numbers commands = do
-  n ← numbers
-  lists ← option_and_then as_array commands
-  all ← all_of (commands_of n.version) lists
-  if only then Some (written n all) else None
+plan_bound : (version : ℕ) (ms : Members) → plan_read version (object ms)
+    ≡ planned version (number_of Workers (object ms)) (number_of Seed (object ms)) (number_of Turns (object ms))
+    (number_of Loss (object ms)) (get_member (codes "commands") ms)
+unfolding plan_read
+plan_bound version ms = refl
 
-plan_bound : (ms : Members) → plan_of (object ms)
-    ≡ bound (has_only (names Run) ms) (numbers_of (object ms)) (get_member (codes "commands") ms)
-unfolding plan_of
-plan_bound ms = refl
+-- ---- the limits
 
--- more lists than there may be servers are refused by the other limits too
-too_many : (n : Numbers) (many : ℕ) → nat_le many most_servers ≡ false
-    → lists_fit n many ≡ false
+-- as they are tested
+abbrev tested : ℕ → PlanState → Bool
+tested servers plan = plan_fits servers plan && list_all (list_all command_within) plan.commands
+
+-- more lists than there may be servers are refused by the limits of both kinds
+too_many : (shared : Shared) (numbers : Bool) (many : ℕ) → nat_le many most_servers ≡ false
+    → (shared_within shared && (numbers && (many == shared.servers))) ≡ false
 unfolding field_within
-too_many n many e = grind (arith, nat_tests)
+too_many shared numbers many e = grind (arith, nat_tests)
 
-by_list : (n : Numbers) (all : List (List Request)) (l few : Bool) → nat_le (length all) most_servers ≡ few
-    → fitted_lists n (cond (l && few) (Ok all) (Err BadLimit))
-    ≡ cond (lists_fit n (length all) && l) (Ok (written n all)) (Err BadLimit)
-by_list n all true true e =
-    let fits = lists_fit n (length all) in
-    ap (λ bit. cond bit (Ok (written n all)) (Err BadLimit)) (sym (and-true fits))
-by_list n all true false e =
-    ap (λ bit. cond (bit && true) (Ok (written n all)) (Err BadLimit)) (sym (too_many n (length all) e))
-by_list n all false few e =
-    let fits = lists_fit n (length all) in
-    ap (λ bit. cond bit (Ok (written n all)) (Err BadLimit)) (sym (and-false fits))
+by_few : (cluster own few lists : Bool) → (few ≡ false → (cluster && own) ≡ false)
+    → (cluster && ((own && few) && lists)) ≡ (cluster && (own && lists))
+by_few cluster own true lists h = ap (λ bit. cluster && (bit && lists)) (and-true own)
+by_few true true false lists h = let none = h refl in absurd (cc)
+by_few true false false lists h = refl
+by_few false own false lists h = refl
 
-with_all : (n : Numbers) (o : Option (List (List Request)))
-    → fitted_lists n (judged lists_within o)
-    ≡ judged plan_within (option_and_then (λ all. Some (written n all)) o)
-with_all n None = refl
-with_all n (Some all) = by_list n all (list_all (list_all command_within) all) (nat_le (length all) most_servers) refl
+same_limits : (shared : Shared) (plan : PlanState) → (shared_within shared && tested shared.servers plan)
+    ≡ (shared_within shared && plan_within (members_in shared) plan)
+same_limits shared plan =
+    by_few (shared_within shared) (numbers_within plan && (length plan.commands == shared.servers))
+    (nat_le (length plan.commands) most_servers) (list_all (list_all command_within) plan.commands)
+    (too_many shared (numbers_within plan) (length plan.commands))
 
-with_items : (n : Numbers) (o : Option Items)
-    → fitted_lists n (judged lists_within (option_and_then (all_of (commands_of n.version)) o))
-    ≡ judged plan_within
-    (option_and_then (λ ds. option_and_then (λ all. Some (written n all)) (all_of (commands_of n.version) ds)) o)
-with_items n None = refl
-with_items n (Some ds) = with_all n (all_of (commands_of n.version) ds)
+-- ---- the lists
 
-with_lists : (n : Numbers) (d : Data) → plan_said (Some n) (Some (of_lists (lists_in d)))
-    ≡ judged plan_within
-    (option_and_then (λ ds. option_and_then (λ all. Some (written n all)) (all_of (commands_of n.version) ds)) (as_array d))
-with_lists n d = ap (fitted_lists n) (lists_said_in n.version lists_within d) ∙ with_items n (as_array d)
+module _ (servers workers seed turns loss : ℕ) where
+  abbrev of : List (List Request) → PlanState
+  of = plan_of workers seed turns loss
 
-unsaid : (o : Option (List (List Request))) → option_and_then {U = WrittenPlan} (λ all. None) o ≡ None
-unsaid None = refl
-unsaid (Some all) = refl
+  by_list : (all : List (List Request)) (l few : Bool) → nat_le (length all) most_servers ≡ few
+      → fitted_plan servers of (cond (l && few) (Ok all) (Err BadLimit))
+      ≡ cond (plan_fits servers (of all) && l) (Ok (of all)) (Err BadLimit)
+  by_list all true true e =
+      ap (λ bit. cond bit (Ok (of all)) (Err BadLimit)) (sym (and-true (plan_fits servers (of all))))
+  by_list all true false e =
+      let own = numbers_within (of all) && (length all == servers) in
+      sym (ap (λ bit. cond ((own && bit) && true) (Ok (of all)) (Err BadLimit)) e
+      ∙ ap (λ bit. cond (bit && true) (Ok (of all)) (Err BadLimit)) (and-false own))
+  by_list all false few e =
+      ap (λ bit. cond bit (Ok (of all)) (Err BadLimit)) (sym (and-false (plan_fits servers (of all))))
 
-with_more : (n : Numbers) (o : Option Items)
-    → option_and_then {U = WrittenPlan} (λ ds. option_and_then (λ all. None) (all_of (commands_of n.version) ds)) o ≡ None
-with_more n None = refl
-with_more n (Some ds) = unsaid (all_of (commands_of n.version) ds)
+  with_all : (o : Option (List (List Request)))
+      → fitted_plan servers of (judged lists_within o) ≡ judged (tested servers) (option_map of o)
+  with_all None = refl
+  with_all (Some all) =
+      by_list all (list_all (list_all command_within) all) (nat_le (length all) most_servers) refl
 
-by_parts : (only : Bool) (numbers : Option Numbers) (o : Option Data)
-    → all_said (not only) (plan_said numbers (option_map (list_said Run) o)) ≡ judged plan_within (bound only numbers o)
-by_parts false None o = refl
-by_parts false (Some n) None = refl
-by_parts false (Some n) (Some d) = sym (ap (judged plan_within) (with_more n (as_array d)))
-by_parts true None o = refl
-by_parts true (Some n) None = refl
-by_parts true (Some n) (Some d) = with_lists n d
+  mapped : (o : Option (List (List Request)))
+      → option_map of o ≡ option_and_then (λ commands. Some (of commands)) o
+  mapped None = refl
+  mapped (Some all) = refl
 
--- the numbers, in the two ways in which they are said
-numbers_said : (d : Data) → numbers_in (wholes_of (whole_fields Run) d) ≡ numbers_of d
-unfolding numbers_of
-numbers_said d = refl
+  mapped_items : (version : ℕ) (o : Option Items)
+      → option_map of (option_and_then (all_of (commands_of version)) o)
+      ≡ option_and_then (λ lists. option_and_then (λ commands. Some (of commands)) (all_of (commands_of version) lists)) o
+  mapped_items version None = refl
+  mapped_items version (Some lists) = mapped (all_of (commands_of version) lists)
+
+plan_judged : (shared : Shared) (ow os ot ol : Option ℕ) (value : Option Data)
+    → plan_said shared (ow ∷ os ∷ ot ∷ ol ∷ []) (option_map (list_said Run) value)
+    ≡ judged (tested shared.servers) (planned shared.version ow os ot ol value)
+plan_judged shared None os ot ol value = refl
+plan_judged shared (Some workers) None ot ol value = refl
+plan_judged shared (Some workers) (Some seed) None ol value = refl
+plan_judged shared (Some workers) (Some seed) (Some turns) None value = refl
+plan_judged shared (Some workers) (Some seed) (Some turns) (Some loss) None = refl
+plan_judged shared (Some workers) (Some seed) (Some turns) (Some loss) (Some d) =
+    ap (fitted_plan shared.servers (plan_of workers seed turns loss)) (lists_said_in shared.version lists_within d)
+    ∙ with_all shared.servers workers seed turns loss (all_in (commands_of shared.version) d)
+    ∙ ap (judged (tested shared.servers)) (mapped_items shared.servers workers seed turns loss shared.version (as_array d))
 
 -- the answer
-pub plan_fields_say : (f : code.Fields) (ms : Members) → AreFields Run f ms
-    → all_said f.has_other (plan_said (numbers_in f.wholes.items) (option_map list_kept f.list))
-    ≡ judged plan_within (plan_of (object ms))
-plan_fields_say f ms h =
-    ap (λ other. all_said other (plan_said (numbers_in f.wholes.items) (option_map list_kept f.list))) h.other
-    ∙ ap₂ (λ numbers list. all_said (not (has_only (names Run) ms)) (plan_said numbers list))
-    (ap numbers_in h.wholes ∙ numbers_said (object ms)) h.list
-    ∙ by_parts (has_only (names Run) ms) (numbers_of (object ms)) (get_member (codes "commands") ms)
-    ∙ ap (judged plan_within) (sym (plan_bound ms))
-
--- what is no object is no scenario of a run
-pub no_object_planned : (d : Data) → as_object d ≡ None → plan_of d ≡ None
-unfolding plan_of
-no_object_planned d e = rw e refl
-
--- ---- what was judged well
-
--- what is said by bytes that are judged well is within the limits
-plan_fits : (bytes : List ℕ) (x : WrittenPlan) → plan bytes ≡ Ok x → plan_within x ≡ true
-plan_fits bytes x e = by_value (json_of bytes) e
-  where
-    by_value : (o : Option Data) → read_there (λ d. judged plan_within (plan_of d)) (or_not_json o) ≡ Ok x
-        → plan_within x ≡ true
-    by_value None e = absurd (cc)
-    by_value (Some d) e = (judged_ok plan_within (plan_of d) x e).1
-
-in_range : (n : Numbers) (many : ℕ) → lists_fit n many ≡ true
-    → (1 ≤ n.workers) × (n.workers ≤ most_workers) × (n.turns ≤ most_turns) × (n.loss ≤ greatest_loss)
-    × (many ≤ most_servers)
-unfolding field_within
-in_range n many e = (
-  grind (arith, nat_tests),
-  grind (arith, nat_tests),
-  grind (arith, nat_tests),
-  grind (
-    arith,
-    nat_tests,
-  ),
-  grind (arith, nat_tests),
-)
-
--- so its numbers are those of a plan
-pub plan_in_range : (bytes : List ℕ) (x : WrittenPlan) → plan bytes ≡ Ok x
-    → (1 ≤ x.numbers.workers) × (x.numbers.workers ≤ most_workers) × (x.numbers.turns ≤ most_turns)
-    × (x.numbers.loss ≤ greatest_loss) × (length x.commands ≤ most_servers)
-plan_in_range bytes x e =
-    let fits = and_parts (lists_fit x.numbers (length x.commands))
-    (list_all (list_all command_within) x.commands) (plan_fits bytes x e) in
-    in_range x.numbers (length x.commands) fits.0
+pub plan_fields_say : (f : code.Fields) (ms : Members) → AreFields Run f ms → has_only (names Run) ms ≡ true
+    → said_of (λ shared own. plan_said shared own (option_map list_kept f.list)) (shared_in f.wholes.items)
+    ≡ judged (scenario_within plan_within) (scenario_of Run plan_read (object ms))
+plan_fields_say f ms h only =
+    let ow = number_of Workers (object ms) in
+    let os = number_of Seed (object ms) in
+    let ot = number_of Turns (object ms) in
+    let ol = number_of Loss (object ms) in
+    let value = get_member (codes "commands") ms in
+    ap (λ list. said_of (λ shared own. plan_said shared own list) (shared_in f.wholes.items)) h.list
+    ∙ shared_say Run (λ shared own. plan_said shared own (option_map (list_said Run) value)) plan_within
+    plan_read f.wholes.items (ow ∷ os ∷ ot ∷ ol ∷ []) ms h.wholes only
+    (λ shared. ap (fitted shared) (plan_judged shared ow os ot ol value)
+    ∙ fitted_judged shared (tested shared.servers) plan_within (same_limits shared)
+    (planned shared.version ow os ot ol value)
+    ∙ rw (plan_bound shared.version ms) refl)

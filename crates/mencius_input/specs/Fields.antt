@@ -1,15 +1,16 @@
 -- The fields of a scenario's object that were read so far; for private clauses.
-use Rattle.std.specs.Prelude.{◌≡◌, ℕ, ◌&&◌, List, [], ◌∷◌, length, map, not, Bool, true, false, Option, Some, None, option_map, Result, Ok, Err, nat_le, if◌then◌else◌}
+use Rattle.std.specs.Prelude.{◌≡◌, ◌⊎◌, ℕ, ◌==◌, ◌&&◌, List, [], ◌∷◌, length, map, not, Bool, true, false, Option, Some, None, option_map, Result, Ok, Err, nat_le, if◌then◌else◌}
 use Rattle.std.specs.List.{list_all}
 use Rattle.std.proofs.Common.{Global, Vec}
 use Rattle.serde_json.specs.Data.{Data, Members, object}
-use Rattle.serde_json.specs.Find.{get_member}
+use Rattle.serde_json.specs.Find.{as_object, get_member}
 use Rattle.mencius_base.specs.Limits.{most_servers}
 use Rattle.mencius_base.specs.declared.command.Command.{Command}
 use Rattle.mencius_base.specs.declared.event.Event.{Event}
+use Rattle.mencius_base.specs.Plan.{PlanState, plan_of}
 use Rattle.mencius_base.specs.Request.{Request}
 use Rattle.mencius_ends.specs.declared.fault.AppFault.{AppFault}
-use Rattle.mencius_ends.specs.declared.fault.AppFault.TheVariants.{BadLimit, BadShape}
+use Rattle.mencius_ends.specs.declared.fault.AppFault.TheVariants.{BadLimit, BadShape, NoMemory, NotJson}
 use Rattle.mencius_format.specs.Grammar.{command_within, event_within, newest_version}
 use Rattle.mencius_format.specs.Judged.{judged, seen}
 use Rattle.mencius_input.specs.declared.field.Field.{Field}
@@ -19,12 +20,13 @@ use Rattle.mencius_input.specs.declared.fields.KeptList.TheVariants as kept
 use Rattle.mencius_input.specs.declared.kind.Kind.{Kind}
 use Rattle.mencius_input.specs.declared.kind.Kind.TheVariants.{Replay, Run}
 use Rattle.mencius_input.specs.declared.newest.Newest.{Newest}
-use Rattle.mencius_input.specs.declared.plan.Numbers.{Numbers}
+use Rattle.mencius_input.specs.declared.scenario.Scenario.{Scenario}
+use Rattle.mencius_input.specs.declared.scenario.Shared.{Shared}
 use Rattle.mencius_input.specs.FieldsOf.{field_name, list_field, names, whole_fields}
 use Rattle.mencius_input.specs.Newest.{any_in, has_command_cas, has_event_cas, in_version}
 use Rattle.mencius_input.specs.Noted.{list_in}
-use Rattle.mencius_input.specs.Plan.{WrittenPlan, commands_of, lists_fit}
-use Rattle.mencius_input.specs.Scenario.{◌>>=◌, Written, all_in, cluster_within, has_only, number_of}
+use Rattle.mencius_input.specs.Plan.{commands_of, numbers_within}
+use Rattle.mencius_input.specs.Scenario.{◌>>=◌, all_in, cluster_within, has_only, number_of}
 
 -- ---- the lists
 
@@ -77,60 +79,76 @@ pub record AreFields (kind : Kind) (f : code.Fields) (ms : Members) : Type 0 whe
   pub list : Says (list_said kind) (field_name (list_field kind)) (option_map list_kept f.list) ms
   pub other : f.has_other ≡ not (has_only (names kind) ms)
 
--- the answer by the fields, where there is no other
-abbrev pub all_said : {X : Type 0} → Bool → Result X AppFault → Result X AppFault
-all_said true answer = Err BadShape
-all_said false answer = answer
+-- the value is no object that has fields of the kind alone
+abbrev pub IsForeign : Kind → Data → Type 0
+IsForeign kind d = (ms : Members) → as_object d ≡ Some ms → has_only (names kind) ms ≡ false
 
--- ---- a scenario of `replay`
+-- why there are no fields: memory ran out, or there is no value, or it is no such object
+abbrev pub IsUnread : Kind → Option Data → AppFault → Type 0
+IsUnread kind o fault =
+    (fault ≡ NoMemory) ⊎ ((fault ≡ NotJson) × (o ≡ None))
+    ⊎ ((fault ≡ BadShape) × (d : Data) × (o ≡ Some d) × IsForeign kind d)
 
--- within the limits
-abbrev pub fitted : ℕ → ℕ → ℕ → List Event → Result Written AppFault
-fitted version servers beta events =
-    if cluster_within version servers beta
-    then Ok (record { version = version; servers = servers; beta = beta; events = events })
-    else Err BadLimit
+-- all fields of an object were read, and it has no other
+pub record AreAll (kind : Kind) (f : code.Fields) (o : Option Data) : Type 0 where
+  pub ms : Members
+  pub there : o ≡ Some (object ms)
+  pub fields : AreFields kind f ms
+  pub only : has_only (names kind) ms ≡ true
 
-abbrev pub fitted_events : ℕ → ℕ → ℕ → Result (List Event) AppFault → Result Written AppFault
-fitted_events version servers beta (Ok events) = fitted version servers beta events
-fitted_events version servers beta (Err fault) = Err fault
+-- ---- what both kinds of scenario say
 
--- what the fields say: the version, the number of servers, the beta, and the events
-abbrev pub said : List (Option ℕ) → Option SaidList → Result Written AppFault
-said (Some version ∷ Some servers ∷ Some beta ∷ []) (Some (of_events es)) =
-    fitted_events version servers beta (in_version version es)
-said _ _ = Err BadShape
-
--- ---- a scenario of `run`
-
--- the numbers, where all of them are there
-abbrev pub numbers_in : List (Option ℕ) → Option Numbers
-numbers_in (version ∷ servers ∷ beta ∷ workers ∷ seed ∷ turns ∷ loss ∷ []) = do
+-- the numbers of both kinds, where all of them are there, and those that follow
+abbrev pub shared_in : List (Option ℕ) → Option (Shared × List (Option ℕ))
+shared_in (version ∷ servers ∷ beta ∷ own) = do
   version ← version
   servers ← servers
   beta ← beta
-  workers ← workers
-  seed ← seed
-  turns ← turns
-  loss ← loss
-  Some (record {
-    version = version;
-    servers = servers;
-    beta = beta;
-    workers = workers;
-    seed = seed;
-    turns = turns;
-    loss = loss;
-  })
-numbers_in _ = None
+  Some (record { version = version; servers = servers; beta = beta }, own)
+shared_in _ = None
 
--- a plan within the limits
-abbrev pub fitted_lists : Numbers → Result (List (List Request)) AppFault → Result WrittenPlan AppFault
-fitted_lists n (Ok lists) =
-    if lists_fit n (length lists) then Ok (record { numbers = n; commands = lists }) else Err BadLimit
-fitted_lists n (Err fault) = Err fault
+-- the scenario of these numbers and this course
+abbrev pub with_course : {X : Type 0} → Shared → X → Scenario X
+with_course shared course = record {
+  version = shared.version;
+  members = record { count = shared.servers; beta = shared.beta };
+  course = course;
+}
 
--- what the fields say
-abbrev pub plan_said : Option Numbers → Option SaidList → Result WrittenPlan AppFault
-plan_said (Some n) (Some (of_lists lists)) = fitted_lists n (in_version n.version lists)
-plan_said _ _ = Err BadShape
+-- within the limits
+abbrev pub shared_within : Shared → Bool
+shared_within shared = cluster_within shared.version (record { count = shared.servers; beta = shared.beta })
+
+abbrev pub fitted : {X : Type 0} → Shared → Result X AppFault → Result (Scenario X) AppFault
+fitted shared (Ok course) = if shared_within shared then Ok (with_course shared course) else Err BadLimit
+fitted shared (Err fault) = Err fault
+
+-- what the numbers say, and a course that is read by them
+abbrev pub said_of : {X : Type 0} → (Shared → List (Option ℕ) → Result X AppFault)
+    → Option (Shared × List (Option ℕ)) → Result (Scenario X) AppFault
+said_of course_said None = Err BadShape
+said_of course_said (Some (shared, own)) = fitted shared (course_said shared own)
+
+-- ---- a scenario of `replay`
+
+abbrev pub schedule_said : Option SaidList → Shared → Result (List Event) AppFault
+schedule_said (Some (of_events es)) shared = in_version shared.version es
+schedule_said _ shared = Err BadShape
+
+-- ---- a scenario of `run`
+
+-- within the limits of plans, with a list for each of so many servers
+abbrev pub plan_fits : ℕ → PlanState → Bool
+plan_fits servers plan =
+    (numbers_within plan && (length plan.commands == servers)) && nat_le (length plan.commands) most_servers
+
+abbrev pub fitted_plan : ℕ → (List (List Request) → PlanState) → Result (List (List Request)) AppFault
+    → Result PlanState AppFault
+fitted_plan servers of (Ok lists) = if plan_fits servers (of lists) then Ok (of lists) else Err BadLimit
+fitted_plan servers of (Err fault) = Err fault
+
+-- what the numbers of a run alone and its lists say
+abbrev pub plan_said : Shared → List (Option ℕ) → Option SaidList → Result PlanState AppFault
+plan_said shared (Some workers ∷ Some seed ∷ Some turns ∷ Some loss ∷ []) (Some (of_lists lists)) =
+    fitted_plan shared.servers (plan_of workers seed turns loss) (in_version shared.version lists)
+plan_said shared _ _ = Err BadShape

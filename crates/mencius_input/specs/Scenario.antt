@@ -1,5 +1,5 @@
 -- What the bytes of a scenario say, or what is wrong with them.
-use Rattle.std.specs.Prelude.{ℕ, ◌&&◌, List, [], ◌∷◌, codes, Bool, true, Option, Some, None, option_and_then, Result, Ok, Err, if◌then◌else◌}
+use Rattle.std.specs.Prelude.{ℕ, ◌&&◌, List, [], ◌∷◌, Bool, true, Option, Some, None, option_and_then, Result, Ok, Err, if◌then◌else◌}
 use Rattle.std.specs.List.{list_all}
 use Rattle.std.specs.Str.{is_utf8}
 use Rattle.serde_json.specs.Data.{Data, Items, Members, no_items, item, no_members, member}
@@ -10,9 +10,10 @@ use Rattle.mencius_base.specs.declared.event.Event.{Event}
 use Rattle.mencius_ends.specs.declared.fault.AppFault.{AppFault}
 use Rattle.mencius_ends.specs.declared.fault.AppFault.TheVariants.{NotJson}
 use Rattle.mencius_input.specs.declared.field.Field.{Field}
-use Rattle.mencius_input.specs.declared.field.Field.TheVariants.{Version, Servers, Beta}
+use Rattle.mencius_input.specs.declared.field.Field.TheVariants.{Version, Servers, Beta, Events}
+use Rattle.mencius_input.specs.declared.kind.Kind.{Kind}
 use Rattle.mencius_input.specs.declared.kind.Kind.TheVariants.{Replay}
-use Rattle.mencius_input.specs.declared.scenario.Scenario as code
+use Rattle.mencius_input.specs.declared.scenario.Scenario.{Scenario}
 use Rattle.mencius_format.specs.Judged.{judged}
 use Rattle.mencius_format.specs.Words.{words}
 use Rattle.mencius_format.specs.Grammar.{event_of, event_within}
@@ -21,13 +22,6 @@ use Rattle.mencius_input.specs.FieldsOf.{default_of, field_name, field_within, i
 infixl 10 ◌>>=◌
 abbrev pub ◌>>=◌ : {X Y : Type 0} → Option X → (X → Option Y) → Option Y
 o >>= f = option_and_then f o
-
--- a version, a number of servers, a beta, and events in order
-pub record Written : Type 0 where
-  pub version : ℕ
-  pub servers : ℕ
-  pub beta : ℕ
-  pub events : List Event
 
 -- ---- the shape
 
@@ -68,27 +62,48 @@ unfoldable pub has_only : List (List ℕ) → Members → Bool
 has_only names no_members = true
 has_only names (member name d ms) = is_one_of name names && has_only names ms
 
--- an object with these fields and no other
-unfoldable pub written_of : Data → Option Written
-written_of d = do
-  fields ← as_object d
-  version ← number_of Version d
+-- the members, by the fields of both kinds
+unfoldable pub members_of : Data → Option Membership
+members_of d = do
   servers ← number_of Servers d
   beta ← number_of Beta d
-  items ← option_and_then as_array (get (codes "events") d)
-  events ← events_of version items
-  if has_only (names Replay) fields
-      then Some (record { version = version; servers = servers; beta = beta; events = events }) else None
+  Some (record { count = servers; beta = beta })
+
+-- an object with the fields of the kind and no other, whose course is read as the version has it
+unfoldable pub scenario_of : {X : Type 0} → Kind → (ℕ → Data → Option X) → Data → Option (Scenario X)
+scenario_of kind course_of d = do
+  fields ← as_object d
+  version ← number_of Version d
+  members ← members_of d
+  course ← course_of version d
+  if has_only (names kind) fields
+      then Some (record { version = version; members = members; course = course }) else None
+
+-- events in order
+unfoldable pub schedule_of : ℕ → Data → Option (List Event)
+schedule_of version d = do
+  items ← option_and_then as_array (get (field_name Events) d)
+  events_of version items
+
+abbrev pub written_of : Data → Option (Scenario (List Event))
+written_of d = scenario_of Replay schedule_of d
 
 -- ---- the limits
 
 -- of the numbers that both kinds of scenario have
-abbrev pub cluster_within : ℕ → ℕ → ℕ → Bool
-cluster_within version servers beta =
-    (field_within Version version && field_within Servers servers) && field_within Beta beta
+abbrev pub cluster_within : ℕ → Membership → Bool
+cluster_within version members =
+    (field_within Version version && field_within Servers members.count) && field_within Beta members.beta
 
-abbrev pub within : Written → Bool
-within x = cluster_within x.version x.servers x.beta && list_all event_within x.events
+-- and of the course, which has to fit the members
+abbrev pub scenario_within : {X : Type 0} → (Membership → X → Bool) → Scenario X → Bool
+scenario_within fits x = cluster_within x.version x.members && fits x.members x.course
+
+abbrev pub schedule_within : Membership → List Event → Bool
+schedule_within members events = list_all event_within events
+
+abbrev pub within : Scenario (List Event) → Bool
+within x = scenario_within schedule_within x
 
 -- what an item of the events says in a version, or its fault
 abbrev pub item_said : ℕ → Data → Result Event AppFault
@@ -109,15 +124,12 @@ abbrev pub read_there : {X : Type 0} → (Data → Result X AppFault) → Result
 read_there read (Err f) = Err f
 read_there read (Ok d) = read d
 
--- what the bytes say, or the fault that they have
-abbrev pub scenario : List ℕ → Result Written AppFault
-scenario bytes = read_there (λ d. judged within (written_of d)) (or_not_json (json_of bytes))
+-- what the bytes say as a scenario of the kind, whose course is read and has to fit so, or the fault that they have
+abbrev pub scenario_in : {X : Type 0} → Kind → (ℕ → Data → Option X) → (Membership → X → Bool) → List ℕ
+    → Result (Scenario X) AppFault
+scenario_in kind course_of fits bytes =
+    read_there (λ d. judged (scenario_within fits) (scenario_of kind course_of d)) (or_not_json (json_of bytes))
 
--- what a scenario that was read says
-abbrev pub written_in : code.Scenario → Written
-written_in s =
-    record { version = s.version; servers = s.members.count; beta = s.members.beta; events = s.events }
-
--- the members that it names
-abbrev pub members_of : Written → Membership
-members_of x = record { count = x.servers; beta = x.beta }
+-- as one of `replay`
+abbrev pub scenario : List ℕ → Result (Scenario (List Event)) AppFault
+scenario bytes = scenario_in Replay schedule_of schedule_within bytes

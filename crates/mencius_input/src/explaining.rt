@@ -238,7 +238,7 @@ fn tell_place(alloc: Global, kind: Kind, bytes: &[u8], fault: AppFault) -> Resul
 /// stand no place is told. There is no line feed at the end and no other control character.
 ///
 /// `fault` is what [`read_scenario`](crate::read_scenario), or for a run
-/// [`read_run_input`](crate::read_run_input), answers for the bytes.
+/// [`read_plan`](crate::read_plan), answers for the bytes.
 ///
 /// # Errors
 ///

@@ -2,9 +2,11 @@
 
 ghost use Rattle.std.specs.Prelude.{◌≡◌, ◌<◌, IfErr, IfOk, OnOk, Some, length, map, option_map};
 ghost use Rattle.serde_json.specs.Data.{Data, Members, put};
-ghost use Rattle.mencius_input.specs.Fields.{AreFields, list_kept, list_said};
+ghost use Rattle.serde_json.specs.Read.{max_depth, read};
+ghost use Rattle.mencius_input.specs.Fields.{AreAll, AreFields, IsUnread, list_kept, list_said};
 ghost use Rattle.mencius_input.specs.FieldsOf.{default_of, whole_fields};
 ghost use Rattle.mencius_json.specs.Next.{next_members, next_value};
+ghost use Rattle.mencius_input.specs.Scenario.{json_of};
 ghost use Rattle.mencius_input.specs.Stops.{StopsBy};
 
 use crate::commands::next_lists;
@@ -13,9 +15,10 @@ use crate::field::{index_of_name, list_field, whole_fields};
 use crate::kind::Kind;
 use crate::newest::Newest;
 use crate::schedule::next_events;
+use json::Scratch;
 use mencius_base::{Command, NoMemory};
 use mencius_ends::AppFault;
-use mencius_json::{Tokens, next_name, next_whole, pass};
+use mencius_json::{MOST_DEPTH, Tokens, enter_object, next_name, next_whole, pass};
 use std::alloc::Global;
 
 /// What is known of the fields that were read. A field that was written twice says what was written
@@ -48,8 +51,59 @@ fn defaults(alloc: Global, kind: Kind) -> Result<Vec<Option<u64>>, NoMemory>
     Ok(wholes)
 }
 
-/// The fields of the object whose brace was read, which is meant as a scenario of the kind.
-pub(crate) fn next_fields(
+/// The fields of the scenario of a kind that a JSON text says. Bytes that are not JSON are `NotJson`; a
+/// value that is no object, or one with a field that no scenario of the kind has, is `BadShape`.
+#[tactic(auto, using(crate::proofs::JsonTexts::utf8_yes, crate::proofs::JsonTexts::utf8_no))]
+pub(crate) fn read_fields(alloc: Global, kind: Kind, bytes: &[u8]) -> Result<Fields, AppFault>
+    ensures ok { IfOk result (λ f. AreAll kind f (json_of bytes.now)) }
+    ensures err { IfErr result (IsUnread kind (json_of bytes.now)) }
+{
+    match std::str::from_utf8(bytes) {
+        Ok(text) => read_text(alloc, kind, text),
+        Err(_) => Err(AppFault::NotJson),
+    }
+}
+
+// The fields of the scenario that a text says.
+fn read_text(alloc: Global, kind: Kind, text: &str) -> Result<Fields, AppFault>
+    ensures ok { IfOk result (λ f. AreAll kind f (read text.now)) }
+    ensures err { IfErr result (IsUnread kind (read text.now)) }
+{
+    let mut scratch = Scratch::new(alloc);
+    let Ok(mut reader) = Tokens::new(text, &mut scratch) else {
+        return Err(AppFault::NoMemory);
+    };
+    let fields = next_scenario(alloc, kind, &mut reader)?;
+    if reader.next().is_some() {
+        return Err(AppFault::NotJson);
+    }
+    fields
+}
+
+// The fields of the scenario that the next value is, or its fault.
+fn next_scenario(
+    alloc: Global,
+    kind: Kind,
+    reader: &mut Tokens<'_>,
+) -> Result<Result<Fields, AppFault>, AppFault>
+    ensures ok { IfOk result (λ r. (d : Data)
+        × (next_value max_depth reader.old ≡ Some (d, reader.new))
+        × IfOk r (λ f. AreAll kind f (Some d)) × IfErr r (IsUnread kind (Some d))) }
+    ensures err { IfErr result (λ f. StopsBy (next_value max_depth reader.old) f) }
+{
+    if enter_object(reader, MOST_DEPTH)? {
+        let fields = next_fields(alloc, kind, reader, MOST_DEPTH - 1)?;
+        if fields.has_other {
+            return Ok(Err(AppFault::BadShape));
+        }
+        Ok(Ok(fields))
+    } else {
+        Ok(Err(AppFault::BadShape))
+    }
+}
+
+// The fields of the object whose brace was read, which is meant as a scenario of the kind.
+fn next_fields(
     alloc: Global,
     kind: Kind,
     reader: &mut Tokens<'_>,

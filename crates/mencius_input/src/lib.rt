@@ -22,5 +22,5 @@ pub use field::Field;
 pub use kind::{Kind, kind_of};
 pub use mencius_ends::{AppFault, Sink, Source, Std, exit_status, read_all, write_all};
 pub use places::{Place, place_of};
-pub use plan::{RunInput, read_run_input};
+pub use plan::read_plan;
 pub use scenario::{Scenario, read_scenario};

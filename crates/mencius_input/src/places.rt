@@ -547,7 +547,7 @@ fn place_in(
 }
 
 /// The first place in a text that has the fault `BadShape` or `BadLimit`, which
-/// [`read_scenario`](crate::read_scenario) or [`read_run_input`](crate::read_run_input) answers for its
+/// [`read_scenario`](crate::read_scenario) or [`read_plan`](crate::read_plan) answers for its
 /// bytes. A field that is not there comes last. There is none where the bytes have another fault. A
 /// field that is missing is found wherever nothing else is.
 ///

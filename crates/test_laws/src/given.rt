@@ -1,13 +1,13 @@
 //! A schedule that is given, and all that it sends once more.
 
-use mencius_input::Scenario;
+use mencius_input::{Events, Scenario};
 use std::alloc::Global;
 use test_watch::walk::{Stop, Walk};
 
 /// A cluster after the events of a schedule.
-pub fn follow(alloc: Global, scenario: Scenario) -> Result<Walk, Stop> {
+pub fn follow(alloc: Global, scenario: Scenario<Events>) -> Result<Walk, Stop> {
     let mut walk = Walk::new(alloc, scenario.members)?;
-    for event in scenario.events {
+    for event in scenario.course {
         walk.take(event)?;
     }
     Ok(walk)

@@ -29,7 +29,7 @@ use crate::tally::Tally;
 use mencius_app::report;
 use mencius_base::{Event, GREATEST_BETA, Members};
 use mencius_cluster::Cluster;
-use mencius_input::{AppFault, Scenario, Std, read_all, read_scenario, write_all};
+use mencius_input::{AppFault, Events, Scenario, Std, read_all, read_scenario, write_all};
 use std::alloc::{AllocError, Global};
 use std::process::ExitCode;
 use test_watch::again::again;
@@ -175,7 +175,7 @@ fn attack_all(alloc: Global, seed: u64, count: u32, tally: &mut Tally) -> Result
 }
 
 // The schedule that is given, by itself and with all that it sends once more.
-fn attack_given(alloc: Global, scenario: Scenario, tally: &mut Tally) -> Result<(), Stop> {
+fn attack_given(alloc: Global, scenario: Scenario<Events>, tally: &mut Tally) -> Result<(), Stop> {
     let mut walk = follow(alloc, scenario)?;
     judge_journal(alloc, walk.cluster())?;
     send_again(&mut walk)?;

@@ -62,14 +62,14 @@ fn course<R: Wait, W: Sink>(
     rt: &R,
     alloc: Global,
     bytes: &[u8],
-    scenario: Scenario,
+    scenario: Scenario<Events>,
     sink: &mut W,
 ) -> Result<Option<Call>, Stop> {
     let Ok(cluster) = Cluster::new(alloc, scenario.members) else {
         return Err(Stop::Elsewhere);
     };
     let mut watched = Watched::new(rt, alloc, cluster)?;
-    let mut done = walk(rt, alloc, bytes, scenario.events, &mut watched);
+    let mut done = walk(rt, alloc, bytes, scenario.course, &mut watched);
     if done.is_ok() {
         done = conclude(alloc, &watched, sink);
     }

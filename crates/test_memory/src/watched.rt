@@ -241,7 +241,7 @@ fn retraced(alloc: Global, bytes: &[u8], taken: usize) -> Result<(Cluster, Optio
     let Ok(mut cluster) = Cluster::new(alloc, scenario.members) else {
         return Err(Stop::Elsewhere);
     };
-    let mut events = scenario.events.into_iter();
+    let mut events = scenario.course.into_iter();
     for _ in 0..taken {
         if let Some(event) = events.next() {
             let _ = cluster.step(event);

@@ -1,8 +1,8 @@
 //! Two workers that run on a board, and how far each of them came.
 
 use crate::watched::Stop;
-use mencius_app::RunScenario;
-use mencius_board::{Board, BoardFault, Gate, run_workers};
+use mencius_app::Scenario;
+use mencius_board::{Board, BoardFault, Gate, Plan, run_workers};
 use mencius_cluster::Cluster;
 use std::alloc::Global;
 use std::sync::atomic::{AtomicU32, Ordering};
@@ -41,7 +41,7 @@ impl Gate for TurnCounter {
 pub fn run_counted<R: Threads + Wait + Sync>(
     rt: &R,
     alloc: Global,
-    scenario: &RunScenario,
+    scenario: &Scenario<Plan>,
 ) -> Result<String, Stop> {
     let Ok(cluster) = Cluster::new(alloc, scenario.members) else {
         return Err(Stop::Elsewhere);
@@ -51,7 +51,7 @@ pub fn run_counted<R: Threads + Wait + Sync>(
     };
     let board = Mutex::new(board);
     let gate = TurnCounter::new();
-    let ran = run_workers(rt, alloc, &board, &scenario.plan, &gate).map(|_choosers| ());
+    let ran = run_workers(rt, alloc, &board, &scenario.course, &gate).map(|_choosers| ());
     drop(board.into_inner().end(rt));
     let (zero, one) = gate.counts();
     let name = name_of(ran);

@@ -43,7 +43,7 @@ fn each_event_has_its_effect(rt: HostRuntime) -> Result<(), Fail> {
     let scenario = scenario_of(&rt, alloc, GET_AT_ANOTHER_SERVER);
     let mut cluster = new_cluster(&rt, alloc, scenario.members);
     let mut wanted = EFFECTS.iter();
-    for event in scenario.events {
+    for event in scenario.course {
         let first = cluster.messages();
         let &(sent, learned) = wanted.next().ok_or("more events than effects")?;
         let effect = Effect {

@@ -29,7 +29,7 @@ fn noted_histories(rt: HostRuntime) -> Result<(), Fail> {
     for (first, server, other, earlier, later) in ROWS {
         let scenario = scenario_of(&rt, alloc, GET_AT_ANOTHER_SERVER);
         let mut cluster = new_cluster(&rt, alloc, scenario.members);
-        let mut rest = scenario.events.into_iter();
+        let mut rest = scenario.course.into_iter();
         for event in rest.by_ref().take(first) {
             assert!(rt; cluster.step(event).is_ok());
         }
@@ -52,7 +52,7 @@ fn no_such_server(rt: HostRuntime) -> Result<(), Fail> {
     for (server, other) in [(3, 0), (0, 3), (3, 3)] {
         let scenario = scenario_of(&rt, alloc, GET_AT_ANOTHER_SERVER);
         let mut cluster = new_cluster(&rt, alloc, scenario.members);
-        let events = scenario.events.into_iter().collect(alloc)?;
+        let events = scenario.course.into_iter().collect(alloc)?;
         let answer = note_across(alloc, &mut cluster, server, events, other);
         let refusal = answer.expect_err(&rt, "no such server");
         assert_eq!(rt; refusal, Refusal::BadServer);

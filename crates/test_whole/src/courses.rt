@@ -1,6 +1,6 @@
 //! Schedules, and clusters that were stepped through them.
 
-use mencius_app::{Scenario, read_scenario};
+use mencius_app::{Events, Scenario, read_scenario};
 use mencius_base::{Members, Refusal};
 use mencius_cluster::Cluster;
 use std::alloc::Global;
@@ -24,7 +24,7 @@ pub const REVOKED_AND_SUGGESTED_AGAIN: &str = "{\"version\":1,\"servers\":3,\"ev
     \"deliver 7 0\",\"retry 0\"]}";
 
 /// What a schedule says.
-pub fn scenario_of<R: Abort>(rt: &R, alloc: Global, text: &str) -> Scenario {
+pub fn scenario_of<R: Abort>(rt: &R, alloc: Global, text: &str) -> Scenario<Events> {
     read_scenario(alloc, text.as_bytes()).expect(rt, "a scenario")
 }
 
@@ -37,7 +37,7 @@ pub fn new_cluster<R: Abort>(rt: &R, alloc: Global, members: Members) -> Cluster
 pub fn cluster_after<R: Abort>(rt: &R, alloc: Global, text: &str) -> Cluster {
     let scenario = scenario_of(rt, alloc, text);
     let mut cluster = new_cluster(rt, alloc, scenario.members);
-    for event in scenario.events {
+    for event in scenario.course {
         if let Err(refusal) = cluster.step(event) {
             assert!(rt; refusal != Refusal::NoMemory);
         }

@@ -106,9 +106,9 @@ fn take<R: Abort>(rt: &R, board: &mut Board, chooser: &mut Chooser) {
 fn outcome_of<R: Abort + Wait>(rt: &R, alloc: Global, last_two: [u8; 2]) -> Result<Outcome, Fail> {
     let scenario = read_plan(alloc, TWO_WORKERS.as_bytes()).map_err(|_| "a plan")?;
     let cluster = new_cluster(rt, alloc, scenario.members);
-    assert!(rt; scenario.plan.workers() == 2);
-    let mut zero = Chooser::new(&scenario.plan, 0);
-    let mut one = Chooser::new(&scenario.plan, 1);
+    assert!(rt; scenario.course.workers() == 2);
+    let mut zero = Chooser::new(&scenario.course, 0);
+    let mut one = Chooser::new(&scenario.course, 1);
     let mut counts = Vec::new(alloc);
     let mut count = 0;
     let mut turns: u32 = 0;
@@ -205,7 +205,9 @@ fn a_reader_beside_workers_finds_what_is_shown(rt: HostRuntime) -> Result<(), Fa
         looks: Mutex::new(looks),
     };
     let board = Mutex::new(board);
-    let ran = run_workers(&rt, alloc, &board, &scenario.plan, &gate).map(|choosers| choosers.len());
+    let ran = run_workers(&rt, alloc, &board, &scenario.course, &gate).map(
+        |choosers| choosers.len(),
+    );
     drop(board.into_inner().end(&rt));
     assert_eq!(rt; ran, Ok(2));
     let looks = gate.looks.into_inner();

@@ -133,7 +133,7 @@ fn rotated<R: Wait>(
 fn assert_finds<R: Abort + Wait>(rt: &R, alloc: Global, scenario: &str) -> Result<Cluster, Fail> {
     let scenario = read_plan(alloc, scenario.as_bytes()).map_err(|_| "a plan")?;
     let cluster = new_cluster(rt, alloc, scenario.members);
-    let (finds, cluster) = rotated(rt, alloc, &scenario.plan, cluster)?;
+    let (finds, cluster) = rotated(rt, alloc, &scenario.course, cluster)?;
     assert!(rt; finds);
     Ok(cluster)
 }

@@ -37,8 +37,8 @@ fn cluster_of_turns<R: Abort + Wait>(
 ) -> Result<Cluster, Fail> {
     let scenario = read_plan(alloc, scenario.as_bytes()).map_err(|_| "a plan")?;
     let cluster = new_cluster(rt, alloc, scenario.members);
-    assert!(rt; scenario.plan.workers() == 1);
-    let mut chooser = Chooser::new(&scenario.plan, 0);
+    assert!(rt; scenario.course.workers() == 1);
+    let mut chooser = Chooser::new(&scenario.course, 0);
     let mut board = Board::new(rt, alloc, cluster, 1).expect(rt, "a board");
     for _ in 0..2000 {
         let turn = worker_turn(&mut board, &mut chooser);
@@ -102,7 +102,9 @@ fn each_turn_passes_the_gate(rt: HostRuntime) -> Result<(), Fail> {
     };
     let cluster = new_cluster(&rt, alloc, scenario.members);
     let board = Mutex::new(Board::new(&rt, alloc, cluster, 1)?);
-    let ran = run_workers(&rt, alloc, &board, &scenario.plan, &gate).map(|choosers| choosers.len());
+    let ran = run_workers(&rt, alloc, &board, &scenario.course, &gate).map(
+        |choosers| choosers.len(),
+    );
     let shown = lend(&rt, &board, |board| board.show(&rt, alloc).is_ok());
     let cluster = board.into_inner().end(&rt);
     assert_eq!(rt; ran, Ok(2));

@@ -1,15 +1,14 @@
 use Rattle.std.proofs.Common.{◌≡◌, ◌≢◌, ◌⊎◌, Err, inl, inr, rules, subst, sym}
 use Rattle.mencius_ends.specs.declared.fault.AppFault.TheVariants.{BadShape, NoMemory}
 use Rattle.mencius_input.specs.declared.kind.Kind.TheVariants.{Replay}
-use Rattle.mencius_input.specs.Scenario.{written_in}
 use Rattle.mencius_app.specs.Check.{checked, checked_replay}
 use Rattle.mencius_app.proofs.CheckedInputs.{AreWordsByFields, other_fault, replay_checked, words_as, words_of_memory}
 use Rattle.mencius_app.proofs.checking.line_in.Goals as goal
 
 pub returns-in_ok-replay_line-in-Ok-clause-line : goal.returns-in_ok-replay_line-in-Ok-clause-line
 returns-in_ok-replay_line-in-Ok-clause-line c = (
-  checked_replay (written_in c.in-Ok.scenario),
-  replay_checked c.args.bytes.now (written_in c.in-Ok.scenario) c.in-Ok.ensures,
+  checked_replay c.in-Ok.scenario,
+  replay_checked c.args.bytes.now c.in-Ok.scenario c.in-Ok.ensures,
   c.in_ok-replay_line-in-Ok.ensures,
 )
 

@@ -1,10 +1,9 @@
-use Rattle.mencius_input.specs.Scenario.{written_in}
 use Rattle.mencius_app.proofs.replaying.read_replay.Goals as goal
 
 pub returns-clause-text : goal.returns-clause-text
 returns-clause-text g c = (
   record {
-    written = written_in c.in_ok-scenario.scenario;
+    written = c.in_ok-scenario.scenario;
     says = c.in_ok-scenario.ensures.said;
     is = c.in_ok-told.ensures.text;
   },

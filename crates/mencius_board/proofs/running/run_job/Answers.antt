@@ -1,6 +1,6 @@
 use Rattle.std.specs.Prelude.{IfErr}
 use Rattle.std.proofs.Common.{Result, Ok, Err, inr}
-use Rattle.mencius_choices.specs.Plans.{PlanState}
+use Rattle.mencius_base.specs.Plan.{PlanState}
 use Rattle.mencius_board.specs.Boards.{BoardState}
 use Rattle.mencius_board.specs.declared.fault.BoardFault.{BoardFault}
 use Rattle.mencius_board.specs.Runs.{HasFailed, HasStopped}

@@ -1,7 +1,7 @@
 use Rattle.std.specs.Prelude.{◌≡◌, ℕ, ◌+◌, ◌<◌, get_or, length, vec_len}
 use Rattle.std.proofs.Common.{rules, arith, add-zero, subst, sym}
 use Rattle.std.specs.Vec.Iter.{into_iter_items, into_iter_len}
-use Rattle.mencius_choices.specs.Plans.{PlanState}
+use Rattle.mencius_base.specs.Plan.{PlanState}
 use Rattle.mencius_board.specs.Running.{Answers, EndState, IsEndOf}
 use Rattle.mencius_board.proofs.JoinedWorkers.{ended}
 use Rattle.mencius_board.proofs.ListSteps.{first_of, more_of}

@@ -1,5 +1,5 @@
 use Rattle.std.proofs.Common.{rules, ◌≡◌, ap, ◌∙◌}
-use Rattle.mencius_choices.specs.Plans.{after_place}
+use Rattle.mencius_choices.specs.Order.{after_place}
 use Rattle.mencius_choices.specs.Choices.{ChooserState, is_any}
 use Rattle.mencius_choices.proofs.ChosenEvents.{any_left, command_chosen, event_chosen, picked_is}
 use Rattle.mencius_choices.proofs.chooser.Chooser.choose.Goals as goal

@@ -1,29 +1,12 @@
--- What contracts see of a plan, and in which order the commands of a worker come.
-use Rattle.std.specs.Prelude.{◌≡◌, ◌≤◌, ℕ, ◌+◌, ◌-◌, ◌%◌, ◌==◌, List, [], ◌∷◌, ◌++◌, Option, Some, None, MatchOption}
+-- In which order the commands of a worker come.
+use Rattle.std.specs.Prelude.{◌≡◌, ℕ, ◌+◌, ◌-◌, ◌%◌, ◌==◌, List, [], ◌∷◌, ◌++◌, Option, Some, None, MatchOption}
 use Rattle.std.specs.Prelude.{length, max, fold, slice_get, if◌then◌else◌}
 use Rattle.std.specs.List.{filter_map, flat_map, range_with_len}
 use Rattle.std.specs.Option.{option_and_then, option_map}
 use Rattle.mencius_base.specs.Numbers.{ServerId}
-use Rattle.mencius_base.specs.Limits.{greatest_loss, most_servers, most_turns, most_workers}
+use Rattle.mencius_base.specs.Plan.{PlanState}
 use Rattle.mencius_base.specs.declared.command.Command.{Command}
-use Rattle.mencius_choices.specs.declared.plan.Place.{Place}
-
--- the workers, the seed, the turns of each, the loss, and a list of commands for each server
-pub record PlanState : Type 0 where
-  pub workers : ℕ
-  pub seed : ℕ
-  pub turns : ℕ
-  pub loss : ℕ
-  pub commands : List (List Command)
-
-abbrev pub plan_of : ℕ → ℕ → ℕ → ℕ → List (List Command) → PlanState
-plan_of workers seed turns loss commands =
-    record { workers = workers; seed = seed; turns = turns; loss = loss; commands = commands }
-
--- how many workers, turns, lost messages in 64 choices and lists a plan may have
-abbrev pub AreInRange : ℕ → ℕ → ℕ → ℕ → Type 0
-AreInRange workers turns loss lists =
-    (1 ≤ workers) × (workers ≤ most_workers) × (turns ≤ most_turns) × (loss ≤ greatest_loss) × (lists ≤ most_servers)
+use Rattle.mencius_choices.specs.declared.order.Place.{Place}
 
 -- the numbers from one on that are below another, rising
 abbrev pub from_to : ℕ → ℕ → List ℕ

@@ -1,0 +1,123 @@
+-- The fields of both kinds of scenario, and what they say.
+use Rattle.std.proofs.Common.{◌≡◌, ℕ, ◌&&◌, List, ◌∷◌, Bool, true, false, cond, Option, Some, None, option_map, option_and_then, Result, Ok, Err, inl, inr, refl, sym, ap, subst, ◌∙◌}
+use Rattle.std.specs.Prelude.{if◌then◌else◌}
+use Rattle.std.proofs.Math.Bool.{and-true, and-false}
+use Rattle.serde_json.specs.Data.{Data, Members, object}
+use Rattle.serde_json.specs.Find.{as_object}
+use Rattle.mencius_base.specs.Members.{Membership}
+use Rattle.mencius_ends.specs.declared.fault.AppFault.{AppFault}
+use Rattle.mencius_ends.specs.declared.fault.AppFault.TheVariants.{BadLimit}
+use Rattle.mencius_format.specs.Judged.{FailsBy, judged}
+use Rattle.mencius_input.specs.declared.field.Field.TheVariants.{Version, Servers, Beta}
+use Rattle.mencius_input.specs.declared.kind.Kind.{Kind}
+use Rattle.mencius_input.specs.declared.scenario.Scenario.{Scenario}
+use Rattle.mencius_input.specs.declared.scenario.Shared.{Shared}
+use Rattle.mencius_input.specs.Fields.{IsForeign, IsUnread, fitted, said_of, shared_in, shared_within, with_course}
+use Rattle.mencius_input.specs.FieldsOf.{names}
+use Rattle.mencius_input.specs.Scenario.{has_only, members_of, number_of, or_not_json, read_there, scenario_of, scenario_within}
+
+-- ---- the limits
+
+abbrev pub members_in : Shared → Membership
+members_in shared = record { count = shared.servers; beta = shared.beta }
+
+-- the limits of what both kinds say, and then those of a course, which may be tested in another way where the former hold
+pub fitted_judged : {X : Type 0} (shared : Shared) (test : X → Bool) (fits : Membership → X → Bool)
+    → ((x : X) → (shared_within shared && test x) ≡ (shared_within shared && fits (members_in shared) x))
+    → (o : Option X)
+    → fitted shared (judged test o) ≡ judged (scenario_within fits) (option_map (with_course shared) o)
+fitted_judged shared test fits same None = refl
+fitted_judged {X} shared test fits same (Some x) = by_test (test x) (same x)
+  where
+    by_test : (a : Bool) → (shared_within shared && a) ≡ (shared_within shared && fits (members_in shared) x)
+        → fitted shared (cond a (Ok x) (Err BadLimit))
+        ≡ cond (shared_within shared && fits (members_in shared) x) (Ok (with_course shared x)) (Err BadLimit)
+    by_test true e =
+        ap (λ bit. cond bit (Ok (with_course shared x)) (Err BadLimit)) (sym (and-true (shared_within shared)) ∙ e)
+    by_test false e =
+        ap (λ bit. cond bit (Ok (with_course shared x)) (Err BadLimit)) (sym (and-false (shared_within shared)) ∙ e)
+
+-- ---- what an object says, by its fields
+
+abbrev bound : {X : Type 0} → Bool → Option ℕ → Option ℕ → Option ℕ → (ℕ → Option X) → Option (Scenario X)
+bound only ov os ox course_of =
+    option_and_then (λ version. option_and_then (λ members. option_and_then (λ course.
+    if only then Some (record { version = version; members = members; course = course }) else None)
+    (course_of version))
+    (option_and_then (λ servers. option_and_then (λ beta. Some (record { count = servers; beta = beta })) ox) os)) ov
+
+scenario_bound : {X : Type 0} (kind : Kind) (course_of : ℕ → Data → Option X) (ms : Members)
+    → scenario_of kind course_of (object ms)
+    ≡ bound (has_only (names kind) ms) (number_of Version (object ms)) (number_of Servers (object ms))
+    (number_of Beta (object ms)) (λ version. course_of version (object ms))
+unfolding scenario_of members_of
+scenario_bound kind course_of ms = refl
+
+module _ {X : Type 0} (course_said : Shared → List (Option ℕ) → Result X AppFault) (fits : Membership → X → Bool)
+    (course_of : ℕ → Option X) (own : List (Option ℕ))
+    (h : (shared : Shared) → fitted shared (course_said shared own)
+    ≡ judged (scenario_within fits) (option_map (with_course shared) (course_of shared.version))) where
+  mapped : (shared : Shared) (o : Option X)
+      → option_map (with_course shared) o ≡ option_and_then (λ course. Some (with_course shared course)) o
+  mapped shared None = refl
+  mapped shared (Some course) = refl
+
+  said_bound : (ov os ox : Option ℕ) → said_of course_said (shared_in (ov ∷ os ∷ ox ∷ own))
+      ≡ judged (scenario_within fits) (bound true ov os ox course_of)
+  said_bound None os ox = refl
+  said_bound (Some version) None ox = refl
+  said_bound (Some version) (Some servers) None = refl
+  said_bound (Some version) (Some servers) (Some beta) =
+      let shared : Shared = record { version = version; servers = servers; beta = beta } in
+      h shared ∙ ap (judged (scenario_within fits)) (mapped shared (course_of version))
+
+-- the numbers of both kinds, and then a course by those that follow
+pub shared_say : {X : Type 0} (kind : Kind) (course_said : Shared → List (Option ℕ) → Result X AppFault)
+    (fits : Membership → X → Bool) (course_of : ℕ → Data → Option X) (wholes own : List (Option ℕ)) (ms : Members)
+    → wholes ≡ number_of Version (object ms) ∷ number_of Servers (object ms) ∷ number_of Beta (object ms) ∷ own
+    → has_only (names kind) ms ≡ true
+    → ((shared : Shared) → fitted shared (course_said shared own)
+    ≡ judged (scenario_within fits) (option_map (with_course shared) (course_of shared.version (object ms))))
+    → said_of course_said (shared_in wholes) ≡ judged (scenario_within fits) (scenario_of kind course_of (object ms))
+shared_say {X} kind course_said fits course_of wholes own ms are only h =
+    let ov = number_of Version (object ms) in
+    let os = number_of Servers (object ms) in
+    let ox = number_of Beta (object ms) in
+    let read : ℕ → Option X = λ version. course_of version (object ms) in
+    ap (λ all. said_of course_said (shared_in all)) are
+    ∙ said_bound course_said fits read own h ov os ox
+    ∙ ap (λ a. judged (scenario_within fits) (bound a ov os ox read)) (sym only)
+    ∙ ap (judged (scenario_within fits)) (sym (scenario_bound kind course_of ms))
+
+-- ---- what is no scenario
+
+none_behind : {X Y : Type 0} (o : Option X) (f : X → Option Y) → ((x : X) → o ≡ Some x → f x ≡ None)
+    → option_and_then f o ≡ None
+none_behind None f h = refl
+none_behind (Some x) f h = h x refl
+
+-- what has no course
+pub no_course : {X : Type 0} (kind : Kind) (course_of : ℕ → Data → Option X) (d : Data)
+    → ((version : ℕ) → course_of version d ≡ None) → scenario_of kind course_of d ≡ None
+unfolding scenario_of
+no_course kind course_of d h =
+    none_behind (as_object d) _ (λ fields _. none_behind (number_of Version d) _ (λ version _.
+    none_behind (members_of d) _ (λ members _. rw (h version) refl)))
+
+-- nor what is no object with fields of the kind alone
+foreign_said : {X : Type 0} (kind : Kind) (course_of : ℕ → Data → Option X) (d : Data) → IsForeign kind d
+    → scenario_of kind course_of d ≡ None
+unfolding scenario_of
+foreign_said kind course_of d foreign =
+    none_behind (as_object d) _ (λ fields is. none_behind (number_of Version d) _ (λ version _.
+    none_behind (members_of d) _ (λ members _. none_behind (course_of version d) _ (λ course _.
+    rw (foreign fields is) refl))))
+
+-- why there are no fields is the fault of the bytes
+pub unread_fails : {X : Type 0} (kind : Kind) (course_of : ℕ → Data → Option X) (fits : Membership → X → Bool)
+    (o : Option Data) (fault : AppFault) → IsUnread kind o fault
+    → FailsBy fault (read_there (λ d. judged (scenario_within fits) (scenario_of kind course_of d)) (or_not_json o))
+unread_fails kind course_of fits o fault (inl memory) = rw memory tt
+unread_fails kind course_of fits o fault (inr (inl (is, none))) = rw (is, none) refl
+unread_fails kind course_of fits o fault (inr (inr (is, d, some, foreign))) =
+    rw (is, some) (ap (judged (scenario_within fits)) (foreign_said kind course_of d foreign))

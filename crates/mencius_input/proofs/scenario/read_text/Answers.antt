@@ -1,5 +1,0 @@
-use Rattle.std.proofs.Common.{rules}
-use Rattle.mencius_input.proofs.scenario.read_text.Goals as goal
-
-pub returns : goal.returns
-returns c = search rules
