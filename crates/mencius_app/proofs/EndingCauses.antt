@@ -1,14 +1,15 @@
 -- Why a task ended at a fault.
-use Rattle.std.proofs.Common.{◌≡◌, inr, ℕ, Bool, false, List, [], Option, Some, None, IfSome, IfErr, Result, Ok, Err, String, Global, refl, sym, subst}
+use Rattle.std.proofs.Common.{◌≡◌, ◌≤◌, ◌+◌, arith, inr, ℕ, Bool, false, List, [], Option, Some, None, IfSome, IfErr, Result, Ok, Err, String, Global, refl, sym, subst}
 use Rattle.clap.specs.Words.{Text}
 use Rattle.mencius_ends.specs.declared.fault.AppFault.{AppFault}
-use Rattle.mencius_app.specs.Calls.{IsCause}
+use Rattle.mencius_ends.specs.Ends.{TakesAtMost, most_bytes, most_failed_calls}
+use Rattle.mencius_app.specs.Calls.{AsksAs, AsksLittle, IsCause}
 use Rattle.mencius_app.specs.Replay.{IsReplayOf, accepts_all}
 use Rattle.mencius_app.specs.Run.{IsRunOf}
 use Rattle.mencius_app.specs.Ending.{IsAskedFor, IsFaultFor, IsInputFaultOf, IsTextOf, ending_at, ending_of, ending_with, fault_in, tells_of_refusals}
 use Rattle.mencius_app.specs.declared.finding.Finding.{Finding}
 use Rattle.mencius_app.specs.declared.ending.Ending.{Ending}
-use Rattle.mencius_command_line.specs.CommandLine.{Asked, asked, asked_replay, asked_run, faults, line_of}
+use Rattle.mencius_command_line.specs.CommandLine.{Asked, asked, asked_check, asked_draw, asked_judge, asked_replay, asked_run, asked_trace, faults, line_of}
 
 -- where its text is also one of another kind
 pub as_text : {F : AppFault → Type 0} {P Q : List ℕ → Type 0} {reads reads_now writes writes_now : ℕ}
@@ -63,3 +64,23 @@ of_task arguments task known reads reads_now writes writes_now old new (Some fau
   front = λ e. let was = h.front e in (was.0, inr (none, subst (λ a. IsTextOf a known was.0) same was.1), was.2);
   nothing = h.nothing;
 }
+
+-- a reader that was not asked gave nothing
+unread_takes : (known : Option (List ℕ)) → TakesAtMost (most_bytes + 1) known known
+unread_takes None = ([], omega arith, tt)
+unread_takes (Some bytes) = ([], omega arith, refl)
+
+little : (known : Option (List ℕ)) (reads writes writes_now : ℕ) → writes_now ≤ writes + most_failed_calls
+    → AsksLittle known known reads reads writes writes_now
+little known reads writes writes_now few =
+    record { reader = record { taken = unread_takes known; tried = omega arith }; tried = few }
+
+-- so of any task, where only a few calls of the writer failed
+pub asks_as : (task : Asked) (known : Option (List ℕ)) (reads writes writes_now : ℕ) → writes_now ≤ writes + most_failed_calls
+    → AsksAs task known known reads reads writes writes_now
+asks_as (asked_replay is_strict) known reads writes writes_now few = little known reads writes writes_now few
+asks_as asked_trace known reads writes writes_now few = little known reads writes writes_now few
+asks_as (asked_draw part) known reads writes writes_now few = little known reads writes writes_now few
+asks_as asked_check known reads writes writes_now few = little known reads writes writes_now few
+asks_as asked_judge known reads writes writes_now few = (omega arith, few)
+asks_as (asked_run with_journal key) known reads writes writes_now few = little known reads writes writes_now few

@@ -5,17 +5,19 @@ use Rattle.std.specs.Io.KnownBytes.{Appends}
 use Rattle.clap.specs.Words.{IsAmong, Text}
 use Rattle.clap.specs.declared.error.kind.ErrorKind.{ErrorKind}
 use Rattle.mencius_ends.specs.declared.fault.AppFault.{AppFault}
-use Rattle.mencius_command_line.specs.CommandLine.{Asked, are_texts, asked, asked_check, asked_replay, asked_run, asked_trace, faults, line_of}
+use Rattle.mencius_command_line.specs.CommandLine.{Asked, are_texts, asked, asked_check, asked_draw, asked_judge, asked_replay, asked_run, asked_trace, faults, line_of}
 use Rattle.mencius_command_line.specs.Help.{shown_for}
 use Rattle.mencius_input.specs.declared.kind.Kind.TheVariants as input
 use Rattle.mencius_ends.specs.Fault.{fault_name, fault_number}
 use Rattle.mencius_ends.specs.Status.{status_of}
 use Rattle.mencius_app.specs.Input.{IsFaultOf, IsPlanFaultOf}
+use Rattle.mencius_app.specs.Judging.{IsJudgementOf, IsLogFaultOf, IsToldByLine}
 use Rattle.mencius_app.specs.Replay.{IsJudgedReplayOf}
 use Rattle.mencius_trace.specs.Words.{line_feed}
 use Rattle.mencius_app.specs.Check.{IsCheckFaultOf, IsCheckOf}
 use Rattle.mencius_app.specs.Findings.{AreWordsOfInput, IsToldAs, IsToldByFields, Telling}
 use Rattle.mencius_app.specs.Trace.{IsTraceOf}
+use Rattle.mencius_app.specs.Drawing.{IsDrawingFaultOf, IsPictureOf, IsToldOfPicture}
 use Rattle.mencius_app.specs.Run.{IsRunOf}
 use Rattle.mencius_app.specs.declared.calling.RunOptions.{RunOptions}
 use Rattle.mencius_app.specs.declared.calling.TheConstants.{NOT_TEXT}
@@ -66,11 +68,20 @@ abbrev pub ending_of : {T : Type 0} → Result T Finding → Ending
 ending_of (Ok done) = Done
 ending_of (Err found) = ending_at found
 
+-- how a call ends that judged a log
+abbrev pub ending_of_judgement : Result Bool Finding → Ending
+ending_of_judgement (Ok true) = Done
+ending_of_judgement (Ok false) = Refused
+ending_of_judgement (Err found) = ending_at found
+
 -- how a task tells of a fault
 abbrev pub telling_of : Asked → Telling
 telling_of (asked_replay is_strict) = IsToldAs input.Replay
 telling_of asked_trace = IsToldAs input.Replay
+telling_of (asked_draw (Some part)) = IsToldOfPicture part
+telling_of (asked_draw None) = IsToldAs input.Replay
 telling_of asked_check = IsToldByFields
+telling_of asked_judge = IsToldByLine
 telling_of (asked_run with_journal key) = IsToldAs input.Run
 
 -- what words there are say where all that a reader has, so far as that is known, has the fault
@@ -100,19 +111,22 @@ IsComplaint arguments text =
     ((are_texts arguments ≡ false) × (text ≡ NOT_TEXT.now))
     ⊎ ((are_texts arguments ≡ true) × (words : List ℕ) × (text ≡ codes "error: " ++ words))
 
--- the text of a task, of all that a reader has, and whether refused events are told of
+-- the text of a task, of all that a reader has, and whether refused events or a broken promise are told of
 abbrev pub IsTaskOf : Asked → Option (List ℕ) → Bool → List ℕ → Type 0
 IsTaskOf (asked_replay is_strict) known told text =
     (all : Bool) × IsJudgedReplayOf known text all × (told ≡ tells_of_refusals is_strict all)
 IsTaskOf asked_trace known told text = IsTraceOf known text × (told ≡ false)
+IsTaskOf (asked_draw (Some part)) known told text = IsPictureOf part known text × (told ≡ false)
+IsTaskOf (asked_draw None) known told text = ⊥
 IsTaskOf asked_check known told text = IsCheckOf known text × (told ≡ false)
+IsTaskOf asked_judge known told text = (kept : Bool) × IsJudgementOf known text kept × (told ≡ not kept)
 IsTaskOf (asked_run with_journal key) known told text = IsRunOf known with_journal key text × (told ≡ false)
 
 -- the text of a task was written, whole
 abbrev pub DidTask : Asked → Option (List ℕ) → Option (List ℕ) → Option (List ℕ) → Bool → Type 0
 DidTask asked known old new told = (text : List ℕ) × IsTaskOf asked known told text × Appends old new text
 
--- the text of a task, whether refused events are told of or not
+-- the text of a task, whether anything is told of or not
 abbrev pub IsTextOf : Asked → Option (List ℕ) → List ℕ → Type 0
 IsTextOf asked known text = (told : Bool) × IsTaskOf asked known told text
 
@@ -143,6 +157,8 @@ AsksToRun arguments = (faults (line_of arguments) ≡ []) × (is_run (asked (lin
 abbrev pub IsInputFaultOf : Asked → Option (List ℕ) → AppFault → Type 0
 IsInputFaultOf (asked_run with_journal key) known fault = IsPlanFaultOf known fault
 IsInputFaultOf asked_check known fault = IsCheckFaultOf known fault
+IsInputFaultOf (asked_draw (Some part)) known fault = IsDrawingFaultOf part known fault
+IsInputFaultOf asked_judge known fault = IsLogFaultOf known fault
 IsInputFaultOf _ known fault = IsFaultOf known fault
 
 -- the arguments ask for a task, whose input is bad in this way

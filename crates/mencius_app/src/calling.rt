@@ -6,12 +6,14 @@ ghost use Rattle.clap.specs.Words.{kind_of};
 ghost use Rattle.mencius_command_line.specs.CommandLine.{are_texts, asked, asked_in, bytes_of, faults, line_of};
 ghost use Rattle.mencius_command_line.specs.Help.{shown_for};
 ghost use Rattle.mencius_ends.specs.Ends.{HasFailed, WritesFront, most_failed_calls};
-ghost use Rattle.mencius_app.specs.Calls.{AsksLittle, IsCause};
-ghost use Rattle.mencius_app.specs.Ending.{AsksToRun, Did, DidTask, IsAskedFor, IsComplaint, IsFaultFor, IsInputFaultOf, IsMistaken, IsTextOf, TellsOf, asked_with, ending_at, ending_of, fault_in, is_explained};
+ghost use Rattle.mencius_app.specs.Calls.{AsksAs, AsksLittle, IsCause};
+ghost use Rattle.mencius_app.specs.Ending.{AsksToRun, Did, DidTask, IsAskedFor, IsComplaint, IsFaultFor, IsInputFaultOf, IsMistaken, IsTextOf, TellsOf, asked_with, ending_at, ending_of, ending_of_judgement, fault_in, is_explained};
 
 use crate::checking::check;
+use crate::drawing::draw;
 use crate::ending::{Ending, write_both};
 use crate::finding::Finding;
+use crate::judging::judge;
 use crate::replaying::replay_judged;
 use crate::running::run;
 use crate::tracing::trace;
@@ -38,13 +40,14 @@ For more information, try '--help'.
 const ERROR: &str = "error: ";
 
 /// Does what the arguments behind the program's name ask for: a [`replay`](crate::replay), a
-/// [`trace`], a [`check`] or a [`run`] of the scenario that `source` has, whose text goes to `sink`; or
-/// help or the version, which goes there too. What is wrong with the arguments, as one that is not
-/// UTF-8, goes to `errors`, and then nothing was read; else nothing goes there, as [`end`](crate::end)
-/// tells of a fault. The program's own name is not asked for, and so may be anything.
+/// [`trace`], a picture ([`draw`]), a [`check`] or a [`run`] of the scenario that `source` has, or a judgement
+/// ([`judge`]) of the log that it has, whose text goes to `sink`; or help or the version, which goes there too. What
+/// is wrong with the arguments, as one that is not UTF-8, goes to `errors`, and then nothing was read; else nothing
+/// goes there, as [`end`](crate::end) tells of a fault. The program's own name is not asked for, and so may be
+/// anything.
 ///
-/// It ends with `Done`, or with `Refused` where a strict replay had refused events, only once the
-/// whole text was written. For no other task than a run does it wait for a thread.
+/// It ends with `Done`, or with `Refused` where a strict replay had refused events or a log breaks a
+/// promise, only once the whole text was written. For no other task than a run does it wait for a thread.
 pub fn perform<R: Source, W: Sink, E: Sink, T: Threads + Wait + Sync>(
     rt: &T,
     alloc: Global,
@@ -84,7 +87,8 @@ pub fn perform<R: Source, W: Sink, E: Sink, T: Threads + Wait + Sync>(
     ensures explained { is_explained result ≡ true → faults (line_of (bytes_of arguments.now)) ≡ [] }
     ensures words { TellsOf (asked (line_of (bytes_of arguments.now))) (R.remaining source.old)
         result }
-    ensures asked { AsksLittle (R.remaining source.old) (R.remaining source.new)
+    ensures asked { AsksAs (asked (line_of (bytes_of arguments.now)))
+        (R.remaining source.old) (R.remaining source.new)
         (R.failed source.old) (R.failed source.new) (W.failed sink.old) (W.failed sink.new) }
 {
     if !are_texts(arguments) {
@@ -195,7 +199,7 @@ fn perform_alone<R: Source, W: Sink>(
     ensures no_board { IfOk result (λ ending. IfSome (fault_in ending)
         (λ f. f ≢ AppFault.BoardFailed)) }
     ensures words { IfOk result (TellsOf (asked_in task) (R.remaining source.old)) }
-    ensures asked { AsksLittle (R.remaining source.old) (R.remaining source.new)
+    ensures asked { AsksAs (asked_in task) (R.remaining source.old) (R.remaining source.new)
         (R.failed source.old) (R.failed source.new) (W.failed sink.old) (W.failed sink.new) }
 {
     match task {
@@ -210,7 +214,9 @@ fn perform_alone<R: Source, W: Sink>(
             Err(found) => Ok(ending_at(found)),
         },
         Task::Trace => Ok(ending_of(trace(alloc, source, sink))),
+        Task::Draw(options) => Ok(ending_of(draw(alloc, source, sink, &options))),
         Task::Check => Ok(ending_of(check(alloc, source, sink))),
+        Task::Judge => Ok(ending_of_judgement(judge(alloc, source, sink))),
         Task::Run { with_journal, key } => Err(RunOptions { with_journal, key }),
     }
 }
@@ -246,6 +252,17 @@ fn ending_of(done: Result<(), Finding>) -> Ending
 {
     match done {
         Ok(()) => Ending::Done,
+        Err(found) => ending_at(found),
+    }
+}
+
+// How a call ends that judged a log, with this answer.
+fn ending_of_judgement(done: Result<bool, Finding>) -> Ending
+    ensures { result ≡ ending_of_judgement done }
+{
+    match done {
+        Ok(true) => Ending::Done,
+        Ok(false) => Ending::Refused,
         Err(found) => ending_at(found),
     }
 }

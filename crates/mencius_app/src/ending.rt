@@ -13,7 +13,7 @@ use mencius_input::{AppFault, Sink, exit_status, write_all};
 pub enum Ending {
     /// What the command line asks for was done, and its text was written whole.
     Done,
-    /// The same, but a strict replay had refused events.
+    /// The same, but a strict replay had refused events, or the log that was judged breaks a promise.
     Refused,
     /// The command line is refused.
     BadCommandLine,
@@ -23,15 +23,15 @@ pub enum Ending {
     Explained {
         /// The fault.
         fault: AppFault,
-        /// Where the scenario is wrong, and how, with a line feed at the end of each line.
+        /// Where the input is wrong, and how, with a line feed at the end of each line.
         words: String,
     },
 }
 
 /// Ends a call of the program: writes the line of a fault, `mencius: fault NUMBER NAME`, where the
 /// call ended at one, and behind it the words for it, if there are any; and answers the exit status:
-/// 0 where it was done, 1 where a strict replay had refused events, 2 for a bad command line, and
-/// else [`exit_status`] of the fault. If the lines can't be written, the status stays the same.
+/// 0 where it was done, 1 where a strict replay had refused events or a judged log breaks a promise, 2
+/// for a bad command line, and else [`exit_status`] of the fault. If the lines can't be written, the status stays the same.
 pub fn end<E: Sink>(ending: Ending, errors: &mut E) -> u8
     ensures status { result ≡ status_of_ending ending }
     ensures lines { Appends (E.contents errors.old) (E.contents errors.new) (lines_of_ending ending)

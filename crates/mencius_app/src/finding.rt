@@ -126,8 +126,8 @@ fn words_at(alloc: Global, kind: Kind, bytes: &[u8], fault: AppFault) -> Option<
     as_line(explain(alloc, kind, bytes, fault).ok()?)
 }
 
-// Words as a line, if there is memory for its line feed.
-fn as_line(words: String) -> Option<String>
+/// Words as a line, if there is memory for its line feed.
+pub(crate) fn as_line(words: String) -> Option<String>
     ensures { IfSome result (λ line. string_bytes line ≡ string_bytes words ++ line_feed) }
 {
     let mut line = words;

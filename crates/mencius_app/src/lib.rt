@@ -1,14 +1,16 @@
 //! The edge of the program, from the bytes of a scenario to the bytes of a report: what a replay, a
-//! trace, a check and a run make of their input, and the texts that they print.
+//! trace, a check, a judgement and a run make of their input, and the texts that they print.
 #![tactic(auto)]
 
 mod arguments;
 mod calling;
 mod checking;
+mod drawing;
 mod ending;
 mod fault;
 mod finding;
 mod journal;
+mod judging;
 mod printed;
 mod reading;
 mod replaying;
@@ -18,8 +20,10 @@ mod tracing;
 pub use arguments::arguments_of;
 pub use calling::perform;
 pub use checking::check;
+pub use drawing::draw;
 pub use ending::{Ending, end};
 pub use finding::Finding;
+pub use judging::judge;
 pub use mencius_board::{Gate, Open};
 pub use mencius_command_line::{Task, read_command_line};
 pub use mencius_input::{

@@ -43,8 +43,8 @@ pub fn trace<R: Source, W: Sink>(alloc: Global, source: &mut R, sink: &mut W) ->
     Ok(())
 }
 
-// The text of a trace.
-fn traced(alloc: Global, members: Members, events: Events) -> Result<String, NoMemory>
+/// The text of a trace.
+pub(crate) fn traced(alloc: Global, members: Members, events: Events) -> Result<String, NoMemory>
     ensures text { IfOk result (λ s. string_bytes s ≡ trace_text members events) }
 {
     let Ok(mut cluster) = Cluster::with_salt(alloc, members, salt_after(0, events.commands()))

@@ -1,5 +1,5 @@
 -- Command lines: what `clap` finds is what is asked for, and which kinds of error there are at some.
-use Rattle.std.specs.Prelude.{◌≡◌, ◌++◌, Bool, true, false, List, [], ◌∷◌, Option, Some, None, Result, codes, option_map, Box, String, length, map, string_bytes}
+use Rattle.std.specs.Prelude.{◌≡◌, ◌++◌, ◌-◌, ◌^◌, Bool, true, false, List, [], ◌∷◌, Option, Some, None, Result, codes, option_map, Box, String, length, map, string_bytes}
 use Rattle.std.specs.Option.{option_map_or}
 use Rattle.std.specs.Box.{box_value}
 use Rattle.std.specs.Borrow.{Bor}
@@ -17,7 +17,10 @@ use Rattle.clap.specs.declared.parser.matches.SubCommand.{SubCommand}
 use Rattle.clap.proofs.OnLiterals.{clap_on_literals}
 use Rattle.clap.proofs.WalkLemmas.{first_value-rows}
 use Rattle.mencius_base.specs.Command.{is_name}
-use Rattle.mencius_command_line.specs.CommandLine.{Asked, asked, asked_replay, asked_run, faults, has_flag, program, with_joined_key}
+use Rattle.mencius_format.specs.Words.{number_of}
+use Rattle.mencius_command_line.specs.CommandLine.{Asked, asked, asked_replay, asked_draw, asked_run, faults, program, with_joined_key}
+use Rattle.mencius_command_line.specs.Flags.{has_flag}
+use Rattle.mencius_draw.specs.declared.options.Scheme.TheVariants.{Both, Light, Dark}
 
 -- ---- what was found
 
@@ -57,6 +60,10 @@ pub err_first : {T : Type 0} (kinds next : Kinds) (r : Result T Error) (e : Erro
     → HasKind kinds e → FailsBy (or_else kinds next) r
 err_first kinds next r e is h =
     let failing = err_from_is_err_and r is in rw (failing.1, failing.2) (kinds_first kinds next e h)
+
+pub err_of : {T : Type 0} (kinds : Kinds) (r : Result T Error) (e : Error) → IsErrAnd r (λ x. x ≡ e)
+    → HasKind kinds e → FailsBy kinds r
+err_of kinds r e is h = let failing = err_from_is_err_and r is in rw (failing.1, failing.2) h
 
 pub kinds_next : (kinds next : Kinds) → kinds ≡ [] → or_else kinds next ≡ next
 kinds_next kinds next h = ap (λ ks. or_else ks next) h
@@ -117,6 +124,36 @@ version-asked = refl
 name-left-out : faults (codes "--lookup" ∷ codes "replay" ∷ []) ≡ []
 unfolding clap_on_literals
 name-left-out = refl
+
+draw-taken : fault_at (codes "draw" ∷ []) ≡ []
+unfolding clap_on_literals
+draw-taken = refl
+
+draw-asked : asked_at (codes "draw" ∷ []) ≡ asked_draw (Some (record { first = 0; last = 2 ^ 32 - 1; scheme = Both }))
+unfolding clap_on_literals
+draw-asked = refl
+
+part-asked : asked_at (codes "draw" ∷ codes "--from" ∷ codes "3" ∷ codes "--to=9" ∷ codes "--dark" ∷ [])
+    ≡ asked_draw (Some (record { first = 3; last = 9; scheme = Dark }))
+unfolding clap_on_literals number_of
+part-asked = refl
+
+part-taken : fault_at (codes "draw" ∷ codes "--from" ∷ codes "3" ∷ codes "--to=9" ∷ codes "--dark" ∷ []) ≡ []
+unfolding clap_on_literals number_of
+part-taken = refl
+
+light-asked : asked_at (codes "draw" ∷ codes "--light" ∷ [])
+    ≡ asked_draw (Some (record { first = 0; last = 2 ^ 32 - 1; scheme = Light }))
+unfolding clap_on_literals
+light-asked = refl
+
+place-no-number : fault_at (codes "draw" ∷ codes "--from" ∷ codes "x" ∷ []) ≡ kind.ValueValidation ∷ []
+unfolding clap_on_literals number_of
+place-no-number = refl
+
+place-past-its-limit : fault_at (codes "draw" ∷ codes "--to=4294967296" ∷ []) ≡ kind.ValueValidation ∷ []
+unfolding clap_on_literals number_of
+place-past-its-limit = refl
 
 run-taken : fault_at (codes "run" ∷ []) ≡ []
 unfolding clap_on_literals

@@ -1,7 +1,6 @@
 -- The command line: the program, its tasks and their options, in the terms of `clap`.
 use Rattle.std.specs.Prelude.{◌&&◌, ℕ, Bool, true, false, List, [], ◌∷◌, ◌++◌, Option, Some, None, Vec, codes, map, option_map, string_bytes, if◌then◌else◌}
 use Rattle.std.specs.List.{list_all}
-use Rattle.std.specs.Option.{option_map_or}
 use Rattle.std.specs.Str.{bytes_eq, is_utf8}
 use Rattle.std.specs.Str.Lossy.{utf8_lossy}
 use Rattle.clap.specs.Kinds.{or_else}
@@ -9,6 +8,9 @@ use Rattle.clap.specs.Words.{App, Kinds, Row, Rule, Text, fault_of, first_of, ne
 use Rattle.clap.specs.declared.builder.action.ArgAction.TheVariants.{Set, SetTrue}
 use Rattle.clap.specs.declared.error.kind.ErrorKind.TheVariants as kind
 use Rattle.mencius_base.specs.Command.{is_key_length, is_name}
+use Rattle.mencius_draw.specs.declared.options.Options.{Options}
+use Rattle.mencius_command_line.specs.Drawing.{draw_task, options_of, part_faults}
+use Rattle.mencius_command_line.specs.Flags.{has_flag}
 use Rattle.mencius_command_line.specs.declared.line.Task.{Task}
 use Rattle.mencius_command_line.specs.declared.line.Task.TheVariants as task
 
@@ -41,29 +43,32 @@ trace_task = new_app (codes "trace")
 abbrev pub check_task : App
 check_task = new_app (codes "check")
 
+abbrev pub judge_task : App
+judge_task = new_app (codes "judge")
+
 abbrev pub run_task : App
 run_task = with_rule (with_rule (new_app (codes "run")) journal_option) lookup_option
 
 -- with the tasks that take events as they stand
 abbrev pub with_replays : App
 with_replays =
-    with_subcommand (with_subcommand (with_subcommand without_tasks replay_task.top) trace_task.top) check_task.top
+    with_subcommand (with_subcommand (with_subcommand (with_subcommand without_tasks replay_task.top) trace_task.top)
+    draw_task.top) check_task.top
 
 abbrev pub program : App
-program = with_subcommand with_replays run_task.top
+program = with_subcommand (with_subcommand with_replays judge_task.top) run_task.top
 
 -- ---- what is asked for
 
--- a replay, strict or not; a trace; a check; or a run, with its journal or not, and with a key to look up or none
+-- a replay, strict or not; a trace; a picture of this part, or of one whose places are none; a check; a judgement; or a
+-- run, with its journal or not, and with a key to look up or none
 pub data Asked : Type 0 where
   asked_replay : (is_strict : Bool) → Asked
   asked_trace : Asked
+  asked_draw : (part : Option Options) → Asked
   asked_check : Asked
+  asked_judge : Asked
   asked_run : (with_journal : Bool) (key : Option Text) → Asked
-
--- whether a flag was given: its text is then "true"
-abbrev pub has_flag : Text → List Row → Bool
-has_flag id rows = option_map_or (λ text. bytes_eq text (codes "true")) (first_of id rows) false
 
 -- the task of this name, with what was found of its options
 abbrev pub asked_by : Option (Text × List Row) → Asked
@@ -71,7 +76,9 @@ asked_by None = asked_replay false
 asked_by (Some (name, rows)) =
     if bytes_eq name (codes "run") then asked_run (has_flag (codes "journal") rows) (first_of (codes "lookup") rows)
     else if bytes_eq name (codes "trace") then asked_trace
+    else if bytes_eq name (codes "draw") then asked_draw (options_of rows)
     else if bytes_eq name (codes "check") then asked_check
+    else if bytes_eq name (codes "judge") then asked_judge
     else asked_replay (has_flag (codes "strict") rows)
 
 -- `--lookup` and its KEY make one word, `--lookup=KEY`, since a KEY may begin with a hyphen
@@ -93,7 +100,9 @@ asked words = asked_by (subcommand_of program (words_read words))
 abbrev pub asked_in : Task → Asked
 asked_in (task.Replay is_strict) = asked_replay is_strict
 asked_in task.Trace = asked_trace
+asked_in (task.Draw options) = asked_draw (Some options)
 asked_in task.Check = asked_check
+asked_in task.Judge = asked_judge
 asked_in (task.Run with_journal key) = asked_run with_journal (option_map string_bytes key)
 
 -- ---- what is wrong with it
@@ -107,17 +116,19 @@ abbrev pub bad_key_faults : Option Text → Kinds
 bad_key_faults None = []
 bad_key_faults (Some key) = kind.ValueValidation ∷ []
 
--- what is wrong with the key
-abbrev pub key_faults : Asked → Kinds
-key_faults (asked_replay is_strict) = []
-key_faults asked_trace = []
-key_faults asked_check = []
-key_faults (asked_run with_journal None) = []
-key_faults (asked_run with_journal (Some key)) = bad_key_faults (if is_key key then None else Some key)
+-- what is wrong with the value of an option
+abbrev pub value_faults : Asked → Kinds
+value_faults (asked_replay is_strict) = []
+value_faults asked_trace = []
+value_faults (asked_draw part) = part_faults part
+value_faults asked_check = []
+value_faults asked_judge = []
+value_faults (asked_run with_journal None) = []
+value_faults (asked_run with_journal (Some key)) = bad_key_faults (if is_key key then None else Some key)
 
--- what `clap` has against the words, and else what is wrong with the key
+-- what `clap` has against the words, and else what is wrong with a value
 abbrev pub faults : List Text → Kinds
-faults words = or_else (fault_of program (words_read words)) (key_faults (asked words))
+faults words = or_else (fault_of program (words_read words)) (value_faults (asked words))
 
 -- ---- arguments, which are bytes
 

@@ -4,14 +4,16 @@ use Rattle.std.specs.Str.{bytes_eq}
 use Rattle.clap.specs.Words.{Text}
 use Rattle.clap.specs.declared.error.kind.ErrorKind.{ErrorKind}
 use Rattle.clap.specs.declared.error.kind.ErrorKind.TheVariants as kind
-use Rattle.mencius_command_line.specs.declared.pages.TheConstants.{PROGRAM_HELP, REPLAY_HELP, TRACE_HELP, CHECK_HELP, RUN_HELP}
+use Rattle.mencius_command_line.specs.declared.pages.TheConstants.{PROGRAM_HELP, REPLAY_HELP, TRACE_HELP, DRAW_HELP, CHECK_HELP, JUDGE_HELP, RUN_HELP}
 
 -- of the task of this name, and else of the program
 abbrev pub help_named : Text → Text
 help_named name =
     if bytes_eq name (codes "replay") then REPLAY_HELP.now
     else if bytes_eq name (codes "trace") then TRACE_HELP.now
+    else if bytes_eq name (codes "draw") then DRAW_HELP.now
     else if bytes_eq name (codes "check") then CHECK_HELP.now
+    else if bytes_eq name (codes "judge") then JUDGE_HELP.now
     else if bytes_eq name (codes "run") then RUN_HELP.now
     else PROGRAM_HELP.now
 

@@ -1,2 +1,4 @@
+pub mod Flags
+pub mod Drawing
 pub mod CommandLine
 pub mod Help

@@ -2,6 +2,7 @@
 #![tactic(auto)]
 
 mod arguments;
+mod drawing;
 mod line;
 mod pages;
 

@@ -1,13 +1,16 @@
 //! The words after the program's name.
 
-ghost use Rattle.std.specs.Prelude.{◌≡◌, ◌≤◌, ◌∷◌, false, IfOk, Some, codes, length, map, option_copied, option_map, string_bytes};
+ghost use Rattle.std.specs.Prelude.{◌≡◌, ◌≤◌, ◌∷◌, false, IfErr, IfOk, Some, codes, length, map, option_copied, option_map, string_bytes};
 ghost use Rattle.clap.specs.declared.builder.command.Command.TheViews.{out-Command as fields_of};
-ghost use Rattle.clap.specs.Words.{FailsBy, app_of, first_of, found_of, kind_of, rows_of, rule_of, subcommand_rows_of};
-ghost use Rattle.mencius_command_line.specs.CommandLine.{asked, asked_by, asked_in, bad_key_faults, faults, check_task, has_flag, is_key, journal_option, key_faults, lookup_option, program, replay_task, run_task, strict_option, trace_task, with_joined_key, with_replays, without_tasks, words_read};
+ghost use Rattle.clap.specs.Words.{FailsBy, HasKind, app_of, first_of, found_of, kind_of, rows_of, rule_of, subcommand_rows_of};
+ghost use Rattle.mencius_command_line.specs.CommandLine.{asked, asked_by, asked_in, bad_key_faults, faults, check_task, is_key, journal_option, judge_task, lookup_option, program, replay_task, run_task, strict_option, trace_task, value_faults, with_joined_key, with_replays, without_tasks, words_read};
+ghost use Rattle.mencius_command_line.specs.Flags.{has_flag};
 
+use crate::drawing::{draw_command, options_of};
 use clap::error::ErrorKind;
 use clap::{Arg, ArgAction, ArgMatches, Command, Error};
 use mencius_base::{MOST_KEY_BYTES, is_name};
+use mencius_draw::Options;
 use std::alloc::{AllocError, Global};
 
 /// What a command line asks for.
@@ -20,8 +23,12 @@ pub enum Task {
     },
     /// A trace of the scenario on standard input.
     Trace,
+    /// A picture of a part of the scenario on standard input.
+    Draw(Options),
     /// A check of the scenario on standard input.
     Check,
+    /// A judgement of the log on standard input.
+    Judge,
     /// A run of the workers of the scenario on standard input.
     Run {
         /// Whether the journal is printed before the report.
@@ -41,6 +48,8 @@ const REPLAY_USAGE: &str = "mencius replay [OPTIONS] < SCENARIO";
 const TRACE_USAGE: &str = "mencius trace < SCENARIO";
 
 const CHECK_USAGE: &str = "mencius check < SCENARIO";
+
+const JUDGE_USAGE: &str = "mencius judge < LOG";
 
 const RUN_USAGE: &str = "mencius run [OPTIONS] < SCENARIO";
 
@@ -112,6 +121,14 @@ fn check_command<'a>(alloc: Global) -> Command<'a>
     Command::new(alloc, "check").override_usage(CHECK_USAGE)
 }
 
+// The task `judge`.
+fn judge_command<'a>(alloc: Global) -> Command<'a>
+    ensures judge { app_of result ≡ judge_task }
+    ensures local { (fields_of result).has_globals ≡ false }
+{
+    Command::new(alloc, "judge").override_usage(JUDGE_USAGE)
+}
+
 // The program, with no task yet.
 fn without_tasks<'a>(alloc: Global) -> Command<'a>
     ensures { app_of result ≡ without_tasks }
@@ -128,6 +145,7 @@ fn with_replays<'a>(alloc: Global) -> Result<Command<'a>, AllocError>
     without_tasks(alloc)
         .subcommand(replay_command(alloc)?)?
         .subcommand(trace_command(alloc))?
+        .subcommand(draw_command(alloc)?)?
         .subcommand(check_command(alloc))
 }
 
@@ -135,11 +153,13 @@ fn with_replays<'a>(alloc: Global) -> Result<Command<'a>, AllocError>
 fn command_line<'a>(alloc: Global) -> Result<Command<'a>, AllocError>
     ensures { IfOk result (λ command. app_of command ≡ program) }
 {
-    with_replays(alloc)?.subcommand(run_command(alloc)?)
+    with_replays(alloc)?
+        .subcommand(judge_command(alloc))?
+        .subcommand(run_command(alloc)?)
 }
 
-// Whether a flag was given.
-fn has_flag(options: &ArgMatches, flag: &str) -> bool
+/// Whether a flag was given.
+pub(crate) fn has_flag(options: &ArgMatches, flag: &str) -> bool
     ensures { result ≡ has_flag flag.now (rows_of (found_of options.now)) }
 {
     match options.get_str(flag) {
@@ -198,9 +218,11 @@ fn key_of(alloc: Global, options: &ArgMatches) -> Result<Option<String>, AllocEr
 }
 
 // The task of this name, with its options.
-fn task_named(alloc: Global, name: &str, options: &ArgMatches) -> Result<Task, AllocError>
-    ensures { IfOk result (λ task. asked_in task
+fn task_named(alloc: Global, name: &str, options: &ArgMatches) -> Result<Task, Error>
+    ensures task { IfOk result (λ task. asked_in task
         ≡ asked_by (Some (name.now, rows_of (found_of options.now)))) }
+    ensures faults { IfErr result
+        (HasKind (value_faults (asked_by (Some (name.now, rows_of (found_of options.now)))))) }
 {
     if name == "run" {
         let with_journal = has_flag(options, "journal");
@@ -210,16 +232,24 @@ fn task_named(alloc: Global, name: &str, options: &ArgMatches) -> Result<Task, A
     if name == "trace" {
         return Ok(Task::Trace);
     }
+    if name == "draw" {
+        return Ok(Task::Draw(options_of(alloc, options)?));
+    }
     if name == "check" {
         return Ok(Task::Check);
+    }
+    if name == "judge" {
+        return Ok(Task::Judge);
     }
     let is_strict = has_flag(options, "strict");
     Ok(Task::Replay { is_strict })
 }
 
 // The task that was asked for.
-fn task_of(alloc: Global, matches: &ArgMatches) -> Result<Task, AllocError>
-    ensures { IfOk result (λ task. asked_in task ≡ asked_by (subcommand_rows_of matches.now)) }
+fn task_of(alloc: Global, matches: &ArgMatches) -> Result<Task, Error>
+    ensures task { IfOk result (λ task. asked_in task ≡ asked_by (subcommand_rows_of matches.now)) }
+    ensures faults { IfErr result
+        (HasKind (value_faults (asked_by (subcommand_rows_of matches.now)))) }
 {
     match matches.subcommand() {
         Some((name, options)) => task_named(alloc, name, options),
@@ -236,7 +266,7 @@ fn is_key(word: &str) -> bool
 
 // The key that is to be looked up, where it is none.
 fn bad_key(task: &Task) -> Option<&str>
-    ensures { key_faults (asked_in task.now) ≡ bad_key_faults (option_copied result) }
+    ensures { value_faults (asked_in task.now) ≡ bad_key_faults (option_copied result) }
 {
     match task {
         Task::Run { key: Some(key), .. } if !is_key(key.as_str()) => Some(key.as_str()),
@@ -247,7 +277,7 @@ fn bad_key(task: &Task) -> Option<&str>
 // The task, unless its key is none.
 fn with_good_key(alloc: Global, task: Task) -> Result<Task, Error>
     ensures task { IfOk result (λ x. asked_in x ≡ asked_in task) }
-    ensures faults { FailsBy (key_faults (asked_in task)) result }
+    ensures faults { FailsBy (value_faults (asked_in task)) result }
 {
     match bad_key(&task) {
         Some(key) => Err(key_error(alloc, key)?),
@@ -265,15 +295,16 @@ fn key_error(alloc: Global, key: &str) -> Result<Error, AllocError>
 
 /// What the words ask for, of which the first is the program's name, which may be anything. Which
 /// words are taken, which task and which options they ask for, and the kind of the error where they
-/// are not taken, is what `clap` says of a program with a version and the four subcommands
-/// `replay [--strict]`, `trace`, `check` and `run [--journal] [--lookup KEY]`, once `--lookup` and the word behind it
-/// are joined to `--lookup=KEY`; and a KEY that is no key of a command is refused.
+/// are not taken, is what `clap` says of a program with a version and the six subcommands
+/// `replay [--strict]`, `trace`, `draw [--from EVENT] [--to EVENT] [--dark] [--light]`, `check`, `judge` and
+/// `run [--journal] [--lookup KEY]`, once `--lookup` and the word behind it are joined to `--lookup=KEY`; and a KEY that
+/// is no key of a command is refused, and an EVENT that is no number.
 ///
 /// # Errors
 ///
 /// The error has the text to print, says whether it goes to standard error, and has the exit status:
 /// 0 where help or the version was asked for, and 2 for a bad command line. Its kind is `ValueValidation` for a KEY
-/// that is none, and `OutOfMemory` where memory ran out, whatever the words.
+/// or an EVENT that is none, and `OutOfMemory` where memory ran out, whatever the words.
 pub fn read_command_line(alloc: Global, words: &[String]) -> Result<Task, Error>
     ensures task { IfOk result (λ task. asked_in task ≡ asked (map string_bytes words.now)) }
     ensures faults { FailsBy (faults (map string_bytes words.now)) result }

@@ -21,7 +21,9 @@ Usage: mencius <COMMAND>
 Commands:
   replay  Steps a new cluster through the scenario on standard input and prints a report
   trace   Steps a new cluster through the scenario on standard input and prints what each event did
+  draw    Steps a new cluster through the scenario on standard input and prints a picture of what each event did
   check   Says where the scenario on standard input is wrong
+  judge   Judges what any replicated store did, by the log on standard input
   run     Lets workers choose what happens to a new cluster and prints a report
   help    Print this message or the help of the given subcommand(s)
 
@@ -158,6 +160,58 @@ Examples, at the top of the repository:
 docs/FORMATS.md describes the trace in full, and examples/ has schedules to try.
 ";
 
+const DRAW_HELP: &str = "\
+Steps a new cluster through the scenario on standard input and prints a picture of what each event did
+
+The scenario is one of `replay`, whose help says what it has. The picture is an SVG file: a
+lane for each server, time downwards, and an arrow for each message that was heard or lost.
+What a server sent, learned, executed or answered stands beside the mark of the event, and
+what it came to below its lane. The picture shows the trace, and nothing else.
+
+  dot                       asked from outside: a submission, a suspicion, a retry, an
+                            execution
+  ring                      a message was heard
+  cross                     a message was lost; its arrow has no point
+  diamond                   something was learned
+  square                    an instance was executed
+  barred ring               the event was refused, and beside it stands why
+
+Beside a mark, i is an instance, b a ballot, and V@b a vote for V in that ballot. The colour
+is that of the server that owns the instance. A key at the foot of the picture says the rest.
+
+Usage: mencius draw [OPTIONS] < SCENARIO
+
+Options:
+      --from <EVENT>  Leaves out the events before this one; they are numbered from 0
+      --to <EVENT>    Leaves out the events behind this one
+      --dark          Draws light on dark
+      --light         Draws dark on light
+  -h, --help          Print help
+
+Without --dark and --light, or with both, the picture is light or dark as its reader prefers.
+An arrow from an event that is left out, or from more than 30 events above, is drawn as its
+end alone, and the event that sent the message is named.
+
+A picture has at most 50000 levels: an event takes one, and one more for each thing that stands
+beside it but the first. More are refused as a BadLimit.
+
+Exit status:
+  0  done, whether events were refused or not
+  2  a bad command line, or an EVENT that is no number
+  3  a bad scenario: 21 NotJson, 22 BadShape, 23 BadLimit; or too many levels: 23 BadLimit
+  4  reading or writing failed: 24 ReadFailed, 25 WriteFailed
+  5  memory ran out: 26 NoMemory
+From 3 on, standard error has the line `mencius: fault NUMBER NAME`, and of a scenario that
+is bad or cannot be read, or has too many levels, a second one, which says where it is wrong,
+unless memory for it ran out. Nothing was printed then, unless writing failed.
+
+Examples, at the top of the repository:
+  ./mencius draw < examples/duelling_revokers.json > picture.svg
+  ./mencius draw --from 5 --to 12 --dark < examples/duelling_revokers.json > part.svg
+
+docs/FORMATS.md describes the picture in full, and examples/ has schedules to try.
+";
+
 const CHECK_HELP: &str = "\
 Says where the scenario on standard input is wrong
 
@@ -193,6 +247,74 @@ Examples, at the top of the repository; the second finds a zero too many:
   echo '{\"version\":1,\"servers\":3,\"events\":[\"deliver 00 0\"]}' | ./mencius check
 
 docs/FORMATS.md describes the format in full.
+";
+
+const JUDGE_HELP: &str = "\
+Judges what any replicated store did, by the log on standard input
+
+The log says what an observer saw of a store, one observation a line, in the order in which
+it was seen. It is judged as it comes, however long it is. A server S is 0 to 255, a reader R
+0 to 4294967295; an ID, a KEY and a TEXT are those of `replay`.
+
+  submit ID set KEY TEXT    a client submitted a command, perhaps once more: also `get KEY`,
+                            `del KEY` and `cas KEY OLD NEW`
+  execute S ID              server S executed this command, its next one
+  reply ID none             a client got this reply to its command: nothing was at its key,
+  reply ID =TEXT            .. or this text
+  lookup R KEY none         reader R looked KEY up, and found nothing,
+  lookup R KEY =TEXT        .. or this text
+  told R S                  reader R was told of all that server S has executed
+  # ..                      is passed over, as is an empty line
+
+What is printed is one line, at once where a promise is broken, or else at the end:
+
+  ok servers N commands C executed E replies R open O lookups L
+                            every promise is kept: N servers executed something, C commands
+                            were submitted, the longest history has E, and R had a reply, of
+                            which O stand in no history, so that nothing judged their replies
+  violation LINE OneCommand command ID
+                            another command was submitted under this ID before
+  violation LINE Submitted command ID
+                            what was executed or answered was never submitted
+  violation LINE Once server S place P command ID
+                            S executed it twice; places in a history count from 0
+  violation LINE SameOrder server S place P expected ID found ID
+                            another server executed another command there
+  violation LINE RealTime server S place P command ID behind ID
+                            the second had its reply before the first was submitted, and
+                            does not stand before it
+  violation LINE OneReply command ID expected =TEXT found none
+                            the command had another reply before
+  violation LINE RightReply command ID place P expected none found =TEXT
+                            a map that executes the history answers something else
+  violation LINE RightLookup reader R key KEY from N to M found =TEXT
+                            KEY holds that after none of the first N to M commands, and the
+                            reader had seen N
+
+LINE counts all lines of the log from 1. What stands behind it plays no part.
+
+Usage: mencius judge < LOG
+
+Options:
+  -h, --help  Print help
+
+Exit status:
+  0  every promise is kept
+  1  a promise is broken
+  2  a bad command line
+  3  a bad line: 22 BadShape, 23 BadLimit
+  4  reading or writing failed: 24 ReadFailed, 25 WriteFailed
+  5  memory ran out: 26 NoMemory
+From 3 on, standard error has the line `mencius: fault NUMBER NAME`, and of a bad line a
+second one, which says which it is and how it is wrong, unless memory for it ran out. Nothing
+was printed then, unless writing failed. A line has at most 1024 bytes, and the last one ends
+too.
+
+Examples, at the top of the repository; the second breaks a promise:
+  printf 'submit 1.0 set a x\\nexecute 0 1.0\\nreply 1.0 none\\n' | ./mencius judge
+  printf 'submit 1.0 set a x\\nexecute 0 1.0\\nreply 1.0 =y\\n' | ./mencius judge
+
+docs/FORMATS.md describes the log in full, and docs/TESTING_A_STORE.md says how to make one.
 ";
 
 const RUN_HELP: &str = "\
@@ -297,8 +419,14 @@ fn help_named(name: &[u8]) -> &'static str
     if name == b"trace".as_slice() {
         return TRACE_HELP;
     }
+    if name == b"draw".as_slice() {
+        return DRAW_HELP;
+    }
     if name == b"check".as_slice() {
         return CHECK_HELP;
+    }
+    if name == b"judge".as_slice() {
+        return JUDGE_HELP;
     }
     if name == b"run".as_slice() {
         return RUN_HELP;

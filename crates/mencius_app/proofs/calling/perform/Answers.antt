@@ -3,7 +3,7 @@ use Rattle.clap.specs.Words.{kind_of}
 use Rattle.mencius_command_line.specs.CommandLine.{bytes_of}
 use Rattle.mencius_app.specs.Calls.{IsCause}
 use Rattle.mencius_app.specs.Ending.{IsAskedFor, IsFaultFor, fault_in}
-use Rattle.mencius_app.proofs.EndingCauses.{of_task}
+use Rattle.mencius_app.proofs.EndingCauses.{asks_as, of_task}
 use Rattle.mencius_app.proofs.FindingWords.{unexplained}
 use Rattle.mencius_app.proofs.calling.perform.Goals as goal
 
@@ -17,6 +17,9 @@ returns-in-Err-clause-misused g c = λ ended.
 
 pub returns-in-Err-clause-words : goal.returns-in-Err-clause-words
 returns-in-Err-clause-words g c = unexplained _ _ _ c.tell.ensures.plain
+
+pub returns-in-Err-clause-asked : goal.returns-in-Err-clause-asked
+returns-in-Err-clause-asked g c = asks_as _ _ _ _ _ c.tell.ensures.tried
 
 pub returns-then-not-are_texts-clause-not_text : goal.returns-then-not-are_texts-clause-not_text
 returns-then-not-are_texts-clause-not_text g c e = refl

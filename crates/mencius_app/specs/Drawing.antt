@@ -1,0 +1,51 @@
+-- The picture of a scenario, which input it is of, and when it is refused.
+use Rattle.std.specs.Prelude.{◌≡◌, ◌⊎◌, ◌<◌, ◌≤◌, ℕ, List, ◌++◌, Option, Some, None, codes, decimal, IfSome, string_bytes}
+use Rattle.mencius_ends.specs.declared.fault.AppFault.{AppFault}
+use Rattle.mencius_ends.specs.declared.fault.AppFault.TheVariants.{BadLimit, NoMemory}
+use Rattle.mencius_draw.specs.declared.options.Options.{Options}
+use Rattle.mencius_draw.specs.Layout.{lines_of}
+use Rattle.mencius_draw.specs.Picture.{levels_of, picture_of}
+use Rattle.mencius_draw.specs.Places.{most_levels}
+use Rattle.mencius_input.specs.declared.kind.Kind.TheVariants.{Replay}
+use Rattle.mencius_trace.specs.Words.{line_feed}
+use Rattle.mencius_app.specs.declared.finding.Finding.{Finding}
+use Rattle.mencius_app.specs.Findings.{IsToldAs}
+use Rattle.mencius_app.specs.Input.{IsFaultOf}
+use Rattle.mencius_app.specs.Trace.{IsTraceOf}
+
+-- the levels that a part of a trace takes
+abbrev pub levels_in : Options → List ℕ → ℕ
+levels_in options trace = levels_of options (lines_of trace)
+
+-- the picture of the trace of all that a reader has, so far as that is known
+abbrev pub IsPictureOf : Options → Option (List ℕ) → List ℕ → Type 0
+IsPictureOf options known text =
+    (trace : List ℕ) × IsTraceOf known trace × (levels_in options trace ≤ most_levels) × (text ≡ picture_of options trace)
+
+-- the trace of that takes so many levels, and a picture has fewer
+abbrev pub IsTooLarge : Options → Option (List ℕ) → ℕ → Type 0
+IsTooLarge options known levels =
+    (trace : List ℕ) × IsTraceOf known trace × (levels ≡ levels_in options trace) × (most_levels < levels)
+
+-- an input that no trace is of, or whose picture is too large
+abbrev pub IsDrawingFaultOf : Options → Option (List ℕ) → AppFault → Type 0
+IsDrawingFaultOf options known fault =
+    IsFaultOf known fault ⊎ ((fault ≡ BadLimit) × (levels : ℕ) × IsTooLarge options known levels)
+
+abbrev pub too_large_words : ℕ → List ℕ
+too_large_words levels =
+    codes "the picture takes " ++ decimal levels
+    ++ codes " levels and has at most 50000: ask for fewer events by `--from` and `--to`"
+
+-- a picture's fault is told as that of a trace, or it says how many levels are too many
+abbrev pub IsToldOfPicture : Options → AppFault → List ℕ → List ℕ → Type 0
+IsToldOfPicture options fault bytes words =
+    IsToldAs Replay fault bytes words
+    ⊎ ((fault ≡ BadLimit) × (levels : ℕ) × IsTooLarge options (Some bytes) levels × (words ≡ too_large_words levels))
+
+-- memory ran out, or a trace takes too many levels
+abbrev pub IsRefusedAs : Options → List ℕ → Finding → Type 0
+IsRefusedAs options trace found =
+    ((found.fault ≡ NoMemory) × (found.words ≡ None))
+    ⊎ ((found.fault ≡ BadLimit) × (most_levels < levels_in options trace)
+    × IfSome found.words (λ line. string_bytes line ≡ too_large_words (levels_in options trace) ++ line_feed))

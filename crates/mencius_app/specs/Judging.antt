@@ -1,0 +1,38 @@
+-- The text of a judgement, and which log it is of.
+use Rattle.std.specs.Prelude.{◌≡◌, ℕ, Bool, true, false, not, List, Option, IfSome}
+use Rattle.mencius_ends.specs.declared.fault.AppFault.{AppFault}
+use Rattle.mencius_judge.specs.declared.reading.Verdict.{Verdict}
+use Rattle.mencius_judge.specs.declared.reading.Verdict.TheVariants.{Kept, Broken}
+use Rattle.mencius_judge.specs.Reading.{AreBad, IsToldOfLine, IsVerdictOf}
+use Rattle.mencius_judge.specs.Told.{broken_line, kept_line}
+
+-- the line that tells a verdict
+abbrev pub verdict_line : Verdict → List ℕ
+verdict_line (Kept counts) = kept_line counts
+verdict_line (Broken breach) = broken_line breach.number breach.violation
+
+abbrev pub is_kept : Verdict → Bool
+is_kept (Kept counts) = true
+is_kept (Broken breach) = false
+
+-- the text of the verdict on all that a reader has, so far as that is known, and whether all promises are kept
+pub record IsJudgementOf (known : Option (List ℕ)) (text : List ℕ) (kept : Bool) : Type 0 where
+  pub verdict : Verdict
+  pub on : IsVerdictOf known verdict
+  pub is : text ≡ verdict_line verdict
+  pub says : kept ≡ is_kept verdict
+
+-- such a text, whatever it says
+abbrev pub IsJudgement : Option (List ℕ) → List ℕ → Type 0
+IsJudgement known text = (kept : Bool) × IsJudgementOf known text kept
+
+-- a line of a log has this fault, before which all promises are kept
+abbrev pub HasBadLine : List ℕ → AppFault → Type 0
+HasBadLine bytes fault = (number : ℕ) × AreBad bytes fault number
+
+abbrev pub IsLogFaultOf : Option (List ℕ) → AppFault → Type 0
+IsLogFaultOf known fault = IfSome known (λ bytes. HasBadLine bytes fault)
+
+-- the words tell of that line
+abbrev pub IsToldByLine : AppFault → List ℕ → List ℕ → Type 0
+IsToldByLine fault bytes words = (number : ℕ) × AreBad bytes fault number × IsToldOfLine number words

@@ -1,0 +1,67 @@
+-- The task `draw`: its options, and what they ask for.
+use Rattle.std.specs.Prelude.{ℕ, ◌-◌, ◌^◌, Bool, true, false, List, [], ◌∷◌, Option, Some, None, Result, Ok, Err, codes}
+use Rattle.clap.specs.Words.{App, Kinds, Row, Rule, Text, first_of, new_app, new_rule, with_rule}
+use Rattle.clap.specs.declared.builder.action.ArgAction.TheVariants.{Set, SetTrue}
+use Rattle.clap.specs.declared.error.kind.ErrorKind.TheVariants as kind
+use Rattle.mencius_ends.specs.declared.fault.AppFault.{AppFault}
+use Rattle.mencius_format.specs.Judged.{judged}
+use Rattle.mencius_format.specs.Words.{is_u32, number_of}
+use Rattle.mencius_draw.specs.declared.options.Options.{Options}
+use Rattle.mencius_draw.specs.declared.options.Scheme.{Scheme}
+use Rattle.mencius_draw.specs.declared.options.Scheme.TheVariants.{Both, Light, Dark}
+use Rattle.mencius_command_line.specs.Flags.{has_flag}
+
+-- ---- the task
+
+-- `--from EVENT` and `--to EVENT`
+abbrev pub place_option : Text → Rule
+place_option name = record (new_rule name) { long = Some name; action = Some Set; value_names = 1 }
+
+-- `--dark`
+abbrev pub dark_option : Rule
+dark_option = record (new_rule (codes "dark")) { long = Some (codes "dark"); action = Some SetTrue }
+
+-- `--light`
+abbrev pub light_option : Rule
+light_option = record (new_rule (codes "light")) { long = Some (codes "light"); action = Some SetTrue }
+
+abbrev pub draw_task : App
+draw_task =
+    with_rule (with_rule (with_rule (with_rule (new_app (codes "draw")) (place_option (codes "from")))
+    (place_option (codes "to"))) dark_option) light_option
+
+-- ---- what is asked for
+
+abbrev pub last_place : ℕ
+last_place = 2 ^ 32 - 1
+
+-- the place that a word is, as events write numbers, and another one where there is no word
+abbrev pub place_in : ℕ → Option Text → Result ℕ AppFault
+place_in other None = Ok other
+place_in other (Some word) = judged is_u32 (number_of word)
+
+-- both schemes where both are asked for, or neither is
+abbrev pub scheme_by : Bool → Bool → Scheme
+scheme_by true false = Dark
+scheme_by false true = Light
+scheme_by is_dark is_light = Both
+
+abbrev pub options_by : Scheme → Result ℕ AppFault → Result ℕ AppFault → Option Options
+options_by scheme (Ok first) (Ok last) = Some (record { first = first; last = last; scheme = scheme })
+options_by scheme first last = None
+
+-- the first and the last event that are drawn, and the colours; nothing where a place is none
+abbrev pub options_of : List Row → Option Options
+options_of rows =
+    options_by (scheme_by (has_flag (codes "dark") rows) (has_flag (codes "light") rows))
+    (place_in 0 (first_of (codes "from") rows)) (place_in last_place (first_of (codes "to") rows))
+
+-- ---- what is wrong with it
+
+abbrev pub place_faults : Result ℕ AppFault → Kinds
+place_faults (Ok place) = []
+place_faults (Err fault) = kind.ValueValidation ∷ []
+
+abbrev pub part_faults : Option Options → Kinds
+part_faults (Some options) = []
+part_faults None = kind.ValueValidation ∷ []

@@ -1,0 +1,112 @@
+//! The task `draw`: which part of a schedule is drawn, and in which colours.
+
+ghost use Rattle.std.specs.Prelude.{◌≡◌, IfOk, Ok, Some, false};
+ghost use Rattle.clap.specs.declared.builder.command.Command.TheViews.{out-Command as fields_of};
+ghost use Rattle.clap.specs.Words.{FailsBy, app_of, first_of, found_of, kind_of, rows_of, rule_of};
+ghost use Rattle.mencius_command_line.specs.Drawing.{dark_option, draw_task, light_option, options_of, part_faults, place_faults, place_in, place_option, scheme_by};
+
+use crate::line::has_flag;
+use clap::error::ErrorKind;
+use clap::{Arg, ArgAction, ArgMatches, Command, Error};
+use mencius_draw::{Options, Scheme};
+use mencius_format::parse_u32;
+use std::alloc::{AllocError, Global};
+
+const DRAW_USAGE: &str = "mencius draw [OPTIONS] < SCENARIO";
+
+const PLACE_RULE: &str = "the place of an event is a number, 0 to 4294967295";
+
+// An option whose value is the place of an event.
+fn place_option<'a>(alloc: Global, name: &'a str) -> Arg<'a>
+    ensures rule { rule_of result ≡ place_option name.now }
+    ensures local { result.global ≡ false }
+{
+    Arg::new(alloc, name)
+        .long(name)
+        .action(ArgAction::Set)
+        .value_name("EVENT")
+}
+
+// The option `--dark`.
+fn dark_option<'a>(alloc: Global) -> Arg<'a>
+    ensures rule { rule_of result ≡ dark_option }
+    ensures local { result.global ≡ false }
+{
+    Arg::new(alloc, "dark")
+        .long("dark")
+        .action(ArgAction::SetTrue)
+}
+
+// The option `--light`.
+fn light_option<'a>(alloc: Global) -> Arg<'a>
+    ensures rule { rule_of result ≡ light_option }
+    ensures local { result.global ≡ false }
+{
+    Arg::new(alloc, "light")
+        .long("light")
+        .action(ArgAction::SetTrue)
+}
+
+/// The task `draw`, with its options.
+pub(crate) fn draw_command<'a>(alloc: Global) -> Result<Command<'a>, AllocError>
+    ensures draw { IfOk result (λ command. app_of command ≡ draw_task) }
+    ensures local { IfOk result (λ command. (fields_of command).has_globals ≡ false) }
+{
+    Command::new(alloc, "draw")
+        .override_usage(DRAW_USAGE)
+        .arg(place_option(alloc, "from"))?
+        .arg(place_option(alloc, "to"))?
+        .arg(dark_option(alloc))?
+        .arg(light_option(alloc))
+}
+
+// The colours that are asked for: those of both schemes where both are, or neither is.
+fn scheme_by(is_dark: bool, is_light: bool) -> Scheme
+    ensures { result ≡ scheme_by is_dark is_light }
+{
+    match (is_dark, is_light) {
+        (true, false) => Scheme::Dark,
+        (false, true) => Scheme::Light,
+        _ => Scheme::Both,
+    }
+}
+
+// The place that an option names, and another one where the option is not given.
+fn place_in(alloc: Global, matches: &ArgMatches, name: &str, other: u32) -> Result<u32, Error>
+    ensures place { IfOk result (λ place.
+        place_in other (first_of name.now (rows_of (found_of matches.now))) ≡ Ok place) }
+    ensures faults { FailsBy
+        (place_faults (place_in other (first_of name.now (rows_of (found_of matches.now))))) result }
+{
+    match matches.get_str(name) {
+        Some(word) => match parse_u32(word) {
+            Ok(place) => Ok(place),
+            Err(_) => Err(place_error(alloc, name, word)?),
+        },
+        None => Ok(other),
+    }
+}
+
+// The error of a place that is none, in the form of `clap`'s own, with the usage of `draw`.
+fn place_error(alloc: Global, name: &str, word: &str) -> Result<Error, AllocError>
+    ensures { IfOk result (λ e. kind_of e ≡ ErrorKind.ValueValidation) }
+{
+    let message = format!(in alloc; "invalid value '{word}' for '--{name} <EVENT>': {PLACE_RULE}")?;
+    draw_command(alloc)?.error(ErrorKind::ValueValidation, message.as_str())
+}
+
+/// The part and the colours that the options of `draw` ask for. A place that is no number is refused.
+pub(crate) fn options_of(alloc: Global, matches: &ArgMatches) -> Result<Options, Error>
+    ensures options { IfOk result (λ options.
+        options_of (rows_of (found_of matches.now)) ≡ Some options) }
+    ensures faults { FailsBy (part_faults (options_of (rows_of (found_of matches.now)))) result }
+{
+    let first = place_in(alloc, matches, "from", 0)?;
+    let last = place_in(alloc, matches, "to", u32::MAX)?;
+    let scheme = scheme_by(has_flag(matches, "dark"), has_flag(matches, "light"));
+    Ok(Options {
+        first,
+        last,
+        scheme,
+    })
+}

@@ -1,0 +1,61 @@
+-- What each server came to, below its lane.
+use Rattle.std.specs.Prelude.{ℕ, ◌+◌, ◌==◌, ◌&&◌, List, [], ◌∷◌, ◌++◌, codes, decimal, not, if◌then◌else◌}
+use Rattle.std.specs.List.{flat_map}
+use Rattle.std.specs.Str.{bytes_eq}
+use Rattle.mencius_draw.specs.declared.facts.Note.TheVariants.{Executed}
+use Rattle.mencius_draw.specs.declared.facts.Fact.{Fact}
+use Rattle.mencius_draw.specs.declared.facts.Fact.TheVariants.{Closing, Outcome, Unheard}
+use Rattle.mencius_draw.specs.Layout.{Outline}
+use Rattle.mencius_draw.specs.Places.{lane_of, y_of}
+use Rattle.mencius_draw.specs.Words.{fixed, number, plain, plain_word, rest, word}
+
+-- a server's command behind a space, and nothing for no-op or another server's
+abbrev pub command_of : ℕ → List ℕ → List ℕ
+command_of server line =
+    if number (word 1 line) == server && not (bytes_eq (word 5 line) (codes "no-op")) then 32 ∷ plain_word 5 line
+    else []
+
+abbrev pub executed_in : ℕ → List ℕ → Fact → List ℕ
+executed_in server line (Outcome (Executed inst)) = command_of server line
+executed_in server line _ = []
+
+abbrev pub executed_by : ℕ → Outline → List ℕ
+executed_by server x = executed_in server x.line x.fact
+
+-- the commands that the server executed, in order
+abbrev pub history_text : ℕ → List Outline → List ℕ
+history_text server xs = flat_map (executed_by server) xs
+
+abbrev pub unheard_in : ℕ → Fact → List ℕ
+unheard_in wanted (Unheard number server) = if server == wanted then 32 ∷ decimal number else []
+unheard_in wanted _ = []
+
+abbrev pub unheard_at : ℕ → Outline → List ℕ
+unheard_at server x = unheard_in server x.fact
+
+-- the messages that it neither heard nor lost
+abbrev pub unheard_text : ℕ → List Outline → List ℕ
+unheard_text server xs = flat_map (unheard_at server) xs
+
+-- items behind a space each, or a dash
+abbrev pub list_text : List ℕ → List ℕ
+list_text [] = codes " -"
+list_text (b ∷ bs) = b ∷ bs
+
+abbrev pub foot_at : ℕ → ℕ → List Outline → List ℕ → ℕ → List ℕ
+foot_at servers levels xs line server =
+    fixed (codes "<g class='foot' transform='translate(") ++ decimal (lane_of servers server) ++ fixed (codes " ") ++ decimal (y_of levels + 4)
+    ++ fixed (codes ")'><rect class='card' x='-96' width='192' height='92' rx='8'/><text x='-86' y='20'>front ")
+    ++ plain_word 3 line ++ fixed (codes ", executed ") ++ plain_word 5 line
+    ++ fixed (codes "</text><text x='-86' y='39'>history") ++ list_text (history_text server xs)
+    ++ fixed (codes "</text><text x='-86' y='58'>") ++ plain (rest 8 line)
+    ++ fixed (codes "</text><text x='-86' y='77'>unheard") ++ list_text (unheard_text server xs)
+    ++ fixed (codes "</text><rect x='64' y='6' width='28' height='80' fill='url(#fading)'/></g>\n")
+
+abbrev pub foot_in : ℕ → ℕ → List Outline → List ℕ → Fact → List ℕ
+foot_in servers levels xs line (Closing server) = foot_at servers levels xs line server
+foot_in servers levels xs line _ = []
+
+-- the foot of a server, where the line says how far it is in the end
+abbrev pub foot_text : ℕ → ℕ → List Outline → Outline → List ℕ
+foot_text servers levels xs x = foot_in servers levels xs x.line x.fact

@@ -1,0 +1,88 @@
+-- Where each line of a trace is drawn. Levels are counted downwards.
+use Rattle.std.specs.Prelude.{ℕ, ◌+◌, ◌==◌, ◌&&◌, List, [], ◌∷◌, Bool, false, Option, Some, None, map, nat_le, if◌then◌else◌}
+use denote.Ref.{Bor}
+use Rattle.std.specs.List.{filter_map, slice_split}
+use Rattle.mencius_draw.specs.declared.facts.Fact.{Fact}
+use Rattle.mencius_draw.specs.declared.facts.Fact.TheVariants.{Event, Sent, Outcome}
+use Rattle.mencius_draw.specs.declared.layout.Spot.{Spot}
+use Rattle.mencius_draw.specs.declared.layout.Shape.{Shape}
+use Rattle.mencius_draw.specs.declared.layout.Sent.{Sent as SentMessage}
+use Rattle.mencius_draw.specs.declared.options.Options.{Options}
+use Rattle.mencius_draw.specs.Facts.{fact_of}
+
+-- a line, what it says, and where it is drawn
+pub record Outline : Type 0 where
+  pub line : List ℕ
+  pub fact : Fact
+  pub spot : Spot
+
+abbrev pub outline : Shape → Outline
+outline x = record { line = x.line.now; fact = x.fact; spot = x.spot }
+
+abbrev pub start : Spot
+start = record { place = 0; server = 0; is_shown = false; top = 0; level = 0; free = 0; next = 0 }
+
+abbrev pub is_drawn : Options → ℕ → Bool
+is_drawn o place = nat_le o.first place && nat_le place o.last
+
+-- an event begins where nothing stands yet
+abbrev pub event_spot : Spot → Bool → ℕ → ℕ → Spot
+event_spot pen is_shown place server = record {
+  place = place;
+  server = server;
+  is_shown = is_shown;
+  top = pen.next;
+  level = pen.next;
+  free = pen.next;
+  next = if is_shown then pen.next + 1 else pen.next;
+}
+
+-- its first outcome stands beside it, each further one a level below, and the next event below them all
+abbrev pub outcome_spot : Spot → Spot
+outcome_spot pen =
+    if pen.is_shown then record pen { level = pen.free; free = pen.free + 1; next = pen.free + 1 } else pen
+
+unfoldable pub spot_after : Options → Spot → Fact → Spot
+spot_after o pen (Event place act server is_refused) = event_spot pen (is_drawn o place) place server
+spot_after o pen (Sent number kind from inst) = outcome_spot pen
+spot_after o pen (Outcome note) = outcome_spot pen
+spot_after o pen _ = pen
+
+abbrev pub lines_of : List ℕ → List (List ℕ)
+lines_of trace = slice_split (λ b. b == 10) trace
+
+abbrev pub lines_at : List (Bor (List ℕ)) → List (List ℕ)
+lines_at lines = map (λ line. line.now) lines
+
+abbrev pub next_line : List (List ℕ) → List ℕ
+next_line [] = []
+next_line (line ∷ ls) = line
+
+abbrev pub shape_at : Options → Spot → List ℕ → List (List ℕ) → Outline
+shape_at o pen line ls = record {
+  line = line;
+  fact = fact_of line (next_line ls);
+  spot = spot_after o pen (fact_of line (next_line ls));
+}
+
+-- the lines from a spot on, each with what it says and where it is drawn
+abbrev pub shapes_of : Options → Spot → List (List ℕ) → List Outline
+shapes_of o pen [] = []
+shapes_of o pen (line ∷ ls) = shape_at o pen line ls ∷ shapes_of o (shape_at o pen line ls).spot ls
+
+-- the spot behind the last of them
+abbrev pub end_of : Options → Spot → List (List ℕ) → Spot
+end_of o pen [] = pen
+end_of o pen (line ∷ ls) = end_of o (shape_at o pen line ls).spot ls
+
+abbrev pub sent_as : Fact → Spot → Option SentMessage
+sent_as (Sent number kind from inst) spot =
+    Some (record { number = number; kind = kind; from = from; inst = inst; spot = spot })
+sent_as _ spot = None
+
+abbrev pub sent_here : Outline → Option SentMessage
+sent_here x = sent_as x.fact x.spot
+
+-- the messages that were sent, by rising number
+abbrev pub sents_of : List Outline → List SentMessage
+sents_of xs = filter_map sent_here xs

@@ -1,0 +1,10 @@
+pub mod Words
+pub mod Facts
+pub mod Layout
+pub mod Places
+pub mod Labels
+pub mod Ways
+pub mod Marks
+pub mod Frame
+pub mod Feet
+pub mod Picture

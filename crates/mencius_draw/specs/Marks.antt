@@ -1,0 +1,189 @@
+-- Events with their marks, and the outcomes beside them.
+use Rattle.std.specs.Prelude.{ℕ, ◌+◌, ◌*◌, ◌/◌, ◌==◌, List, [], ◌∷◌, ◌++◌, Bool, Option, Some, None, codes, decimal, length, max, min, if◌then◌else◌}
+use Rattle.mencius_draw.specs.declared.facts.Act.{Act}
+use Rattle.mencius_draw.specs.declared.facts.Act.TheVariants.{Submit, Deliver, Lose, Suspect, Retry, Execute}
+use Rattle.mencius_draw.specs.declared.facts.Note.{Note}
+use Rattle.mencius_draw.specs.declared.facts.Note.TheVariants.{Learned, Executed}
+use Rattle.mencius_draw.specs.declared.facts.Fact.{Fact}
+use Rattle.mencius_draw.specs.declared.facts.Fact.TheVariants.{Event, Sent, Outcome}
+use Rattle.mencius_draw.specs.declared.layout.Spot.{Spot}
+use Rattle.mencius_draw.specs.declared.layout.Sent.{Sent as SentMessage}
+use Rattle.mencius_draw.specs.declared.ways.Way.{Way}
+use Rattle.mencius_draw.specs.Facts.{kind_name}
+use Rattle.mencius_draw.specs.Labels.{note_class, note_label, sent_label}
+use Rattle.mencius_draw.specs.Layout.{Outline}
+use Rattle.mencius_draw.specs.Places.{lane_of, moved_to, y_of}
+use Rattle.mencius_draw.specs.Ways.{fate_of, heard_by, is_near, owner_of, way_of}
+use Rattle.mencius_draw.specs.Words.{fixed, plain, rest}
+
+-- ---- events
+
+abbrev pub act_name : Act → List ℕ
+act_name Submit = codes "submit"
+act_name (Deliver message) = codes "deliver"
+act_name (Lose message) = codes "lose"
+act_name (Suspect suspected) = codes "suspect"
+act_name Retry = codes "retry"
+act_name Execute = codes "execute"
+
+abbrev pub from_event : Spot → List ℕ
+from_event sent = fixed (codes " from event ") ++ decimal sent.place
+
+-- the event that sent the message, where the arrow does not begin at it
+abbrev pub origin : Bool → Spot → List ℕ
+origin is_near sent = if is_near then [] else from_event sent
+
+-- which message was heard or lost
+abbrev pub message_cause : ℕ → SentMessage → Bool → Spot → List ℕ
+message_cause servers sent is_lost spot =
+    fixed (codes "<text class='cause f") ++ decimal (owner_of servers sent.inst) ++ fixed (codes "' x='-24' y='4'>")
+    ++ fate_of is_lost ++ fixed (codes " ") ++ decimal sent.number ++ fixed (codes " ") ++ kind_name sent.kind
+    ++ origin (is_near sent.spot spot) sent.spot ++ fixed (codes "</text>")
+
+abbrev pub act_words : Act → List ℕ
+act_words Submit = codes "client asks"
+act_words (Deliver message) = codes "message " ++ decimal message
+act_words (Lose message) = codes "message " ++ decimal message
+act_words (Suspect suspected) = codes "suspects " ++ decimal suspected
+act_words Retry = codes "retries"
+act_words Execute = codes "executes"
+
+abbrev pub act_cause : Act → List ℕ
+act_cause act = fixed (codes "<text class='cause' x='-24' y='4'>") ++ act_words act ++ fixed (codes "</text>")
+
+abbrev pub cause_of_sent : ℕ → Act → Way → Spot → Option SentMessage → List ℕ
+cause_of_sent servers act way spot None = act_cause act
+cause_of_sent servers act way spot (Some sent) = message_cause servers sent way.is_lost spot
+
+abbrev pub cause_by : ℕ → List SentMessage → Act → Spot → Option Way → List ℕ
+cause_by servers sents act spot None = act_cause act
+cause_by servers sents act spot (Some way) = cause_of_sent servers act way spot (heard_by sents way)
+
+-- what the event is, left of its mark
+abbrev pub cause_text : ℕ → List SentMessage → Fact → Act → Spot → List ℕ
+cause_text servers sents fact act spot = cause_by servers sents act spot (way_of fact)
+
+-- ring: heard; cross: lost; dot: asked from outside
+abbrev pub act_mark : Act → List ℕ
+act_mark (Deliver message) = codes "<circle class='ring' r='5.5'/>"
+act_mark (Lose message) = codes "<path class='cross' d='M-7 -7L7 7M7 -7L-7 7'/>"
+act_mark _ = codes "<circle class='dot' r='5.5'/>"
+
+-- barred ring: refused
+abbrev pub mark_text : Act → Bool → List ℕ
+mark_text act is_refused =
+    if is_refused then codes "<circle class='no' r='6'/><path class='no' d='M-4 4L4 -4'/>" else act_mark act
+
+-- at the left edge
+abbrev pub edge_at : ℕ → List ℕ
+edge_at level = fixed (codes "transform='translate(0 ") ++ decimal (y_of level + 0) ++ fixed (codes ")'")
+
+-- an event: its place and its text at the left edge, and its mark on the lane of its server
+abbrev pub event_text : ℕ → List SentMessage → Outline → Act → Bool → List ℕ
+event_text servers sents x act is_refused =
+    fixed (codes "<g id='e") ++ decimal x.spot.place ++ fixed (codes "' class='event ") ++ act_name act ++ fixed (codes "' data-e='")
+    ++ decimal x.spot.place ++ fixed (codes "'><g ") ++ edge_at x.spot.level ++ fixed (codes "><text class='place' x='44' y='4'>")
+    ++ decimal x.spot.place ++ fixed (codes "</text><text class='what' x='54' y='4'>") ++ plain (rest 2 x.line)
+    ++ fixed (codes "</text></g><g ") ++ moved_to servers x.spot.server x.spot.level ++ fixed (codes ">")
+    ++ cause_text servers sents x.fact act x.spot ++ mark_text act is_refused ++ fixed (codes "</g></g>\n")
+
+-- ---- outcomes
+
+-- wide enough for a text of equally wide letters
+abbrev pub box_width : List ℕ → ℕ
+box_width label = min (length label) 1000 * 29 / 4 + 15
+
+abbrev pub reach_at : ℕ → Spot → List ℕ → ℕ
+reach_at servers spot label = lane_of servers spot.server + 24 + box_width label
+
+abbrev pub fact_reach : ℕ → Outline → Fact → ℕ
+fact_reach servers x (Sent number kind from inst) = reach_at servers x.spot (sent_label number kind x.line)
+fact_reach servers x (Outcome note) = reach_at servers x.spot (note_label note x.line)
+fact_reach servers x _ = 0
+
+-- how far to the right what is drawn of a line reaches
+abbrev pub reach_of : ℕ → Outline → ℕ
+reach_of servers x = if x.spot.is_shown then fact_reach servers x x.fact else 0
+
+-- and what is drawn of all of them
+abbrev pub greatest_reach : ℕ → List Outline → ℕ
+greatest_reach servers [] = 0
+greatest_reach servers (x ∷ xs) = max (reach_of servers x) (greatest_reach servers xs)
+
+-- a box, and in it the label
+abbrev pub label_box : List ℕ → List ℕ
+label_box label =
+    codes "' x='24' y='-10' width='" ++ decimal (box_width label) ++ codes "' height='20' rx='4'/><text class='says "
+
+abbrev pub label_text : List ℕ → List ℕ
+label_text label = codes "' x='31' y='4'>" ++ label ++ codes "</text>"
+
+-- tinted, with a border, in the colour of an owner
+abbrev pub tinted_box : ℕ → List ℕ → List ℕ
+tinted_box owner label =
+    codes "<rect class='t" ++ decimal owner ++ codes " s" ++ decimal owner ++ label_box label
+    ++ codes "f" ++ decimal owner ++ label_text label
+
+-- filled with it
+abbrev pub filled_box : ℕ → List ℕ → List ℕ
+filled_box owner label = codes "<rect class='f" ++ decimal owner ++ label_box label ++ codes "on" ++ label_text label
+
+-- from a lane to a box, beside a mark from its right edge on
+abbrev pub tick_of : Spot → List ℕ
+tick_of spot = if spot.level == spot.top then codes "M7 0H24" else codes "M0 0H24"
+
+-- what it says, in its owner's colour
+abbrev pub sent_box : ℕ → SentMessage → List ℕ → List ℕ
+sent_box servers sent line = tinted_box (owner_of servers sent.inst) (sent_label sent.number sent.kind line)
+
+-- a message that was sent
+abbrev pub sent_text : ℕ → Outline → SentMessage → List ℕ
+sent_text servers x sent =
+    fixed (codes "<g id='m") ++ decimal sent.number ++ fixed (codes "' class='sent ") ++ kind_name sent.kind ++ fixed (codes "' data-e='")
+    ++ decimal x.spot.place ++ fixed (codes "' ") ++ moved_to servers x.spot.server x.spot.level
+    ++ fixed (codes "><path class='tick s") ++ decimal (owner_of servers sent.inst) ++ fixed (codes "' d='")
+    ++ tick_of x.spot ++ fixed (codes "'/>")
+    ++ sent_box servers sent x.line
+    ++ fixed (codes "</g>\n")
+
+-- a filled path that stands on the mark of an event
+abbrev pub over_at : ℕ → ℕ → Spot → List ℕ → List ℕ
+over_at servers inst spot path =
+    fixed (codes "<path class='f") ++ decimal (owner_of servers inst) ++ fixed (codes "' ")
+    ++ moved_to servers spot.server spot.top ++ path
+
+-- diamond: learned; square: executed
+abbrev pub over_text : ℕ → Note → Spot → List ℕ
+over_text servers (Learned inst) spot = over_at servers inst spot (fixed (codes " d='M0 -9L9 0L0 9L-9 0z'/>"))
+over_text servers (Executed inst) spot = over_at servers inst spot (fixed (codes " d='M-7 -7H7V7H-7z'/>"))
+over_text servers _ spot = []
+
+abbrev pub bare_words : List ℕ → List ℕ
+bare_words label = codes "<text class='says' x='26' y='4'>" ++ label ++ codes "</text>"
+
+-- a filled box for what was learned or executed, and plain words for the rest
+abbrev pub note_words : ℕ → Note → List ℕ → List ℕ
+note_words servers (Learned inst) label = filled_box (owner_of servers inst) label
+note_words servers (Executed inst) label = filled_box (owner_of servers inst) label
+note_words servers _ label = bare_words label
+
+-- any other outcome
+abbrev pub note_text : ℕ → Outline → Note → List ℕ
+note_text servers x note =
+    fixed (codes "<g class='") ++ note_class note ++ fixed (codes "' data-e='") ++ decimal x.spot.place ++ fixed (codes "'>")
+    ++ over_text servers note x.spot ++ fixed (codes "<g ") ++ moved_to servers x.spot.server x.spot.level
+    ++ fixed (codes ">")
+    ++ note_words servers note (note_label note x.line) ++ fixed (codes "</g></g>\n")
+
+-- ---- each line
+
+abbrev pub fact_text : ℕ → List SentMessage → Outline → Fact → List ℕ
+fact_text servers sents x (Event place act server is_refused) = event_text servers sents x act is_refused
+fact_text servers sents x (Sent number kind from inst) =
+    sent_text servers x (record { number = number; kind = kind; from = from; inst = inst; spot = x.spot })
+fact_text servers sents x (Outcome note) = note_text servers x note
+fact_text servers sents x _ = []
+
+-- what is drawn of a line, where its event is drawn
+abbrev pub shape_text : ℕ → List SentMessage → Outline → List ℕ
+shape_text servers sents x = if x.spot.is_shown then fact_text servers sents x x.fact else []

@@ -1,0 +1,122 @@
+-- Arrows: how messages came to servers, or were lost on their way.
+use Rattle.std.specs.Prelude.{ℕ, ◌+◌, ◌-◌, ◌*◌, ◌%◌, ◌==◌, ◌&&◌, List, [], ◌∷◌, ◌++◌, Bool, true, false, Option, Some, None, codes, decimal, max, nat_le, nat_lt, slice_get, if◌then◌else◌}
+use Rattle.mencius_draw.specs.declared.facts.Act.TheVariants.{Deliver, Lose}
+use Rattle.mencius_draw.specs.declared.facts.Kind.{Kind}
+use Rattle.mencius_draw.specs.declared.facts.Kind.TheVariants.{Suggest, Skip, Accepted, Prepare, Promise, Propose, Learn}
+use Rattle.mencius_draw.specs.declared.facts.Fact.{Fact}
+use Rattle.mencius_draw.specs.declared.facts.Fact.TheVariants.{Event}
+use Rattle.mencius_draw.specs.declared.layout.Spot.{Spot}
+use Rattle.mencius_draw.specs.declared.layout.Sent.{Sent}
+use Rattle.mencius_draw.specs.declared.ways.Way.{Way}
+use Rattle.mencius_draw.specs.Facts.{kind_name}
+use Rattle.mencius_draw.specs.Layout.{Outline}
+use Rattle.mencius_draw.specs.Places.{lane_of, y_of}
+use Rattle.mencius_draw.specs.Words.{fixed}
+
+-- the server in whose colour an instance is drawn: its owner
+abbrev pub owner_of : ℕ → ℕ → ℕ
+owner_of servers inst = inst % max servers 1
+
+-- a delivery or a loss that was not refused
+abbrev pub way_of : Fact → Option Way
+way_of (Event place (Deliver message) server false) =
+    Some (record { message = message; is_lost = false; server = server })
+way_of (Event place (Lose message) server false) =
+    Some (record { message = message; is_lost = true; server = server })
+way_of _ = None
+
+-- its message: messages are numbered in the order in which they were sent
+abbrev pub heard_by : List Sent → Way → Option Sent
+heard_by sents way = slice_get sents way.message
+
+-- how many events an arrow may pass, back to its own lane and to another one
+abbrev pub longest_way : Spot → Spot → ℕ
+longest_way sent heard = if sent.server == heard.server then 8 else 30
+
+-- the message was sent by an event that is drawn, not too far above
+abbrev pub is_near : Spot → Spot → Bool
+is_near sent heard = sent.is_shown && nat_le (heard.place - sent.place) (longest_way sent heard)
+
+abbrev pub fate_of : Bool → List ℕ
+fate_of true = codes "lost"
+fate_of false = codes "heard"
+
+abbrev pub point_of : Kind → List ℕ
+point_of Suggest = codes "full"
+point_of Skip = codes "full"
+point_of Accepted = codes "open"
+point_of Prepare = codes "hollow"
+point_of Promise = codes "open"
+point_of Propose = codes "full"
+point_of Learn = codes "full"
+
+-- a place, as paths have it
+abbrev pub point : ℕ → ℕ → List ℕ
+point x y = decimal x ++ 32 ∷ decimal y
+
+-- so far beside a lane, on the side where the sender's lane is, and left of it where it is the same
+abbrev pub beside : ℕ → ℕ → ℕ → ℕ
+beside from to by = if nat_lt to from then to + by else to - by
+
+-- from a lane to just before the mark on another one
+abbrev pub straight_path : ℕ → ℕ → ℕ → ℕ → List ℕ
+straight_path from start to end = codes "M" ++ point from start ++ codes "L" ++ point (beside from to 10) (end - 3)
+
+-- from a lane back to it, further out by the place of the event
+abbrev pub loop_path : ℕ → ℕ → ℕ → ℕ → List ℕ
+loop_path lane start end place =
+    let side = lane - (place % 8 * 9 + 20) in
+    codes "M" ++ point lane start ++ codes "C" ++ point side (start + 10) ++ codes " " ++ point side (end - 14)
+    ++ codes " " ++ point (lane - 10) (end - 3)
+
+-- the end of an arrow alone, from the side where the sender's lane is
+abbrev pub stub_path : ℕ → ℕ → ℕ → List ℕ
+stub_path from to end =
+    codes "M" ++ point (beside from to 30) (end - 12) ++ codes "L" ++ point (beside from to 9) (end - 4)
+
+-- from the lane of the sender to that of the server, and from the level where it was sent to that of the event
+abbrev pub way_path : ℕ → Sent → ℕ → Spot → List ℕ
+way_path servers sent server spot =
+    let from = lane_of servers sent.from in
+    let to = lane_of servers server in
+    let start = y_of sent.spot.level in
+    let end = y_of spot.level in
+    if is_near sent.spot spot
+    then (if from == to then loop_path to start end spot.place else straight_path from start to end)
+    else stub_path from to end
+
+-- the point of a message that was heard, in its owner's colour
+abbrev pub heard_end : ℕ → Kind → ℕ → List ℕ
+heard_end servers kind inst =
+    fixed (codes "' marker-end='url(#") ++ point_of kind ++ decimal (owner_of servers inst) ++ fixed (codes ")'")
+
+-- which a lost message has not
+abbrev pub way_end : ℕ → Sent → Bool → List ℕ
+way_end servers sent true = fixed (codes "'")
+way_end servers sent false = heard_end servers sent.kind sent.inst
+
+abbrev pub way_title : Sent → Way → List ℕ
+way_title sent way =
+    fixed (codes "><title>message ") ++ decimal sent.number ++ fixed (codes ": ") ++ kind_name sent.kind
+    ++ fixed (codes " from ") ++ decimal sent.from ++ fixed (codes " to ") ++ decimal way.server
+    ++ fixed (codes ", ") ++ fate_of way.is_lost ++ fixed (codes "</title></path>\n")
+
+abbrev pub arrow_text : ℕ → Sent → Way → Spot → List ℕ
+arrow_text servers sent way spot =
+    fixed (codes "<path class='way ") ++ fate_of way.is_lost ++ fixed (codes " ") ++ kind_name sent.kind
+    ++ fixed (codes " s") ++ decimal (owner_of servers sent.inst) ++ fixed (codes "' data-e='") ++ decimal spot.place
+    ++ fixed (codes "' data-m='") ++ decimal sent.number ++ fixed (codes "' d='")
+    ++ way_path servers sent way.server spot ++ way_end servers sent way.is_lost
+    ++ way_title sent way
+
+abbrev pub way_of_sent : ℕ → Way → Spot → Option Sent → List ℕ
+way_of_sent servers way spot None = []
+way_of_sent servers way spot (Some sent) = arrow_text servers sent way spot
+
+abbrev pub way_by : ℕ → List Sent → Spot → Option Way → List ℕ
+way_by servers sents spot None = []
+way_by servers sents spot (Some way) = way_of_sent servers way spot (heard_by sents way)
+
+-- the arrow of a delivery or a loss, where its event is drawn
+abbrev pub way_text : ℕ → List Sent → Outline → List ℕ
+way_text servers sents x = if x.spot.is_shown then way_by servers sents x.spot (way_of x.fact) else []

@@ -1,0 +1,63 @@
+-- The words of a line of a trace: one space stands between each and the next.
+use Rattle.std.specs.Prelude.{ℕ, zero, suc, ◌+◌, ◌-◌, ◌*◌, ◌^◌, ◌==◌, ◌&&◌, ◌||◌, List, [], ◌∷◌, Bool, Option, Some, None, nat_le, min, map, take, drop, if◌then◌else◌}
+use Rattle.std.specs.List.{position}
+
+abbrev pub cut_behind : List ℕ → Option ℕ → List ℕ
+cut_behind line None = []
+cut_behind line (Some place) = drop (place + 1) line
+
+abbrev pub cut_before : List ℕ → Option ℕ → List ℕ
+cut_before line None = line
+cut_before line (Some place) = take place line
+
+-- what stands behind the first space
+abbrev pub behind : List ℕ → List ℕ
+behind line = cut_behind line (position (λ b. b == 32) line)
+
+-- what stands before it
+abbrev pub first_word : List ℕ → List ℕ
+first_word line = cut_before line (position (λ b. b == 32) line)
+
+-- what stands behind so many words
+abbrev pub rest : ℕ → List ℕ → List ℕ
+rest zero line = line
+rest (suc n) line = behind (rest n line)
+
+-- the word at a place
+unfoldable pub word : ℕ → List ℕ → List ℕ
+word place line = first_word (rest place line)
+
+abbrev pub greatest : ℕ
+greatest = 2 ^ 32 - 1
+
+abbrev pub number_from : ℕ → List ℕ → ℕ
+number_from n [] = n
+number_from n (b ∷ bs) = number_from (min (min (n * 10) greatest + (b - 48)) greatest) bs
+
+-- the number that digits are, at most the greatest of 32 bits
+unfoldable pub number : List ℕ → ℕ
+number bytes = number_from 0 bytes
+
+abbrev pub is_between : ℕ → ℕ → ℕ → Bool
+is_between first last b = nat_le first b && nat_le b last
+
+-- the bytes of which a trace is made
+abbrev pub is_plain : ℕ → Bool
+is_plain b =
+    is_between 97 122 b || is_between 65 90 b || is_between 48 57 b
+    || b == 32 || b == 45 || b == 46 || b == 61 || b == 95
+
+-- such a byte stands for itself, and for any other a question mark
+unfoldable pub plain_byte : ℕ → ℕ
+plain_byte b = if is_plain b then b else 63
+
+abbrev pub plain : List ℕ → List ℕ
+plain bytes = map plain_byte bytes
+
+-- a word of a line, as a picture has it
+abbrev pub plain_word : ℕ → List ℕ → List ℕ
+plain_word place line = plain (word place line)
+
+-- a text that is always the same
+unfoldable pub fixed : List ℕ → List ℕ
+fixed text = text

@@ -1,0 +1,146 @@
+//! The whole picture.
+
+ghost use Rattle.std.specs.Prelude.{◌≡◌, ◌++◌, ◌<◌, ◌≤◌, map, IfOk, OnOk, string_bytes};
+ghost use Rattle.std.specs.List.{flat_map};
+ghost use Rattle.mencius_draw.specs.Feet.{foot_text};
+ghost use Rattle.mencius_draw.specs.Frame.{rule_text};
+ghost use Rattle.mencius_draw.specs.Layout.{lines_at, outline, sents_of};
+ghost use Rattle.mencius_draw.specs.Marks.{greatest_reach, shape_text};
+ghost use Rattle.mencius_draw.specs.Picture.{IsPicture, painted, servers_of};
+ghost use Rattle.mencius_draw.specs.Ways.{way_text};
+
+use crate::feet::push_foot;
+use crate::frame::{push_head, push_key, push_lanes, push_rule};
+use crate::layout::{Sent, Shape, line_at, lines_of, sents_of, shapes_of};
+use crate::marks::{push_shape, reach_of};
+use crate::options::{MOST_LEVELS, Options, TooLarge};
+use crate::places::width_of;
+use crate::ways::push_way;
+use crate::words::{number, word};
+use std::alloc::{AllocError, Global};
+
+// How far to the right what is drawn of the lines reaches.
+fn greatest_reach(alloc: Global, servers: u32, shapes: &[Shape]) -> Result<usize, AllocError>
+    ensures value { IfOk result (λ reach. reach ≡ greatest_reach servers (map outline shapes.now)) }
+    ensures bound { IfOk result (λ reach. reach < 10000) }
+{
+    let mut reach = 0usize;
+    for shape in shapes {
+        reach = reach.max(reach_of(alloc, servers, shape)?);
+    }
+    Ok(reach)
+}
+
+fn push_rules(text: &mut String, width: usize, shapes: &[Shape]) -> Result<(), AllocError>
+    ensures { OnOk result (string_bytes text.new ≡ string_bytes text.old
+        ++ flat_map (rule_text width) (map outline shapes.now)) }
+{
+    for shape in shapes {
+        push_rule(text, width, shape)?;
+    }
+    Ok(())
+}
+
+fn push_ways(
+    text: &mut String,
+    servers: u32,
+    sents: &[Sent],
+    shapes: &[Shape],
+) -> Result<(), AllocError>
+    ensures { OnOk result (string_bytes text.new ≡ string_bytes text.old
+        ++ flat_map (way_text servers sents.now) (map outline shapes.now)) }
+{
+    for shape in shapes {
+        push_way(text, servers, sents, shape)?;
+    }
+    Ok(())
+}
+
+fn push_shapes(
+    alloc: Global,
+    text: &mut String,
+    servers: u32,
+    sents: &[Sent],
+    shapes: &[Shape],
+) -> Result<(), AllocError>
+    ensures { OnOk result (string_bytes text.new ≡ string_bytes text.old
+        ++ flat_map (shape_text servers sents.now) (map outline shapes.now)) }
+{
+    for shape in shapes {
+        push_shape(alloc, text, servers, sents, shape)?;
+    }
+    Ok(())
+}
+
+fn push_feet(
+    alloc: Global,
+    text: &mut String,
+    servers: u32,
+    levels: usize,
+    shapes: &[Shape],
+) -> Result<(), AllocError>
+    ensures { OnOk result (string_bytes text.new ≡ string_bytes text.old
+        ++ flat_map (foot_text servers levels (map outline shapes.now)) (map outline shapes.now)) }
+{
+    for shape in shapes {
+        push_foot(alloc, text, servers, levels, shapes, shape)?;
+    }
+    Ok(())
+}
+
+// How many servers the first line says that there are; a picture has no room for more than seven.
+fn servers_of(lines: &[&[u8]]) -> u32
+    ensures { result ≡ servers_of (lines_at lines.now) }
+{
+    number(word(line_at(lines, 0), 1)).min(7)
+}
+
+fn painted(
+    alloc: Global,
+    options: &Options,
+    servers: u32,
+    levels: usize,
+    shapes: &[Shape],
+) -> Result<String, AllocError>
+    requires { servers ≤ 7 }
+    ensures { IfOk result (λ text. string_bytes text ≡ painted options.now.scheme servers levels
+        (sents_of (map outline shapes.now)) (map outline shapes.now)) }
+{
+    let sents = sents_of(alloc, shapes)?;
+    let width = width_of(servers, greatest_reach(alloc, servers, shapes)?);
+    let mut text = String::new(alloc);
+    push_head(&mut text, options.scheme, servers, width, levels)?;
+    push_rules(&mut text, width, shapes)?;
+    push_lanes(&mut text, servers, levels)?;
+    push_ways(&mut text, servers, sents.as_slice(), shapes)?;
+    push_shapes(alloc, &mut text, servers, sents.as_slice(), shapes)?;
+    push_feet(alloc, &mut text, servers, levels, shapes)?;
+    push_key(&mut text, levels)?;
+    Ok(text)
+}
+
+/// The picture of a trace, as the text of an SVG file: a lane for each server, time downwards, an event a level and
+/// a level for each further outcome, an arrow for each delivery and each loss.
+///
+/// The event of place I stands in one element `<g id='eI'>`, and the message of number K in one `<g id='mK'>`; all
+/// that belongs to an event has its place as `data-e`. Of a long trace the events from `first` to `last` are drawn,
+/// and no other; what stands at the foot is the end of the whole trace. A line that no trace has is passed over.
+///
+/// A part that takes more than `MOST_LEVELS` levels is refused, with the number that it takes. The time that it
+/// takes, and the memory, grow with the length of the trace and of the picture.
+#[tactic(auto, unfolding(crate::specs::Picture::picture_of))]
+pub fn picture(
+    alloc: Global,
+    trace: &str,
+    options: &Options,
+) -> Result<Result<String, TooLarge>, AllocError>
+    ensures { IfOk result (λ x. IsPicture options.now trace.now x) }
+{
+    let lines = lines_of(alloc, trace)?;
+    let (shapes, end) = shapes_of(alloc, options, lines.as_slice())?;
+    if MOST_LEVELS < end.next {
+        return Ok(Err(TooLarge { levels: end.next }));
+    }
+    let servers = servers_of(lines.as_slice());
+    Ok(Ok(painted(alloc, options, servers, end.next, shapes.as_slice())?))
+}

@@ -1,0 +1,168 @@
+//! What stands around the events: the head, the lanes, a rule above each event, and the key.
+
+ghost use Rattle.std.specs.Prelude.{◌≡◌, ◌++◌, ◌<◌, ◌≤◌, OnOk, string_bytes};
+ghost use Rattle.mencius_draw.specs.Layout.{outline};
+ghost use Rattle.mencius_draw.specs.Frame.{colours, head, key_text, lane_text, lanes, rule_at, rule_text, scheme_text, size_text, svg_text};
+
+use crate::colours::{COLOURS, DARK_COLOURS, DEFINITIONS, KEY, RULES};
+use crate::facts::Fact;
+use crate::layout::Shape;
+use crate::options::Scheme;
+use crate::places::{push_lane_of, push_y_below, y_of};
+use crate::words::{push_fixed, push_number};
+use std::alloc::AllocError;
+
+fn scheme_of(scheme: Scheme) -> &'static str
+    ensures { result.now ≡ scheme_text scheme }
+{
+    match scheme {
+        Scheme::Both => "svg{color-scheme:light dark}\n",
+        Scheme::Light => "svg{color-scheme:light}\n",
+        Scheme::Dark => "svg{color-scheme:dark}\n",
+    }
+}
+
+fn colours_of(scheme: Scheme) -> &'static str
+    ensures { result.now ≡ colours scheme }
+{
+    match scheme {
+        Scheme::Both | Scheme::Light => COLOURS,
+        Scheme::Dark => DARK_COLOURS,
+    }
+}
+
+fn push_scheme(text: &mut String, scheme: Scheme) -> Result<(), AllocError>
+    ensures { OnOk result (string_bytes text.new ≡ string_bytes text.old ++ scheme_text scheme) }
+{
+    text.push_str(scheme_of(scheme))
+}
+
+fn push_colours(text: &mut String, scheme: Scheme) -> Result<(), AllocError>
+    ensures { OnOk result (string_bytes text.new ≡ string_bytes text.old ++ colours scheme) }
+{
+    text.push_str(colours_of(scheme))
+}
+
+// Room for the cards and the key lies below the levels.
+fn push_size(text: &mut String, width: usize, levels: usize) -> Result<(), AllocError>
+    ensures { OnOk result (string_bytes text.new ≡ string_bytes text.old ++ size_text width levels) }
+{
+    push_fixed(text, "width='")?;
+    push_number(text, width)?;
+    push_fixed(text, "' height='")?;
+    push_y_below(text, levels, 226)
+}
+
+fn push_svg(text: &mut String, servers: u32, width: usize, levels: usize) -> Result<(), AllocError>
+    ensures { OnOk result (string_bytes text.new
+        ≡ string_bytes text.old ++ svg_text servers width levels) }
+{
+    push_fixed(text, "<svg xmlns='http://www.w3.org/2000/svg' ")?;
+    push_size(text, width, levels)?;
+    push_fixed(text, "' viewBox='0 0 ")?;
+    push_number(text, width)?;
+    push_fixed(text, " ")?;
+    push_y_below(text, levels, 226)?;
+    push_fixed(
+        text,
+        "' role='img'>\n<title>Space-time diagram of a schedule; servers: ",
+    )?;
+    push_number(text, servers as usize)?;
+    push_fixed(text, "</title>\n")
+}
+
+/// Adds all that comes before the first rule.
+pub(crate) fn push_head(
+    text: &mut String,
+    scheme: Scheme,
+    servers: u32,
+    width: usize,
+    levels: usize,
+) -> Result<(), AllocError>
+    ensures { OnOk result (string_bytes text.new
+        ≡ string_bytes text.old ++ head scheme servers width levels) }
+{
+    push_svg(text, servers, width, levels)?;
+    push_fixed(text, "<style>\n")?;
+    push_scheme(text, scheme)?;
+    text.push_str(RULES)?;
+    push_colours(text, scheme)?;
+    push_fixed(text, "</style>\n")?;
+    text.push_str(DEFINITIONS)?;
+    push_fixed(text, "<rect class='paper' ")?;
+    push_size(text, width, levels)?;
+    push_fixed(text, "'/>\n")
+}
+
+fn push_rule_at(text: &mut String, width: usize, level: usize) -> Result<(), AllocError>
+    ensures { OnOk result (string_bytes text.new ≡ string_bytes text.old ++ rule_at width level) }
+{
+    let y = y_of(level) - 12;
+    writeln!(text, "<path class='rule' d='M0 {y}H{width}'/>")
+}
+
+/// Adds the rule above an event that is drawn, and nothing for any other line.
+pub(crate) fn push_rule(text: &mut String, width: usize, shape: &Shape) -> Result<(), AllocError>
+    ensures { OnOk result (string_bytes text.new
+        ≡ string_bytes text.old ++ rule_text width (outline shape.now)) }
+{
+    if !shape.spot.is_shown {
+        return Ok(());
+    }
+    match shape.fact {
+        Fact::Event { .. } => push_rule_at(text, width, shape.spot.level),
+        _ => Ok(()),
+    }
+}
+
+// A lane, with the name of its server at its head.
+fn push_lane(text: &mut String, servers: u32, levels: usize, server: u32) -> Result<(), AllocError>
+    requires small { server < servers }
+    requires few { servers ≤ 7 }
+    ensures { OnOk result (string_bytes text.new
+        ≡ string_bytes text.old ++ lane_text servers levels server) }
+{
+    let name = server as usize;
+    push_fixed(text, "<g class='lane' transform='translate(")?;
+    push_lane_of(text, servers, server)?;
+    push_fixed(text, " 0)'><path class='line' d='M0 56V")?;
+    push_y_below(text, levels, 0)?;
+    push_fixed(text, "'/><rect class='t")?;
+    push_number(text, name)?;
+    push_fixed(text, " s")?;
+    push_number(text, name)?;
+    push_fixed(
+        text,
+        "' x='-62' y='14' width='124' height='44' rx='9'/><text class='name f",
+    )?;
+    push_number(text, name)?;
+    push_fixed(text, "' y='33'>server ")?;
+    push_number(text, name)?;
+    push_fixed(text, "</text><text class='owns' y='49'>owns ")?;
+    push_number(text, name)?;
+    push_fixed(text, ", ")?;
+    push_number(text, name + servers as usize)?;
+    push_fixed(text, ", ..</text></g>\n")
+}
+
+/// Adds a lane for each server.
+pub(crate) fn push_lanes(text: &mut String, servers: u32, levels: usize) -> Result<(), AllocError>
+    requires { servers ≤ 7 }
+    ensures { OnOk result (string_bytes text.new ≡ string_bytes text.old ++ lanes servers levels) }
+{
+    for server in 0..servers {
+        push_lane(text, servers, levels, server)?;
+    }
+    Ok(())
+}
+
+/// Adds what the lines, the points, the marks and the colours mean.
+pub(crate) fn push_key(text: &mut String, levels: usize) -> Result<(), AllocError>
+    ensures { OnOk result (string_bytes text.new ≡ string_bytes text.old ++ key_text levels) }
+{
+    push_fixed(text, "<g class='key' transform='translate(16 ")?;
+    push_y_below(text, levels, 136)?;
+    push_fixed(text, ")'>\n")?;
+    text.push_str(KEY)?;
+    push_fixed(text, "</g>\n</svg>\n")
+}

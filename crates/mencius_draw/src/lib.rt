@@ -1,0 +1,18 @@
+//! A schedule as a picture: a space-time diagram of the text of its trace, as an SVG file.
+#![tactic(auto)]
+
+mod colours;
+mod drawing;
+mod facts;
+mod feet;
+mod frame;
+mod labels;
+mod layout;
+mod marks;
+mod options;
+mod places;
+mod ways;
+mod words;
+
+pub use drawing::picture;
+pub use options::{Options, Scheme, TooLarge};

@@ -1,0 +1,433 @@
+//! Events with their marks, and the outcomes beside them.
+
+ghost use Rattle.std.specs.Prelude.{◌≡◌, ◌++◌, ◌<◌, IfOk, OnOk, string_bytes};
+ghost use Rattle.mencius_draw.specs.Labels.{note_class, note_label};
+ghost use Rattle.mencius_draw.specs.Layout.{outline};
+ghost use Rattle.mencius_draw.specs.Ways.{is_near};
+ghost use Rattle.mencius_draw.specs.Words.{fixed};
+ghost use Rattle.mencius_draw.specs.Marks.{act_cause, act_name, act_words, box_width, cause_text, edge_at, event_text, filled_box, from_event, label_box, mark_text, message_cause, note_text, note_words, origin, over_at, over_text, reach_at, reach_of, sent_box, sent_text, shape_text, tick_of, tinted_box};
+
+use crate::facts::{Act, Fact, Note};
+use crate::labels::{note_class, note_label, sent_label};
+use crate::layout::{Sent, Shape, Spot};
+use crate::places::{lane_of, push_moved_to, push_y_below};
+use crate::ways::{heard_by, is_near, owner_of, push_fate, push_kind, push_owner, way_of};
+use crate::words::{push_fixed, push_number, push_rest};
+use std::alloc::{AllocError, Global};
+
+fn act_name(act: Act) -> &'static str
+    ensures { result.now ≡ act_name act }
+{
+    match act {
+        Act::Submit => "submit",
+        Act::Deliver(_) => "deliver",
+        Act::Lose(_) => "lose",
+        Act::Suspect(_) => "suspect",
+        Act::Retry => "retry",
+        Act::Execute => "execute",
+    }
+}
+
+fn push_act_name(text: &mut String, act: Act) -> Result<(), AllocError>
+    ensures { OnOk result (string_bytes text.new ≡ string_bytes text.old ++ act_name act) }
+{
+    text.push_str(act_name(act))
+}
+
+fn push_from_event(text: &mut String, sent: Spot) -> Result<(), AllocError>
+    ensures { OnOk result (string_bytes text.new ≡ string_bytes text.old ++ from_event sent) }
+{
+    push_fixed(text, " from event ")?;
+    push_number(text, sent.place as usize)
+}
+
+// The event that sent the message, where the arrow does not begin at it.
+fn push_origin(text: &mut String, sent: Spot, heard: Spot) -> Result<(), AllocError>
+    ensures { OnOk result (string_bytes text.new
+        ≡ string_bytes text.old ++ origin (is_near sent heard) sent) }
+{
+    if is_near(sent, heard) {
+        Ok(())
+    } else {
+        push_from_event(text, sent)
+    }
+}
+
+// Which message was heard or lost, and of which event where its arrow does not tell it.
+fn push_message(
+    text: &mut String,
+    servers: u32,
+    sent: &Sent,
+    is_lost: bool,
+    spot: Spot,
+) -> Result<(), AllocError>
+    ensures { OnOk result (string_bytes text.new
+        ≡ string_bytes text.old ++ message_cause servers sent.now is_lost spot) }
+{
+    push_fixed(text, "<text class='cause f")?;
+    push_owner(text, servers, sent.inst)?;
+    push_fixed(text, "' x='-24' y='4'>")?;
+    push_fate(text, is_lost)?;
+    push_fixed(text, " ")?;
+    push_number(text, sent.number as usize)?;
+    push_fixed(text, " ")?;
+    push_kind(text, sent.kind)?;
+    push_origin(text, sent.spot, spot)?;
+    push_fixed(text, "</text>")
+}
+
+fn push_act_words(text: &mut String, act: Act) -> Result<(), AllocError>
+    ensures { OnOk result (string_bytes text.new ≡ string_bytes text.old ++ act_words act) }
+{
+    match act {
+        Act::Submit => text.push_str("client asks"),
+        Act::Deliver(message) | Act::Lose(message) => write!(text, "message {message}"),
+        Act::Suspect(suspected) => write!(text, "suspects {suspected}"),
+        Act::Retry => text.push_str("retries"),
+        Act::Execute => text.push_str("executes"),
+    }
+}
+
+fn push_act(text: &mut String, act: Act) -> Result<(), AllocError>
+    ensures { OnOk result (string_bytes text.new ≡ string_bytes text.old ++ act_cause act) }
+{
+    push_fixed(text, "<text class='cause' x='-24' y='4'>")?;
+    push_act_words(text, act)?;
+    push_fixed(text, "</text>")
+}
+
+// What the event is, left of its mark.
+fn push_cause(
+    text: &mut String,
+    servers: u32,
+    sents: &[Sent],
+    fact: Fact,
+    act: Act,
+    spot: Spot,
+) -> Result<(), AllocError>
+    ensures { OnOk result (string_bytes text.new
+        ≡ string_bytes text.old ++ cause_text servers sents.now fact act spot) }
+{
+    if let Some(way) = way_of(fact) {
+        if let Some(sent) = heard_by(sents, way) {
+            return push_message(text, servers, &sent, way.is_lost, spot);
+        }
+    }
+    push_act(text, act)
+}
+
+// Ring: heard. Cross: lost. Dot: asked from outside. Barred ring: refused.
+fn mark_of(act: Act, is_refused: bool) -> &'static str
+    ensures { result.now ≡ mark_text act is_refused }
+{
+    if is_refused {
+        return "<circle class='no' r='6'/><path class='no' d='M-4 4L4 -4'/>";
+    }
+    match act {
+        Act::Deliver(_) => "<circle class='ring' r='5.5'/>",
+        Act::Lose(_) => "<path class='cross' d='M-7 -7L7 7M7 -7L-7 7'/>",
+        Act::Submit | Act::Suspect(_) | Act::Retry | Act::Execute =>
+            "<circle class='dot' r='5.5'/>",
+    }
+}
+
+fn push_mark(text: &mut String, act: Act, is_refused: bool) -> Result<(), AllocError>
+    ensures { OnOk result (string_bytes text.new
+        ≡ string_bytes text.old ++ mark_text act is_refused) }
+{
+    text.push_str(mark_of(act, is_refused))
+}
+
+// Where the text at the left edge stands.
+fn push_edge(text: &mut String, level: usize) -> Result<(), AllocError>
+    ensures { OnOk result (string_bytes text.new ≡ string_bytes text.old ++ edge_at level) }
+{
+    push_fixed(text, "transform='translate(0 ")?;
+    push_y_below(text, level, 0)?;
+    push_fixed(text, ")'")
+}
+
+fn push_event(
+    text: &mut String,
+    servers: u32,
+    sents: &[Sent],
+    shape: &Shape,
+    act: Act,
+    is_refused: bool,
+) -> Result<(), AllocError>
+    ensures { OnOk result (string_bytes text.new
+        ≡ string_bytes text.old ++ event_text servers sents.now (outline shape.now) act is_refused) }
+{
+    let place = shape.spot.place as usize;
+    push_fixed(text, "<g id='e")?;
+    push_number(text, place)?;
+    push_fixed(text, "' class='event ")?;
+    push_act_name(text, act)?;
+    push_fixed(text, "' data-e='")?;
+    push_number(text, place)?;
+    push_fixed(text, "'><g ")?;
+    push_edge(text, shape.spot.level)?;
+    push_fixed(text, "><text class='place' x='44' y='4'>")?;
+    push_number(text, place)?;
+    push_fixed(text, "</text><text class='what' x='54' y='4'>")?;
+    push_rest(text, shape.line, 2)?;
+    push_fixed(text, "</text></g><g ")?;
+    push_moved_to(text, servers, shape.spot.server, shape.spot.level)?;
+    push_fixed(text, ">")?;
+    push_cause(text, servers, sents, shape.fact, act, shape.spot)?;
+    push_mark(text, act, is_refused)?;
+    push_fixed(text, "</g></g>\n")
+}
+
+// Wide enough for a text of equally wide letters.
+fn box_width(label: &str) -> usize
+    ensures { result ≡ box_width label.now }
+{
+    label.len().min(1000) * 29 / 4 + 15
+}
+
+// How far to the right a label reaches.
+fn reach_at(servers: u32, spot: Spot, label: &str) -> usize
+    ensures value { result ≡ reach_at servers spot label.now }
+    ensures bound { result < 10000 }
+{
+    lane_of(servers, spot.server) as usize + 24 + box_width(label)
+}
+
+/// How far to the right what is drawn of a line reaches.
+pub(crate) fn reach_of(alloc: Global, servers: u32, shape: &Shape) -> Result<usize, AllocError>
+    ensures value { IfOk result (λ reach. reach ≡ reach_of servers (outline shape.now)) }
+    ensures bound { IfOk result (λ reach. reach < 10000) }
+{
+    if !shape.spot.is_shown {
+        return Ok(0);
+    }
+    match shape.fact {
+        Fact::Sent { number, kind, .. } => {
+            let label = sent_label(alloc, number, kind, shape.line)?;
+            Ok(reach_at(servers, shape.spot, label.as_str()))
+        }
+        Fact::Outcome(note) => {
+            let label = note_label(alloc, note, shape.line)?;
+            Ok(reach_at(servers, shape.spot, label.as_str()))
+        }
+        _ => Ok(0),
+    }
+}
+
+// A box, up to the class of the label in it.
+fn push_label_box(text: &mut String, label: &str) -> Result<(), AllocError>
+    ensures { OnOk result (string_bytes text.new ≡ string_bytes text.old ++ label_box label.now) }
+{
+    let width = box_width(label);
+    write!(
+        text,
+        "' x='24' y='-10' width='{width}' height='20' rx='4'/><text class='says "
+    )
+}
+
+fn push_tinted_box(text: &mut String, owner: u32, label: &str) -> Result<(), AllocError>
+    ensures { OnOk result (string_bytes text.new
+        ≡ string_bytes text.old ++ tinted_box owner label.now) }
+{
+    write!(text, "<rect class='t{owner} s{owner}")?;
+    push_label_box(text, label)?;
+    write!(text, "f{owner}' x='31' y='4'>{label}</text>")
+}
+
+fn push_filled_box(text: &mut String, owner: u32, label: &str) -> Result<(), AllocError>
+    ensures { OnOk result (string_bytes text.new
+        ≡ string_bytes text.old ++ filled_box owner label.now) }
+{
+    write!(text, "<rect class='f{owner}")?;
+    push_label_box(text, label)?;
+    write!(text, "on' x='31' y='4'>{label}</text>")
+}
+
+// From a lane to a box; beside a mark from its right edge on.
+fn tick_of(spot: Spot) -> &'static str
+    ensures { result.now ≡ tick_of spot }
+{
+    if spot.level == spot.top {
+        "M7 0H24"
+    } else {
+        "M0 0H24"
+    }
+}
+
+fn push_tick(text: &mut String, spot: Spot) -> Result<(), AllocError>
+    ensures { OnOk result (string_bytes text.new ≡ string_bytes text.old ++ tick_of spot) }
+{
+    text.push_str(tick_of(spot))
+}
+
+fn push_sent_box(
+    alloc: Global,
+    text: &mut String,
+    servers: u32,
+    sent: &Sent,
+    line: &[u8],
+) -> Result<(), AllocError>
+    ensures { OnOk result (string_bytes text.new
+        ≡ string_bytes text.old ++ sent_box servers sent.now line.now) }
+{
+    let label = sent_label(alloc, sent.number, sent.kind, line)?;
+    push_tinted_box(text, owner_of(servers, sent.inst), label.as_str())
+}
+
+fn push_sent(
+    alloc: Global,
+    text: &mut String,
+    servers: u32,
+    shape: &Shape,
+    sent: &Sent,
+) -> Result<(), AllocError>
+    ensures { OnOk result (string_bytes text.new
+        ≡ string_bytes text.old ++ sent_text servers (outline shape.now) sent.now) }
+{
+    push_fixed(text, "<g id='m")?;
+    push_number(text, sent.number as usize)?;
+    push_fixed(text, "' class='sent ")?;
+    push_kind(text, sent.kind)?;
+    push_fixed(text, "' data-e='")?;
+    push_number(text, shape.spot.place as usize)?;
+    push_fixed(text, "' ")?;
+    push_moved_to(text, servers, shape.spot.server, shape.spot.level)?;
+    push_fixed(text, "><path class='tick s")?;
+    push_owner(text, servers, sent.inst)?;
+    push_fixed(text, "' d='")?;
+    push_tick(text, shape.spot)?;
+    push_fixed(text, "'/>")?;
+    push_sent_box(alloc, text, servers, sent, shape.line)?;
+    push_fixed(text, "</g>\n")
+}
+
+// A filled path that stands on the mark of an event.
+fn push_over_at(
+    text: &mut String,
+    servers: u32,
+    inst: u32,
+    spot: Spot,
+    path: &str,
+) -> Result<(), AllocError>
+    ensures { OnOk result (string_bytes text.new
+        ≡ string_bytes text.old ++ over_at servers inst spot (fixed path.now)) }
+{
+    push_fixed(text, "<path class='f")?;
+    push_owner(text, servers, inst)?;
+    push_fixed(text, "' ")?;
+    push_moved_to(text, servers, spot.server, spot.top)?;
+    push_fixed(text, path)
+}
+
+// Diamond: learned. Square: executed.
+fn push_over(text: &mut String, servers: u32, note: Note, spot: Spot) -> Result<(), AllocError>
+    ensures { OnOk result (string_bytes text.new
+        ≡ string_bytes text.old ++ over_text servers note spot) }
+{
+    match note {
+        Note::Learned(inst) => {
+            push_over_at(text, servers, inst, spot, " d='M0 -9L9 0L0 9L-9 0z'/>")
+        }
+        Note::Executed(inst) => { push_over_at(text, servers, inst, spot, " d='M-7 -7H7V7H-7z'/>") }
+        Note::Refused | Note::Ignored | Note::Count | Note::Reply => Ok(()),
+    }
+}
+
+// A filled box for what was learned or executed, and plain words for the rest.
+fn push_words(text: &mut String, servers: u32, note: Note, label: &str) -> Result<(), AllocError>
+    ensures { OnOk result (string_bytes text.new
+        ≡ string_bytes text.old ++ note_words servers note label.now) }
+{
+    match note {
+        Note::Learned(inst) | Note::Executed(inst) => {
+            push_filled_box(text, owner_of(servers, inst), label)
+        }
+        Note::Refused | Note::Ignored | Note::Count | Note::Reply => {
+            write!(text, "<text class='says' x='26' y='4'>{label}</text>")
+        }
+    }
+}
+
+fn push_class(text: &mut String, note: Note) -> Result<(), AllocError>
+    ensures { OnOk result (string_bytes text.new ≡ string_bytes text.old ++ note_class note) }
+{
+    text.push_str(note_class(note))
+}
+
+fn push_note_label(
+    alloc: Global,
+    text: &mut String,
+    servers: u32,
+    note: Note,
+    line: &[u8],
+) -> Result<(), AllocError>
+    ensures { OnOk result (string_bytes text.new
+        ≡ string_bytes text.old ++ note_words servers note (note_label note line.now)) }
+{
+    let label = note_label(alloc, note, line)?;
+    push_words(text, servers, note, label.as_str())
+}
+
+fn push_note(
+    alloc: Global,
+    text: &mut String,
+    servers: u32,
+    shape: &Shape,
+    note: Note,
+) -> Result<(), AllocError>
+    ensures { OnOk result (string_bytes text.new
+        ≡ string_bytes text.old ++ note_text servers (outline shape.now) note) }
+{
+    push_fixed(text, "<g class='")?;
+    push_class(text, note)?;
+    push_fixed(text, "' data-e='")?;
+    push_number(text, shape.spot.place as usize)?;
+    push_fixed(text, "'>")?;
+    push_over(text, servers, note, shape.spot)?;
+    push_fixed(text, "<g ")?;
+    push_moved_to(text, servers, shape.spot.server, shape.spot.level)?;
+    push_fixed(text, ">")?;
+    push_note_label(alloc, text, servers, note, shape.line)?;
+    push_fixed(text, "</g></g>\n")
+}
+
+/// An event, or what came of it; nothing for any other line, and nothing of an event that is not drawn.
+pub(crate) fn push_shape(
+    alloc: Global,
+    text: &mut String,
+    servers: u32,
+    sents: &[Sent],
+    shape: &Shape,
+) -> Result<(), AllocError>
+    ensures { OnOk result (string_bytes text.new
+        ≡ string_bytes text.old ++ shape_text servers sents.now (outline shape.now)) }
+{
+    if !shape.spot.is_shown {
+        return Ok(());
+    }
+    match shape.fact {
+        Fact::Event {
+            act,
+            is_refused,
+            ..
+        } => { push_event(text, servers, sents, shape, act, is_refused) }
+        Fact::Sent {
+            number,
+            kind,
+            from,
+            inst,
+        } => {
+            let sent = Sent {
+                number,
+                kind,
+                from,
+                inst,
+                spot: shape.spot,
+            };
+            push_sent(alloc, text, servers, shape, &sent)
+        }
+        Fact::Outcome(note) => push_note(alloc, text, servers, shape, note),
+        Fact::Closing(_) | Fact::Unheard { .. } | Fact::Other => Ok(()),
+    }
+}

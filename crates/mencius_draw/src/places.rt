@@ -1,0 +1,72 @@
+//! Where levels and lanes are, in the picture's units.
+
+ghost use Rattle.std.specs.Prelude.{◌≡◌, ◌++◌, ◌+◌, ◌<◌, ◌≤◌, OnOk, decimal, string_bytes};
+ghost use Rattle.mencius_draw.specs.Places.{lane_of, moved_to, width_of, y_of};
+
+use crate::options::MOST_LEVELS;
+use crate::words::{push_fixed, push_number};
+use std::alloc::AllocError;
+
+/// Where the middle of a level is.
+pub(crate) fn y_of(level: usize) -> usize
+    ensures value { result ≡ y_of level }
+    ensures low { 104 ≤ result }
+    ensures high { result < 2000000 }
+{
+    level.min(MOST_LEVELS) * 24 + 104
+}
+
+/// Where the lane of a server is; left of all lanes for a server that there is not.
+pub(crate) fn lane_of(servers: u32, server: u32) -> u32
+    ensures value { result ≡ lane_of servers server }
+    ensures low { 416 ≤ result }
+    ensures high { result < 2000 }
+{
+    if server < servers.min(7) {
+        server * 204 + 452
+    } else {
+        416
+    }
+}
+
+/// How wide a picture is whose labels reach so far: wide enough for the cards below its lanes, and for its key.
+pub(crate) fn width_of(servers: u32, reach: usize) -> usize
+    requires { reach < 2000000 }
+    ensures { result ≡ width_of servers reach }
+{
+    let lanes = servers.min(7) as usize * 204 + 360;
+    (reach + 16).max(lanes).max(860)
+}
+
+/// Adds where the lane of a server is.
+pub(crate) fn push_lane_of(text: &mut String, servers: u32, server: u32) -> Result<(), AllocError>
+    ensures { OnOk result (string_bytes text.new
+        ≡ string_bytes text.old ++ decimal (lane_of servers server)) }
+{
+    push_number(text, lane_of(servers, server) as usize)
+}
+
+/// Adds where a level is, so far below it.
+pub(crate) fn push_y_below(text: &mut String, level: usize, by: usize) -> Result<(), AllocError>
+    requires { by < 1000 }
+    ensures { OnOk result (string_bytes text.new ≡ string_bytes text.old ++ decimal (y_of level + by)) }
+{
+    push_number(text, y_of(level) + by)
+}
+
+/// Adds that something stands on the lane of a server, at a level.
+pub(crate) fn push_moved_to(
+    text: &mut String,
+    servers: u32,
+    server: u32,
+    level: usize,
+) -> Result<(), AllocError>
+    ensures { OnOk result (string_bytes text.new
+        ≡ string_bytes text.old ++ moved_to servers server level) }
+{
+    push_fixed(text, "transform='translate(")?;
+    push_lane_of(text, servers, server)?;
+    push_fixed(text, " ")?;
+    push_y_below(text, level, 0)?;
+    push_fixed(text, ")'")
+}

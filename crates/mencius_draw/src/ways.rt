@@ -1,0 +1,291 @@
+//! Arrows: how messages came to servers, or were lost on their way.
+
+ghost use Rattle.std.specs.Prelude.{◌≡◌, ◌++◌, ◌<◌, OnOk, decimal, string_bytes};
+ghost use Rattle.mencius_draw.specs.Facts.{kind_name};
+ghost use Rattle.mencius_draw.specs.Layout.{outline};
+ghost use Rattle.mencius_draw.specs.Ways.{arrow_text, beside, fate_of, heard_by, heard_end, is_near, longest_way, loop_path, owner_of, point_of, straight_path, stub_path, way_end, way_of, way_path, way_text, way_title};
+
+use crate::facts::{Act, Fact, Kind};
+use crate::layout::{Sent, Shape, Spot};
+use crate::places::{lane_of, y_of};
+use crate::words::{push_fixed, push_number};
+use std::alloc::AllocError;
+
+/// The server in whose colour an instance is drawn: its owner.
+pub(crate) fn owner_of(servers: u32, inst: u32) -> u32
+    ensures { result ≡ owner_of servers inst }
+{
+    inst % servers.max(1)
+}
+
+/// An event by which a message came to a server, or was lost for it.
+#[derive(Clone, Copy, Debug, PartialEq, Eq, Drop)]
+pub(crate) struct Way {
+    pub(crate) message: u32,
+    pub(crate) is_lost: bool,
+    pub(crate) server: u32,
+}
+
+/// What of this a fact is: nothing, where the cluster refused the event.
+pub(crate) fn way_of(fact: Fact) -> Option<Way>
+    ensures { result ≡ way_of fact }
+{
+    match fact {
+        Fact::Event {
+            act: Act::Deliver(message),
+            server,
+            is_refused: false,
+            ..
+        } => Some(Way {
+            message,
+            is_lost: false,
+            server,
+        }),
+        Fact::Event {
+            act: Act::Lose(message),
+            server,
+            is_refused: false,
+            ..
+        } => Some(Way {
+            message,
+            is_lost: true,
+            server,
+        }),
+        _ => None,
+    }
+}
+
+/// The message of a delivery or a loss, where it was sent.
+pub(crate) fn heard_by(sents: &[Sent], way: Way) -> Option<Sent>
+    ensures { result ≡ heard_by sents.now way }
+{
+    sents.get(way.message as usize).copied()
+}
+
+// How many events an arrow may pass. Loops of one server lie beside one another: more of them would lie on one another.
+fn longest_way(sent: Spot, heard: Spot) -> u32
+    ensures { result ≡ longest_way sent heard }
+{
+    if sent.server == heard.server { 8 } else { 30 }
+}
+
+/// Whether the arrow of a message is drawn whole: from an event that is drawn, not too far above.
+pub(crate) fn is_near(sent: Spot, heard: Spot) -> bool
+    ensures { result ≡ is_near sent heard }
+{
+    sent.is_shown && heard.place.saturating_sub(sent.place) <= longest_way(sent, heard)
+}
+
+/// Adds the name of a kind.
+pub(crate) fn push_kind(text: &mut String, kind: Kind) -> Result<(), AllocError>
+    ensures { OnOk result (string_bytes text.new ≡ string_bytes text.old ++ kind_name kind) }
+{
+    text.push_str(kind.name())
+}
+
+/// Adds the server in whose colour an instance is drawn.
+pub(crate) fn push_owner(text: &mut String, servers: u32, inst: u32) -> Result<(), AllocError>
+    ensures { OnOk result (string_bytes text.new
+        ≡ string_bytes text.old ++ decimal (owner_of servers inst)) }
+{
+    push_number(text, owner_of(servers, inst) as usize)
+}
+
+/// Adds what became of a message.
+pub(crate) fn push_fate(text: &mut String, is_lost: bool) -> Result<(), AllocError>
+    ensures { OnOk result (string_bytes text.new ≡ string_bytes text.old ++ fate_of is_lost) }
+{
+    text.push_str(if is_lost { "lost" } else { "heard" })
+}
+
+fn point_of(kind: Kind) -> &'static str
+    ensures { result.now ≡ point_of kind }
+{
+    match kind {
+        Kind::Suggest | Kind::Propose | Kind::Learn | Kind::Skip => "full",
+        Kind::Prepare => "hollow",
+        Kind::Accepted | Kind::Promise => "open",
+    }
+}
+
+// So far beside a lane, on the side where the sender's lane is, and left of it where it is the same.
+fn beside(from: u32, to: u32, by: u32) -> u32
+    requires lane { to < 2000 }
+    requires near { by < 100 }
+    ensures { result ≡ beside from to by }
+{
+    if to < from {
+        to + by
+    } else {
+        to.saturating_sub(by)
+    }
+}
+
+// From a lane to just before the mark on another one.
+fn push_straight(
+    text: &mut String,
+    from: u32,
+    start: usize,
+    to: u32,
+    end: usize,
+) -> Result<(), AllocError>
+    requires { to < 2000 }
+    ensures { OnOk result (string_bytes text.new
+        ≡ string_bytes text.old ++ straight_path from start to end) }
+{
+    let near = beside(from, to, 10);
+    let before = end.saturating_sub(3);
+    write!(text, "M{from} {start}L{near} {before}")
+}
+
+// From a lane back to it, further out by the place of the event, so that loops keep apart.
+fn push_loop(
+    text: &mut String,
+    lane: u32,
+    start: usize,
+    end: usize,
+    place: u32,
+) -> Result<(), AllocError>
+    requires { start < 2000000 }
+    ensures { OnOk result (string_bytes text.new
+        ≡ string_bytes text.old ++ loop_path lane start end place) }
+{
+    let side = lane.saturating_sub(place % 8 * 9 + 20);
+    let near = lane.saturating_sub(10);
+    let below = start + 10;
+    let above = end.saturating_sub(14);
+    let before = end.saturating_sub(3);
+    write!(
+        text,
+        "M{lane} {start}C{side} {below} {side} {above} {near} {before}"
+    )
+}
+
+// The end of an arrow alone, from the side where the sender's lane is.
+fn push_stub(text: &mut String, from: u32, to: u32, end: usize) -> Result<(), AllocError>
+    requires { to < 2000 }
+    ensures { OnOk result (string_bytes text.new ≡ string_bytes text.old ++ stub_path from to end) }
+{
+    let far = beside(from, to, 30);
+    let near = beside(from, to, 9);
+    let above = end.saturating_sub(12);
+    let before = end.saturating_sub(4);
+    write!(text, "M{far} {above}L{near} {before}")
+}
+
+fn push_path(
+    text: &mut String,
+    servers: u32,
+    sent: &Sent,
+    server: u32,
+    spot: Spot,
+) -> Result<(), AllocError>
+    ensures { OnOk result (string_bytes text.new
+        ≡ string_bytes text.old ++ way_path servers sent.now server spot) }
+{
+    let from = lane_of(servers, sent.from);
+    let to = lane_of(servers, server);
+    let start = y_of(sent.spot.level);
+    let end = y_of(spot.level);
+    if !is_near(sent.spot, spot) {
+        push_stub(text, from, to, end)
+    } else if from == to {
+        push_loop(text, to, start, end, spot.place)
+    } else {
+        push_straight(text, from, start, to, end)
+    }
+}
+
+fn push_point(text: &mut String, kind: Kind) -> Result<(), AllocError>
+    ensures { OnOk result (string_bytes text.new ≡ string_bytes text.old ++ point_of kind) }
+{
+    text.push_str(point_of(kind))
+}
+
+// The point of a message that was heard.
+fn push_heard_end(text: &mut String, servers: u32, kind: Kind, inst: u32) -> Result<(), AllocError>
+    ensures { OnOk result (string_bytes text.new
+        ≡ string_bytes text.old ++ heard_end servers kind inst) }
+{
+    push_fixed(text, "' marker-end='url(#")?;
+    push_point(text, kind)?;
+    push_owner(text, servers, inst)?;
+    push_fixed(text, ")'")
+}
+
+// The point, which a lost message has not.
+fn push_end(text: &mut String, servers: u32, sent: &Sent, is_lost: bool) -> Result<(), AllocError>
+    ensures { OnOk result (string_bytes text.new
+        ≡ string_bytes text.old ++ way_end servers sent.now is_lost) }
+{
+    if is_lost {
+        push_fixed(text, "'")
+    } else {
+        push_heard_end(text, servers, sent.kind, sent.inst)
+    }
+}
+
+fn push_way_title(text: &mut String, sent: &Sent, way: Way) -> Result<(), AllocError>
+    ensures { OnOk result (string_bytes text.new
+        ≡ string_bytes text.old ++ way_title sent.now way) }
+{
+    push_fixed(text, "><title>message ")?;
+    push_number(text, sent.number as usize)?;
+    push_fixed(text, ": ")?;
+    push_kind(text, sent.kind)?;
+    push_fixed(text, " from ")?;
+    push_number(text, sent.from as usize)?;
+    push_fixed(text, " to ")?;
+    push_number(text, way.server as usize)?;
+    push_fixed(text, ", ")?;
+    push_fate(text, way.is_lost)?;
+    push_fixed(text, "</title></path>\n")
+}
+
+fn push_arrow(
+    text: &mut String,
+    servers: u32,
+    sent: &Sent,
+    way: Way,
+    spot: Spot,
+) -> Result<(), AllocError>
+    ensures { OnOk result (string_bytes text.new
+        ≡ string_bytes text.old ++ arrow_text servers sent.now way spot) }
+{
+    push_fixed(text, "<path class='way ")?;
+    push_fate(text, way.is_lost)?;
+    push_fixed(text, " ")?;
+    push_kind(text, sent.kind)?;
+    push_fixed(text, " s")?;
+    push_owner(text, servers, sent.inst)?;
+    push_fixed(text, "' data-e='")?;
+    push_number(text, spot.place as usize)?;
+    push_fixed(text, "' data-m='")?;
+    push_number(text, sent.number as usize)?;
+    push_fixed(text, "' d='")?;
+    push_path(text, servers, sent, way.server, spot)?;
+    push_end(text, servers, sent, way.is_lost)?;
+    push_way_title(text, sent, way)
+}
+
+/// The arrow of a delivery or a loss, and nothing for any other line.
+pub(crate) fn push_way(
+    text: &mut String,
+    servers: u32,
+    sents: &[Sent],
+    shape: &Shape,
+) -> Result<(), AllocError>
+    ensures { OnOk result (string_bytes text.new
+        ≡ string_bytes text.old ++ way_text servers sents.now (outline shape.now)) }
+{
+    if !shape.spot.is_shown {
+        return Ok(());
+    }
+    let Some(way) = way_of(shape.fact) else {
+        return Ok(());
+    };
+    let Some(sent) = heard_by(sents, way) else {
+        return Ok(());
+    };
+    push_arrow(text, servers, &sent, way, shape.spot)
+}

@@ -1,0 +1,141 @@
+//! The words of a line of a trace.
+
+ghost use Rattle.std.specs.Prelude.{◌≡◌, ◌++◌, ◌==◌, ◌<◌, OnOk, decimal, string_bytes};
+ghost use Rattle.std.specs.List.{position};
+ghost use Rattle.std.specs.Str.{bytes_eq};
+ghost use Rattle.mencius_draw.specs.Words.{behind, first_word, fixed, is_plain, number, plain, plain_byte, plain_word, rest, word};
+
+use std::alloc::AllocError;
+
+// Where the first space stands.
+fn first_space(line: &[u8]) -> Option<usize>
+    ensures { result ≡ position (λ b. b == 32) line.now }
+{
+    line.iter().position(|b| *b == b' ')
+}
+
+// What stands behind the first space.
+fn behind(line: &[u8]) -> &[u8]
+    ensures { result.now ≡ behind line.now }
+{
+    match first_space(line) {
+        Some(place) if place < line.len() => &line[place + 1..],
+        _ => &[],
+    }
+}
+
+// What stands before the first space.
+fn first_word(line: &[u8]) -> &[u8]
+    ensures { result.now ≡ first_word line.now }
+{
+    match first_space(line) {
+        Some(place) if place < line.len() => &line[..place],
+        _ => line,
+    }
+}
+
+/// What stands behind so many words.
+pub(crate) fn rest(line: &[u8], words: usize) -> &[u8]
+    ensures { result.now ≡ rest words line.now }
+{
+    let mut left = line;
+    for _passed in 0..words {
+        left = behind(left);
+    }
+    left
+}
+
+/// The word at a place, or an empty one.
+#[tactic(auto, unfolding(crate::specs::Words::word))]
+pub(crate) fn word(line: &[u8], place: usize) -> &[u8]
+    ensures { result.now ≡ word place line.now }
+{
+    first_word(rest(line, place))
+}
+
+/// Whether a word is this one.
+pub(crate) fn is(word: &[u8], name: &str) -> bool
+    ensures { result ≡ bytes_eq word.now name.now }
+{
+    word == name.as_bytes()
+}
+
+/// The number that a word's digits are, at most 4,294,967,295.
+#[tactic(auto, unfolding(crate::specs::Words::number))]
+pub(crate) fn number(word: &[u8]) -> u32
+    ensures { result ≡ number word.now }
+{
+    let mut so_far = 0u32;
+    for byte in word {
+        let digit = u32::from(byte.saturating_sub(b'0'));
+        so_far = so_far.saturating_mul(10).saturating_add(digit);
+    }
+    so_far
+}
+
+// Whether a byte is a letter, a digit or a mark of a trace.
+fn is_plain(byte: u8) -> bool
+    ensures { result ≡ is_plain byte }
+{
+    (b'a' <= byte && byte <= b'z')
+        || (b'A' <= byte && byte <= b'Z')
+        || (b'0' <= byte && byte <= b'9')
+        || byte == b' '
+        || byte == b'-'
+        || byte == b'.'
+        || byte == b'='
+        || byte == b'_'
+}
+
+// Such a byte stands for itself; whatever else, as what XML reserves, becomes a question mark.
+#[tactic(auto, unfolding(crate::specs::Words::plain_byte))]
+fn plain_byte(byte: u8) -> char
+    ensures value { result ≡ plain_byte byte }
+    ensures ascii { result < 128 }
+{
+    if is_plain(byte) {
+        char::from(byte)
+    } else {
+        '?'
+    }
+}
+
+/// Adds bytes of a trace to the text of a picture.
+pub(crate) fn push_plain(text: &mut String, bytes: &[u8]) -> Result<(), AllocError>
+    ensures { OnOk result (string_bytes text.new ≡ string_bytes text.old ++ plain bytes.now) }
+{
+    for byte in bytes {
+        text.push(plain_byte(*byte))?;
+    }
+    Ok(())
+}
+
+/// Adds a word of a line.
+pub(crate) fn push_word(text: &mut String, line: &[u8], place: usize) -> Result<(), AllocError>
+    ensures { OnOk result (string_bytes text.new ≡ string_bytes text.old ++ plain_word place line.now) }
+{
+    push_plain(text, word(line, place))
+}
+
+/// Adds what stands behind so many words of a line.
+pub(crate) fn push_rest(text: &mut String, line: &[u8], words: usize) -> Result<(), AllocError>
+    ensures { OnOk result (string_bytes text.new
+        ≡ string_bytes text.old ++ plain (rest words line.now)) }
+{
+    push_plain(text, rest(line, words))
+}
+
+/// Adds a text that is always the same.
+#[tactic(auto, unfolding(crate::specs::Words::fixed))]
+pub(crate) fn push_fixed(text: &mut String, part: &str) -> Result<(), AllocError>
+    ensures { OnOk result (string_bytes text.new ≡ string_bytes text.old ++ fixed part.now) }
+{
+    text.push_str(part)
+}
+
+/// Adds a number.
+pub(crate) fn push_number(text: &mut String, number: usize) -> Result<(), AllocError>
+    ensures { OnOk result (string_bytes text.new ≡ string_bytes text.old ++ decimal number) }
+{
+    write!(text, "{number}")
+}

@@ -1,0 +1,59 @@
+-- Small logs, and what the definitions say of them: computed, not proved.
+use Rattle.std.proofs.Common.{◌≡◌, ℕ, List, [], ◌∷◌, Some, None, ap, arith, refl, ⊎_elim}
+use Rattle.std.specs.Prelude.{codes}
+use Rattle.mencius_base.specs.declared.command.Command.{Command}
+use Rattle.mencius_base.specs.declared.command.CommandId.{CommandId}
+use Rattle.mencius_base.specs.declared.command.Op.TheVariants.{Set}
+use Rattle.mencius_model.specs.Executed.{IsPrefix}
+use Rattle.mencius_judge.specs.declared.observation.Observation.TheVariants.{Submit, Execute, Reply}
+use Rattle.mencius_judge.specs.Log.{Log, command_of, history, with_reply_before, reply_of}
+use Rattle.mencius_judge.specs.Promises.{AreComparable, WereSubmitted}
+
+abbrev id : ℕ → CommandId
+id n = record { client = n; number = 0 }
+
+abbrev set_to : ℕ → List ℕ → Command
+set_to n text = record { id = id n; op = Set (codes "a") text }
+
+-- the newest observation first: server 0 executes both commands, server 1 the second one first
+abbrev crossed : Log
+crossed =
+    Execute 1 (id 2) ∷ Execute 0 (id 2) ∷ Execute 0 (id 1) ∷ Submit (set_to 2 (codes "y")) ∷ Reply (id 1) None
+    ∷ Submit (set_to 1 (codes "x")) ∷ []
+
+first_history : history crossed 0 ≡ id 1 ∷ id 2 ∷ []
+first_history = refl
+
+second_history : history crossed 1 ≡ id 2 ∷ []
+second_history = refl
+
+known_command : command_of crossed (id 2) ≡ Some (set_to 2 (codes "y"))
+known_command = refl
+
+unknown_command : command_of crossed (id 3) ≡ None
+unknown_command = refl
+
+-- the reply of the first command came before the second was submitted, and not before its own submission
+second_behind : with_reply_before crossed (id 2) ≡ id 1 ∷ []
+second_behind = refl
+
+first_behind_none : with_reply_before crossed (id 1) ≡ []
+first_behind_none = refl
+
+first_answer : reply_of crossed (id 1) ≡ Some None
+first_answer = refl
+
+all_submitted : WereSubmitted crossed
+all_submitted = (refl, (refl, (refl, (refl, tt))))
+
+not_comparable : AreComparable crossed → ⊥
+not_comparable h =
+    ⊎_elim (λ (r : IsPrefix (id 1 ∷ id 2 ∷ []) (id 2 ∷ [])).
+    (let e : id 1 ≡ id 2 = cc (r.1) in
+    let n = ap (λ (a : CommandId). a.client) e in
+    omega (arith, n)))
+    (λ (r : IsPrefix (id 2 ∷ []) (id 1 ∷ id 2 ∷ [])).
+    (let e : id 2 ≡ id 1 = cc (r.1) in
+    let n = ap (λ (a : CommandId). a.client) e in
+    omega (arith, n)))
+    (h 0 1)

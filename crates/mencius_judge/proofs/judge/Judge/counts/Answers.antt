@@ -1,0 +1,10 @@
+use Rattle.std.proofs.Common.{ap, count_by, length, refl, ◌∙◌}
+use Rattle.mencius_judge.specs.Tables.{is_open}
+use Rattle.mencius_judge.proofs.Counted.{counted}
+use Rattle.mencius_judge.proofs.judge.Judge.counts.Goals as goal
+
+pub returns : goal.returns
+returns c w h =
+    let j = c.args.self.now in
+    counted j w _ h c.servers.ensures refl c.longest.ensures (ap length c.as_slice-with_reply.ensures.value)
+    (c.open_count.ensures ∙ ap (count_by (is_open j.executions)) c.as_slice-with_reply.ensures.value) refl

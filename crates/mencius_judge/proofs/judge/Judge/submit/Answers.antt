@@ -1,0 +1,95 @@
+use Rattle.std.proofs.Common.{◌≡◌, ◌≢◌, ◌<◌, Some, None, ap, arith, is_some, length, refl, sym, subst, true, false, ◌∙◌}
+use Rattle.std.specs.BTreeMap.{Updates, get}
+use Rattle.std.specs.Ordering.{nat_cmp}
+use Rattle.mencius_base.specs.declared.command.Command.{Command}
+use Rattle.mencius_judge.specs.declared.judge.Submission.{Submission}
+use Rattle.mencius_judge.specs.Log.{command_of, with_reply}
+use Rattle.mencius_judge.specs.Tables.{key_of, number_count}
+use Rattle.mencius_judge.proofs.Broken.{two_commands}
+use Rattle.mencius_judge.proofs.Counted.{count_again, count_new}
+use Rattle.mencius_judge.proofs.Floors.{floors_submit}
+use Rattle.mencius_judge.proofs.OrderSteps.{order_submit}
+use Rattle.mencius_judge.proofs.Submits.{again_one, new_one, timelines_submit}
+use Rattle.mencius_judge.proofs.Steps.{executions_submit, histories_submit, replies_submit, row_found, row_missing, submissions_again, submissions_new, table_submit}
+use Rattle.mencius_judge.proofs.judge.Judge.submit.Goals as goal
+
+pub returns-then-is_same_op : goal.returns-then-is_same_op
+returns-then-is_same_op c w h =
+    let j = c.args.self.now in
+    let x : Command = c.args.command.now in
+    let key : c.key_of-key.result ≡ key_of x.id = c.key_of-key.ensures ∙ ap key_of c.id-id.ensures in
+    let small : x.id.number < number_count = subst (λ id. id.number < number_count) c.id-id.ensures (omega arith) in
+    let d : Command = c.in-Some.found.now.command in
+    let found : command_of w x.id ≡ Some d =
+    row_found w j.submissions h.submissions x.id c.in-Some.found.now small
+    (ap (get nat_cmp j.submissions) (sym key) ∙ sym c.in-Some.ensures.value) in
+    let ops : d.op ≡ x.op =
+    sym c.op.ensures.op ∙ c.is_same_op.ensures.0 c.if-is_same_op.true ∙ c.op-in-Some.ensures.op in
+    record {
+      one_command = again_one w x d h.one_command found ops;
+      were_submitted = h.were_submitted;
+      one_reply = replies_submit w x h.one_reply;
+      submissions = submissions_again w j.submissions h.submissions x d found;
+      histories = histories_submit w x j.histories.order.items j.histories.counts.items h.histories;
+      order = order_submit w x j.histories.order.items h.order;
+      replies = table_submit w x j.replies j.with_reply.items h.replies;
+      executions = executions_submit w x j.histories.order.items j.executions h.order h.executions;
+      settled = h.settled;
+      timelines = timelines_submit w x j.histories.order.items j.timelines.by_key h.order h.timelines;
+      floors = floors_submit w x j.floors h.floors;
+      commands = count_again w x j.commands (ap is_some found) h.commands;
+      lookups = h.lookups;
+    }
+
+pub returns-in-Some : goal.returns-in-Some
+returns-in-Some c w h =
+    let j = c.args.self.now in
+    let x : Command = c.args.command.now in
+    let key : c.key_of-key.result ≡ key_of x.id = c.key_of-key.ensures ∙ ap key_of c.id-id.ensures in
+    let small : x.id.number < number_count = subst (λ id. id.number < number_count) c.id-id.ensures (omega arith) in
+    let d : Command = c.in-Some.found.now.command in
+    let found : command_of w x.id ≡ Some d =
+    row_found w j.submissions h.submissions x.id c.in-Some.found.now small
+    (ap (get nat_cmp j.submissions) (sym key) ∙ sym c.in-Some.ensures.value) in
+    let other : d.op ≢ x.op = λ e.
+    let same : false ≡ true = c.if-is_same_op.ensures.1 (c.op.ensures.op ∙ e ∙ sym c.op-in-Some.ensures.op) in (cc) in (
+      (
+        d,
+        x,
+        refl,
+        sym c.id-id.ensures,
+        ap (command_of w) c.id-id.ensures ∙ found,
+        (λ e. other (ap (λ (y : Command). y.op) e)),
+      ),
+      two_commands w x d found other,
+    )
+
+pub returns : goal.returns
+returns c w h =
+    let j = c.args.self.now in
+    let x : Command = c.args.command.now in
+    let key : c.key_of-key.result ≡ key_of x.id = c.key_of-key.ensures ∙ ap key_of c.id-id.ensures in
+    let small : x.id.number < number_count = subst (λ id. id.number < number_count) c.id-id.ensures (omega arith) in
+    let none : command_of w x.id ≡ None =
+    row_missing w j.submissions h.submissions x.id small
+    (ap (get nat_cmp j.submissions) (sym key) ∙ sym c.in_default.ensures.value) in
+    let row : Submission = c.in_ok-row.row in
+    let updates : Updates nat_cmp j.submissions c.put.new.map (key_of x.id) (Some row) =
+    subst (λ number. Updates nat_cmp j.submissions c.put.new.map number (Some row)) key c.in_ok-put.ensures in
+    let size : length j.with_reply.items ≡ length (with_reply w) = ap length h.replies.order in
+    record {
+      one_command = new_one w x h.one_command none;
+      were_submitted = h.were_submitted;
+      one_reply = replies_submit w x h.one_reply;
+      submissions = submissions_new w j.submissions h.submissions x c.put.new.map row small none updates c.in_ok-row.ensures.command
+          (omega (arith, c.in_ok-row.ensures.replies_before, c.len.ensures, size));
+      histories = histories_submit w x j.histories.order.items j.histories.counts.items h.histories;
+      order = order_submit w x j.histories.order.items h.order;
+      replies = table_submit w x j.replies j.with_reply.items h.replies;
+      executions = executions_submit w x j.histories.order.items j.executions h.order h.executions;
+      settled = h.settled;
+      timelines = timelines_submit w x j.histories.order.items j.timelines.by_key h.order h.timelines;
+      floors = floors_submit w x j.floors h.floors;
+      commands = count_new w x j.commands c.in_ok-self.field-0 (ap is_some none) h.commands c.in_ok-self.ensures;
+      lookups = h.lookups;
+    }

@@ -1,0 +1,13 @@
+pub mod Log
+pub mod Promises
+pub mod Tables
+pub mod Timelines
+pub mod Violations
+pub mod Judged
+pub mod Laws
+pub mod Observed
+pub mod Lines
+pub mod Counts
+pub mod Told
+pub mod Reading
+pub mod Taken

@@ -1,0 +1,90 @@
+-- What each key held after each number of commands, and how that is kept: by the periods in which it held one text.
+use Rattle.std.specs.Prelude.{◌≡◌, ◌≢◌, ◌≤◌, ◌<◌, ℕ, List, [], Option, Some, None, length, slice_get, take, if◌then◌else◌}
+use Rattle.std.proofs.Common.{Global, String, Vec}
+use Rattle.std.specs.BTreeMap.{BTreeMap, get_by_text}
+use Rattle.mencius_base.specs.declared.command.Command.{Command}
+use Rattle.mencius_base.specs.declared.command.Op.{Op}
+use Rattle.mencius_base.specs.declared.command.Op.TheVariants.{Set, Get, Del, Cas}
+use Rattle.mencius_model.specs.Store.{is_held, value_at}
+use Rattle.mencius_judge.specs.declared.timeline.Period.{Period}
+use Rattle.mencius_judge.specs.declared.timeline.Timeline.{Timeline}
+
+-- what a key held after the first n of these commands
+abbrev pub held_by : List Command → List ℕ → ℕ → Option (List ℕ)
+held_by commands key n = value_at key (take n commands)
+
+-- what the key of an operation holds after it, where it held this before
+abbrev pub text_after : Option (List ℕ) → Op → Option (List ℕ)
+text_after held (Set key text) = Some text
+text_after held (Get key) = held
+text_after held (Del key) = None
+text_after held (Cas key expected text) = if is_held held expected then Some text else held
+
+-- ---- the first number of commands
+
+-- the key held the text after so many commands, from `from` to `to` of them, and after no less
+pub record IsFirstCount (held : ℕ → Option (List ℕ)) (text : Option (List ℕ)) (from to n : ℕ) : Type 0 where
+  pub later : from ≤ n
+  pub within : n ≤ to
+  pub holds : held n ≡ text
+  pub least : (m : ℕ) → from ≤ m → m < n → held m ≢ text
+
+-- the key held the text after none of these numbers
+abbrev pub HasNone : (ℕ → Option (List ℕ)) → Option (List ℕ) → ℕ → ℕ → Type 0
+HasNone held text from to = (m : ℕ) → from ≤ m → m ≤ to → held m ≢ text
+
+-- ---- periods
+
+-- none of them is empty, and each ends before the next begins
+pub record AreRising (periods : List Period) : Type 0 where
+  pub filled : (i : ℕ) (p : Period) → slice_get periods i ≡ Some p → p.first < p.stop
+  pub apart : (i j : ℕ) (p q : Period) → i < j → slice_get periods i ≡ Some p → slice_get periods j ≡ Some q
+      → p.stop ≤ q.first
+
+-- all of them end by then
+abbrev pub AllBefore : List Period → ℕ → Type 0
+AllBefore periods n = (i : ℕ) (p : Period) → slice_get periods i ≡ Some p → p.stop ≤ n
+
+-- it is the first of them that does not end by then
+pub record IsFirstPeriod (periods : List Period) (n : ℕ) (p : Period) : Type 0 where
+  pub index : ℕ
+  pub there : slice_get periods index ≡ Some p
+  pub later : n < p.stop
+  pub first : (i : ℕ) (q : Period) → i < index → slice_get periods i ≡ Some q → q.stop ≤ n
+
+abbrev pub items_of : Option (Vec Period Global) → List Period
+items_of None = []
+items_of (Some periods) = periods.items
+
+-- the periods, up to the last change, in which the key held this text
+abbrev pub periods_of : Timeline → Option (List ℕ) → List Period
+periods_of t None = t.absences.items
+periods_of t (Some text) = items_of (get_by_text t.presences text)
+
+-- ---- timelines
+
+-- the timeline is that of what the key held after each of so many commands
+pub record IsTimeline (held : ℕ → Option (List ℕ)) (count : ℕ) (t : Timeline) : Type 0 where
+  -- what it holds since the last change
+  pub since : t.since ≤ count
+  pub now : (n : ℕ) → t.since ≤ n → n ≤ count → held n ≡ t.text
+  -- the periods of a text are those in which it held the text before
+  pub rising : (x : Option (List ℕ)) → AreRising (periods_of t x)
+  pub before : (x : Option (List ℕ)) → AllBefore (periods_of t x) t.since
+  pub holds : (x : Option (List ℕ)) (i : ℕ) (p : Period) → slice_get (periods_of t x) i ≡ Some p
+      → (n : ℕ) → p.first ≤ n → n < p.stop → held n ≡ x
+  pub all : (x : Option (List ℕ)) (n : ℕ) → n < t.since → held n ≡ x
+      → (i : ℕ) × (p : Period) × (slice_get (periods_of t x) i ≡ Some p) × (p.first ≤ n) × (n < p.stop)
+
+-- a key without a timeline never held anything
+abbrev pub IsTimelineOf : (ℕ → Option (List ℕ)) → ℕ → Option Timeline → Type 0
+IsTimelineOf held count None = (n : ℕ) → n ≤ count → held n ≡ None
+IsTimelineOf held count (Some t) = IsTimeline held count t
+
+abbrev pub text_of : Option Timeline → Option (List ℕ)
+text_of None = None
+text_of (Some t) = t.text
+
+-- each key has its timeline
+abbrev pub AreTimelines : List Command → BTreeMap (String Global) Timeline → Type 0
+AreTimelines commands by_key = (key : List ℕ) → IsTimelineOf (held_by commands key) (length commands) (get_by_text by_key key)

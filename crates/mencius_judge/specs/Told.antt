@@ -1,0 +1,61 @@
+-- The line that a verdict is told by.
+use Rattle.std.specs.Prelude.{ℕ, List, [], ◌∷◌, ◌++◌, codes, decimal, Option, Some, None}
+use Rattle.mencius_base.specs.declared.command.CommandId.{CommandId}
+use Rattle.mencius_format.specs.Texts.{id_text}
+use Rattle.mencius_judge.specs.declared.counts.Counts.{Counts}
+use Rattle.mencius_judge.specs.declared.violation.Violation.{Violation}
+use Rattle.mencius_judge.specs.declared.violation.Violation.TheVariants as violation
+
+abbrev pub kept_line : Counts → List ℕ
+kept_line c =
+    codes "ok servers " ++ decimal c.servers ++ codes " commands " ++ decimal c.commands ++ codes " executed "
+    ++ decimal c.executed ++ codes " replies " ++ decimal c.replies ++ codes " open " ++ decimal c.open_replies
+    ++ codes " lookups " ++ decimal c.lookups ++ 10 ∷ []
+
+-- what a key held
+abbrev pub held_text : Option (List ℕ) → List ℕ
+held_text None = codes "none"
+held_text (Some text) = codes "=" ++ text
+
+-- a command behind some words
+abbrev pub named_text : List ℕ → CommandId → List ℕ
+named_text words id = words ++ id_text id
+
+-- what stands somewhere in the history of a server
+abbrev pub place_text : ℕ → ℕ → List ℕ
+place_text server place = codes " server " ++ decimal server ++ codes " place " ++ decimal place
+
+-- what should be there and what is
+abbrev pub texts_found : Option (List ℕ) → Option (List ℕ) → List ℕ
+texts_found expected found = codes " expected " ++ held_text expected ++ codes " found " ++ held_text found
+
+-- who looked which key up
+abbrev pub reader_text : ℕ → List ℕ → List ℕ
+reader_text reader key = codes " reader " ++ decimal reader ++ codes " key " ++ key
+
+-- what stands after none of the first `from` to `to` commands
+abbrev pub nowhere_text : ℕ → ℕ → Option (List ℕ) → List ℕ
+nowhere_text from to found =
+    codes " from " ++ decimal from ++ codes " to " ++ decimal to ++ codes " found " ++ held_text found
+
+-- which promise is broken, and how
+abbrev pub violation_text : Violation → List ℕ
+violation_text (violation.OneCommand id) = codes "OneCommand command " ++ id_text id
+violation_text (violation.Submitted id) = codes "Submitted command " ++ id_text id
+violation_text (violation.Once server place id) = codes "Once" ++ place_text server place ++ codes " command " ++ id_text id
+violation_text (violation.SameOrder server place expected found) =
+    codes "SameOrder" ++ place_text server place
+    ++ (named_text (codes " expected ") expected ++ named_text (codes " found ") found)
+violation_text (violation.RealTime server place id behind) =
+    codes "RealTime" ++ place_text server place
+    ++ (named_text (codes " command ") id ++ named_text (codes " behind ") behind)
+violation_text (violation.OneReply id expected found) =
+    codes "OneReply command " ++ id_text id ++ texts_found expected found
+violation_text (violation.RightReply id place expected found) =
+    codes "RightReply command " ++ id_text id ++ codes " place " ++ decimal place ++ texts_found expected found
+violation_text (violation.RightLookup reader key from to found) =
+    codes "RightLookup" ++ reader_text reader key ++ nowhere_text from to found
+
+-- of the line of this number
+abbrev pub broken_line : ℕ → Violation → List ℕ
+broken_line number violation = codes "violation " ++ decimal number ++ 32 ∷ violation_text violation ++ 10 ∷ []

@@ -1,0 +1,401 @@
+ghost use Rattle.std.specs.Prelude.{◌≡◌, ◌≢◌, ◌↔◌, ◌<◌, ◌≤◌, ◌+◌, ℕ, [], ◌∷◌, ◌++◌, Some, None, IsNone, IsTrue, IfOk, OnOk, MatchBool, MatchOption, length, slice_get};
+ghost use Rattle.std.specs.BTreeMap.{Updates, get};
+ghost use Rattle.std.specs.List.{count_by};
+ghost use Rattle.std.specs.Ordering.{nat_cmp};
+ghost use Rattle.mencius_judge.specs.declared.observation.Observation.TheVariants.{Execute, Lookup, Reply, Submit, Tell};
+ghost use Rattle.mencius_base.specs.declared.command.CommandId.{CommandId};
+ghost use Rattle.mencius_judge.specs.Log.{Log};
+ghost use Rattle.mencius_judge.specs.Promises.{Keeps};
+ghost use Rattle.mencius_judge.specs.Tables.{AreSettled, IsNoOther, IsNoOtherExecution, IsSettledAt, floor_of, is_open, key_of};
+
+use crate::counts::{Counts, one_more};
+use crate::histories::{Histories, Next};
+use crate::observation::Observation;
+use crate::texts::{copy_of, copy_of_key, is_same_op, is_same_text};
+use crate::timelines::Timelines;
+use crate::violation::Violation;
+use mencius_base::{Command, CommandId, Key, NoMemory, Text};
+use std::alloc::Global;
+use std::collections::BTreeMap;
+
+// How many commands a client may number.
+const NUMBER_COUNT: u64 = 1 << 32;
+
+// An identity as one number.
+fn key_of(id: CommandId) -> u64
+    ensures { result ≡ key_of id }
+{
+    u64::from(id.client) * NUMBER_COUNT + u64::from(id.number)
+}
+
+/// A command that was submitted, and how many commands had a reply by then.
+#[derive(Drop)]
+pub struct Submission {
+    command: Command,
+    replies_before: usize,
+}
+
+impl Submission {
+    fn of(command: &Command, replies_before: usize) -> Result<Submission, NoMemory>
+        ensures command { IfOk result (λ s. s.command ≡ command.now) }
+        ensures replies_before { IfOk result (λ s. s.replies_before ≡ replies_before) }
+    {
+        Ok(Submission {
+            command: command.clone()?,
+            replies_before,
+        })
+    }
+}
+
+/// Where a command stands in the longest history, and what the map answers there.
+#[derive(Drop)]
+pub struct Execution {
+    place: usize,
+    reply: Option<Text>,
+}
+
+/// What a store did so far, as far as it takes to judge what it does next.
+///
+/// It keeps nothing of what was observed but the commands, the changes of the keys and how far each
+/// reader has come.
+#[derive(Drop)]
+pub struct Judge {
+    histories: Histories,
+    // What each key held after each beginning of the longest history.
+    timelines: Timelines,
+    // By identity: what was submitted, the first reply, and how it was executed.
+    submissions: BTreeMap<u64, Submission>,
+    replies: BTreeMap<u64, Option<Text>>,
+    executions: BTreeMap<u64, Execution>,
+    // The commands that had a reply, in the order of their first ones, and how many of them, from the
+    // first on, stand in the longest history.
+    with_reply: Vec<CommandId>,
+    settled_count: usize,
+    // Of each reader how many commands of the longest history it has seen at least.
+    floors: BTreeMap<u64, usize>,
+    // How many commands were submitted, and how many look-ups there were.
+    commands: u64,
+    lookups: u64,
+}
+
+impl Judge {
+    ghost use Rattle.mencius_judge.specs.Counts.{AreCounts};
+    ghost use Rattle.mencius_judge.specs.Judged.{IsAt, IsJudged};
+
+    /// Nothing was seen yet.
+    pub fn new(alloc: Global) -> Result<Judge, NoMemory>
+        ensures { IfOk result (λ j. IsAt j []) }
+    {
+        Ok(Judge {
+            histories: Histories::new(alloc)?,
+            timelines: Timelines::new(alloc),
+            submissions: BTreeMap::new(alloc),
+            replies: BTreeMap::new(alloc),
+            executions: BTreeMap::new(alloc),
+            with_reply: Vec::new(alloc),
+            settled_count: 0,
+            floors: BTreeMap::new(alloc),
+            commands: 0,
+            lookups: 0,
+        })
+    }
+
+    /// Takes the next observation, and says how it breaks a promise, if it breaks one.
+    ///
+    /// A judge that is at a log, which keeps all promises, is then at the log with the observation; or
+    /// the violation is shown by the observation, and its promise is broken. Of a judge that found a
+    /// violation, or had no memory, nothing is known.
+    pub fn observe(&mut self, observation: &Observation) -> Result<Option<Violation>, NoMemory>
+        ensures judged { IfOk result (λ x. (w : Log) → IsAt self.old w
+            → IsJudged w observation.now x self.new) }
+        ensures kept { IfOk result (λ x. (w : Log) → IsAt self.old w
+            → (IsNone x ↔ Keeps (observation.now ∷ w))) }
+    {
+        self.step(observation)
+    }
+
+    /// What was seen, in numbers. It goes through the commands that had a reply.
+    pub fn counts(&self) -> Counts
+        ensures { (w : Log) → IsAt self.now w → AreCounts w result }
+    {
+        let with_reply = self.with_reply.as_slice();
+        Counts {
+            servers: self.histories.servers(),
+            commands: self.commands,
+            executed: self.histories.longest(),
+            replies: with_reply.len(),
+            open_replies: open_count(&self.executions, with_reply),
+            lookups: self.lookups,
+        }
+    }
+
+    fn step(&mut self, observation: &Observation) -> Result<Option<Violation>, NoMemory>
+        ensures { IfOk result (λ x. (w : Log) → IsAt self.old w
+            → IsJudged w observation.now x self.new) }
+    {
+        match observation {
+            Observation::Submit { command } => self.submit(command),
+            Observation::Execute { server, id } => self.execute(*server, *id),
+            Observation::Reply { id, text } => self.reply(*id, text),
+            Observation::Lookup { reader, key, text } => self.look_up(*reader, key, text),
+            Observation::Tell { reader, server } => self.tell(*reader, *server),
+        }
+    }
+
+    fn submit(&mut self, command: &Command) -> Result<Option<Violation>, NoMemory>
+        ensures { IfOk result (λ x. (w : Log) → IsAt self.old w
+            → IsJudged w (Submit command.now) x self.new) }
+    {
+        let id = command.id();
+        let key = key_of(id);
+        if let Some(found) = self.submissions.get(&key) {
+            if is_same_op(found.command.op(), command.op()) {
+                return Ok(None);
+            }
+            return Ok(Some(Violation::OneCommand { id }));
+        }
+        let row = Submission::of(command, self.with_reply.len())?;
+        self.commands = one_more(self.commands)?;
+        put(&mut self.submissions, key, row)?;
+        Ok(None)
+    }
+
+    fn execute(&mut self, server: u8, id: CommandId) -> Result<Option<Violation>, NoMemory>
+        ensures { IfOk result (λ x. (w : Log) → IsAt self.old w
+            → IsJudged w (Execute server id) x self.new) }
+    {
+        let key = key_of(id);
+        let place = self.histories.count(server);
+        let Some(row) = self.submissions.get(&key) else {
+            return Ok(Some(Violation::Submitted { id }));
+        };
+        match self.histories.next(server, id) {
+            Next::Differs { expected } => {
+                return Ok(Some(Violation::SameOrder {
+                    server,
+                    place,
+                    expected,
+                    found: id,
+                }));
+            }
+            Next::Follows => {
+                self.histories.follow(server);
+                return Ok(None);
+            }
+            Next::Leads => {}
+        }
+        if self.executions.get(&key).is_some() {
+            return Ok(Some(Violation::Once { server, place, id }));
+        }
+        self.settled_count = count_settled(
+            &self.executions,
+            self.with_reply.as_slice(),
+            self.settled_count,
+        );
+        if let Some(behind) = first_unsettled(
+            self.with_reply.as_slice(),
+            self.settled_count,
+            row.replies_before,
+        ) {
+            return Ok(Some(Violation::RealTime {
+                server,
+                place,
+                id,
+                behind,
+            }));
+        }
+        self.histories.lead(server, id)?;
+        let reply = self
+            .timelines
+            .execute(&row.command, self.histories.longest())?;
+        if let Some(found) = other_text(&self.replies, key, &reply) {
+            let found = copy_of(found)?;
+            return Ok(Some(Violation::RightReply {
+                id,
+                place,
+                expected: reply,
+                found,
+            }));
+        }
+        put(&mut self.executions, key, Execution { place, reply })?;
+        Ok(None)
+    }
+
+    fn reply(&mut self, id: CommandId, text: &Option<Text>) -> Result<Option<Violation>, NoMemory>
+        ensures { IfOk result (λ x. (w : Log) → IsAt self.old w
+            → IsJudged w (Reply id text.now) x self.new) }
+    {
+        let key = key_of(id);
+        if self.submissions.get(&key).is_none() {
+            return Ok(Some(Violation::Submitted { id }));
+        }
+        let found = copy_of(text)?;
+        if let Some(expected) = other_text(&self.replies, key, text) {
+            let expected = copy_of(expected)?;
+            return Ok(Some(Violation::OneReply {
+                id,
+                expected,
+                found,
+            }));
+        }
+        if let Some(execution) = other_execution(&self.executions, key, text) {
+            let expected = copy_of(&execution.reply)?;
+            return Ok(Some(Violation::RightReply {
+                id,
+                place: execution.place,
+                expected,
+                found,
+            }));
+        }
+        if self.replies.get(&key).is_some() {
+            return Ok(None);
+        }
+        self.with_reply.push(id)?;
+        put(&mut self.replies, key, found)?;
+        Ok(None)
+    }
+
+    fn look_up(
+        &mut self,
+        reader: u32,
+        key: &Key,
+        text: &Option<Text>,
+    ) -> Result<Option<Violation>, NoMemory>
+        ensures { IfOk result (λ x. (w : Log) → IsAt self.old w
+            → IsJudged w (Lookup reader key.now text.now) x self.new) }
+    {
+        let from = floor_of(&self.floors, reader);
+        let to = self.histories.longest();
+        let Some(count) = self.timelines.first_count(key.as_str(), text, from, to) else {
+            return Ok(Some(Violation::RightLookup {
+                reader,
+                key: copy_of_key(key)?,
+                from,
+                to,
+                found: copy_of(text)?,
+            }));
+        };
+        self.lookups = one_more(self.lookups)?;
+        put(&mut self.floors, u64::from(reader), count)?;
+        Ok(None)
+    }
+
+    fn tell(&mut self, reader: u32, server: u8) -> Result<Option<Violation>, NoMemory>
+        ensures { IfOk result (λ x. (w : Log) → IsAt self.old w
+            → IsJudged w (Tell reader server) x self.new) }
+    {
+        let floor = floor_of(&self.floors, reader).max(self.histories.count(server));
+        put(&mut self.floors, u64::from(reader), floor)?;
+        Ok(None)
+    }
+}
+
+// How many commands a reader has seen at least.
+fn floor_of(floors: &BTreeMap<u64, usize>, reader: u32) -> usize
+    ensures { result ≡ floor_of floors.now reader }
+{
+    match floors.get(&u64::from(reader)) {
+        Some(count) => *count,
+        None => 0,
+    }
+}
+
+// Binds a number, or finds no memory for it.
+fn put<V: Drop>(map: &mut BTreeMap<u64, V>, key: u64, value: V) -> Result<(), NoMemory>
+    ensures { OnOk result (Updates nat_cmp map.old map.new key (Some value)) }
+{
+    match map.insert(key, value) {
+        Ok(_) => Ok(()),
+        Err(_) => Err(NoMemory),
+    }
+}
+
+// The text at a number, where it is another one than this.
+fn other_text<'a>(
+    texts: &'a BTreeMap<u64, Option<Text>>,
+    key: u64,
+    text: &Option<Text>,
+) -> Option<&'a Option<Text>>
+    ensures { MatchOption result (IsNoOther texts.now key text.now)
+        (λ known. (get nat_cmp texts.now key ≡ Some known.now) × (known.now ≢ text.now)) }
+{
+    match texts.get(&key) {
+        Some(known) => {
+            if is_same_text(known, text) {
+                return None;
+            }
+            Some(known)
+        }
+        None => None,
+    }
+}
+
+// The execution at a number, where its reply is another one than this.
+fn other_execution<'a>(
+    executions: &'a BTreeMap<u64, Execution>,
+    key: u64,
+    text: &Option<Text>,
+) -> Option<&'a Execution>
+    ensures { MatchOption result (IsNoOtherExecution executions.now key text.now)
+        (λ known. (get nat_cmp executions.now key ≡ Some known.now) × (known.now.reply ≢ text.now)) }
+{
+    match executions.get(&key) {
+        Some(known) => {
+            if is_same_text(&known.reply, text) {
+                return None;
+            }
+            Some(known)
+        }
+        None => None,
+    }
+}
+
+// How many commands with a reply, from the first on, were executed, where the first `start` of them are known to be.
+fn count_settled(
+    executions: &BTreeMap<u64, Execution>,
+    with_reply: &[CommandId],
+    start: usize,
+) -> usize
+    ensures settled { AreSettled with_reply.now executions.now start
+        → AreSettled with_reply.now executions.now result }
+    ensures all { (id : CommandId) → slice_get with_reply.now result ≡ Some id
+        → get nat_cmp executions.now (key_of id) ≡ None }
+{
+    for place in start..with_reply.len() {
+        if !is_settled(executions, with_reply, place) {
+            return place;
+        }
+    }
+    with_reply.len()
+}
+
+// Whether the command with a reply at this place was executed.
+fn is_settled(executions: &BTreeMap<u64, Execution>, with_reply: &[CommandId], place: usize) -> bool
+    ensures { IsTrue result ↔ IsSettledAt with_reply.now executions.now place }
+{
+    match with_reply.get(place) {
+        Some(id) => executions.contains_key(&key_of(*id)),
+        None => false,
+    }
+}
+
+// How many commands with a reply were not executed.
+fn open_count(executions: &BTreeMap<u64, Execution>, with_reply: &[CommandId]) -> usize
+    ensures { result ≡ count_by (is_open executions.now) with_reply.now }
+{
+    with_reply
+        .iter()
+        .filter(|id| !executions.contains_key(&key_of(**id)))
+        .count()
+}
+
+// The first command with a reply that was not executed, where it is one of the first `behind`.
+fn first_unsettled(with_reply: &[CommandId], settled: usize, behind: usize) -> Option<CommandId>
+    ensures { MatchOption result (settled < behind → length with_reply.now ≤ settled)
+        (λ id. (settled < behind) × (slice_get with_reply.now settled ≡ Some id)) }
+{
+    if settled < behind {
+        return with_reply.get(settled).copied();
+    }
+    None
+}

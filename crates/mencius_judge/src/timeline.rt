@@ -1,0 +1,150 @@
+ghost use Rattle.std.specs.Prelude.{◌≡◌, ◌≢◌, ◌++◌, ◌∷◌, ℕ, List, [], IfOk, OnOk, MatchOption, Option};
+ghost use Rattle.std.specs.BTreeMap.{get_by_text};
+ghost use Rattle.mencius_judge.specs.Timelines.{HasNone, IsFirstCount, IsFirstPeriod, IsTimeline, AreRising, AllBefore, items_of, periods_of};
+
+use crate::texts::is_same_text;
+use mencius_base::{NoMemory, Text};
+use std::alloc::Global;
+use std::collections::BTreeMap;
+
+/// The numbers of commands from `first` up to `stop`, which is not one of them, after which a key held
+/// one text.
+#[derive(Clone, Copy, Debug)]
+pub struct Period {
+    pub first: usize,
+    pub stop: usize,
+}
+
+/// What one key held after each number of commands.
+#[derive(Drop)]
+pub struct Timeline {
+    // What it holds now, and after how many commands it came to hold that.
+    pub text: Option<Text>,
+    pub since: usize,
+    // When it held nothing before, and when which text, the oldest period first.
+    pub absences: Vec<Period>,
+    pub presences: BTreeMap<String, Vec<Period>>,
+}
+
+impl Timeline {
+    /// The key has held nothing yet.
+    pub fn new(alloc: Global) -> Timeline
+        ensures text { result.text ≡ None }
+        ensures since { result.since ≡ 0 }
+        ensures periods { (x : Option (List ℕ)) → periods_of result x ≡ [] }
+    {
+        Timeline {
+            text: None,
+            since: 0,
+            absences: Vec::new(alloc),
+            presences: BTreeMap::new(alloc),
+        }
+    }
+
+    /// The key came to hold this text, or none, after so many commands.
+    pub fn change(
+        &mut self,
+        alloc: Global,
+        text: Option<Text>,
+        count: usize,
+    ) -> Result<(), NoMemory>
+        ensures text { OnOk result (self.new.text ≡ text) }
+        ensures since { OnOk result (self.new.since ≡ count) }
+        ensures former { OnOk result (periods_of self.new self.old.text
+            ≡ periods_of self.old self.old.text ++ record { first = self.old.since; stop = count } ∷ []) }
+        ensures others { OnOk result ((x : Option (List ℕ)) → x ≢ self.old.text
+            → periods_of self.new x ≡ periods_of self.old x) }
+    {
+        let period = Period {
+            first: self.since,
+            stop: count,
+        };
+        match &self.text {
+            None => self.absences.push(period)?,
+            Some(former) => push_period(alloc, &mut self.presences, former.as_str(), period)?,
+        }
+        self.text = text;
+        self.since = count;
+        Ok(())
+    }
+
+    /// The least number of commands, from `from` to `to`, after which the key held this text, where
+    /// `to` is how many commands there are.
+    pub fn first_count(&self, text: &Option<Text>, from: usize, to: usize) -> Option<usize>
+        ensures { (held : ℕ → Option (List ℕ)) → IsTimeline held to self.now
+            → MatchOption result (HasNone held text.now from to) (IsFirstCount held text.now from to) }
+    {
+        if let Some(period) = self.first_period(text, from) {
+            return Some(period.first.max(from));
+        }
+        if from <= to && is_same_text(&self.text, text) {
+            return Some(self.since.max(from));
+        }
+        None
+    }
+
+    // The first period of a text that does not end before a number of commands.
+    fn first_period(&self, text: &Option<Text>, from: usize) -> Option<Period>
+        ensures { AreRising (periods_of self.now text.now)
+            → MatchOption result (AllBefore (periods_of self.now text.now) from)
+            (IsFirstPeriod (periods_of self.now text.now) from) }
+    {
+        match text {
+            None => period_after(self.absences.as_slice(), from),
+            Some(text) => match self.presences.get(text.as_str()) {
+                Some(periods) => period_after(periods.as_slice(), from),
+                None => None,
+            },
+        }
+    }
+}
+
+// The first of these periods that does not end before a number of commands.
+fn period_after(periods: &[Period], from: usize) -> Option<Period>
+    ensures { AreRising periods.now
+        → MatchOption result (AllBefore periods.now from) (IsFirstPeriod periods.now from) }
+{
+    let place = periods.partition_point(|period| period.stop <= from);
+    match periods.get(place) {
+        Some(period) => Some(*period),
+        None => None,
+    }
+}
+
+// Puts a period behind those of a text.
+fn push_period(
+    alloc: Global,
+    presences: &mut BTreeMap<String, Vec<Period>>,
+    text: &str,
+    period: Period,
+) -> Result<(), NoMemory>
+    ensures own { OnOk result (items_of (get_by_text presences.new text.now)
+        ≡ items_of (get_by_text presences.old text.now) ++ period ∷ []) }
+    ensures others { OnOk result ((x : List ℕ) → x ≢ text.now
+        → items_of (get_by_text presences.new x) ≡ items_of (get_by_text presences.old x)) }
+{
+    let mut periods = match presences.remove(text) {
+        Some(periods) => periods,
+        None => Vec::new(alloc),
+    };
+    periods.push(period)?;
+    put_text(alloc, presences, text, periods)
+}
+
+/// Binds a text, or finds no memory for it.
+pub fn put_text<V: Drop>(
+    alloc: Global,
+    map: &mut BTreeMap<String, V>,
+    text: &str,
+    value: V,
+) -> Result<(), NoMemory>
+    ensures own { OnOk result (get_by_text map.new text.now ≡ Some value) }
+    ensures others { OnOk result ((x : List ℕ) → x ≢ text.now
+        → get_by_text map.new x ≡ get_by_text map.old x) }
+{
+    let text = String::from_str(alloc, text)?;
+    match map.insert(text, value) {
+        Ok(_) => Ok(()),
+        Err(_) => Err(NoMemory),
+    }
+}

@@ -1,0 +1,141 @@
+ghost use Rattle.std.specs.Prelude.{◌≡◌, ◌≢◌, ◌++◌, ◌∷◌, ℕ, ◌+◌, ◌≤◌, List, [], IfOk, OnOk, MatchOption, Option, length};
+ghost use Rattle.std.specs.BTreeMap.{get_by_text};
+ghost use Rattle.mencius_base.specs.declared.command.Command.{Command};
+ghost use Rattle.mencius_model.specs.Store.{is_held, key_of, out};
+ghost use Rattle.mencius_judge.specs.Timelines.{AreTimelines, HasNone, IsFirstCount, IsTimelineOf, held_by, text_after, text_of};
+
+use crate::texts::{copy_of, is_same_text};
+use crate::timeline::{Timeline, put_text};
+use mencius_base::{Command, NoMemory, Op, Text};
+use std::alloc::Global;
+use std::collections::BTreeMap;
+
+/// What each key held after each number of commands.
+#[derive(Drop)]
+pub struct Timelines {
+    alloc: Global,
+    pub by_key: BTreeMap<String, Timeline>,
+}
+
+impl Timelines {
+    /// No command was executed, and no key holds anything.
+    pub fn new(alloc: Global) -> Timelines
+        ensures { AreTimelines [] result.by_key }
+    {
+        Timelines {
+            alloc,
+            by_key: BTreeMap::new(alloc),
+        }
+    }
+
+    /// Executes a command, with which there are `count`, and answers what its key held before it.
+    pub fn execute(&mut self, command: &Command, count: usize) -> Result<Option<Text>, NoMemory>
+        ensures reply { IfOk result (λ reply. (cs : List Command) → AreTimelines cs self.old.by_key
+            → reply ≡ out cs command.now) }
+        ensures after { OnOk result ((cs : List Command) → AreTimelines cs self.old.by_key
+            → length cs + 1 ≡ count → AreTimelines (cs ++ command.now ∷ []) self.new.by_key) }
+    {
+        let op = command.op();
+        let key = key_of(op);
+        let held = self.text_of(key)?;
+        let text = text_after(&held, op)?;
+        if !is_same_text(&held, &text) {
+            self.change(key, text, count)?;
+        }
+        Ok(held)
+    }
+
+    /// The least number of commands, from `from` to `to`, after which the key held this text, where
+    /// `to` is how many commands there are.
+    pub fn first_count(
+        &self,
+        key: &str,
+        text: &Option<Text>,
+        from: usize,
+        to: usize,
+    ) -> Option<usize>
+        ensures { (cs : List Command) → AreTimelines cs self.now.by_key → length cs ≡ to
+            → MatchOption result (HasNone (held_by cs key.now) text.now from to)
+            (IsFirstCount (held_by cs key.now) text.now from to) }
+    {
+        match self.by_key.get(key) {
+            Some(timeline) => timeline.first_count(text, from, to),
+            None => first_absence(text, from, to),
+        }
+    }
+
+    // A copy of what a key holds.
+    fn text_of(&self, key: &str) -> Result<Option<Text>, NoMemory>
+        ensures { IfOk result (λ text. text ≡ text_of (get_by_text self.now.by_key key.now)) }
+    {
+        match self.by_key.get(key) {
+            Some(timeline) => copy_of(&timeline.text),
+            None => Ok(None),
+        }
+    }
+
+    // A key came to hold this text after so many commands.
+    fn change(&mut self, key: &str, text: Option<Text>, count: usize) -> Result<(), NoMemory>
+        ensures own { OnOk result ((held after : ℕ → Option (List ℕ)) (n : ℕ)
+            → IsTimelineOf held n (get_by_text self.old.by_key key.now) → n + 1 ≡ count
+            → ((m : ℕ) → m ≤ n → after m ≡ held m) → after count ≡ text
+            → IsTimelineOf after count (get_by_text self.new.by_key key.now)) }
+        ensures others { OnOk result ((x : List ℕ) → x ≢ key.now
+            → get_by_text self.new.by_key x ≡ get_by_text self.old.by_key x) }
+    {
+        let mut timeline = match self.by_key.remove(key) {
+            Some(timeline) => timeline,
+            None => Timeline::new(self.alloc),
+        };
+        timeline.change(self.alloc, text, count)?;
+        put_text(self.alloc, &mut self.by_key, key, timeline)
+    }
+}
+
+// The same of a key that never held anything.
+fn first_absence(text: &Option<Text>, from: usize, to: usize) -> Option<usize>
+    ensures { (held : ℕ → Option (List ℕ)) → IsTimelineOf held to None
+        → MatchOption result (HasNone held text.now from to) (IsFirstCount held text.now from to) }
+{
+    if text.is_none() && from <= to {
+        return Some(from);
+    }
+    None
+}
+
+// The key that an operation is about.
+fn key_of(op: &Op) -> &str
+    ensures { result.now ≡ key_of op.now }
+{
+    match op {
+        Op::Set { key, .. } | Op::Get { key } | Op::Del { key } | Op::Cas { key, .. } =>
+            key.as_str(),
+    }
+}
+
+// What the key of an operation holds after it, where it held this before.
+fn text_after(held: &Option<Text>, op: &Op) -> Result<Option<Text>, NoMemory>
+    ensures { IfOk result (λ text. text ≡ text_after held.now op.now) }
+{
+    match op {
+        Op::Set { text, .. } => Ok(Some(text.clone()?)),
+        Op::Get { .. } => copy_of(held),
+        Op::Del { .. } => Ok(None),
+        Op::Cas {
+            held: expected,
+            text,
+            ..
+        } if is_held(held, expected) => Ok(Some(text.clone()?)),
+        Op::Cas { .. } => copy_of(held),
+    }
+}
+
+// Whether a text is held, and it is exactly this one.
+fn is_held(held: &Option<Text>, expected: &Text) -> bool
+    ensures { result ≡ is_held held.now expected.now }
+{
+    match held {
+        Some(held) => held.as_str() == expected.as_str(),
+        None => false,
+    }
+}

@@ -1,0 +1,167 @@
+//! What is wrong with a line, in a person's words. Each word is judged by what reads it.
+
+use crate::line::MOST_LINE_BYTES;
+use mencius_base::{MOST_KEY_BYTES, MOST_TEXT_BYTES, is_name};
+use mencius_ends::AppFault;
+use mencius_format::{Part, cut_at_space, operands_of, parse_id, parse_u8, parse_u32};
+
+/// What is wrong with a line that is longer than a line may be.
+pub(crate) const TOO_LONG: &str = "it is longer than 1,024 bytes";
+
+// A word behind the first one of an observation.
+#[derive(Clone, Copy, Debug)]
+enum Word {
+    Server,
+    Reader,
+    Id,
+    Key,
+    Text,
+    Answer,
+}
+
+/// What is wrong with a line that has this fault: the first of its words that has it.
+pub(crate) fn wrong_line(line: &[u8], fault: AppFault) -> &'static str {
+    if line.len() > MOST_LINE_BYTES {
+        return TOO_LONG;
+    }
+    match str::from_utf8(line) {
+        Ok(text) => wrong_text(text, fault),
+        Err(_) => "it is not UTF-8",
+    }
+}
+
+fn wrong_text(text: &str, fault: AppFault) -> &'static str {
+    let mut left = Some(text);
+    let first = next_word(&mut left).unwrap_or("");
+    let Some(words) = words_behind(first) else {
+        return "it begins with none of submit, execute, reply, lookup and told";
+    };
+    if let Some(wrong) = wrong_words(words, &mut left, fault) {
+        return wrong;
+    }
+    if first == "submit" {
+        if let Some(wrong) = wrong_operation(&mut left, fault) {
+            return wrong;
+        }
+    }
+    if left.is_some() {
+        return "there is a word too many";
+    }
+    "a word of it is wrong"
+}
+
+// What the words behind the first one are, up to the operation of a command.
+fn words_behind(first: &str) -> Option<&'static [Word]> {
+    match first {
+        "submit" => Some(&[Word::Id]),
+        "execute" => Some(&[Word::Server, Word::Id]),
+        "reply" => Some(&[Word::Id, Word::Answer]),
+        "lookup" => Some(&[Word::Reader, Word::Key, Word::Answer]),
+        "told" => Some(&[Word::Reader, Word::Server]),
+        _ => None,
+    }
+}
+
+// The next of the words that are left.
+fn next_word<'a>(left: &mut Option<&'a str>) -> Option<&'a str> {
+    let text = (*left)?;
+    match cut_at_space(text) {
+        Ok((word, behind)) => {
+            *left = Some(behind);
+            Some(word)
+        }
+        Err(_) => {
+            *left = None;
+            Some(text)
+        }
+    }
+}
+
+// The first of these words that has the fault, or is missing.
+fn wrong_words(words: &[Word], left: &mut Option<&str>, fault: AppFault) -> Option<&'static str> {
+    for word in words {
+        let Some(text) = next_word(left) else {
+            return Some(missing(*word));
+        };
+        if has_fault(*word, text, fault) {
+            return Some(rule_of(*word));
+        }
+    }
+    None
+}
+
+// The operation, or the first of its words that has the fault.
+fn wrong_operation(left: &mut Option<&str>, fault: AppFault) -> Option<&'static str> {
+    let Some(operands) = operands_of(next_word(left).unwrap_or("")) else {
+        return Some("the operation is none of set, get, del and cas");
+    };
+    for part in operands {
+        let word = match part {
+            Part::Key => Word::Key,
+            _ => Word::Text,
+        };
+        let Some(text) = next_word(left) else {
+            return Some(missing(word));
+        };
+        if has_fault(word, text, fault) {
+            return Some(rule_of(word));
+        }
+    }
+    None
+}
+
+fn has_fault(word: Word, text: &str, fault: AppFault) -> bool {
+    match word {
+        Word::Server => parse_u8(text).err() == Some(fault),
+        Word::Reader => parse_u32(text).err() == Some(fault),
+        Word::Id => parse_id(text).err() == Some(fault),
+        Word::Key => named_fault(text, 1, MOST_KEY_BYTES) == Some(fault),
+        Word::Text => named_fault(text, 0, MOST_TEXT_BYTES) == Some(fault),
+        Word::Answer => answer_fault(text) == Some(fault),
+    }
+}
+
+// The fault of a name that has at least and at most so many bytes.
+fn named_fault(text: &str, least: usize, most: usize) -> Option<AppFault> {
+    if !is_name(text) {
+        return Some(AppFault::BadShape);
+    }
+    if text.len() < least || text.len() > most {
+        return Some(AppFault::BadLimit);
+    }
+    None
+}
+
+fn answer_fault(text: &str) -> Option<AppFault> {
+    if text == "none" {
+        return None;
+    }
+    match text.strip_prefix("=") {
+        Some(text) => named_fault(text, 0, MOST_TEXT_BYTES),
+        None => Some(AppFault::BadShape),
+    }
+}
+
+fn rule_of(word: Word) -> &'static str {
+    match word {
+        Word::Server => "the server is no number from 0 to 255",
+        Word::Reader => "the reader is no number from 0 to 4294967295",
+        Word::Id => "the command ID is no CLIENT.NUMBER, each a number from 0 to 4294967295",
+        Word::Key => "the key is not 1 to 64 ASCII letters, digits, `_`, `-` or `.`",
+        Word::Text => "the text is not 0 to 256 ASCII letters, digits, `_`, `-` or `.`",
+        Word::Answer => {
+            "the answer is neither `none` nor `=` and 0 to 256 ASCII letters, digits, `_`, `-` or `.`"
+        }
+    }
+}
+
+fn missing(word: Word) -> &'static str {
+    match word {
+        Word::Server => "the server is missing",
+        Word::Reader => "the reader is missing",
+        Word::Id => "the command ID is missing",
+        Word::Key => "the key is missing",
+        Word::Text => "a text is missing: an empty one has a space before it",
+        Word::Answer => "the answer is missing",
+    }
+}
