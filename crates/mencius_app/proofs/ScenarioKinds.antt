@@ -7,7 +7,7 @@ use Rattle.mencius_ends.specs.declared.fault.AppFault.TheVariants.{BadShape}
 use Rattle.mencius_input.specs.declared.kind.Kind.{Kind}
 use Rattle.mencius_input.specs.declared.kind.Kind.TheVariants.{Replay, Run}
 use Rattle.mencius_format.specs.Judged.{judged}
-use Rattle.mencius_input.specs.Kinds.{has_many_objects, has_run_field, kind_in, kind_said}
+use Rattle.mencius_input.specs.Kinds.{has_run_field, is_crowded, kind_in, kind_said}
 use Rattle.mencius_input.specs.Scenario.{json_of, or_not_json, read_there, scenario, within, written_of}
 use Rattle.mencius_input.proofs.ScenarioFields.{no_events_said}
 
@@ -22,7 +22,7 @@ run_said (Some d) e = ap (judged within) (no_events_said d (has_none (get (codes
 
 -- what is meant as a run's has another shape
 pub run_misshapen : (bytes : List ℕ) → kind_in bytes ≡ Run → scenario bytes ≡ Err BadShape
-run_misshapen bytes e = by_count (has_many_objects bytes) e where
+run_misshapen bytes e = by_count (is_crowded bytes) e where
   by_count : (many : Bool) → cond many Replay (kind_said (json_of bytes)) ≡ Run → scenario bytes ≡ Err BadShape
   by_count true e = absurd (cc)
   by_count false e = run_said (json_of bytes) e

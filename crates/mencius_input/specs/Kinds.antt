@@ -1,8 +1,9 @@
 -- Which of the two kinds of scenario a text is meant as.
-use Rattle.std.specs.Prelude.{ℕ, ◌==◌, ◌&&◌, ◌||◌, List, length, Bool, not, Option, Some, None, is_some, nat_lt, if◌then◌else◌}
-use Rattle.std.specs.List.{filter, list_any}
+use Rattle.std.specs.Prelude.{ℕ, ◌&&◌, ◌||◌, List, Bool, not, Option, Some, None, is_some, if◌then◌else◌}
+use Rattle.std.specs.List.{list_any}
 use Rattle.serde_json.specs.Data.{Data}
 use Rattle.serde_json.specs.Find.{get}
+use Rattle.mencius_json.specs.Crowds.{crowd_in}
 use Rattle.mencius_input.specs.declared.field.Field.{Field}
 use Rattle.mencius_input.specs.declared.field.Field.TheVariants.{Commands, Events}
 use Rattle.mencius_input.specs.declared.kind.Kind.{Kind}
@@ -26,13 +27,10 @@ abbrev pub kind_said : Option Data → Kind
 kind_said None = Replay
 kind_said (Some d) = kind_of d
 
--- more objects may begin in these bytes than a tree is made of
-abbrev pub most_objects : ℕ
-most_objects = 65536
-
-abbrev pub has_many_objects : List ℕ → Bool
-has_many_objects bytes = nat_lt most_objects (length (filter (λ byte. byte == 123) bytes))
+-- no tree is made of these bytes
+abbrev pub is_crowded : List ℕ → Bool
+is_crowded bytes = is_some (crowd_in bytes)
 
 -- the kind that bytes are meant as
 abbrev pub kind_in : List ℕ → Kind
-kind_in bytes = if has_many_objects bytes then Replay else kind_said (json_of bytes)
+kind_in bytes = if is_crowded bytes then Replay else kind_said (json_of bytes)

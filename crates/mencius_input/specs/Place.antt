@@ -1,5 +1,5 @@
 -- Where the value of a scenario has a fault, and the words that tell it.
-use Rattle.std.specs.Prelude.{ℕ, ◌≡◌, ◌≢◌, ◌⊎◌, ◌<◌, ◌+◌, ◌++◌, ◌==◌, List, [], ◌∷◌, codes, decimal, drop, flat_map, Bool, true, false, Option, Some, None, option_map, unwrap_or, Err, string_bytes, if◌then◌else◌}
+use Rattle.std.specs.Prelude.{ℕ, ◌≡◌, ◌≢◌, ◌⊎◌, ◌<◌, ◌+◌, ◌++◌, ◌==◌, List, [], ◌∷◌, codes, decimal, drop, flat_map, Bool, false, Option, Some, None, MatchOption, option_map, unwrap_or, Err, string_bytes, if◌then◌else◌}
 use Rattle.std.specs.List.{Contains}
 use Rattle.std.specs.Result.{result_err}
 use Rattle.serde_json.specs.Data.{Data, Items, Members, Num}
@@ -7,6 +7,9 @@ use Rattle.serde_json.specs.Events.{items_len}
 use Rattle.serde_json.specs.Find.{as_array, as_number, as_object, as_str, as_u64, get, get_item}
 use Rattle.mencius_ends.specs.declared.fault.AppFault.{AppFault}
 use Rattle.mencius_ends.specs.declared.fault.AppFault.TheVariants.{BadLimit, BadShape}
+use Rattle.mencius_json.specs.Crowds.{crowd_in}
+use Rattle.mencius_json.specs.declared.crowd.Crowd.{Crowd}
+use Rattle.mencius_json.specs.declared.crowd.Crowd.TheVariants.{Braces, Brackets, Separators}
 use Rattle.mencius_input.specs.declared.field.Field.{Field}
 use Rattle.mencius_input.specs.declared.field.Field.TheVariants.{Version, Servers, Commands}
 use Rattle.mencius_input.specs.declared.field.Shape.{Shape}
@@ -18,7 +21,6 @@ use Rattle.mencius_input.specs.declared.places.Place.TheVariants as place
 use Rattle.mencius_input.specs.FieldsOf.{field_name, field_within, is_one_of, list_field, names, needed, row, whole_fields}
 use Rattle.mencius_format.specs.Grammar.{newest_version}
 use Rattle.mencius_format.specs.Judged.{judged}
-use Rattle.mencius_input.specs.Kinds.{has_many_objects}
 use Rattle.mencius_input.specs.Newest.{has_command_cas, has_event_cas}
 use Rattle.mencius_input.specs.Plan.{command_said}
 use Rattle.mencius_input.specs.Scenario.{item_said, json_of, number_of, whole_in}
@@ -186,19 +188,21 @@ Tells kind fault bytes words =
     (place : Place) × (d : Data) × (json_of bytes ≡ Some d) × IsAt kind fault d place × IsToldBy kind fault place words
 
 -- what is said where no place is looked for
-abbrev pub many_words : List ℕ
-many_words = codes "more than 65,536 { stand in the text, where a scenario has one"
+abbrev pub crowd_words : Crowd → List ℕ
+crowd_words Braces = codes "more than 65,536 { stand in the text, where a scenario has one"
+crowd_words Brackets = codes "more than 65,536 [ stand in the text, where a scenario has at most eight"
+crowd_words Separators = codes "more than 1,700,000 commas and colons stand in the text, which has no room for so many events"
 
 -- what is said where no place was found
 abbrev pub unplaced_words : AppFault → List ℕ
 unplaced_words BadLimit = codes "a number, a length or a count is past its limit"
 unplaced_words fault = codes "the text is no scenario"
 
--- words of a place, or that there is none
+-- why no place is looked for, or words of one, or that there is none
 abbrev pub IsPlaced : Kind → AppFault → List ℕ → List ℕ → Type 0
 IsPlaced kind fault bytes words =
-    Tells kind fault bytes words ⊎ ((has_many_objects bytes ≡ true) × (words ≡ many_words))
-    ⊎ ((has_many_objects bytes ≡ false) × (words ≡ unplaced_words fault))
+    MatchOption (crowd_in bytes) (Tells kind fault bytes words ⊎ (words ≡ unplaced_words fault))
+    (λ crowd. words ≡ crowd_words crowd)
 
 -- what is said of a fault of bytes that were read
 abbrev pub IsTold : Kind → AppFault → List ℕ → List ℕ → Type 0

@@ -1,17 +1,17 @@
 //! Where a scenario is wrong, in a person's words.
 
 ghost use Rattle.std.specs.Prelude.{◌≡◌, ◌∷◌, ◌++◌, IfOk, OnOk, codes, decimal, option_map, string_bytes};
-ghost use Rattle.mencius_input.specs.Place.{IsItemTold, IsPlaced, IsTold, IsToldBy, IsToldUnread, counts_words, field_words, kind_name, limit_words, number_words, range_words, unknown_words, unplaced_words};
+ghost use Rattle.mencius_input.specs.Place.{IsItemTold, IsPlaced, IsTold, IsToldBy, IsToldUnread, counts_words, crowd_words, field_words, kind_name, limit_words, number_words, range_words, unknown_words, unplaced_words};
 ghost use Rattle.mencius_input.specs.Shown.{shown_text};
 
 use crate::field::{Field, Shape, list_field, whole_fields};
-use crate::kind::{Kind, has_many_objects};
+use crate::kind::Kind;
 use crate::places::{Place, place_of};
 use crate::shown::shown;
 use crate::wrong::wrong_item;
 use mencius_base::NoMemory;
 use mencius_ends::AppFault;
-use mencius_json::stop_in;
+use mencius_json::{Crowd, crowd_in, stop_in};
 use std::alloc::Global;
 
 // What a number past a range is.
@@ -205,6 +205,21 @@ fn wrong_place(
     }
 }
 
+// What is said where a sign stands so often in the text that no place is looked for.
+fn crowd_words(crowd: Crowd) -> &'static str
+    ensures { result.now ≡ crowd_words crowd }
+{
+    match crowd {
+        Crowd::Braces => "more than 65,536 { stand in the text, where a scenario has one",
+        Crowd::Brackets => {
+            "more than 65,536 [ stand in the text, where a scenario has at most eight"
+        }
+        Crowd::Separators => {
+            "more than 1,700,000 commas and colons stand in the text, which has no room for so many events"
+        }
+    }
+}
+
 // What is said where no place was found that has the fault.
 fn unplaced(fault: AppFault) -> &'static str
     ensures { result.now ≡ unplaced_words fault }
@@ -219,11 +234,8 @@ fn unplaced(fault: AppFault) -> &'static str
 fn tell_place(alloc: Global, kind: Kind, bytes: &[u8], fault: AppFault) -> Result<String, NoMemory>
     ensures { IfOk result (λ s. IsPlaced kind fault bytes.now (string_bytes s)) }
 {
-    if has_many_objects(bytes) {
-        return Ok(String::from_str(
-            alloc,
-            "more than 65,536 { stand in the text, where a scenario has one",
-        )?);
+    if let Some(crowd) = crowd_in(bytes) {
+        return Ok(String::from_str(alloc, crowd_words(crowd))?);
     }
     match place_of(alloc, kind, bytes, fault)? {
         Some(place) => wrong_place(alloc, kind, &place, fault),
@@ -234,8 +246,9 @@ fn tell_place(alloc: Global, kind: Kind, bytes: &[u8], fault: AppFault) -> Resul
 /// Says where the scenario in `bytes`, which is read as one of the kind, has its fault, in one line of a
 /// person's words: for `NotJson` the line and the column, in characters from 1; for `BadShape` and
 /// `BadLimit` the field, or the event or the command by its index from 0 and its text, and which word of
-/// it. It is the first place in the text that has the fault; of a text in which more than 65,536 `{`
-/// stand no place is told. There is no line feed at the end and no other control character.
+/// it. It is the first place in the text that has the fault; of a text of which no tree is made, as
+/// [`crowd_in`](mencius_json::crowd_in) has it, no place is told. There is no line feed at the end and no
+/// other control character.
 ///
 /// `fault` is what [`read_scenario`](crate::read_scenario), or for a run
 /// [`read_plan`](crate::read_plan), answers for the bytes.

@@ -1,13 +1,13 @@
 //! Which of the two kinds of scenario a text is meant as.
 
-ghost use Rattle.std.specs.Prelude.{◌≡◌, ◌==◌, IfOk, length, option_map};
-ghost use Rattle.std.specs.List.{filter};
+ghost use Rattle.std.specs.Prelude.{◌≡◌, IfOk, option_map};
 ghost use Rattle.serde_json.specs.Read.{read};
 ghost use Rattle.serde_json.specs.View.{view};
-ghost use Rattle.mencius_input.specs.Kinds.{has, has_many_objects, has_run_field, kind_in, kind_of};
+ghost use Rattle.mencius_input.specs.Kinds.{has, has_run_field, kind_in, kind_of};
 
 use crate::field::{Field, run_fields};
 use mencius_base::NoMemory;
+use mencius_json::crowd_in;
 use serde_json::Value;
 use std::alloc::Global;
 
@@ -18,24 +18,6 @@ pub enum Kind {
     Replay,
     /// A plan that workers follow.
     Run,
-}
-
-// The objects of a text of which a tree is made. A scenario has one; of a text that has millions the
-// tree would take gigabytes.
-const MOST_OBJECTS: usize = 65_536;
-
-// How many objects may begin in a text.
-fn opening_braces(bytes: &[u8]) -> usize
-    ensures { result ≡ length (filter (λ byte. byte == 123) bytes.now) }
-{
-    bytes.iter().filter(|byte| **byte == b'{').count()
-}
-
-/// Whether more objects may begin in a text than a tree is made of.
-pub(crate) fn has_many_objects(bytes: &[u8]) -> bool
-    ensures { result ≡ has_many_objects bytes.now }
-{
-    opening_braces(bytes) > MOST_OBJECTS
 }
 
 /// The tree of a text, if it is JSON.
@@ -82,7 +64,7 @@ fn kind_of_value(value: &Value) -> Kind
 
 /// The kind of scenario that a text is meant as, by its fields: a run's, where it has no field
 /// `events` and a field that a run alone has, as `workers` or `commands`, and else one of `replay`. So
-/// is what is no JSON, and a text in which more than 65,536 `{` stand. A tree of the text is made.
+/// is what is no JSON, and a text of which no tree is made, as [`crowd_in`](mencius_json::crowd_in) has it.
 ///
 /// # Errors
 ///
@@ -91,7 +73,7 @@ fn kind_of_value(value: &Value) -> Kind
 pub fn kind_of(alloc: Global, bytes: &[u8]) -> Result<Kind, NoMemory>
     ensures { IfOk result (λ kind. kind ≡ kind_in bytes.now) }
 {
-    if has_many_objects(bytes) {
+    if crowd_in(bytes).is_some() {
         return Ok(Kind::Replay);
     }
     let Ok(text) = std::str::from_utf8(bytes) else {

@@ -3,3 +3,4 @@ pub mod Steps
 pub mod Sources
 pub mod Next
 pub mod Stops
+pub mod Crowds

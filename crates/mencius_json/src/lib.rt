@@ -5,14 +5,17 @@
 //! value from its tokens and makes no tree of it: a number or a text, a list or an object that is
 //! entered, or any value that is passed. What comes of that is what `serde_json` finds in the tree,
 //! or `Invalid` where the text is no JSON. Where such a text stops being JSON, `stops` says in a
-//! person's words. What a text is about is for the crates above.
+//! person's words. `crowd` says of which texts a tree would be too large. What a text is about is for
+//! the crates above.
 #![tactic(auto)]
 
+mod crowd;
 mod plain;
 mod stops;
 mod tokens;
 mod value;
 
+pub use crowd::{Crowd, crowd_in};
 pub use stops::stop_in;
 pub use tokens::Tokens;
 pub use value::{

@@ -3,6 +3,7 @@
 ghost use Rattle.std.specs.Prelude.{◌≡◌, IfOk, string_bytes};
 ghost use Rattle.mencius_json.specs.Stops.{NamesPlace, stop_words};
 
+use crate::crowd::crowd_in;
 use crate::tokens::Tokens;
 use crate::value::{MOST_DEPTH, pass, whole_number};
 use json::{Reader, Scratch, Token};
@@ -185,6 +186,10 @@ fn wrong_end(alloc: Global, front: &str) -> Result<&'static str, NoMemory> {
 fn stop_of(alloc: Global, text: &str) -> Result<(usize, &'static str), NoMemory> {
     let offset = read_to(alloc, text)?.min(text.len());
     let (front, rest) = text.as_bytes().split_at(offset);
+    // To tell more takes a tree of the front.
+    if crowd_in(front).is_some() {
+        return Ok((offset, NO_JSON));
+    }
     let Some(is_whole) = front_of(alloc, front)? else {
         return last_before(alloc, text, offset);
     };
@@ -218,7 +223,8 @@ fn wrong_at(alloc: Global, line: usize, column: usize, wrong: &str) -> Result<St
 
 /// Where bytes that are no JSON stop being it, and what is wrong there, in a person's words, as in
 /// `line 1, column 7: a comma is missing before this`. Lines and columns count from 1, and columns are
-/// characters. It fails for want of memory alone.
+/// characters. Where too much of the text is JSON for a tree of it, as [`crowd_in`] has it, what is wrong is
+/// not looked for: it is `not JSON` where reading stopped. It fails for want of memory alone.
 pub fn stop_in(alloc: Global, bytes: &[u8]) -> Result<String, NoMemory>
     ensures { IfOk result (λ s. NamesPlace (string_bytes s)) }
 {
