@@ -76,7 +76,7 @@ def programs(words, defaults):
             fail(f"{word} is no program that can be started")
     for default in defaults[len(words):]:
         if not is_program(os.path.join(TOP, default)):
-            builder = "`./mencius --help`" if default == PROGRAM else "`./check crates`"
+            builder = "`./mencius --build`" if default == PROGRAM else "`./check crates`"
             fail(f"{default} is not there: {builder}, at the top of the repository, builds it")
     paths = [*words[:len(defaults)], *(os.path.join(TOP, default) for default in defaults[len(words):])]
     return [os.path.realpath(path) for path in paths]

@@ -1,5 +1,5 @@
 -- The text of a judgement, and which log it is of.
-use Rattle.std.specs.Prelude.{◌≡◌, ℕ, Bool, true, false, not, List, Option, IfSome}
+use Rattle.std.specs.Prelude.{◌≡◌, ℕ, Bool, true, false, List, Option, IfSome}
 use Rattle.mencius_ends.specs.declared.fault.AppFault.{AppFault}
 use Rattle.mencius_judge.specs.declared.reading.Verdict.{Verdict}
 use Rattle.mencius_judge.specs.declared.reading.Verdict.TheVariants.{Kept, Broken}

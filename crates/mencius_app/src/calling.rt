@@ -26,9 +26,9 @@ use std::alloc::Global;
 use std::sync::Wait;
 use std::thread::Threads;
 
-// What `clap` says of an argument that is no text. It takes no memory, so that such an argument is
-// always told of.
-const NOT_TEXT: &str = "\
+/// What `clap` says of an argument that is no text. It takes no memory, so that such an argument is
+/// always told of.
+pub(crate) const NOT_TEXT: &str = "\
 error: invalid UTF-8 was detected in one or more arguments
 
 Usage: mencius <COMMAND>
@@ -105,9 +105,9 @@ pub fn perform<R: Source, W: Sink, E: Sink, T: Threads + Wait + Sync>(
     }
 }
 
-// Writes what the command line has to say: a text that was asked for to `sink`, and what is wrong to
-// `errors`.
-fn tell<W: Sink, E: Sink>(
+/// Writes what the command line has to say: a text that was asked for to `sink`, and what is wrong to
+/// `errors`.
+pub(crate) fn tell<W: Sink, E: Sink>(
     alloc: Global,
     arguments: &[Vec<u8>],
     error: &Error,
@@ -168,15 +168,17 @@ fn complain<E: Sink>(alloc: Global, error: &Error, errors: &mut E) -> Ending
     Ending::BadCommandLine
 }
 
-// What is asked of a run.
+/// What is asked of a run.
 #[derive(Drop)]
-struct RunOptions {
-    with_journal: bool,
-    key: Option<String>,
+pub(crate) struct RunOptions {
+    /// Whether the journal's line comes first.
+    pub with_journal: bool,
+    /// The key that is looked up, if there is one.
+    pub key: Option<String>,
 }
 
-// Does a task that waits for nobody. A run is none: it comes back, and nothing was read or written.
-fn perform_alone<R: Source, W: Sink>(
+/// Does a task that waits for nobody. A run is none: it comes back, and nothing was read or written.
+pub(crate) fn perform_alone<R: Source, W: Sink>(
     alloc: Global,
     task: Task,
     source: &mut R,
@@ -246,8 +248,8 @@ fn perform_run<R: Source, W: Sink, T: Threads + Wait + Sync>(
     ending_of(run(rt, alloc, source, sink, &Open, options.with_journal, key))
 }
 
-// How a call ends whose work came to this.
-fn ending_of(done: Result<(), Finding>) -> Ending
+/// How a call ends whose work came to this.
+pub(crate) fn ending_of(done: Result<(), Finding>) -> Ending
     ensures { result ≡ ending_of done }
 {
     match done {

@@ -16,6 +16,8 @@ mod reading;
 mod replaying;
 mod running;
 mod tracing;
+mod turns;
+mod turns_calling;
 
 pub use arguments::arguments_of;
 pub use calling::perform;
@@ -33,3 +35,5 @@ pub use printed::report;
 pub use replaying::{replay, replay_judged};
 pub use running::run;
 pub use tracing::trace;
+pub use turns::run_in_turns;
+pub use turns_calling::perform_in_turns;

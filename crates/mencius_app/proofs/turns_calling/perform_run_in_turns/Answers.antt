@@ -1,0 +1,15 @@
+use Rattle.std.proofs.lemmas.Result.{IfErr-weaker}
+use Rattle.mencius_app.specs.Ending.{asked_with}
+use Rattle.mencius_app.proofs.EndingCauses.{as_text, of_result, text_of_run}
+use Rattle.mencius_app.proofs.FindingWords.{told_of_result}
+use Rattle.mencius_app.proofs.turns_calling.perform_run_in_turns.Goals as goal
+
+pub returns-clause-fault : goal.returns-clause-fault
+returns-clause-fault g c =
+    of_result c.run_in_turns.result _ _ c.ending_of.ensures (IfErr-weaker c.run_in_turns.result _ _ (λ found h. as_text (λ text is.
+    text_of_run _ _ _ _ text c.as_deref-key.ensures.value is) h) c.run_in_turns.ensures.fault)
+
+pub returns-clause-words : goal.returns-clause-words
+returns-clause-words g c =
+    told_of_result (asked_with c.args.options.now) (g.R.Source.remaining c.args.source.now) c.run_in_turns.result _
+    c.ending_of.ensures c.run_in_turns.ensures.words

@@ -1,0 +1,2 @@
+pub mod CallEnds
+pub mod ToldAnswers

@@ -1,0 +1,86 @@
+//! A call of the program over bytes.
+
+ghost use Rattle.std.specs.Prelude.{◌≡◌, ◌++◌, [], IfOk, false, take, drop, map};
+ghost use Rattle.mencius_app.specs.Ending.{status_of_ending};
+ghost use Rattle.mencius_embed.specs.Calls.{IsCall, memory_status, words_in};
+
+use crate::streams::{Input, Text};
+use mencius_app::{end, perform_in_turns};
+use mencius_base::NoMemory;
+use std::alloc::Global;
+
+/// What a call of the program came to.
+#[derive(Drop)]
+pub(crate) struct Called {
+    /// Its exit status.
+    pub status: u8,
+    /// What it printed to standard output.
+    pub printed: Vec<u8>,
+    /// What it said on standard error.
+    pub said: Vec<u8>,
+    /// Whether it read its input.
+    pub is_asked: bool,
+}
+
+impl Called {
+    /// A call for which there was no memory: it printed and said nothing.
+    pub fn without_memory(alloc: Global) -> Called
+        ensures status { result.status ≡ memory_status }
+        ensures printed { result.printed.items ≡ [] }
+        ensures said { result.said.items ≡ [] }
+        ensures unread { result.is_asked ≡ false }
+    {
+        Called {
+            status: 5,
+            printed: Vec::new(alloc),
+            said: Vec::new(alloc),
+            is_asked: false,
+        }
+    }
+}
+
+/// Calls the program with these arguments, each with a zero byte behind it, and with this input.
+pub(crate) fn call(alloc: Global, words: &[u8], input: &[u8]) -> Result<Called, NoMemory>
+    ensures { IfOk result (λ x. IsCall (words_in words.now) input.now x.status x.printed.items
+        x.said.items x.is_asked) }
+{
+    let arguments = arguments_in(alloc, words)?;
+    let mut source = Input {
+        rest: input,
+        is_asked: false,
+    };
+    let mut sink = Text::new(alloc);
+    let mut errors = Text::new(alloc);
+    let arguments = arguments.as_slice();
+    let ending = perform_in_turns(alloc, arguments, &mut source, &mut sink, &mut errors);
+    if sink.failures > 0 || errors.failures > 0 {
+        return Err(NoMemory);
+    }
+    let status = end(ending, &mut errors);
+    if errors.failures > 0 {
+        return Err(NoMemory);
+    }
+    Ok(Called {
+        status,
+        printed: sink.bytes,
+        said: errors.bytes,
+        is_asked: source.is_asked,
+    })
+}
+
+// The arguments, of which each has a zero byte behind it.
+fn arguments_in(alloc: Global, words: &[u8]) -> Result<Vec<Vec<u8>>, NoMemory>
+    ensures { IfOk result (λ x. map (λ a. a.items) x.items ≡ words_in words.now) }
+{
+    let mut arguments = Vec::new(alloc);
+    let mut word = Vec::new(alloc);
+    for byte in words {
+        if *byte == 0 {
+            arguments.push(word)?;
+            word = Vec::new(alloc);
+        } else {
+            word.push(*byte)?;
+        }
+    }
+    Ok(arguments)
+}

@@ -1,0 +1,39 @@
+"""The program from Python: mencius.call(["replay", "--strict"], b'{"version":1,..}') gives (status, printed, said).
+
+    cc -shared -o libmencius.so -Wl,--whole-archive libmencius_embed.a -Wl,--no-whole-archive liblibc_c.a
+
+As a program it does what mencius does: MENCIUS_LIBRARY=libmencius.so python3 mencius.py replay < SCENARIO.
+"""
+import ctypes
+import os
+import sys
+
+
+class Answer(ctypes.Structure):
+    _fields_ = [(name, ctypes.c_uint64) for name in ("status", "printed", "said", "asked")]
+
+
+_place = os.environ.get("MENCIUS_LIBRARY") or os.path.join(os.path.dirname(os.path.realpath(__file__)), "libmencius.so")
+_call = ctypes.CDLL(_place).mencius_call
+_call.restype = None
+_call.argtypes = [ctypes.c_char_p, ctypes.c_size_t] * 2 + [ctypes.c_void_p, ctypes.c_size_t] * 2 + [ctypes.POINTER(Answer)]
+
+
+def call(arguments, data=b""):
+    """The status, the standard output and the standard error of a call of the program."""
+    words = b"".join(os.fsencode(word) + b"\0" for word in arguments)
+    data, answer, rooms = bytes(data), Answer(), (65_536, 4_096)
+    while True:
+        printed, said = (ctypes.create_string_buffer(room) for room in rooms)
+        _call(words, len(words), data, len(data), printed, rooms[0], said, rooms[1], answer)
+        if answer.printed <= rooms[0] and answer.said <= rooms[1]:
+            return answer.status, printed.raw[:answer.printed], said.raw[:answer.said]
+        rooms = (answer.printed + 1, answer.said + 1)
+
+
+if __name__ == "__main__":
+    status, printed, said = call(sys.argv[1:], sys.stdin.buffer.read())
+    sys.stdout.buffer.write(printed)
+    sys.stdout.flush()
+    sys.stderr.buffer.write(said)
+    sys.exit(status)

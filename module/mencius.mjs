@@ -1,0 +1,131 @@
+#!/usr/bin/env node
+// The program `mencius` by node: the proved code, as the WebAssembly module beside this file.
+//
+//     node mencius.mjs replay|trace|check|run [OPTIONS] < SCENARIO      as mencius does
+//
+// A run has no threads: its workers take their turns one after the other.
+import { readFileSync, readSync, realpathSync, writeSync } from 'node:fs';
+import { fileURLToPath } from 'node:url';
+
+const MOST = 16_777_217; // one byte more than the longest scenario, which is as much as the program reads
+const bytes = readFileSync(process.env.MENCIUS_MODULE || fileURLToPath(new URL('mencius.wasm', import.meta.url)));
+let exports;
+
+// The module, started where it is not; it is started anew after a call that trapped.
+function module() {
+  exports ??= new WebAssembly.Instance(new WebAssembly.Module(bytes), {}).exports;
+  return exports;
+}
+
+const wide = BigInt; // sizes and addresses are of 64 bits, also where the memory was lowered to 32
+const sleep = () => Atomics.wait(new Int32Array(new SharedArrayBuffer(4)), 0, 0, 5);
+const noMemory = () => { throw new RangeError('the module has no memory'); };
+const bytesAt = (at, length) => new Uint8Array(module().memory.buffer, Number(at), length);
+
+function room(length) {
+  const at = module().mencius_room(wide(length + 1));
+  return Number(at) === 0 ? noMemory() : at;
+}
+
+// Room in the module's memory, with these bytes.
+function put(bytes) {
+  const at = room(bytes.length);
+  bytesAt(at, bytes.length).set(bytes);
+  return at;
+}
+
+// One call with so much room for both texts: the answer's four numbers, and the texts where they fit.
+function call(words, input, printedRoom, saidRoom) {
+  const x = module();
+  const [a, b, out, err, answer] = [put(words), put(input), room(printedRoom), room(saidRoom), room(32)];
+  x.mencius_call(a, wide(words.length), b, wide(input.length), out, wide(printedRoom), err, wide(saidRoom), answer);
+  const [status, printed, said, asked] =
+    [...new BigUint64Array(x.memory.buffer.slice(Number(answer), Number(answer) + 32))].map(Number);
+  const fits = printed <= printedRoom && said <= saidRoom;
+  const texts = fits ? { printed: bytesAt(out, printed).slice(), said: bytesAt(err, said).slice() } : null;
+  for (const at of [a, b, out, err, answer]) x.mencius_give(at);
+  return { status, asked: asked !== 0, lengths: [printed, said], texts };
+}
+
+// The program, called with these arguments and this input: its status, its texts, and whether it read the input.
+// An argument is a string or its bytes.
+export function mencius(args, input = new Uint8Array(0)) {
+  const words = Buffer.concat(args.flatMap(word => [Buffer.from(word), Buffer.alloc(1)]));
+  try {
+    let { status, asked, lengths, texts } = call(words, input, 65_536 + 8 * input.length, 4_096);
+    if (!texts) ({ texts } = call(words, input, ...lengths));
+    return { status, asked, ...texts };
+  } catch (e) {
+    exports = undefined;
+    if (!(e instanceof RangeError || e instanceof WebAssembly.RuntimeError)) throw e;
+    const said = `mencius: fault 26 NoMemory\nmencius: the module stopped: ${e.message}\n`;
+    return { status: 5, asked: true, printed: new Uint8Array(0), said: Buffer.from(said) };
+  }
+}
+
+// Standard input to its end or to the greatest length, and whether reading failed.
+function readInput() {
+  const parts = [];
+  for (let length = 0; length < MOST;) {
+    const part = Buffer.allocUnsafe(Math.min(65_536, MOST - length));
+    let count;
+    try {
+      count = readSync(0, part);
+    } catch (e) {
+      if (e.code === 'EOF') break;
+      if (e.code === 'EAGAIN') { sleep(); continue; }
+      return [Buffer.concat(parts), true];
+    }
+    if (count === 0) break;
+    parts.push(part.subarray(0, count));
+    length += count;
+  }
+  return [Buffer.concat(parts), false];
+}
+
+// Whether all bytes could be written.
+function write(stream, bytes) {
+  for (let at = 0; at < bytes.length;) {
+    try {
+      at += writeSync(stream, bytes, at);
+    } catch (e) {
+      if (e.code !== 'EAGAIN') return false;
+      sleep();
+    }
+  }
+  return true;
+}
+
+// The arguments, as bytes where the system tells them: node makes texts of them, of which each is UTF-8.
+function readArguments() {
+  const args = process.argv.slice(2);
+  if (args.length === 0 || !args.some(word => word.includes('\ufffd'))) return args;
+  try {
+    const words = readFileSync('/proc/self/cmdline', 'latin1').split('\0').slice(0, -1);
+    return words.slice(-args.length).map(word => Buffer.from(word, 'latin1'));
+  } catch {
+    return args;
+  }
+}
+
+// The program's own words and status where reading or writing fails, which are the host's here.
+function failed(line) {
+  write(2, Buffer.from(`mencius: fault ${line}\n`));
+  return 4;
+}
+
+function main(args) {
+  let answer = mencius(args);
+  if (answer.asked) {
+    const [input, hasFailed] = readInput();
+    if (hasFailed) return failed('24 ReadFailed');
+    answer = mencius(args, input);
+  }
+  if (!write(1, answer.printed)) return failed('25 WriteFailed');
+  write(2, answer.said);
+  return answer.status;
+}
+
+if (process.argv[1] && fileURLToPath(import.meta.url) === realpathSync(process.argv[1])) {
+  process.exitCode = main(readArguments());
+}
