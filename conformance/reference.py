@@ -1,9 +1,9 @@
 """What is expected of a store: what store.py prints, or a program `mencius`."""
 import dataclasses
 import json
-import subprocess
 
 import answers
+import calling
 import driver
 import store
 from operations import version_of
@@ -84,17 +84,26 @@ class ProgramFailed(Exception):
 
 
 class ProgramReference:
-    """Expects what a program `mencius` prints: the report and the whole trace."""
-    kinds = answers.TRACE_KINDS | {"server", "unheard"}
+    """Expects what a program `mencius` prints, which is called in one of the ways of calling.py: the report and the trace,
+    of that these kinds of lines."""
 
-    def __init__(self, program):
-        self.program = program
+    def __init__(self, call, kinds=answers.TRACE_KINDS | {"server", "unheard"}):
+        self.call, self.kinds = call, kinds
 
     def expect(self, schedule):
         return answers.read_texts(self.printed("trace", schedule) + self.printed("replay", schedule))
 
     def printed(self, task, schedule):
-        done = subprocess.run([self.program, task], input=schedule.text().encode(), stdout=subprocess.PIPE, check=False)
-        if done.returncode != 0:
-            raise ProgramFailed(f"{self.program} {task} ended with status {done.returncode}")
-        return done.stdout.decode()
+        status, printed = self.call([task], schedule.text().encode())
+        if status != 0:
+            raise ProgramFailed(f"mencius {task} ended with status {status}")
+        return printed.decode()
+
+
+def choose(program):
+    """What to expect: of a program that is named all that it prints. Else the kinds of lines that store.py prints, as the
+    program prints them where it can be called without being started, and as store.py does where it cannot."""
+    if program:
+        return ProgramReference(calling.choose(program))
+    call = calling.at_once()
+    return ProgramReference(call, StoreReference.kinds) if call else StoreReference()

@@ -1,5 +1,6 @@
-// Answers calls of the program by the module: reads one JSON text a line, [ARGUMENTS, INPUT], and prints one,
-// [STATUS, PRINTED, SAID]. All bytes are written in base 64. It reads the path of the module from MENCIUS_MODULE.
+// Answers calls of the program by the module, for a language that runs no WebAssembly: one process of node takes all of
+// them. It reads one JSON text a line, [ARGUMENTS, INPUT], and prints one for each, [STATUS, PRINTED, SAID]. All bytes are
+// written in base 64. MENCIUS_MODULE names another module than module/mencius.wasm.
 import { createInterface } from 'node:readline';
 import { mencius } from '../module/mencius.mjs';
 

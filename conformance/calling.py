@@ -1,0 +1,81 @@
+"""Calls the program: inside this process by the library, inside one process of node by the module, or by starting it.
+
+Each way is a function of the arguments and of what stands on standard input. It answers the exit status and what is
+printed, and raises OSError where there is no answer.
+"""
+import base64
+import functools
+import importlib.machinery
+import json
+import os
+import shutil
+import subprocess
+
+TOP = os.path.dirname(os.path.dirname(os.path.realpath(__file__)))
+LAUNCHER = os.path.join(TOP, "mencius")
+MODULE = os.path.join(TOP, "module")
+
+
+def by_starting(program):
+    def call(words, data):
+        done = subprocess.run([program, *words], input=data, stdout=subprocess.PIPE, check=False)
+        return done.returncode, done.stdout
+    return call
+
+
+def by_library():
+    """By the library that MENCIUS_LIBRARY names."""
+    mencius = load(os.path.join(TOP, "embedding", "mencius.py"))
+    return lambda words, data: mencius.call(words, data)[:2]
+
+
+def by_module():
+    """By one process of node, which is started at the first call."""
+    @functools.cache
+    def node():
+        return subprocess.Popen(["node", os.path.join(TOP, "embedding", "answers.mjs")], stdin=subprocess.PIPE,
+                                stdout=subprocess.PIPE, start_new_session=True)
+
+    def call(words, data):
+        question = [[coded(os.fsencode(word)) for word in words], coded(data)]
+        node().stdin.write(json.dumps(question).encode() + b"\n")
+        node().stdin.flush()
+        answer = node().stdout.readline()
+        if not answer:
+            raise OSError("node ended, which calls the module")
+        status, printed, _ = json.loads(answer)
+        return status, base64.b64decode(printed)
+    return call
+
+
+def coded(data):
+    return base64.b64encode(data).decode()
+
+
+def at_once():
+    """The way that starts no program for a call: by the library where one is named, by the module where node is there and
+    the module is made of the sources as they are, and else None."""
+    if "MENCIUS_LIBRARY" in os.environ:
+        return by_library()
+    return by_module() if shutil.which("node") and is_module_fresh() else None
+
+
+def is_module_fresh():
+    try:
+        with open(os.path.join(MODULE, "sum"), encoding="ascii") as file:
+            wanted = file.read().strip()
+        return load(os.path.join(MODULE, "build")).sum_of_parts(os.path.join(MODULE, "mencius.wasm")) == wanted
+    except OSError:
+        return False
+
+
+def load(path):
+    """A file of Python as a module, whatever its name."""
+    name = os.path.basename(path).removesuffix(".py")
+    return importlib.machinery.SourceFileLoader(name, path).load_module()
+
+
+def choose(program):
+    """The quickest way to have a program's answers: that of this repository need not be started."""
+    is_launcher = os.path.realpath(program) == LAUNCHER
+    return is_launcher and at_once() or by_starting(program)
