@@ -1,0 +1,77 @@
+'use strict';
+// The proved code, as WebAssembly. A call takes arguments and standard input, and gives what the program would print,
+// say and end with. Nothing of the protocol is computed outside of it.
+
+// Text that is held in base64, and packed by gzip.
+async function unpacked(text) {
+  const packed = Uint8Array.from(atob(text), letter => letter.charCodeAt(0));
+  const stream = new Blob([packed]).stream().pipeThrough(new DecompressionStream('gzip'));
+  return new Uint8Array(await new Response(stream).arrayBuffer());
+}
+
+class Core {
+  // `whenStopped` is told why the module stopped by itself; it is started anew then.
+  constructor(module, whenStopped) {
+    this.module = module;
+    this.whenStopped = whenStopped;
+    this.exports = null;
+    this.longest = {};
+  }
+
+  start() {
+    this.exports ??= new WebAssembly.Instance(this.module, {}).exports;
+    return this.exports;
+  }
+
+  room(length) {
+    const at = this.start().mencius_room(BigInt(length + 1));
+    if (Number(at) === 0) throw new RangeError('there is no memory');
+    return at;
+  }
+
+  bytesAt(at, length) {
+    return new Uint8Array(this.exports.memory.buffer, Number(at), length);
+  }
+
+  put(bytes) {
+    const at = this.room(bytes.length);
+    this.bytesAt(at, bytes.length).set(bytes);
+    return at;
+  }
+
+  // One call with so much room for both texts; a text that does not fit is null, and the call says how long it is.
+  attempt(words, input, rooms) {
+    const places = [this.put(words), this.put(input), ...rooms.map(room => this.room(room)), this.room(32)];
+    const [a, b, out, err, answer] = places;
+    this.exports.mencius_call(a, BigInt(words.length), b, BigInt(input.length), out, BigInt(rooms[0]), err, BigInt(rooms[1]), answer);
+    const [status, printed, said] = [...new BigUint64Array(this.bytesAt(answer, 32).slice().buffer)].map(Number);
+    const fits = printed <= rooms[0] && said <= rooms[1];
+    const texts = fits ? [[out, printed], [err, said]].map(place => new TextDecoder().decode(this.bytesAt(...place))) : null;
+    for (const place of places) this.exports.mencius_give(place);
+    return { status, lengths: [printed, said], texts };
+  }
+
+  // The program, called with these arguments and this input: its status, what it prints, and what it says.
+  call(args, input) {
+    const coder = new TextEncoder();
+    const words = coder.encode(args.map(word => word + '\0').join('')), bytes = coder.encode(input);
+    try {
+      let answer = this.attempt(words, bytes, [Math.max(this.longest[args[0]] || 0, 65536 + 8 * bytes.length), 4096]);
+      if (!answer.texts) answer = this.attempt(words, bytes, answer.lengths);
+      const [printed, said] = answer.texts;
+      this.longest[args[0]] = Math.max(this.longest[args[0]] || 0, 2 * answer.lengths[0]);
+      return { status: answer.status, printed, said };
+    } catch (error) {
+      if (!(error instanceof RangeError || error instanceof WebAssembly.RuntimeError)) throw error;
+      this.exports = null;
+      this.whenStopped(error.message);
+      return { status: 5, printed: '', said: `mencius: fault 26 NoMemory\nthe module stopped: ${error.message}\n` };
+    }
+  }
+}
+
+// The words of a fault, without the line of its number where there are others.
+function wordsOf(said) {
+  const lines = said.trimEnd().split('\n');
+  return (lines[1] ?? lines[0]).replace(/^mencius: /, '');
+}

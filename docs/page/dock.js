@@ -1,0 +1,126 @@
+'use strict';
+// Below each lane: the server's messages that are under way, what may be asked of it, and what it knows.
+
+// So many messages of an inbox are shown at first, the newest of them.
+const SHOWN = 10;
+const dock = { isWhole: {}, ask: null };
+
+const ownerOf = (instance, servers) => `owner${instance % servers}`;
+const written = value => value ?? '–';
+
+// What the events so far came to, and the replies, beside the servers.
+function summary(now) {
+  const { cursor, schedule, report, trace } = now, event = trace.events.at(-1);
+  const said = cursor === 0 ? 'nothing has happened yet' : `after event ${cursor - 1}`;
+  const box = el('div', { class: 'summary' }, el('h2', {}, said));
+  if (event?.refusal) box.append(el('p', { class: 'bad' }, `refused: ${event.refusal}, since ${REFUSALS[event.refusal]}`));
+  box.append(el('p', {}, `${count(report.accepted, 'event')}, ${count(report.messages, 'message')}` + (schedule.beta ? `, beta ${schedule.beta}` : '')));
+  if (report.replies.length > 0) {
+    box.append(el('h3', {}, 'replies'), el('ul', { class: 'replies' }, ...report.replies.slice(-30).map(([id, reply]) =>
+      el('li', { class: reply === 'pending' ? 'soft' : null }, el('b', {}, id), ` ${reply}`))));
+  }
+  const later = schedule.events.length - cursor;
+  if (later > 0) box.append(el('button', { 'data-do': 'cut', title: 'take out all events behind the cursor' }, `drop ${count(later, 'later event')}`));
+  return box;
+}
+
+const count = (number, what) => `${number} ${what}${number === 1 ? '' : 's'}`;
+
+function card(now, server) {
+  const { trace, report, schedule } = now, { front, executed, waiting } = trace.closing[server];
+  const facts = [`next own i${front}`, `executed ${executed}`, ...(waiting.length ? [`waiting ${waiting.join(' ')}`] : [])];
+  return el('section', { class: `server owner${server}`, 'data-server': server, 'aria-label': `server ${server}` },
+    inbox(now, server), actions(now, server),
+    el('p', { class: 'facts' }, facts.join(' · ')),
+    el('p', {}, 'history ', el('code', {}, report.histories[server].join(' ') || '–')),
+    table(trace, server, schedule.servers));
+}
+
+// ---- messages under way
+
+function inbox(now, server) {
+  const { trace } = now, due = trace.unheard.filter(({ to }) => to === server).map(({ number }) => trace.messages[number]);
+  const hidden = dock.isWhole[server] ? 0 : Math.max(0, due.length - SHOWN);
+  const list = el('ul', { class: 'inbox', 'aria-label': `messages under way to server ${server}` });
+  if (due.length === 0) list.append(el('li', { class: 'soft' }, 'no message under way'));
+  if (hidden > 0) list.append(el('li', {}, el('button', { 'data-do': `whole ${server}` }, `${hidden} older ones ..`)));
+  list.append(...due.slice(hidden).map(message => messageRow(now, message, server)));
+  return list;
+}
+
+function messageRow(now, { number, kind, from, instance, label }, server) {
+  const said = `message ${number}, ${kind} ${label}, from server ${from} to server ${server}`;
+  return el('li', { class: ownerOf(instance, now.schedule.servers), 'data-m': number },
+    el('button', { class: 'message', 'data-do': `deliver ${number} ${server}`, title: `deliver ${said}`, 'aria-label': `deliver ${said}` },
+      el('b', {}, `${number} ${kind}`), ` ${label} `, el('i', {}, `from ${from}`)),
+    el('button', { class: 'lose', 'data-do': `lose ${number} ${server}`, title: `lose ${said}`, 'aria-label': `lose ${said}` }, '×'));
+}
+
+// ---- what else may happen at a server; a button is grey where the proved code refuses the event
+
+function actions({ schedule }, server) {
+  const others = Array.from({ length: schedule.servers }, (_, other) => other).filter(other => other !== server);
+  const button = (event, text) => el('button', { 'data-do': event, 'data-asked': event }, text);
+  return el('div', { class: 'acts' },
+    dock.ask === server ? askForm(schedule, server) : el('button', { 'data-do': `ask ${server}` }, 'submit ..'),
+    button(`execute ${server}`, 'execute'), button(`retry ${server}`, 'retry'),
+    ...others.map(other => button(`suspect ${server} ${other}`, `suspect ${other}`)));
+}
+
+function askForm(schedule, server) {
+  return el('form', { class: 'ask', 'data-server': server },
+    el('input', { value: commandFor(schedule, server), 'aria-label': `command for server ${server}: ID, then set KEY TEXT, get KEY, del KEY or cas KEY OLD NEW`, spellcheck: 'false' }),
+    el('button', {}, 'submit'), el('button', { type: 'button', 'data-do': 'ask -1', 'aria-label': 'no command' }, '×'));
+}
+
+// The next command of the client who asks at this server: its first own number that is free.
+function commandFor({ events }, server) {
+  const client = server + 1, used = new Set(events.filter(event => event.startsWith('submit')).map(event => event.split(' ')[2]));
+  let number = 0;
+  while (used.has(`${client}.${number}`)) number += 1;
+  return `${client}.${number} set a ${['x', 'y', 'z'][used.size] ?? `v${used.size}`}`;
+}
+
+// ---- what a server knows of the instances, the latest ones
+
+function table(trace, server, servers) {
+  const rows = [...trace.slots[server]].sort(([a], [b]) => a - b).slice(-8);
+  if (rows.length === 0) return null;
+  const body = rows.flatMap(([instance, slot]) => rowsOf(instance, slot, servers));
+  return el('table', {}, el('caption', { class: 'unseen' }, `instances at server ${server}`),
+    el('thead', {}, el('tr', {}, ...[['', 'instance'], ['prom.', 'the greatest ballot that it promised or accepted'], ['vote', 'value@ballot that it accepted last'], ['learned', 'the value that it learned']]
+      .map(([name, title]) => el('th', { title, scope: 'col' }, name)))), el('tbody', {}, ...body));
+}
+
+function rowsOf(instance, { promised, vote, tried, promises, acceptances, proposal, learned }, servers) {
+  const votes = vote ? `${vote.value}@b${vote.ballot}` : null;
+  const first = el('tr', {}, el('th', { scope: 'row', class: ownerOf(instance, servers) }, `i${instance}`),
+    ...[promised ? `b${promised}` : null, votes].map(text => el('td', {}, written(text))), el('td', { class: 'learned-value' }, written(learned)));
+  const tells = [tried ? `tries b${tried}` : null, promises && `promises ${promises}`, proposal && `proposed ${proposal}`, acceptances && `accepted by ${acceptances}`];
+  const told = tells.filter(Boolean).join(', ');
+  return told === '' ? [first] : [first, el('tr', { class: 'tries' }, el('td'), el('td', { colspan: 3 }, told))];
+}
+
+function fillDock(now) {
+  const kept = focusedPlace();
+  const cards = Array.from({ length: now.schedule.servers }, (_, server) => card(now, server));
+  $('dock').replaceChildren(summary(now), ...cards);
+  if (kept) focusAgain(kept);
+  if (dock.ask !== null) $('dock').querySelector('.ask input')?.focus();
+}
+
+// ---- the focus, which a new dock would lose
+
+function focusedPlace() {
+  const focused = document.activeElement?.closest?.('#dock [data-do]');
+  if (!focused) return null;
+  const server = focused.closest('[data-server]')?.dataset.server;
+  const buttons = [...$('dock').querySelectorAll(`[data-server="${server}"] [data-do]`)];
+  return { event: focused.dataset.do, server, index: buttons.indexOf(focused) };
+}
+
+function focusAgain({ event, server, index }) {
+  const same = $('dock').querySelector(`[data-do="${CSS.escape(event)}"]`);
+  const buttons = [...$('dock').querySelectorAll(`[data-server="${server}"] [data-do]`)];
+  (same ?? buttons[Math.min(index, buttons.length - 1)])?.focus({ preventScroll: true });
+}

@@ -1,0 +1,90 @@
+'use strict';
+// Texts that are written here: the schedule, and the log of a store. The program says what is wrong, and where.
+
+// Marks a place in a text area, by a text of the same shape behind it.
+function mark(area, place) {
+  const behind = area.previousElementSibling, text = area.value;
+  behind.replaceChildren();
+  if (place) {
+    const [start, end] = place;
+    behind.append(text.slice(0, start), el('mark', {}, text.slice(start, end) || ' '), text.slice(Math.max(end, start)));
+  } else {
+    behind.append(text);
+  }
+  behind.append('\n');
+  behind.scrollTop = area.scrollTop;
+}
+
+function showVerdict(id, text, isBad) {
+  $(id).className = isBad ? 'verdict bad' : 'verdict';
+  $(id).textContent = text;
+}
+
+// ---- the schedule
+
+// Checks what stands in the editor, marks the mistake, and answers the schedule where there is none.
+function readEditor(core) {
+  const area = $('source'), answer = core.call(['check'], area.value);
+  if (answer.status === 0 && / workers /.test(answer.printed)) {
+    mark(area, null);
+    showVerdict('verdict', `${answer.printed.trim()}: a run. Its workers choose the events: the button below has one drawn.`);
+    return null;
+  }
+  const words = answer.status === 0 ? answer.printed.trim() : wordsOf(answer.said);
+  area.setAttribute('aria-invalid', answer.status !== 0);
+  mark(area, answer.status === 0 ? null : placeOfMistake(area.value, words));
+  showVerdict('verdict', words, answer.status !== 0);
+  return answer.status === 0 ? readScenario(area.value) : null;
+}
+
+// ---- a schedule that a worker draws
+
+// The plan of the form: two commands of a client for each server, or the run that stands in the editor.
+function planOf(servers, beta) {
+  const commands = Array.from({ length: servers }, (_, server) => [`${server + 1}.0 set a v${server}`, `${server + 1}.1 get a`]);
+  const [seed, turns, loss] = ['seed', 'turns', 'loss'].map(id => $(id).value.trim() || '0');
+  return `{"version": 1, "servers": ${servers}, ${beta ? `"beta": ${beta}, ` : ''}"workers": 1, "seed": ${seed}, "turns": ${turns},`
+    + ` "loss": ${loss},\n "commands": ${JSON.stringify(commands)}}`;
+}
+
+function drawByWorker(core, servers, beta) {
+  const isRun = / workers /.test(core.call(['check'], $('source').value).printed);
+  const plan = isRun ? $('source').value : planOf(servers, beta);
+  const answer = core.call(['run', '--journal'], plan);
+  $('plan').textContent = plan;
+  if (answer.status !== 0) {
+    showVerdict('run-verdict', wordsOf(answer.said), true);
+    return null;
+  }
+  const schedule = readScenario(answer.printed.split('\n')[0]);
+  showVerdict('run-verdict', `the worker chose ${count(schedule.events.length, 'event')} that the cluster took`);
+  return schedule;
+}
+
+// ---- the log of a store
+
+// What a violation is, in words; `w` are the words behind its promise's name.
+const VIOLATIONS = {
+  OneCommand: w => `Another command was submitted as ${w[1]} before. An ID names one command.`,
+  Submitted: w => `Command ${w[1]} is executed or answered here, and nobody submitted it before.`,
+  Once: w => `Server ${w[1]} executes command ${w[5]} again, at place ${w[3]} of its history.`,
+  SameOrder: w => `Server ${w[1]} executes ${w[7]} at place ${w[3]} of its history, where another server executed ${w[5]}. The histories would never agree again.`,
+  RealTime: w => `Server ${w[1]} executes ${w[5]} at place ${w[3]} before ${w[7]}, which had its reply already when ${w[5]} was first submitted.`,
+  OneReply: w => `Command ${w[1]} is answered ${inWords(w[5])}, and was answered ${inWords(w[3])} before.`,
+  RightReply: w => `Command ${w[1]} stands at place ${w[3]}, where a map that executes the commands before it answers ${inWords(w[5])}, and not ${inWords(w[7])}.`,
+  RightLookup: w => `Reader ${w[1]} found ${inWords(w[9])} at key ${w[3]}, which stands there after none of the first ${w[5]} to ${w[7]} commands. It has seen ${w[5]} at least.`,
+};
+const inWords = answer => answer === 'none' ? 'that nothing is there' : `“${answer.slice(1)}”`;
+
+function judgeLog(core) {
+  const area = $('log'), answer = core.call(['judge'], area.value), words = answer.printed.trim().split(' ');
+  const isBroken = words[0] === 'violation';
+  mark(area, answer.status === 0 ? null : placeOfMistake(area.value, isBroken ? `line ${words[1]}` : wordsOf(answer.said)));
+  showVerdict('judgement', answer.status === 0 || isBroken ? answer.printed.trim() : wordsOf(answer.said), answer.status !== 0);
+  $('in-words').textContent = answer.status === 0 ? keptInWords(words) : isBroken ? `Line ${words[1]} breaks the promise ${words[2]}. ${VIOLATIONS[words[2]](words.slice(3))}` : 'This line is no observation, so nothing is said of the store.';
+}
+
+function keptInWords(w) {
+  const open = w[10] === '0' ? '' : ` Of the replies ${w[10]} stand in no history yet, and are not judged.`;
+  return `All eight promises are kept: ${count(+w[2], 'server')} executed ${w[6]} of ${count(+w[4], 'command')}, ${count(+w[8], 'reply').replace('replys', 'replies')} and ${count(+w[12], 'look-up')} are right.${open}`;
+}

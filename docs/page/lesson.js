@@ -1,0 +1,51 @@
+'use strict';
+// The tutorial's steps, which docs/page/build takes out of docs/TUTORIAL.md. A step is found where the trace of the events
+// up to the cursor says all that its answer names.
+
+const lesson = { step: 0, found: new Set() };
+
+function fillLessons() {
+  $('lessons').replaceChildren(...DATA.lessons.map((step, index) => el('li', {},
+    el('button', { 'data-step': index + 1, title: step.title, 'aria-label': `step ${index + 1}: ${step.title}` }, String(index + 1)))));
+}
+
+function showStep(number) {
+  lesson.step = number;
+  const step = DATA.lessons[number - 1];
+  for (const button of $('lessons').querySelectorAll('button')) {
+    const isHere = +button.dataset.step === number;
+    if (isHere) button.setAttribute('aria-current', 'step'); else button.removeAttribute('aria-current');
+  }
+  $('step').innerHTML = step ? stepText(step, number) : DATA.welcome;
+}
+
+// The texts of steps are HTML that the build made.
+function stepText(step, number) {
+  const next = number < DATA.lessons.length ? `<button data-step="${number + 1}">next: ${DATA.lessons[number].title}</button>` : '';
+  return `<h2>${number}. ${step.title}</h2>${step.before}<p class="soft">Press <kbd>→</kbd> or ▶ to go through it.</p>${step.after}
+    <div class="question"><p><b>Find out:</b> ${step.question}</p><p id="found" class="verdict" role="status"></p>
+    <details><summary>answer</summary>${step.answer}</details></div>
+    <p class="acts"><button data-step="${number}">begin again</button>${next}</p>`;
+}
+
+const isFound = (step, lines) => step.goals.every(goal => lines.some(line => ` ${line} `.includes(` ${goal} `)));
+
+// Tells the reader, once, that the question is answered by what was clicked.
+function lookForAnswer(trace) {
+  const step = DATA.lessons[lesson.step - 1];
+  if (!step || !isFound(step, linesOf(trace))) return;
+  $('found').textContent = 'Found.';
+  $('step').querySelector('details').open = true;
+  lesson.found.add(lesson.step);
+  $('lessons').querySelector(`[data-step="${lesson.step}"]`).classList.add('found');
+}
+
+function* eventLines({ events }) {
+  for (const { text, refusal, lines } of events) {
+    if (refusal) continue;
+    yield text;
+    yield* lines;
+  }
+}
+
+const linesOf = trace => [...eventLines(trace)];

@@ -1,0 +1,252 @@
+'use strict';
+// The page: one schedule, a cursor in it, and what is shown of the events before the cursor.
+
+const $ = id => document.getElementById(id);
+const DATA = JSON.parse($('data').textContent);
+const TABS = ['lesson', 'editor', 'judge', 'texts'];
+const UNDONE = 500;
+
+let core;
+const page = { schedule: { servers: 3, beta: 0, events: [] }, cursor: 0, tab: 'lesson', past: [], future: [], now: null, whole: null, dice: diceOf(1) };
+
+// A generator for steps at random, of this page alone.
+function diceOf(seed) {
+  let state = seed;
+  return sides => {
+    state = (state + 0x6d2b79f5) | 0;
+    let word = Math.imul(state ^ (state >>> 15), 1 | state);
+    word = (word + Math.imul(word ^ (word >>> 7), 61 | word)) ^ word;
+    return ((word ^ (word >>> 14)) >>> 0) % sides;
+  };
+}
+
+function say(text) {
+  $('toast').textContent = text;
+  $('toast').classList.add('seen');
+  clearTimeout(say.timer);
+  say.timer = setTimeout(() => $('toast').classList.remove('seen'), 5000);
+}
+
+function later(name, wait, action) {
+  clearTimeout(later[name]);
+  later[name] = setTimeout(action, wait);
+}
+
+// ---- the schedule and the cursor: all changes come through here
+
+function traceOf(schedule) {
+  const answer = core.call(['trace'], asScenario(schedule));
+  if (answer.status === 0) return { text: answer.printed, trace: new Trace(answer.printed) };
+  say(wordsOf(answer.said));
+  return null;
+}
+
+function become(schedule, cursor, isKept = true) {
+  const whole = traceOf(schedule);
+  if (!whole) return false;
+  if (isKept) {
+    page.past.push({ schedule: page.schedule, cursor: page.cursor });
+    if (page.past.length > UNDONE) page.past.shift();
+    page.future = [];
+  }
+  Object.assign(page, { schedule, whole });
+  dock.ask = null;
+  go(cursor);
+  return true;
+}
+
+function go(cursor) {
+  page.cursor = Math.max(0, Math.min(page.schedule.events.length, cursor));
+  show();
+}
+
+function undo(from, to) {
+  const state = from.pop();
+  if (!state) return;
+  to.push({ schedule: page.schedule, cursor: page.cursor });
+  become(state.schedule, state.cursor, false);
+}
+
+// Puts an event in at the cursor. Where it is what comes next, it is stepped to.
+function add(event) {
+  hideHint();
+  const { schedule, cursor, now } = page;
+  if (schedule.events[cursor] === event) { go(cursor + 1); return; }
+  const tried = traceOf(withEvent(prefixOf(schedule, cursor), event));
+  if (!tried) return;
+  const sent = tried.trace.messages.length - now.trace.messages.length;
+  const made = withInserted(schedule, cursor, event, now.trace.messages.length, sent);
+  if (!become(made.schedule, cursor + 1)) return;
+  const { refusal } = tried.trace.events.at(-1);
+  if (refusal) say(`refused, since ${REFUSALS[refusal]}`);
+  else if (made.moved) say(`Put in at the cursor. ${count(made.moved, 'later event')} got the new number of a message.`);
+  else if (cursor < schedule.events.length) say('Put in at the cursor; the later events stay.');
+}
+
+function takeOut() {
+  if (page.cursor === 0) return;
+  const place = page.cursor - 1, { trace } = page.whole;
+  const { schedule, gone } = withRemoved(page.schedule, place, trace.events[place].firstMessage, trace.countOf(place));
+  become(schedule, place);
+  if (gone.length) say(`Taken out with it, since their message is gone: ${gone.slice(0, 4).join(', ')}${gone.length > 4 ? ' ..' : ''}`);
+}
+
+// Opens a schedule that was read, if the program takes it; else says why not.
+function open(schedule, cursor, isKept) {
+  const answer = core.call(['check'], asScenario(schedule));
+  if (answer.status === 0) return become(schedule, cursor ?? schedule.events.length, isKept);
+  say(`This is no schedule: ${wordsOf(answer.said)}`);
+  return false;
+}
+
+// ---- an event at random, of those that the buttons have
+
+function randomEvent() {
+  const { now, schedule, dice } = page, asked = REFUSABLE(schedule.servers).filter(event => !refusalOf(event));
+  const runs = asked.filter(event => event.startsWith('execute')), odd = asked.filter(event => !event.startsWith('execute'));
+  const roll = dice(100), { unheard } = now.trace, server = dice(schedule.servers);
+  if (runs.length && roll < 35) return runs[dice(runs.length)];
+  if (odd.length && roll < 40) return odd[dice(odd.length)];
+  if (!unheard.length || roll >= 90) return `submit ${server} ${commandFor(schedule, server)}`;
+  const { number, to } = unheard[Math.max(dice(unheard.length), dice(unheard.length))];
+  return `${roll >= 84 ? 'lose' : 'deliver'} ${number} ${to}`;
+}
+
+function addAtRandom(number) {
+  for (let left = number; left > 0; left -= 1) add(randomEvent());
+}
+
+// ---- asking the proved code whether it would refuse an event
+
+const REFUSABLE = servers => Array.from({ length: servers }, (_, server) => [`execute ${server}`, `retry ${server}`,
+  ...Array.from({ length: servers }, (_, other) => `suspect ${server} ${other}`).filter((_, other) => other !== server)]).flat();
+
+// Why the event would be refused after those so far, or null.
+function refusalOf(event) {
+  const { now, schedule, cursor } = page;
+  if (!(event in now.refusals)) {
+    const answer = core.call(['replay'], asScenario(withEvent(prefixOf(schedule, cursor), event)));
+    const last = readReport(answer.printed).refused.at(-1);
+    now.refusals[event] = last && last[0] === cursor ? last[1] : null;
+  }
+  return now.refusals[event];
+}
+
+// Asks for the buttons that are still to be asked, for a short while at a time.
+function greyButtons() {
+  const until = performance.now() + 12;
+  for (const button of $('dock').querySelectorAll('[data-asked]')) {
+    if (performance.now() > until) { later('grey', 0, greyButtons); return; }
+    const refusal = refusalOf(button.dataset.asked);
+    button.setAttribute('aria-disabled', refusal !== null);
+    button.title = refusal ? `${refusal}: ${REFUSALS[refusal]}` : button.dataset.asked;
+    button.removeAttribute('data-asked');
+  }
+}
+
+// ---- showing
+
+function show() {
+  const { schedule, cursor, whole } = page, prefix = prefixOf(schedule, cursor);
+  const { text, trace } = cursor === schedule.events.length ? whole : traceOf(prefix) ?? whole;
+  const report = core.call(['replay'], asScenario(prefix)).printed;
+  page.now = { schedule, cursor, text, trace, reportText: report, report: readReport(report), refusals: {} };
+  fillHeads(schedule.servers);
+  fillDock(page.now);
+  greyButtons();
+  drawPicture(core, schedule, cursor);
+  markCursor(cursor);
+  showBar();
+  showTab();
+  lookForAnswer(trace);
+  later('address', 300, keepAddress);
+}
+
+function showBar() {
+  const { schedule, cursor, past, future } = page, length = schedule.events.length;
+  $('slider').max = length;
+  $('slider').value = cursor;
+  $('where').textContent = `${cursor} of ${length}`;
+  for (const [id, isOff] of [['undo', !past.length], ['redo', !future.length], ['first', !cursor], ['back', !cursor], ['next', cursor === length], ['last', cursor === length]]) $(id).disabled = isOff;
+  $('servers').value = schedule.servers;
+  const shown = asScenario(schedule);
+  $('example').value = Object.keys(DATA.examples).find(name => asScenario(DATA.examples[name]) === shown) ?? '';
+}
+
+function showTab() {
+  const { tab, schedule, now } = page;
+  if (tab === 'editor' && document.activeElement !== $('source')) {
+    $('source').value = asFile(schedule);
+    readEditor(core);
+  }
+  if (tab === 'texts') {
+    $('report').textContent = now.reportText;
+    $('trace').textContent = now.text;
+  }
+}
+
+function setTab(tab) {
+  page.tab = tab;
+  for (const name of TABS) {
+    $(name).hidden = name !== tab;
+    $(`tab-${name}`).setAttribute('aria-selected', name === tab);
+    $(`tab-${name}`).tabIndex = name === tab ? 0 : -1;
+  }
+  showTab();
+  if (tab === 'judge') judgeLog(core);
+}
+
+// The address holds the schedule, as long as a link can.
+function keepAddress() {
+  const link = asLink(page.schedule, page.cursor, lesson.step);
+  history.replaceState(null, '', link ?? '#');
+}
+
+// ---- hints
+
+function showHint(text) {
+  $('hint').firstElementChild.innerHTML = text;
+  $('hint').hidden = false;
+}
+
+function hideHint() {
+  $('hint').hidden = true;
+}
+
+// ---- beginning
+
+function startStep(number) {
+  showStep(number);
+  hideHint();
+  const step = DATA.lessons[number - 1];
+  if (step) become(step.schedule, 0);
+}
+
+function openAddress(isFirst) {
+  const link = readLink(location.hash);
+  if (link && open(link.schedule, link.cursor, !isFirst)) {
+    showStep(link.step);
+    return;
+  }
+  if (!isFirst) return;
+  showStep(0);
+  become(DATA.examples[DATA.first.example], DATA.first.cursor, false);
+  showHint(DATA.first.hint);
+}
+
+async function main() {
+  const begin = performance.now();
+  try {
+    const module = await WebAssembly.compile(await unpacked($('module').textContent));
+    core = new Core(module, why => say(`The module stopped (${why}) and was started anew. Nothing of the schedule is lost.`));
+    core.start();
+  } catch (error) {
+    document.body.textContent = `This browser could not start the program: ${error}`;
+    return;
+  }
+  wire();
+  fillLessons();
+  setTab('lesson');
+  openAddress(true);
+  document.body.dataset.started = (performance.now() - begin).toFixed(1);
+}

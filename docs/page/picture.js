@@ -1,0 +1,143 @@
+'use strict';
+// The picture: what `mencius draw` makes of the schedule, cut to its lanes, with the events' texts in a column that stays
+// in sight, and the servers' names above. Stepping changes classes alone; more than some rows are drawn by parts.
+
+// So many events are drawn at once, and so many of them at least stand before and behind the cursor.
+const DRAWN = 100;
+const AROUND = 20;
+// Where the picture's lanes begin, where the first one stands, and how far they are apart, as `mencius draw` has it.
+const LEFT = 296, TOP = 66, FIRST_LANE = 452, APART = 204, HALF_ROW = 12;
+const SMALLEST = 0.86;
+
+const picture = { drawn: null, rows: [], zoom: 1 };
+
+function el(tag, attributes = {}, ...children) {
+  const made = document.createElement(tag);
+  for (const [name, value] of Object.entries(attributes)) {
+    if (value === true) made.setAttribute(name, '');
+    else if (value !== false && value !== null && value !== undefined) made.setAttribute(name, value);
+  }
+  made.append(...children.filter(child => child !== null && child !== undefined));
+  return made;
+}
+
+// The first and the last event to be drawn for a cursor, where the drawn part does not do.
+function partFor(cursor, count) {
+  if (count <= DRAWN) return [0, count - 1];
+  const first = Math.max(0, Math.min(cursor - DRAWN / 2, count - DRAWN));
+  return [first, first + DRAWN - 1];
+}
+
+function isInPart({ first, last }, cursor, count) {
+  return first <= Math.max(0, cursor - AROUND) && last >= Math.min(count, cursor + AROUND) - 1;
+}
+
+// Draws the part around the cursor, unless it is there already. Says why where the program refuses to.
+function drawPicture(core, schedule, cursor) {
+  const drawn = picture.drawn, count = schedule.events.length;
+  if (drawn && drawn.schedule === schedule && isInPart(drawn, cursor, count)) return;
+  const [first, last] = partFor(cursor, count);
+  const answer = core.call(['draw', '--from', String(first), '--to', String(Math.max(last, 0))], asScenario(schedule));
+  picture.drawn = { schedule, first, last };
+  $('drawing').innerHTML = answer.status === 0 ? answer.printed : '';
+  if (answer.status !== 0) $('drawing').textContent = wordsOf(answer.said);
+  else cutDrawing($('drawing').querySelector('svg'), schedule);
+  fillRows(schedule, first);
+}
+
+// Leaves the lanes of a drawn picture, and notes where its rows stand.
+function cutDrawing(svg, schedule) {
+  for (const part of svg.querySelectorAll('.foot, .key, .place, .what, :scope > title')) part.remove();
+  const bottom = +/V(\d+)/.exec(svg.querySelector('.lane .line')?.getAttribute('d') ?? 'V80')[1];
+  const tops = [...svg.querySelectorAll('.event')].map(event => +/translate\(0 (\d+)\)/.exec(event.innerHTML)[1] - HALF_ROW - TOP);
+  picture.rows = tops.map((top, index) => ({ top, height: (tops[index + 1] ?? bottom - TOP - 2) - top }));
+  picture.width = +svg.getAttribute('width') - LEFT;
+  picture.height = Math.max(bottom - TOP, 40);
+  svg.setAttribute('viewBox', `${LEFT} ${TOP} ${picture.width} ${picture.height}`);
+  svg.removeAttribute('role');
+  const band = document.createElementNS('http://www.w3.org/2000/svg', 'rect');
+  for (const [name, value] of Object.entries({ id: 'band', x: LEFT, width: picture.width, height: 0 })) band.setAttribute(name, value);
+  svg.querySelector('.paper').after(band);
+  picture.svg = svg;
+  fitPicture(schedule.servers);
+}
+
+// Sets the picture's size to the room that there is, within bounds, and all that stands by its lanes.
+function fitPicture(servers) {
+  const room = $('stage').clientWidth - $('rows').offsetWidth;
+  picture.zoom = Math.min(1, Math.max(SMALLEST, room / picture.width));
+  picture.svg?.setAttribute('width', picture.width * picture.zoom);
+  picture.svg?.setAttribute('height', picture.height * picture.zoom);
+  const style = $('board').style;
+  style.setProperty('--zoom', picture.zoom);
+  style.setProperty('--lead', `${(FIRST_LANE - LEFT - APART / 2) * picture.zoom}px`);
+  style.setProperty('--apart', `${APART * picture.zoom}px`);
+  style.setProperty('--servers', servers);
+}
+
+function fillRows(schedule, first) {
+  $('rows').style.height = `${picture.height * picture.zoom}px`;
+  $('rows').replaceChildren(...picture.rows.map(({ top, height }, index) => {
+    const event = first + index, text = schedule.events[event];
+    const style = `top:${top * picture.zoom}px;height:${height * picture.zoom}px`;
+    return el('li', { style, 'data-e': event, title: text }, el('b', {}, String(event)), ` ${text}`);
+  }));
+}
+
+function fillHeads(servers) {
+  $('heads').replaceChildren(el('span', { class: 'corner' }, 'event'), ...Array.from({ length: servers }, (_, server) => {
+    const owned = servers === 1 ? 'owns all' : `owns ${server}, ${server + servers}, ..`;
+    return el('div', { class: `lane-head owner${server}` }, el('span', {}, el('b', {}, `server ${server}`), owned));
+  }));
+}
+
+// Marks what happened so far, and which event was the last.
+function markCursor(cursor) {
+  const { first } = picture.drawn, here = picture.rows[cursor - 1 - first];
+  for (const part of $('picture').querySelectorAll('[data-e]')) {
+    part.classList.toggle('later', +part.dataset.e >= cursor);
+    if (part.tagName === 'LI') {
+      const isHere = +part.dataset.e === cursor - 1;
+      part.classList.toggle('here', isHere);
+      if (isHere) part.setAttribute('aria-current', 'step'); else part.removeAttribute('aria-current');
+    }
+  }
+  const band = $('drawing').querySelector('#band');
+  band?.setAttribute('y', TOP + (here?.top ?? 0));
+  band?.setAttribute('height', here?.height ?? 0);
+  showRow(here);
+}
+
+// Scrolls the stage so that a row is between the servers' names and the dock.
+function showRow(row) {
+  const stage = $('stage'), isSticky = getComputedStyle($('dock')).position === 'sticky';
+  if (!isSticky) return;
+  if (!row) { stage.scrollTop = 0; return; }
+  const origin = $('picture').offsetTop, above = $('heads').offsetHeight, below = $('dock').offsetHeight;
+  const top = origin + row.top * picture.zoom, bottom = top + row.height * picture.zoom;
+  const seen = stage.clientHeight - below;
+  if (top - stage.scrollTop < above + 40) stage.scrollTop = top - above - 40;
+  else if (bottom - stage.scrollTop > seen - 60) stage.scrollTop = bottom - seen + 60;
+}
+
+// The event of the row at a point of the picture, or null.
+function eventAt(y) {
+  const inside = (y - $('drawing').getBoundingClientRect().top) / picture.zoom;
+  const index = picture.rows.findIndex(({ top, height }) => inside >= top && inside < top + height);
+  return index < 0 ? null : picture.drawn.first + index;
+}
+
+// The explanation of marks and lines at the foot of every picture, for the help.
+function fillKey(core) {
+  const { printed } = core.call(['draw'], asScenario({ servers: 1, beta: 0, events: [] }));
+  const box = el('div');
+  box.innerHTML = printed;
+  const svg = box.querySelector('svg'), key = box.querySelector('.key');
+  for (const part of [...svg.children]) if (part !== key && part.tagName !== 'style' && part.tagName !== 'defs') part.remove();
+  key.querySelector('text').remove();
+  key.setAttribute('transform', 'translate(4 12)');
+  svg.setAttribute('viewBox', '0 0 850 100');
+  svg.setAttribute('width', '100%');
+  svg.removeAttribute('height');
+  $('key').replaceChildren(svg);
+}

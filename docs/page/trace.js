@@ -1,0 +1,135 @@
+'use strict';
+// What a trace says, for the tables and buttons. The protocol's rules are not here: each entry of a table is a line of
+// the trace, or the greatest ballot of several, as docs/MODEL.md asks it ("The trace").
+
+const NO_SLOT = { promised: 0, vote: null, tried: 0, promises: null, acceptances: null, proposal: null, learned: null };
+
+class Trace {
+  constructor(text) {
+    this.servers = 0;
+    this.events = [];   // { text, firstMessage, refusal, lines }
+    this.messages = []; // { number, kind, from, instance, label }
+    this.closing = [];  // of each server { front, executed, waiting }
+    this.unheard = [];  // { number, to }
+    this.slots = [];    // of each server a map from an instance to what is known there
+    this.proposals = new Map();
+    for (const line of text.split('\n')) this.read(line, line.split(' '));
+  }
+
+  read(line, words) {
+    const reader = READERS[words[0]];
+    if (reader) reader(this, words);
+    if (this.closing.length === 0 && words[0] !== 'event' && words[0] !== 'servers') this.events.at(-1)?.lines.push(line);
+  }
+
+  // How many messages the event at a place sent.
+  countOf(place) {
+    const behind = this.events[place + 1];
+    return (behind ? behind.firstMessage : this.messages.length) - this.events[place].firstMessage;
+  }
+
+  change(server, instance, changes) {
+    const slots = this.slots[server];
+    slots.set(instance, { ...(slots.get(instance) || NO_SLOT), ...changes });
+  }
+
+  slot(server, instance) {
+    return this.slots[server].get(instance) || NO_SLOT;
+  }
+}
+
+const READERS = {
+  servers(trace, words) {
+    trace.servers = +words[1];
+    trace.slots = Array.from({ length: trace.servers }, () => new Map());
+  },
+  event(trace, words) {
+    trace.events.push({ text: words.slice(2).join(' '), firstMessage: trace.messages.length, refusal: null, lines: [] });
+  },
+  refused(trace, words) {
+    trace.events.at(-1).refusal = words[1];
+  },
+  sent(trace, words) {
+    const [kind, from, instance] = [words[2], +words[4], +words[8]];
+    trace.messages.push({ number: +words[1], kind, from, instance, label: labelOf(words) });
+    SENDERS[kind]?.(trace, from, instance, words);
+  },
+  promises(trace, words) {
+    trace.change(+words[1], +words[3], { promises: `${words[7]} of ${words[9]}`, tried: +words[5] });
+  },
+  acceptances(trace, words) {
+    trace.change(+words[1], +words[3], { acceptances: `${words[7]} of ${words[9]}`, tried: +words[5] });
+  },
+  learned(trace, words) {
+    trace.change(+words[1], +words[3], { learned: words[5] });
+  },
+  server(trace, words) {
+    trace.closing.push({ front: +words[3], executed: +words[5], waiting: words.slice(9).filter(word => word !== '-') });
+  },
+  unheard(trace, words) {
+    trace.unheard.push({ number: +words[1], to: +words[4] });
+  },
+};
+
+const SENDERS = {
+  Suggest(trace, from, instance, words) {
+    trace.proposals.set(`${instance} 0`, words[12]);
+    trace.change(from, instance, { proposal: words[12] });
+  },
+  Propose(trace, from, instance, words) {
+    trace.proposals.set(`${instance} ${words[10]}`, words[12]);
+    trace.change(from, instance, { proposal: words[12], acceptances: null });
+  },
+  Prepare(trace, from, instance, words) {
+    trace.change(from, instance, { tried: +words[10], promises: null, acceptances: null, proposal: null });
+  },
+  Promise(trace, from, instance, words) {
+    trace.change(from, instance, { promised: Math.max(trace.slot(from, instance).promised, +words[10]) });
+  },
+  Accepted(trace, from, instance, words) {
+    const ballot = +words[10], { promised, vote } = trace.slot(from, instance);
+    const mine = vote && vote.ballot > ballot ? vote : { ballot, value: trace.proposals.get(`${instance} ${ballot}`) };
+    trace.change(from, instance, { promised: Math.max(promised, ballot), vote: mine });
+  },
+};
+
+// What a message says behind its kind, as the picture writes it.
+function labelOf(words) {
+  switch (words[2]) {
+    case 'Skip': return `i${words[8]} until i${words[10]}`;
+    case 'Learn': return `i${words[8]} = ${words[10]}`;
+    case 'Promise': return `i${words[8]} b${words[10]} ` + (words[12] === 'none' ? 'no vote' : `voted ${words[13]}@b${words[12]}`);
+    default: return `i${words[8]} b${words[10]}` + (words[12] ? ` ${words[12]}` : '');
+  }
+}
+
+// What a report says: each server's history, and the replies.
+function readReport(text) {
+  const report = { histories: [], replies: [], messages: 0, accepted: 0, refused: [] };
+  for (const line of text.split('\n')) {
+    const words = line.split(' ');
+    if (words[0] === 'servers') [report.messages, report.accepted] = [+words[3], +words[5]];
+    else if (words[0] === 'server') report.histories.push(words.slice(7).filter(word => word !== '-'));
+    else if (words[0] === 'reply') report.replies.push([words[1], words.slice(2).join(' ')]);
+    else if (words[0] === 'refused') report.refused.push([+words[1], words[2]]);
+  }
+  return report;
+}
+
+// Why an event is refused, in words.
+const REFUSALS = {
+  BadServer: 'the cluster has no such server',
+  DuplicateCommand: 'a command of this identity was submitted before',
+  InstancesFull: 'it has no instance of its own left',
+  NoMessage: 'no message of this number was sent',
+  NotAddressed: 'the message goes to another server',
+  LostMessage: 'the message was lost on its way there',
+  SelfSuspect: 'no server suspects itself',
+  NothingToRevoke: 'it knows what stands at all instances of that server that the suspicion would cover',
+  RoundsFull: 'no round is left for another ballot',
+  NothingWaiting: 'none of its commands has lost its instance and waits',
+  NothingToExecute: 'it has not learned its next instance',
+  EventsFull: 'the cluster has taken all the events that it can',
+  MessagesFull: 'the cluster has sent all the messages that it can',
+  NoMemory: 'memory ran out',
+};

@@ -1,0 +1,171 @@
+'use strict';
+// What buttons and keys do.
+
+const OWN = {
+  cut: () => become(prefixOf(page.schedule, page.cursor), page.cursor),
+  ask: server => { dock.ask = server < 0 ? null : server; fillDock(page.now); greyButtons(); },
+  whole: server => { dock.isWhole[server] = true; fillDock(page.now); greyButtons(); },
+};
+
+function press(button) {
+  const [name, argument] = button.dataset.do.split(' ');
+  if (button.getAttribute('aria-disabled') === 'true') say(`The proved code would refuse this: ${button.title}`);
+  else if (OWN[name]) OWN[name](Number(argument));
+  else add(button.dataset.do);
+}
+
+// Hands a command in, if its words are those of one.
+function submit(form) {
+  const event = `submit ${form.dataset.server} ${form.querySelector('input').value}`;
+  const answer = core.call(['check'], asScenario({ servers: 1, beta: 0, events: [event] }));
+  if (answer.status === 0) add(event);
+  else say(wordsOf(answer.said).replace(/^event 0 "[^"]*": /, ''));
+}
+
+function save(name, type, text) {
+  const link = el('a', { href: URL.createObjectURL(new Blob([text], { type })), download: name });
+  link.click();
+  setTimeout(() => URL.revokeObjectURL(link.href), 1000);
+}
+
+function savePicture() {
+  const answer = core.call(['draw'], asScenario(page.schedule));
+  if (answer.status === 0) save('schedule.svg', 'image/svg+xml', answer.printed);
+  else say(wordsOf(answer.said));
+}
+
+async function copyLink() {
+  if (!asLink(page.schedule, page.cursor, lesson.step)) { say('The schedule is too long for a link: JSON saves it as a file.'); return; }
+  keepAddress();
+  try {
+    await navigator.clipboard.writeText(location.href);
+    say('The link is in the clipboard. It holds the whole schedule.');
+  } catch {
+    say('The link is in the address bar. It holds the whole schedule.');
+  }
+}
+
+function changeTheme() {
+  const root = document.documentElement, isDark = matchMedia('(prefers-color-scheme: dark)').matches;
+  const shown = root.className || (isDark ? 'dark' : 'light');
+  root.className = shown === 'dark' ? 'light' : 'dark';
+}
+
+function wireBar() {
+  for (const name of Object.keys(DATA.examples)) $('example').add(new Option(name.replaceAll('_', ' '), name));
+  $('example').add(new Option('of your own', ''), 0);
+  for (let servers = 1; servers <= 7; servers += 1) $('servers').add(new Option(servers, servers));
+  $('example').onchange = () => {
+    const example = DATA.examples[$('example').value];
+    showStep(0);
+    hideHint();
+    become(example ?? { ...page.schedule, beta: 0, events: [] }, example ? example.events.length : 0);
+  };
+  $('servers').onchange = () => { hideHint(); become({ servers: +$('servers').value, beta: page.schedule.beta, events: [] }, 0); };
+  const actions = {
+    undo: () => undo(page.past, page.future), redo: () => undo(page.future, page.past),
+    random: () => addAtRandom(1), random20: () => addAtRandom(20),
+    first: () => go(0), back: () => go(page.cursor - 1), next: () => go(page.cursor + 1), last: () => go(Infinity),
+    link: copyLink, json: () => save('schedule.json', 'application/json', asFile(page.schedule)), svg: savePicture,
+    theme: changeTheme, help: () => $('keys').showModal(), 'close-keys': () => $('keys').close(),
+  };
+  for (const [id, action] of Object.entries(actions)) $(id).onclick = action;
+  $('slider').oninput = () => go(+$('slider').value);
+  $('hint').querySelector('button').onclick = hideHint;
+}
+
+function wireStage() {
+  $('dock').onclick = ({ target }) => {
+    const button = target.closest('[data-do]');
+    if (button) press(button);
+  };
+  $('dock').onsubmit = event => { event.preventDefault(); submit(event.target); };
+  $('dock').onmouseover = ({ target }) => light(target.closest('[data-m]')?.dataset.m);
+  $('dock').onfocusin = $('dock').onmouseover;
+  $('dock').onmouseleave = () => light(null);
+  $('picture').onclick = event => {
+    const place = eventAt(event.clientY);
+    if (place !== null) go(place + 1);
+  };
+  new ResizeObserver(() => {
+    fitPicture(page.schedule.servers);
+    if (picture.drawn) { fillRows(page.schedule, picture.drawn.first); markCursor(page.cursor); }
+  }).observe($('stage'));
+}
+
+// Marks a message in the picture, and takes the mark off all others.
+function light(number) {
+  for (const part of $('drawing').querySelectorAll('.lit')) part.classList.remove('lit');
+  if (number !== null && number !== undefined) document.getElementById(`m${number}`)?.classList.add('lit');
+}
+
+function wireTabs() {
+  for (const tab of TABS) $(`tab-${tab}`).onclick = () => setTab(tab);
+  document.querySelector('[role=tablist]').onkeydown = event => {
+    const by = { ArrowLeft: -1, ArrowRight: 1 }[event.key];
+    if (!by) return;
+    event.stopPropagation();
+    setTab(TABS[(TABS.indexOf(page.tab) + by + TABS.length) % TABS.length]);
+    $(`tab-${page.tab}`).focus();
+  };
+  $('lesson').onclick = ({ target }) => {
+    const button = target.closest('[data-step]');
+    if (button) startStep(+button.dataset.step);
+  };
+  $('source').oninput = () => later('check', 200, () => {
+    const schedule = readEditor(core);
+    if (schedule) become(schedule, schedule.events.length);
+  });
+  $('worker').onsubmit = event => {
+    event.preventDefault();
+    const schedule = drawByWorker(core, page.schedule.servers, page.schedule.beta);
+    if (schedule) { hideHint(); become(schedule, schedule.events.length); }
+  };
+  for (const name of Object.keys(DATA.logs)) $('logs').add(new Option(name.replaceAll('_', ' '), name));
+  $('log').value = DATA.logs[$('logs').value = 'same_order'];
+  $('logs').onchange = () => { $('log').value = DATA.logs[$('logs').value]; judgeLog(core); };
+  $('log').oninput = () => later('judge', 150, () => judgeLog(core));
+  for (const area of [$('source'), $('log')]) area.onscroll = () => { area.previousElementSibling.scrollTop = area.scrollTop; };
+}
+
+// ---- keys
+
+const PLAIN = {
+  ArrowLeft: () => go(page.cursor - 1), ArrowRight: () => go(page.cursor + 1),
+  PageUp: () => go(page.cursor - 10), PageDown: () => go(page.cursor + 10), Home: () => go(0), End: () => go(Infinity),
+  Delete: takeOut, Backspace: takeOut, r: () => addAtRandom(1), R: () => addAtRandom(20), '?': () => $('keys').showModal(),
+  d: () => pressFocused('.message'), l: () => pressFocused('.lose'),
+};
+
+// Delivers or loses the message on whose row the focus is.
+function pressFocused(kind) {
+  document.activeElement?.closest?.('[data-m]')?.querySelector(kind)?.click();
+}
+
+function keyed(event) {
+  if ($('keys').open || event.altKey) return;
+  const { target, key } = event, isWriting = /TEXTAREA|SELECT/.test(target.tagName) || target.tagName === 'INPUT' && target.type !== 'range';
+  if (key === 'Escape' && dock.ask !== null) { OWN.ask(-1); return; }
+  if (isWriting) return;
+  if (event.ctrlKey || event.metaKey) {
+    const action = { z: () => undo(page.past, page.future), Z: () => undo(page.future, page.past), y: () => undo(page.future, page.past) }[key];
+    if (action) { event.preventDefault(); action(); }
+    return;
+  }
+  if (/^[0-6]$/.test(key)) $('dock').querySelector(`section[data-server="${key}"] [data-do]`)?.focus();
+  const action = PLAIN[key];
+  if (action && !(target.id === 'slider' && key.startsWith('Arrow'))) { event.preventDefault(); action(); }
+}
+
+function wire() {
+  wireBar();
+  wireStage();
+  wireTabs();
+  fillKey(core);
+  addEventListener('keydown', keyed);
+  addEventListener('hashchange', () => {
+    if (location.hash !== asLink(page.schedule, page.cursor, lesson.step)) openAddress(false);
+  });
+}
+
+main();
