@@ -2,8 +2,9 @@
 // Below each lane: the server's messages that are under way, what may be asked of it, and what it knows.
 
 // So many messages of an inbox are shown at first, the newest of them.
-const SHOWN = 10;
-const dock = { isWhole: {}, ask: null };
+const SHOWN = 7;
+// Whose inbox is shown whole, who shows what it heard already, and who is about to be asked for something.
+const dock = { isWhole: {}, isAgain: {}, ask: null };
 
 const ownerOf = (instance, servers) => `owner${instance % servers}`;
 const written = value => value ?? '–';
@@ -45,26 +46,30 @@ function inbox(now, server) {
   if (due.length === 0) list.append(el('li', { class: 'soft' }, 'no message under way'));
   if (hidden > 0) list.append(el('li', {}, el('button', { 'data-do': `whole ${server}` }, `${hidden} older ones ..`)));
   list.append(...due.slice(hidden).map(message => messageRow(now, message, server)));
+  if (dock.isAgain[server]) list.append(...trace.heardBy(server).slice(-SHOWN).map(message => messageRow(now, message, server, true)));
   return list;
 }
 
-function messageRow(now, { number, kind, from, instance, label }, server) {
+function messageRow(now, { number, kind, from, instance, label }, server, isAgain = false) {
   const said = `message ${number}, ${kind} ${label}, from server ${from} to server ${server}`;
-  return el('li', { class: ownerOf(instance, now.schedule.servers), 'data-m': number },
-    el('button', { class: 'message', 'data-do': `deliver ${number} ${server}`, title: `deliver ${said}`, 'aria-label': `deliver ${said}` },
-      el('b', {}, `${number} ${kind}`), ` ${label} `, el('i', {}, `from ${from}`)),
-    el('button', { class: 'lose', 'data-do': `lose ${number} ${server}`, title: `lose ${said}`, 'aria-label': `lose ${said}` }, '×'));
+  const deliver = `deliver ${isAgain ? 'once more ' : ''}${said}`;
+  return el('li', { class: `${ownerOf(instance, now.schedule.servers)}${isAgain ? ' again' : ''}`, 'data-m': number },
+    el('button', { class: 'message', 'data-do': `deliver ${number} ${server}`, title: deliver, 'aria-label': deliver },
+      el('b', {}, `${number} ${kind}`), ` ${label} `, el('i', {}, isAgain ? 'again' : `←${from}`)),
+    isAgain ? null : el('button', { class: 'lose', 'data-do': `lose ${number} ${server}`, title: `lose ${said}`, 'aria-label': `lose ${said}` }, '×'));
 }
 
 // ---- what else may happen at a server; a button is grey where the proved code refuses the event
 
-function actions({ schedule }, server) {
+function actions({ schedule, trace }, server) {
   const others = Array.from({ length: schedule.servers }, (_, other) => other).filter(other => other !== server);
-  const button = (event, text) => el('button', { 'data-do': event, 'data-asked': event }, text);
+  const button = (event, text, label) => el('button', { 'data-do': event, 'data-asked': event, 'aria-label': label }, text);
+  const again = trace.heardBy(server).length === 0 ? null : el('button', { 'data-do': `again ${server}`, 'aria-pressed': dock.isAgain[server] ? 'true' : 'false',
+    title: 'messages that it heard already, to be delivered once more' }, 'again');
   return el('div', { class: 'acts' },
-    dock.ask === server ? askForm(schedule, server) : el('button', { 'data-do': `ask ${server}` }, 'submit ..'),
-    button(`execute ${server}`, 'execute'), button(`retry ${server}`, 'retry'),
-    ...others.map(other => button(`suspect ${server} ${other}`, `suspect ${other}`)));
+    dock.ask === server ? askForm(schedule, server) : el('button', { 'data-do': `ask ${server}`, title: `a client asks server ${server}` }, 'submit ..'),
+    button(`execute ${server}`, 'execute'), button(`retry ${server}`, 'retry'), again,
+    others.length === 0 ? null : el('span', { class: 'suspects' }, 'suspect', ...others.map(other => button(`suspect ${server} ${other}`, String(other), `suspect ${other}`))));
 }
 
 function askForm(schedule, server) {
@@ -88,7 +93,7 @@ function table(trace, server, servers) {
   if (rows.length === 0) return null;
   const body = rows.flatMap(([instance, slot]) => rowsOf(instance, slot, servers));
   return el('table', {}, el('caption', { class: 'unseen' }, `instances at server ${server}`),
-    el('thead', {}, el('tr', {}, ...[['', 'instance'], ['prom.', 'the greatest ballot that it promised or accepted'], ['vote', 'value@ballot that it accepted last'], ['learned', 'the value that it learned']]
+    el('thead', {}, el('tr', {}, ...[['', 'instance'], ['promised', 'the greatest ballot that it promised or accepted'], ['vote', 'value@ballot that it accepted last'], ['learned', 'the value that it learned']]
       .map(([name, title]) => el('th', { title, scope: 'col' }, name)))), el('tbody', {}, ...body));
 }
 
@@ -106,7 +111,7 @@ function fillDock(now) {
   const cards = Array.from({ length: now.schedule.servers }, (_, server) => card(now, server));
   $('dock').replaceChildren(summary(now), ...cards);
   if (kept) focusAgain(kept);
-  if (dock.ask !== null) $('dock').querySelector('.ask input')?.focus();
+  if (dock.ask !== null) $('dock').querySelector('.ask input')?.select();
 }
 
 // ---- the focus, which a new dock would lose

@@ -34,11 +34,22 @@ function later(name, wait, action) {
 
 // ---- the schedule and the cursor: all changes come through here
 
+// A click asks for the trace of the same schedule several times, so the last ones are kept.
+const TRACES_KEPT = 4;
+const traces = new Map();
+
 function traceOf(schedule) {
-  const answer = core.call(['trace'], asScenario(schedule));
-  if (answer.status === 0) return { text: answer.printed, trace: new Trace(answer.printed) };
-  say(wordsOf(answer.said));
-  return null;
+  const scenario = asScenario(schedule);
+  if (traces.has(scenario)) return traces.get(scenario);
+  const answer = core.call(['trace'], scenario);
+  if (answer.status !== 0) {
+    say(wordsOf(answer.said));
+    return null;
+  }
+  const made = { text: answer.printed, trace: new Trace(answer.printed) };
+  traces.set(scenario, made);
+  if (traces.size > TRACES_KEPT) traces.delete(traces.keys().next().value);
+  return made;
 }
 
 function become(schedule, cursor, isKept = true) {

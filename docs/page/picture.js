@@ -6,10 +6,10 @@
 const DRAWN = 100;
 const AROUND = 20;
 // Where the picture's lanes begin, where the first one stands, and how far they are apart, as `mencius draw` has it.
-const LEFT = 296, TOP = 66, FIRST_LANE = 452, APART = 204, HALF_ROW = 12;
+const LEFT = 296, TOP = 84, FIRST_LANE = 452, APART = 204, HALF_ROW = 12;
 const SMALLEST = 0.86;
 
-const picture = { drawn: null, rows: [], zoom: 1 };
+const picture = { drawn: null, svg: null, rows: [], zoom: 1, room: 800, width: 800, height: 0 };
 
 function el(tag, attributes = {}, ...children) {
   const made = document.createElement(tag);
@@ -39,9 +39,18 @@ function drawPicture(core, schedule, cursor) {
   const [first, last] = partFor(cursor, count);
   const answer = core.call(['draw', '--from', String(first), '--to', String(Math.max(last, 0))], asScenario(schedule));
   picture.drawn = { schedule, first, last };
-  $('drawing').innerHTML = answer.status === 0 ? answer.printed : '';
-  if (answer.status !== 0) $('drawing').textContent = wordsOf(answer.said);
-  else cutDrawing($('drawing').querySelector('svg'), schedule);
+  if (answer.status !== 0) {
+    $('drawing').textContent = wordsOf(answer.said);
+    return;
+  }
+  // What is not in the page yet costs no layout.
+  const box = el('template');
+  box.innerHTML = answer.printed;
+  cutDrawing(box.content.querySelector('svg'), schedule);
+  fitPicture(schedule.servers);
+  markParts(picture.svg, cursor);
+  $('drawing').replaceChildren(picture.svg);
+  if (count === 0) $('drawing').append(el('p', { id: 'empty' }, 'Nothing has happened. Have a client ask for something, by “submit ..” below a server, or press R for an event at random.'));
   fillRows(schedule, first);
 }
 
@@ -49,25 +58,28 @@ function drawPicture(core, schedule, cursor) {
 function cutDrawing(svg, schedule) {
   for (const part of svg.querySelectorAll('.foot, .key, .place, .what, :scope > title')) part.remove();
   const bottom = +/V(\d+)/.exec(svg.querySelector('.lane .line')?.getAttribute('d') ?? 'V80')[1];
-  const tops = [...svg.querySelectorAll('.event')].map(event => +/translate\(0 (\d+)\)/.exec(event.innerHTML)[1] - HALF_ROW - TOP);
+  const tops = [...svg.querySelectorAll('.event')].map(event => +/ (\d+)\)/.exec(event.firstElementChild.getAttribute('transform'))[1] - HALF_ROW - TOP);
   picture.rows = tops.map((top, index) => ({ top, height: (tops[index + 1] ?? bottom - TOP - 2) - top }));
   picture.width = +svg.getAttribute('width') - LEFT;
-  picture.height = Math.max(bottom - TOP, 40);
+  picture.height = Math.max(bottom - TOP, schedule.events.length === 0 ? 90 : 0);
   svg.setAttribute('viewBox', `${LEFT} ${TOP} ${picture.width} ${picture.height}`);
   svg.removeAttribute('role');
   const band = document.createElementNS('http://www.w3.org/2000/svg', 'rect');
   for (const [name, value] of Object.entries({ id: 'band', x: LEFT, width: picture.width, height: 0 })) band.setAttribute(name, value);
   svg.querySelector('.paper').after(band);
   picture.svg = svg;
-  fitPicture(schedule.servers);
+}
+
+// Notes how much room there is for a picture.
+function measure() {
+  picture.room = $('stage').clientWidth - $('rows').offsetWidth;
 }
 
 // Sets the picture's size to the room that there is, within bounds, and all that stands by its lanes.
 function fitPicture(servers) {
-  const room = $('stage').clientWidth - $('rows').offsetWidth;
-  picture.zoom = Math.min(1, Math.max(SMALLEST, room / picture.width));
-  picture.svg?.setAttribute('width', picture.width * picture.zoom);
-  picture.svg?.setAttribute('height', picture.height * picture.zoom);
+  picture.zoom = Math.min(1, Math.max(SMALLEST, picture.room / picture.width));
+  picture.svg.setAttribute('width', picture.width * picture.zoom);
+  picture.svg.setAttribute('height', picture.height * picture.zoom);
   const style = $('board').style;
   style.setProperty('--zoom', picture.zoom);
   style.setProperty('--lead', `${(FIRST_LANE - LEFT - APART / 2) * picture.zoom}px`);
@@ -91,17 +103,20 @@ function fillHeads(servers) {
   }));
 }
 
+// Makes pale what has not happened yet.
+function markParts(box, cursor) {
+  for (const part of box.querySelectorAll('[data-e]')) part.classList.toggle('later', +part.dataset.e >= cursor);
+}
+
 // Marks what happened so far, and which event was the last.
 function markCursor(cursor) {
-  const { first } = picture.drawn, here = picture.rows[cursor - 1 - first];
-  for (const part of $('picture').querySelectorAll('[data-e]')) {
-    part.classList.toggle('later', +part.dataset.e >= cursor);
-    if (part.tagName === 'LI') {
-      const isHere = +part.dataset.e === cursor - 1;
-      part.classList.toggle('here', isHere);
-      if (isHere) part.setAttribute('aria-current', 'step'); else part.removeAttribute('aria-current');
-    }
-  }
+  const here = picture.rows[cursor - 1 - picture.drawn.first];
+  markParts($('picture'), cursor);
+  const former = $('rows').querySelector('.here'), row = here && $('rows').children[cursor - 1 - picture.drawn.first];
+  former?.classList.remove('here');
+  former?.removeAttribute('aria-current');
+  row?.classList.add('here');
+  row?.setAttribute('aria-current', 'step');
   const band = $('drawing').querySelector('#band');
   band?.setAttribute('y', TOP + (here?.top ?? 0));
   band?.setAttribute('height', here?.height ?? 0);

@@ -8,9 +8,10 @@ class Trace {
   constructor(text) {
     this.servers = 0;
     this.events = [];   // { text, firstMessage, refusal, lines }
-    this.messages = []; // { number, kind, from, instance, label }
+    this.messages = []; // { number, kind, from, to, instance, label }, `to` a server or null for all
     this.closing = [];  // of each server { front, executed, waiting }
     this.unheard = [];  // { number, to }
+    this.lost = new Set(); // of texts `NUMBER SERVER`
     this.slots = [];    // of each server a map from an instance to what is known there
     this.proposals = new Map();
     for (const line of text.split('\n')) this.read(line, line.split(' '));
@@ -26,6 +27,12 @@ class Trace {
   countOf(place) {
     const behind = this.events[place + 1];
     return (behind ? behind.firstMessage : this.messages.length) - this.events[place].firstMessage;
+  }
+
+  // The messages that a server heard already, and may hear again.
+  heardBy(server) {
+    const due = new Set(this.unheard.filter(({ to }) => to === server).map(({ number }) => number));
+    return this.messages.filter(({ number, to }) => (to ?? server) === server && !due.has(number) && !this.lost.has(`${number} ${server}`));
   }
 
   change(server, instance, changes) {
@@ -45,13 +52,17 @@ const READERS = {
   },
   event(trace, words) {
     trace.events.push({ text: words.slice(2).join(' '), firstMessage: trace.messages.length, refusal: null, lines: [] });
+    if (words[2] === 'lose') trace.lost.add(`${words[3]} ${words[4]}`);
   },
   refused(trace, words) {
-    trace.events.at(-1).refusal = words[1];
+    const event = trace.events.at(-1);
+    event.refusal = words[1];
+    if (words[1] !== 'LostMessage') trace.lost.delete(event.text.slice('lose '.length));
   },
   sent(trace, words) {
     const [kind, from, instance] = [words[2], +words[4], +words[8]];
-    trace.messages.push({ number: +words[1], kind, from, instance, label: labelOf(words) });
+    const to = words[6] === 'all' ? null : +words[6];
+    trace.messages.push({ number: +words[1], kind, from, to, instance, label: labelOf(words) });
     SENDERS[kind]?.(trace, from, instance, words);
   },
   promises(trace, words) {

@@ -4,6 +4,7 @@
 const OWN = {
   cut: () => become(prefixOf(page.schedule, page.cursor), page.cursor),
   ask: server => { dock.ask = server < 0 ? null : server; fillDock(page.now); greyButtons(); },
+  again: server => { dock.isAgain[server] = !dock.isAgain[server]; fillDock(page.now); greyButtons(); },
   whole: server => { dock.isWhole[server] = true; fillDock(page.now); greyButtons(); },
 };
 
@@ -53,7 +54,7 @@ function changeTheme() {
 
 function wireBar() {
   for (const name of Object.keys(DATA.examples)) $('example').add(new Option(name.replaceAll('_', ' '), name));
-  $('example').add(new Option('of your own', ''), 0);
+  $('example').add(new Option('(none)', ''), 0);
   for (let servers = 1; servers <= 7; servers += 1) $('servers').add(new Option(servers, servers));
   $('example').onchange = () => {
     const example = DATA.examples[$('example').value];
@@ -87,10 +88,15 @@ function wireStage() {
     const place = eventAt(event.clientY);
     if (place !== null) go(place + 1);
   };
-  new ResizeObserver(() => {
-    fitPicture(page.schedule.servers);
-    if (picture.drawn) { fillRows(page.schedule, picture.drawn.first); markCursor(page.cursor); }
-  }).observe($('stage'));
+  new ResizeObserver(resized).observe($('stage'));
+}
+
+function resized() {
+  measure();
+  if (!picture.svg) return;
+  fitPicture(page.schedule.servers);
+  fillRows(page.schedule, picture.drawn.first);
+  markCursor(page.cursor);
 }
 
 // Marks a message in the picture, and takes the mark off all others.
@@ -162,6 +168,7 @@ function wire() {
   wireStage();
   wireTabs();
   fillKey(core);
+  measure();
   addEventListener('keydown', keyed);
   addEventListener('hashchange', () => {
     if (location.hash !== asLink(page.schedule, page.cursor, lesson.step)) openAddress(false);
