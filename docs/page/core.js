@@ -51,22 +51,38 @@ class Core {
     return { status, lengths: [printed, said], texts };
   }
 
-  // The program, called with these arguments and this input: its status, what it prints, and what it says.
-  call(args, input) {
-    const coder = new TextEncoder();
+  // The texts and the status of a call; a second attempt has room for texts of any length.
+  answer(args, input) {
+    const coder = new TextEncoder(), task = args[0];
     const words = coder.encode(args.map(word => word + '\0').join('')), bytes = coder.encode(input);
+    let found = this.attempt(words, bytes, [Math.max(this.longest[task] || 0, 65536 + 8 * bytes.length), 4096]);
+    if (!found.texts) found = this.attempt(words, bytes, found.lengths);
+    this.longest[task] = Math.max(this.longest[task] || 0, 2 * found.lengths[0]);
+    const [printed, said] = found.texts;
+    return { status: found.status, printed, said };
+  }
+
+  // The program, called with these arguments and this input: its status, what it prints, and what it says. Where the
+  // module stops by itself, it is started anew and called once more.
+  call(args, input) {
     try {
-      let answer = this.attempt(words, bytes, [Math.max(this.longest[args[0]] || 0, 65536 + 8 * bytes.length), 4096]);
-      if (!answer.texts) answer = this.attempt(words, bytes, answer.lengths);
-      const [printed, said] = answer.texts;
-      this.longest[args[0]] = Math.max(this.longest[args[0]] || 0, 2 * answer.lengths[0]);
-      return { status: answer.status, printed, said };
+      return this.answer(args, input);
     } catch (error) {
-      if (!(error instanceof RangeError || error instanceof WebAssembly.RuntimeError)) throw error;
-      this.exports = null;
-      this.whenStopped(error.message);
-      return { status: 5, printed: '', said: `mencius: fault 26 NoMemory\nthe module stopped: ${error.message}\n` };
+      this.restart(error);
     }
+    try {
+      return this.answer(args, input);
+    } catch (error) {
+      this.restart(error);
+      return { status: 5, printed: '', said: `mencius: fault 26 NoMemory\nthe module stopped twice: ${error.message}\n` };
+    }
+  }
+
+  restart(error) {
+    if (!(error instanceof RangeError || error instanceof WebAssembly.RuntimeError)) throw error;
+    this.exports = null;
+    this.longest = {};
+    this.whenStopped(error.message);
   }
 }
 

@@ -159,7 +159,9 @@ function greyButtons() {
 
 function show() {
   const { schedule, cursor, whole } = page, prefix = prefixOf(schedule, cursor);
-  const { text, trace } = cursor === schedule.events.length ? whole : traceOf(prefix) ?? whole;
+  const made = cursor === schedule.events.length ? whole : traceOf(prefix);
+  if (!made) return;
+  const { text, trace } = made;
   const report = core.call(['replay'], asScenario(prefix)).printed;
   page.now = { schedule, cursor, text, trace, reportText: report, report: readReport(report), refusals: {} };
   fillHeads(schedule.servers);
