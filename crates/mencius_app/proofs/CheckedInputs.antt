@@ -7,7 +7,7 @@ use Rattle.mencius_input.specs.declared.kind.Kind.{Kind}
 use Rattle.mencius_input.specs.declared.kind.Kind.TheVariants as kind
 use Rattle.mencius_format.specs.Judged.{FailsBy}
 use Rattle.mencius_input.specs.Kinds.{kind_in}
-use Rattle.mencius_input.specs.Place.{IsTold}
+use Rattle.mencius_input.specs.Explanations.{IsTold}
 use Rattle.mencius_input.specs.Plan.{plan}
 use Rattle.mencius_input.specs.Scenario.{scenario}
 use Rattle.mencius_trace.specs.Words.{line_feed}

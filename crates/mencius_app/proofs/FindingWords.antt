@@ -4,7 +4,7 @@ use Rattle.mencius_ends.specs.declared.fault.AppFault.{AppFault}
 use Rattle.mencius_ends.specs.declared.fault.AppFault.TheVariants.{BadLimit, ReadFailed, NoMemory}
 use Rattle.mencius_ends.specs.Ends.{most_bytes}
 use Rattle.mencius_input.specs.declared.kind.Kind.{Kind}
-use Rattle.mencius_input.specs.Place.{IsToldUnread}
+use Rattle.mencius_input.specs.Explanations.{IsToldUnread}
 use Rattle.mencius_trace.specs.Words.{line_feed}
 use Rattle.mencius_app.specs.Findings.{AreWordsOfInput, IsFoundIn, IsToldAs, IsToldByFields, Telling}
 use Rattle.mencius_app.specs.Ending.{TellsOf, ending_at, ending_of, ending_with, is_explained, telling_of}

@@ -6,7 +6,7 @@ use Rattle.mencius_ends.specs.Ends.{most_bytes}
 use Rattle.mencius_input.specs.declared.kind.Kind.{Kind}
 use Rattle.mencius_input.specs.declared.kind.Kind.TheVariants.{Replay, Run}
 use Rattle.mencius_input.specs.Kinds.{kind_in}
-use Rattle.mencius_input.specs.Place.{IsTold, too_long_words}
+use Rattle.mencius_input.specs.Explanations.{IsTold, too_long_words}
 use Rattle.mencius_input.specs.Plan.{plan}
 use Rattle.mencius_input.specs.Scenario.{scenario}
 use Rattle.mencius_trace.specs.Words.{line_feed}

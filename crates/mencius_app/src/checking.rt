@@ -4,7 +4,7 @@ ghost use Rattle.std.specs.Prelude.{ℕ, List, ◌≡◌, ◌≢◌, ◌⊎◌, 
 ghost use Rattle.std.specs.List.{flat_map};
 ghost use Rattle.std.specs.Io.KnownBytes.{Appends, IsAtEnd};
 ghost use Rattle.mencius_input.specs.Kinds.{kind_in};
-ghost use Rattle.mencius_input.specs.Place.{IsTold};
+ghost use Rattle.mencius_input.specs.Explanations.{IsTold};
 ghost use Rattle.mencius_input.specs.Scenario.{scenario};
 ghost use Rattle.mencius_app.specs.Calls.{AsksLittle, AsksReader, IsCause, IsReadingCause};
 ghost use Rattle.mencius_app.specs.Check.{IsCheckFaultOf, IsCheckOf, Checked, checked, count_text, ok_line, replay_line, run_line};

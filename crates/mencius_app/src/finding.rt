@@ -1,7 +1,7 @@
 //! Why a task ended without doing its work.
 
 ghost use Rattle.std.specs.Prelude.{◌≡◌, ◌++◌, ℕ, List, IfSome, string_bytes, true};
-ghost use Rattle.mencius_input.specs.Place.{IsTold, IsToldUnread};
+ghost use Rattle.mencius_input.specs.Explanations.{IsTold, IsToldUnread};
 ghost use Rattle.mencius_app.specs.Findings.{IsOtherKind, IsToldAs, other_kind_words};
 ghost use Rattle.mencius_trace.specs.Words.{line_feed};
 

@@ -8,3 +8,4 @@ pub mod ScenarioFields
 pub mod RunFields
 pub mod StepsAndCommands
 pub mod FaultPlaces
+pub mod NameOrder

@@ -1,5 +1,5 @@
 -- The fields of a scenario of `replay`, and what they say.
-use Rattle.std.proofs.Common.{◌≡◌, ℕ, List, [], Bool, true, codes, Option, Some, None, option_map, option_and_then, refl, ap, ◌∙◌}
+use Rattle.std.proofs.Common.{◌≡◌, ℕ, [], true, codes, Option, Some, None, option_map, option_and_then, refl, ap, ◌∙◌}
 use Rattle.std.specs.List.{list_all}
 use Rattle.serde_json.specs.Data.{Data, Members, object}
 use Rattle.serde_json.specs.Find.{as_array, get, get_member}

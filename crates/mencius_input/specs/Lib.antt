@@ -8,4 +8,5 @@ pub mod Fields
 pub mod Events
 pub mod Kinds
 pub mod Shown
-pub mod Place
+pub mod Places
+pub mod Explanations

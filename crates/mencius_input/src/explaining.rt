@@ -1,7 +1,8 @@
 //! Where a scenario is wrong, in a person's words.
 
 ghost use Rattle.std.specs.Prelude.{◌≡◌, ◌∷◌, ◌++◌, IfOk, OnOk, codes, decimal, option_map, string_bytes};
-ghost use Rattle.mencius_input.specs.Place.{IsItemTold, IsPlaced, IsTold, IsToldBy, IsToldUnread, counts_words, crowd_words, field_words, kind_name, limit_words, number_words, range_words, unknown_words, unplaced_words};
+ghost use Rattle.mencius_input.specs.Places.{place_state};
+ghost use Rattle.mencius_input.specs.Explanations.{IsItemTold, IsPlaced, IsTold, IsToldBy, IsToldUnread, counts_words, crowd_words, field_words, kind_name, limit_words, number_words, range_words, unknown_words, unplaced_words};
 ghost use Rattle.mencius_input.specs.Shown.{shown_text};
 
 use crate::field::{Field, Shape, list_field, whole_fields};
@@ -26,7 +27,7 @@ fn range_words(alloc: Global, least: u64, greatest: u64) -> Result<String, NoMem
 }
 
 // What a number past the limits of a field is.
-#[tactic(auto, unfolding(crate::specs::Place::limit_words))]
+#[tactic(auto, unfolding(crate::specs::Explanations::limit_words))]
 fn limit_words(alloc: Global, field: Field) -> Result<String, NoMemory>
     ensures { IfOk result (λ s. string_bytes s ≡ limit_words field) }
 {
@@ -168,7 +169,7 @@ fn wrong_place(
     place: &Place,
     fault: AppFault,
 ) -> Result<String, NoMemory>
-    ensures { IfOk result (λ s. IsToldBy kind fault place.now (string_bytes s)) }
+    ensures { IfOk result (λ s. IsToldBy kind fault (place_state place.now) (string_bytes s)) }
 {
     match place {
         Place::Whole => Ok(String::from_str(alloc, "the text is no JSON object")?),

@@ -1,22 +1,19 @@
 //! Where a scenario has a fault.
 
-ghost use Rattle.std.specs.Prelude.{ℕ, ◌≡◌, ◌≢◌, ◌⊎◌, ◌&&◌, IfOk, IfSome, IsTrue, MatchOption, None, Ok, Some, false, is_some, length, not, option_map, string_bytes};
-ghost use Rattle.std.specs.Bool.{MatchBool};
-ghost use Rattle.std.specs.List.{Contains};
+ghost use Rattle.std.specs.Prelude.{◌≡◌, ◌&&◌, IfOk, None, Ok, Some, find, is_some, not, option_map, string_bytes, true};
 ghost use Rattle.std.specs.Result.{result_err};
-ghost use Rattle.serde_json.specs.Data.{Data};
-ghost use Rattle.serde_json.specs.Find.{as_str, get};
+ghost use Rattle.serde_json.specs.Find.{as_number, as_object, as_str};
+ghost use Rattle.serde_json.specs.Read.{read};
 ghost use Rattle.serde_json.specs.View.{items_view, view};
-ghost use Rattle.mencius_input.specs.FieldsOf.{default_of, field_name, is_one_of, names, needed, whole_fields};
+ghost use Rattle.mencius_input.specs.FieldsOf.{fields};
 ghost use Rattle.mencius_input.specs.declared.field.Field.TheVariants.{Servers};
 ghost use Rattle.mencius_format.specs.Grammar.{command_of, command_within, event_of, event_within, newest_version, takes_cas};
 ghost use Rattle.mencius_format.specs.Judged.{judged};
-ghost use Rattle.mencius_input.specs.declared.kind.Kind.TheVariants.{Replay, Run};
-ghost use Rattle.mencius_input.specs.Place.{AreItems, AreThere, HasFields, IsAt, IsFine, IsFirst, IsInList, IsInLists, IsOtherNumber, NoneBefore, item_fault, item_has_cas, version_of};
-ghost use Rattle.mencius_input.specs.Scenario.{json_of, number_of};
+ghost use Rattle.mencius_input.specs.Places.{count_place, field_named, field_place, first_in, first_item, first_of, first_place, is_fault, is_great_number, is_lacking, is_limit, is_shape, item_fault, item_has_cas, items_place, lack_place, list_field_place, list_place, names_in, not_whole, number_place, place_in, place_state, version_of};
+ghost use Rattle.mencius_input.specs.Scenario.{number_of};
 ghost use Rattle.mencius_format.specs.Words.{words};
 
-use crate::field::{Field, index_of_name, list_field, whole_fields};
+use crate::field::{Field, list_field, whole_fields};
 use crate::kind::{Kind, tree_of};
 use crate::newest::takes_cas;
 use json::Scratch;
@@ -167,6 +164,31 @@ fn fault_of_command(alloc: Global, text: &str) -> Result<Option<AppFault>, NoMem
     }
 }
 
+// Whether the fault is a bad shape.
+fn is_shape(fault: AppFault) -> bool
+    ensures { result ≡ is_shape fault }
+{
+    matches!(fault, AppFault::BadShape)
+}
+
+// Whether the fault is a limit that is passed.
+fn is_limit(fault: AppFault) -> bool
+    ensures { result ≡ is_limit fault }
+{
+    matches!(fault, AppFault::BadLimit)
+}
+
+// Whether what was found is the fault.
+fn is_fault(fault: AppFault, found: Option<AppFault>) -> bool
+    ensures { result ≡ is_fault fault found }
+{
+    match found {
+        Some(AppFault::BadShape) => is_shape(fault),
+        Some(AppFault::BadLimit) => is_limit(fault),
+        _ => false,
+    }
+}
+
 // Whether an item has the fault.
 fn has_fault(
     alloc: Global,
@@ -175,18 +197,10 @@ fn has_fault(
     item: &Value,
     fault: AppFault,
 ) -> Result<bool, NoMemory>
-    ensures { IfOk result (λ x. MatchBool x (item_fault kind version (view item.now) ≡ Some fault)
-        (item_fault kind version (view item.now) ≢ Some fault)) }
+    ensures { IfOk result (λ x. x ≡ is_fault fault (item_fault kind version (view item.now))) }
 {
-    match fault_of_item(alloc, kind, version, item)? {
-        Some(found) => {
-            if found == fault {
-                return Ok(true);
-            }
-            Ok(false)
-        }
-        None => Ok(false),
-    }
+    let found = fault_of_item(alloc, kind, version, item)?;
+    Ok(is_fault(fault, found))
 }
 
 // The text that an item is, if it is one.
@@ -207,9 +221,8 @@ fn first_item(
     items: &[Value],
     fault: AppFault,
 ) -> Result<Option<(usize, Option<String>)>, NoMemory>
-    ensures { IfOk result (λ o. MatchOption o
-        (NoneBefore kind fault version (items_view items.now) (length items.now))
-        (λ x. IsFirst kind fault version (items_view items.now) x.0 (option_map string_bytes x.1))) }
+    ensures { IfOk result (λ o. option_map (λ x. (x.0, option_map string_bytes x.1)) o
+        ≡ first_item kind fault version (items_view items.now)) }
 {
     for (index, item) in items.iter().enumerate() {
         if has_fault(alloc, kind, version, item, fault)? {
@@ -228,11 +241,11 @@ fn place_in_list(
     value: &Value,
     fault: AppFault,
 ) -> Result<Option<Place>, NoMemory>
-    ensures { IfOk result (λ o. MatchOption o (IsFine fault version (view value.now))
-        (λ x. IsInList fault version list (view value.now) x)) }
+    ensures { IfOk result (λ o. option_map place_state o
+        ≡ list_place fault version list (view value.now)) }
 {
     let Some(items) = value.as_array() else {
-        if fault == AppFault::BadShape {
+        if is_shape(fault) {
             return Ok(Some(Place::List { list }));
         }
         return Ok(None);
@@ -255,8 +268,8 @@ fn first_in_lists(
     lists: &[Value],
     fault: AppFault,
 ) -> Result<Option<Place>, NoMemory>
-    ensures { IfOk result (λ o. IfSome o (λ x.
-        IsInLists fault version (items_view lists.now) x)) }
+    ensures { IfOk result (λ o. option_map place_state o
+        ≡ first_of (list_place fault version) 0 (items_view lists.now)) }
 {
     for (list, value) in lists.iter().enumerate() {
         let place = place_in_list(alloc, version, list, value, fault)?;
@@ -269,18 +282,14 @@ fn first_in_lists(
 
 // The commands as a place, where they are not one list for each server.
 fn lists_amiss(scenario: &Value, count: usize, fault: AppFault) -> Option<Place>
-    ensures { IfSome result (λ x. (fault ≡ AppFault.BadLimit) × (servers : ℕ)
-        × (x ≡ Place.Lists count servers)
-        × (number_of Servers (view scenario.now) ≡ Some servers) × (count ≢ servers)) }
+    ensures { option_map place_state result
+        ≡ count_place fault count (number_of Servers (view scenario.now)) }
 {
-    if fault != AppFault::BadLimit {
-        return None;
-    }
     let servers = said_number(scenario, Field::Servers)?;
-    if count as u64 == servers || !Field::Servers.is_within(servers) {
-        return None;
+    if is_limit(fault) && Field::Servers.is_within(servers) && count as u64 != servers {
+        return Some(Place::Lists { count, servers });
     }
-    Some(Place::Lists { count, servers })
+    None
 }
 
 // The place in the commands of a run.
@@ -290,8 +299,8 @@ fn place_in_commands(
     lists: &[Value],
     fault: AppFault,
 ) -> Result<Option<Place>, NoMemory>
-    requires { AreItems Run (view scenario.now) (items_view lists.now) }
-    ensures { IfOk result (λ o. IfSome o (λ x. IsAt Run fault (view scenario.now) x)) }
+    ensures { IfOk result (λ o. option_map place_state o
+        ≡ items_place Kind.Run fault (view scenario.now) (items_view lists.now)) }
 {
     let place = first_in_lists(alloc, version_of(scenario), lists, fault)?;
     if place.is_some() {
@@ -307,10 +316,8 @@ fn place_in_events(
     events: &[Value],
     fault: AppFault,
 ) -> Result<Option<Place>, NoMemory>
-    requires { AreItems Replay (view scenario.now) (items_view events.now) }
-    ensures found { IfOk result (λ o. IfSome o (λ x. IsAt Replay fault (view scenario.now) x)) }
-    ensures none { IfOk result (λ o. o ≡ None → NoneBefore Replay fault
-        (version_of (view scenario.now)) (items_view events.now) (length events.now)) }
+    ensures { IfOk result (λ o. option_map place_state o
+        ≡ items_place Kind.Replay fault (view scenario.now) (items_view events.now)) }
 {
     let version = version_of(scenario);
     match first_item(alloc, Kind::Replay, version, events, fault)? {
@@ -330,14 +337,15 @@ fn place_in_list_field(
     scenario: &Value,
     fault: AppFault,
 ) -> Result<Option<Place>, NoMemory>
-    ensures { IfOk result (λ o. IfSome o (λ x. IsAt kind fault (view scenario.now) x)) }
+    ensures { IfOk result (λ o. option_map place_state o
+        ≡ list_field_place kind fault (view scenario.now)) }
 {
     let field = list_field(kind);
     let Some(value) = scenario.get(field.name()) else {
         return Ok(None);
     };
     let Some(items) = value.as_array() else {
-        if fault == AppFault::BadShape {
+        if is_shape(fault) {
             return Ok(Some(Place::NoList { field }));
         }
         return Ok(None);
@@ -351,7 +359,7 @@ fn place_in_list_field(
 // Whether a value is a number too great to be read as a whole one. The numbers between 2 to the 64th
 // and the float before it are read as that power.
 fn is_great(value: &Value) -> bool
-    ensures { IsTrue result → IsOtherNumber (view value.now) }
+    ensures { result ≡ is_great_number (as_number (view value.now)) }
 {
     match value.as_number() {
         Some(number) => match number.as_u64() {
@@ -362,65 +370,52 @@ fn is_great(value: &Value) -> bool
     }
 }
 
-// The place in a field that is no whole number.
-fn not_whole(field: Field, value: &Value, fault: AppFault) -> Option<Place>
-    ensures { IfSome result (λ x. (fault ≡ AppFault.BadShape) × ((x ≡ Place.Number field)
-        ⊎ ((x ≡ Place.GreatNumber field) × IsOtherNumber (view value.now)))) }
+// The place of a field that is no whole number.
+fn not_whole(field: Field, value: &Value) -> Place
+    ensures { place_state result ≡ not_whole field (view value.now) }
 {
-    if fault != AppFault::BadShape {
-        return None;
-    }
     if is_great(value) {
-        Some(Place::GreatNumber { field })
+        Place::GreatNumber { field }
     } else {
-        Some(Place::Number { field })
+        Place::Number { field }
     }
 }
 
 // The place in a field that should be a whole number.
-fn place_in_number(kind: Kind, scenario: &Value, field: Field, fault: AppFault) -> Option<Place>
-    requires { Contains (whole_fields kind) field }
-    ensures { IfSome result (λ x. IsAt kind fault (view scenario.now) x) }
+fn place_in_number(scenario: &Value, field: Field, fault: AppFault) -> Option<Place>
+    ensures { option_map place_state result ≡ number_place fault field (view scenario.now) }
 {
     let value = scenario.get(field.name())?;
     match value.as_u64() {
-        None => not_whole(field, value, fault),
-        Some(number) => {
-            if fault != AppFault::BadLimit || field.is_within(number) {
-                return None;
+        None => {
+            if is_shape(fault) {
+                return Some(not_whole(field, value));
             }
-            Some(Place::Number { field })
+            None
+        }
+        Some(number) => {
+            if is_limit(fault) && !field.is_within(number) {
+                return Some(Place::Number { field });
+            }
+            None
         }
     }
 }
 
-// The place of a field that no scenario of the kind has.
-fn place_of_unknown(
-    alloc: Global,
-    kind: Kind,
-    scenario: &Value,
-    name: &str,
-    fault: AppFault,
-) -> Result<Option<Place>, NoMemory>
-    requires { is_one_of name.now (names kind) ≡ false }
-    ensures found { IfOk result (λ o. IfSome o (λ x. IsAt kind fault (view scenario.now) x)) }
-    ensures none { IfOk result (λ o. o ≡ None → fault ≡ AppFault.BadShape
-        → get name.now (view scenario.now) ≡ None) }
+// The field of a kind that is a whole number and has this name.
+fn field_named(kind: Kind, name: &str) -> Option<Field>
+    ensures { result ≡ field_named kind name.now }
 {
-    if fault != AppFault::BadShape {
-        return Ok(None);
-    }
-    match scenario.get(name) {
-        Some(_) => {
-            let name = String::from_str(alloc, name)?;
-            Ok(Some(Place::Unknown { name }))
+    for field in whole_fields(kind) {
+        if name == field.name() {
+            return Some(*field);
         }
-        None => Ok(None),
     }
+    None
 }
 
 // The place in the field of this name. The field that is a list is looked at once, however often it is
-// written.
+// written: what is in it is handed over where its name comes first.
 fn place_named(
     alloc: Global,
     kind: Kind,
@@ -429,48 +424,27 @@ fn place_named(
     name: &str,
     fault: AppFault,
 ) -> Result<Option<Place>, NoMemory>
-    requires { IfSome in_list.old (λ x. IsAt kind fault (view scenario.now) x) }
-    ensures kept { IfSome in_list.new (λ x. IsAt kind fault (view scenario.now) x) }
-    ensures found { IfOk result (λ o. IfSome o (λ x. IsAt kind fault (view scenario.now) x)) }
+    requires { option_map place_state in_list.old ≡ list_field_place kind fault (view scenario.now) }
+    ensures place { IfOk result (λ o. option_map place_state o
+        ≡ field_place kind fault (view scenario.now) name.now) }
+    ensures kept { result ≡ Ok None → in_list.new ≡ in_list.old }
 {
-    match index_of_name(kind, name) {
-        Some(index) => {
-            let field = whole_fields(kind)[index];
-            Ok(place_in_number(kind, scenario, field, fault))
-        }
+    match field_named(kind, name) {
+        Some(field) => Ok(place_in_number(scenario, field, fault)),
         None => {
             if name == list_field(kind).name() {
                 return Ok(in_list.take());
             }
-            place_of_unknown(alloc, kind, scenario, name, fault)
+            if is_shape(fault) {
+                let name = String::from_str(alloc, name)?;
+                return Ok(Some(Place::Unknown { name }));
+            }
+            Ok(None)
         }
     }
 }
 
-// The place in the first field that has one, of those that a reader comes to.
-fn first_named(
-    alloc: Global,
-    kind: Kind,
-    reader: &mut Tokens<'_>,
-    scenario: &Value,
-    fault: AppFault,
-) -> Result<Option<Place>, NoMemory>
-    ensures { IfOk result (λ o. IfSome o (λ x. IsAt kind fault (view scenario.now) x)) }
-{
-    let mut in_list = place_in_list_field(alloc, kind, scenario, fault)?;
-    'fields: while let Ok(Some(name)) = next_name(reader) {
-        let place = place_named(alloc, kind, &mut in_list, scenario, name, fault)?;
-        if place.is_some() {
-            return Ok(place);
-        }
-        if pass(reader, MOST_DEPTH).is_err() {
-            break;
-        }
-    }
-    Ok(None)
-}
-
-// The place in the fields, in the order in which they are written.
+// The place in the first field that has one, in the order of the text.
 fn first_in_fields(
     alloc: Global,
     kind: Kind,
@@ -478,26 +452,37 @@ fn first_in_fields(
     scenario: &Value,
     fault: AppFault,
 ) -> Result<Option<Place>, NoMemory>
-    ensures { IfOk result (λ o. IfSome o (λ x. IsAt kind fault (view scenario.now) x)) }
+    requires of { read text.now ≡ Some (view scenario.now) }
+    requires object { is_some (as_object (view scenario.now)) ≡ true }
+    ensures { IfOk result (λ o. option_map place_state o
+        ≡ first_in kind fault (view scenario.now) (names_in text.now)) }
 {
     let mut scratch = Scratch::new(alloc);
     let mut reader = Tokens::new(text, &mut scratch)?;
     let _brace = reader.next();
-    first_named(alloc, kind, &mut reader, scenario, fault)
+    let mut in_list = place_in_list_field(alloc, kind, scenario, fault)?;
+    'fields: while let Ok(Some(name)) = next_name(&mut reader) {
+        let place = place_named(alloc, kind, &mut in_list, scenario, name, fault)?;
+        if place.is_some() {
+            return Ok(place);
+        }
+        if pass(&mut reader, MOST_DEPTH - 1).is_err() {
+            return Ok(None);
+        }
+    }
+    Ok(None)
 }
 
 // Whether a field lacks that must be there.
 fn is_lacking(scenario: &Value, field: Field) -> bool
-    ensures { result ≡ (not (is_some (default_of field))
-        && not (is_some (get (field_name field) (view scenario.now)))) }
+    ensures { result ≡ is_lacking (view scenario.now) field }
 {
     field.default().is_none() && scenario.get(field.name()).is_none()
 }
 
 // The first field that is not there, of those that must be.
 fn first_lack(kind: Kind, scenario: &Value) -> Option<Field>
-    ensures { MatchOption result (AreThere (needed kind) (view scenario.now))
-        (λ x. get (field_name x) (view scenario.now) ≡ None) }
+    ensures { result ≡ find (is_lacking (view scenario.now)) (fields kind) }
 {
     for field in whole_fields(kind) {
         if is_lacking(scenario, *field) {
@@ -511,45 +496,45 @@ fn first_lack(kind: Kind, scenario: &Value) -> Option<Field>
     None
 }
 
-// What the value lacks as a whole: that it is an object, or the first field that is not there.
+// The field that is not there, as a place.
 fn lack_in(kind: Kind, scenario: &Value, fault: AppFault) -> Option<Place>
-    ensures found { IfSome result (λ x. IsAt kind fault (view scenario.now) x) }
-    ensures none { result ≡ None → fault ≡ AppFault.BadShape
-        → HasFields kind (view scenario.now) }
+    ensures { option_map place_state result ≡ lack_place kind fault (view scenario.now) }
 {
-    if fault != AppFault::BadShape {
+    if !is_shape(fault) {
         return None;
     }
-    if scenario.as_object().is_none() {
-        return Some(Place::Whole);
-    }
-    match first_lack(kind, scenario) {
-        Some(field) => Some(Place::Missing { field }),
-        None => None,
-    }
+    let field = first_lack(kind, scenario)?;
+    Some(Place::Missing { field })
 }
 
-// The first place of a value that has the fault.
+// The first place of the value that a text is.
 fn place_in(
     alloc: Global,
     kind: Kind,
     text: &str,
-    scenario: Value,
+    scenario: &Value,
     fault: AppFault,
 ) -> Result<Option<Place>, NoMemory>
-    ensures found { IfOk result (λ o. IfSome o (λ x. IsAt kind fault (view scenario) x)) }
-    ensures none { result ≡ Ok None → fault ≡ AppFault.BadShape → HasFields kind (view scenario) }
+    requires { read text.now ≡ Some (view scenario.now) }
+    ensures { IfOk result (λ o. option_map place_state o
+        ≡ place_in kind fault (names_in text.now) (view scenario.now)) }
 {
-    match first_in_fields(alloc, kind, text, &scenario, fault)? {
-        Some(place) => Ok(Some(place)),
-        None => Ok(lack_in(kind, &scenario, fault)),
+    if scenario.as_object().is_none() {
+        if is_shape(fault) {
+            return Ok(Some(Place::Whole));
+        }
+        return Ok(None);
     }
+    let place = first_in_fields(alloc, kind, text, scenario, fault)?;
+    if place.is_some() {
+        return Ok(place);
+    }
+    Ok(lack_in(kind, scenario, fault))
 }
 
-/// The first place in a text that has the fault `BadShape` or `BadLimit`, which
-/// [`read_scenario`](crate::read_scenario) or [`read_plan`](crate::read_plan) answers for its
-/// bytes. A field that is not there comes last. There is none where the bytes have another fault. A
-/// field that is missing is found wherever nothing else is.
+/// The first place in a text that has the fault `BadShape` or `BadLimit`, as one scenario of the kind has
+/// it: in the order of the text, and a field that is not there comes last. There is none where no place
+/// of the text has the fault.
 ///
 /// # Errors
 ///
@@ -560,16 +545,13 @@ pub fn place_of(
     bytes: &[u8],
     fault: AppFault,
 ) -> Result<Option<Place>, NoMemory>
-    ensures found { IfOk result (λ o. IfSome o (λ x.
-        (d : Data) × (json_of bytes.now ≡ Some d) × IsAt kind fault d x)) }
-    ensures none { result ≡ Ok None → fault ≡ AppFault.BadShape
-        → (d : Data) → json_of bytes.now ≡ Some d → HasFields kind d }
+    ensures { IfOk result (λ o. option_map place_state o ≡ first_place kind fault bytes.now) }
 {
     let Ok(text) = std::str::from_utf8(bytes) else {
         return Ok(None);
     };
     match tree_of(alloc, text)? {
-        Some(scenario) => place_in(alloc, kind, text, scenario, fault),
+        Some(scenario) => place_in(alloc, kind, text, &scenario, fault),
         None => Ok(None),
     }
 }

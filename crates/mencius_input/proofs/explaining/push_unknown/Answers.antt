@@ -1,7 +1,7 @@
 use Rattle.std.proofs.Common.{◌≡◌, ◌++◌, ◌∙◌, List, ℕ, ap, codes, drop, refl, string_bytes, append_assoc, arith}
 use Rattle.std.proofs.lemmas.Grind.{common_steps}
 use Rattle.mencius_input.specs.FieldsOf.{field_name, list_field, whole_fields}
-use Rattle.mencius_input.specs.Place.{further_names, kind_name, unknown_words}
+use Rattle.mencius_input.specs.Explanations.{further_names, kind_name, unknown_words}
 use Rattle.mencius_input.proofs.explaining.push_unknown.Goals as goal
 
 -- six texts, each put behind what there is

@@ -1,6 +1,6 @@
 use Rattle.std.proofs.Common.{◌≡◌, ◌++◌, drop, string_bytes, take}
 use Rattle.mencius_input.specs.FieldsOf.{whole_fields}
-use Rattle.mencius_input.specs.Place.{further_names}
+use Rattle.mencius_input.specs.Explanations.{further_names}
 use Rattle.mencius_input.proofs.explaining.push_unknown.Given as goal
 
 abbrev pub invariant-loop-field : goal.invariant-loop-field

@@ -1,19 +1,25 @@
-use Rattle.std.proofs.Common.{arith, rules}
-use Rattle.serde_json.specs.View.{items_view, view}
-use Rattle.mencius_input.proofs.FaultPlaces.{fine_further, fine_none, in_first, item_there}
+use Rattle.std.proofs.Common.{◌∙◌, arith, rules, sym}
+use Rattle.mencius_input.specs.Places.{list_place}
+use Rattle.mencius_input.proofs.FaultPlaces.{first_none, first_step, place_behind, place_first}
 use Rattle.mencius_input.proofs.places.first_in_lists.Goals as goal
 
 pub returns-then-is_some : goal.returns-then-is_some
 returns-then-is_some c =
     let value = c.index-lists-list.result in
-    in_first c.args.fault c.args.version (items_view c.args.lists.now) c.loop-list.list (view value) c.in_ok-place.place
-    (item_there c.args.lists.now c.loop-list.list value c.index-lists-list.is (omega arith)) c.in_ok-place.ensures
-    c.loop-list.invariant
+    place_first c.in_ok-place.place _ _ (search rules) c.in_ok-place.ensures
+    ∙ sym (c.loop-list.invariant
+    ∙ first_step (list_place c.args.fault c.args.version) c.args.lists.now c.loop-list.list value
+    c.index-lists-list.is (omega arith))
 
 pub loop-list-preserved : goal.loop-list-preserved
 loop-list-preserved c =
     let value = c.index-lists-list.result in
-    fine_further c.args.fault c.args.version (items_view c.args.lists.now) c.loop-list.list (view value)
-    (item_there c.args.lists.now c.loop-list.list value c.index-lists-list.is (omega arith))
-    (fine_none c.args.fault c.args.version c.loop-list.list (view value) c.in_ok-place.place (search rules)
-    c.in_ok-place.ensures) c.loop-list.invariant
+    c.loop-list.invariant
+    ∙ first_step (list_place c.args.fault c.args.version) c.args.lists.now c.loop-list.list value
+    c.index-lists-list.is (omega arith)
+    ∙ place_behind c.in_ok-place.place _ _ (search rules) c.in_ok-place.ensures
+
+pub returns : goal.returns
+returns c =
+    sym (c.loop-list.invariant
+    ∙ first_none (list_place c.args.fault c.args.version) c.args.lists.now c.loop-list.list (omega arith))

@@ -1,0 +1,108 @@
+-- The words that tell where a scenario has a fault.
+use Rattle.std.specs.Prelude.{ℕ, ◌≡◌, ◌+◌, ◌++◌, ◌==◌, List, ◌∷◌, codes, decimal, drop, flat_map, Option, Some, None, MatchOption, if◌then◌else◌}
+use Rattle.mencius_ends.specs.declared.fault.AppFault.{AppFault}
+use Rattle.mencius_ends.specs.declared.fault.AppFault.TheVariants.{BadLimit, BadShape}
+use Rattle.mencius_json.specs.Crowds.{crowd_in}
+use Rattle.mencius_json.specs.declared.crowd.Crowd.{Crowd}
+use Rattle.mencius_json.specs.declared.crowd.Crowd.TheVariants.{Braces, Brackets, Separators}
+use Rattle.mencius_input.specs.declared.field.Field.{Field}
+use Rattle.mencius_input.specs.declared.field.Field.TheVariants.{Commands}
+use Rattle.mencius_input.specs.declared.field.Shape.{Shape}
+use Rattle.mencius_input.specs.declared.field.Shape.TheVariants as shape
+use Rattle.mencius_input.specs.declared.kind.Kind.{Kind}
+use Rattle.mencius_input.specs.declared.kind.Kind.TheVariants.{Replay, Run}
+use Rattle.mencius_input.specs.FieldsOf.{field_name, list_field, row, whole_fields}
+use Rattle.mencius_input.specs.Places.{PlaceState, first_place}
+use Rattle.mencius_input.specs.Places as place
+use Rattle.mencius_input.specs.Shown.{shown_text}
+
+-- ---- parts of them
+
+-- what a number past the limits is
+abbrev pub range_words : ℕ → ℕ → List ℕ
+range_words least greatest =
+    codes "not " ++ decimal least ++ (if greatest == least + 1 then codes " or " else codes " to ") ++ decimal greatest
+
+abbrev pub shape_words : Shape → List ℕ
+shape_words (shape.Whole least greatest default) = range_words least greatest
+shape_words shape.List = codes "no list"
+
+unfoldable pub limit_words : Field → List ℕ
+limit_words field = shape_words (row field).shape
+
+abbrev pub number_words : AppFault → Field → List ℕ
+number_words BadShape field = codes "no whole number"
+number_words fault field = limit_words field
+
+abbrev pub field_words : Field → List ℕ → List ℕ
+field_words field said = codes "the field \"" ++ (field_name field ++ (codes "\" is " ++ said))
+
+abbrev pub counts_words : ℕ → ℕ → List ℕ
+counts_words lists servers = codes "lists " ++ decimal lists ++ codes ", servers " ++ decimal servers
+
+-- the names of fields, each behind a comma
+abbrev pub further_names : List Field → List ℕ
+further_names fields = flat_map (λ field. codes ", " ++ field_name field) fields
+
+abbrev pub kind_name : Kind → List ℕ
+kind_name Replay = codes "replay"
+kind_name Run = codes "run"
+
+-- which fields there are, behind the name of one that there is not
+unfoldable pub unknown_words : Kind → List ℕ
+unknown_words kind =
+    codes " is no field: a scenario of " ++ kind_name kind ++ codes " has version" ++ further_names (drop 1 (whole_fields kind))
+    ++ codes " and " ++ field_name (list_field kind)
+
+-- of an item that is a string its text comes first
+abbrev pub IsItemTold : Option (List ℕ) → List ℕ → Type 0
+IsItemTold None words = words ≡ codes "is no string"
+IsItemTold (Some text) words = (said : List ℕ) × (words ≡ shown_text text ++ 58 ∷ 32 ∷ said)
+
+abbrev pub IsToldBy : Kind → AppFault → PlaceState → List ℕ → Type 0
+IsToldBy kind fault place.whole_value words = words ≡ codes "the text is no JSON object"
+IsToldBy kind fault (place.unknown_field name) words = words ≡ shown_text name ++ unknown_words kind
+IsToldBy kind fault (place.missing_field field) words = words ≡ field_words field (codes "missing")
+IsToldBy kind fault (place.bad_number field) words = words ≡ field_words field (number_words fault field)
+IsToldBy kind fault (place.great_number field) words = words ≡ field_words field (limit_words field)
+IsToldBy kind fault (place.no_list field) words = words ≡ field_words field (codes "no list")
+IsToldBy kind fault (place.event_item index version text) words =
+    (said : List ℕ) × (words ≡ codes "event " ++ decimal index ++ 32 ∷ said) × IsItemTold text said
+IsToldBy kind fault (place.list_item n) words = words ≡ codes "item " ++ decimal n ++ codes " of the field \"commands\" is no list"
+IsToldBy kind fault (place.command_item n index version text) words =
+    (said : List ℕ) × (words ≡ codes "command " ++ decimal index ++ codes " of list " ++ decimal n ++ 32 ∷ said)
+    × IsItemTold text said
+IsToldBy kind fault (place.list_count count servers) words =
+    words ≡ field_words Commands (codes "not one list for each server: " ++ counts_words count servers)
+
+-- what is said where no place is looked for
+abbrev pub crowd_words : Crowd → List ℕ
+crowd_words Braces = codes "more than 65,536 { stand in the text, where a scenario has one"
+crowd_words Brackets = codes "more than 65,536 [ stand in the text, where a scenario has at most eight"
+crowd_words Separators = codes "more than 1,700,000 commas and colons stand in the text, which has no room for so many events"
+
+-- what is said where no place was found
+abbrev pub unplaced_words : AppFault → List ℕ
+unplaced_words BadLimit = codes "a number, a length or a count is past its limit"
+unplaced_words fault = codes "the text is no scenario"
+
+-- why no place is looked for, or words of the first one, or that there is none
+abbrev pub IsPlaced : Kind → AppFault → List ℕ → List ℕ → Type 0
+IsPlaced kind fault bytes words =
+    MatchOption (crowd_in bytes)
+    (MatchOption (first_place kind fault bytes) (words ≡ unplaced_words fault) (λ place. IsToldBy kind fault place words))
+    (λ crowd. words ≡ crowd_words crowd)
+
+-- what is said of a fault of bytes that were read
+abbrev pub IsTold : Kind → AppFault → List ℕ → List ℕ → Type 0
+IsTold kind BadShape bytes words = IsPlaced kind BadShape bytes words
+IsTold kind BadLimit bytes words = IsPlaced kind BadLimit bytes words
+IsTold kind fault bytes words = Unit {0}
+
+-- what is said of a fault of bytes that were not read to their end
+abbrev pub too_long_words : List ℕ
+too_long_words = codes "the scenario is longer than 16,777,216 bytes"
+
+abbrev pub IsToldUnread : AppFault → List ℕ → Type 0
+IsToldUnread BadLimit words = words ≡ too_long_words
+IsToldUnread fault words = Unit {0}
