@@ -15,11 +15,11 @@ use Rattle.serde_json.specs.Find.{get_member}
 use Rattle.serde_json.proofs.Views.{get_member-put, get_member-put_other}
 use Rattle.mencius_input.specs.declared.field.Field.{Field}
 use Rattle.mencius_input.specs.declared.field.Field.TheVariants.{Version}
-use Rattle.mencius_input.specs.declared.fields.Fields as code
+use Rattle.mencius_input.specs.declared.fields.FieldValues as code
 use Rattle.mencius_input.specs.declared.fields.KeptList as code_list
 use Rattle.mencius_input.specs.declared.kind.Kind.{Kind}
 use Rattle.mencius_input.specs.declared.kind.Kind.TheVariants.{Replay, Run}
-use Rattle.mencius_input.specs.Fields.{AreFields, Says, list_kept, list_said, wholes_of}
+use Rattle.mencius_input.specs.FieldValues.{AreFieldValues, Says, list_kept, list_said, wholes_of}
 use Rattle.mencius_input.specs.FieldsOf.{default_of, field_name, fields, is_one_of, list_field, names, whole_fields}
 use Rattle.mencius_input.specs.Scenario.{has_only, number_in, number_of, whole_in}
 
@@ -179,7 +179,7 @@ wholes_none [] = refl
 wholes_none (f ∷ fs) = ap (λ ns. default_of f ∷ ns) (wholes_none fs)
 
 pub no_fields : (kind : Kind) (wholes : Vec (Option ℕ) Global) → wholes.items ≡ map default_of (whole_fields kind)
-    → AreFields kind (record { wholes = wholes; list = None; has_other = false }) no_members
+    → AreFieldValues kind (record { wholes = wholes; list = None; has_other = false }) no_members
 unfolding has_only
 no_fields kind wholes e = record {
   wholes = e ∙ wholes_none (whole_fields kind);
@@ -187,7 +187,7 @@ no_fields kind wholes e = record {
   other = refl;
 }
 
-module _ (kind : Kind) (f : code.Fields) (ms : Members) (name : List ℕ) (d : Data) (h : AreFields kind f ms) where
+module _ (kind : Kind) (f : code.FieldValues) (ms : Members) (name : List ℕ) (d : Data) (h : AreFieldValues kind f ms) where
   -- a field more that a scenario of the kind has
   known : (f.has_other ≡ not (has_only (names kind) ms)) → is_one_of name (names kind) ≡ true
       → f.has_other ≡ not (has_only (names kind) (put name d ms))
@@ -199,7 +199,7 @@ module _ (kind : Kind) (f : code.Fields) (ms : Members) (name : List ℕ) (d : D
 
   pub whole_set : (i : ℕ) (wholes : Vec (Option ℕ) Global) → position (is_named name) (whole_fields kind) ≡ Some i
       → wholes.items ≡ set f.wholes.items i (whole_in d)
-      → AreFields kind (record f { wholes = wholes }) (put name d ms)
+      → AreFieldValues kind (record f { wholes = wholes }) (put name d ms)
   whole_set i wholes is e =
       let place = position-Some (is_named name) (whole_fields kind) i Version is in
       let found : list_any (is_named name) (whole_fields kind) ≡ true =
@@ -223,7 +223,7 @@ module _ (kind : Kind) (f : code.Fields) (ms : Members) (name : List ℕ) (d : D
 
   pub list_set : (kept : code_list.KeptList) → position (is_named name) (whole_fields kind) ≡ None
       → is_named name (list_field kind) ≡ true → list_kept kept ≡ list_said kind d
-      → AreFields kind (record f { list = Some kept }) (put name d ms)
+      → AreFieldValues kind (record f { list = Some kept }) (put name d ms)
   list_set kept none here e =
       let others = none_named (is_named name) (whole_fields kind) none in record {
         wholes = h.wholes ∙ wholes_stay name d ms (whole_fields kind) others;
@@ -233,7 +233,7 @@ module _ (kind : Kind) (f : code.Fields) (ms : Members) (name : List ℕ) (d : D
       }
 
   pub other_set : position (is_named name) (whole_fields kind) ≡ None → is_named name (list_field kind) ≡ false
-      → AreFields kind (record f { has_other = true }) (put name d ms)
+      → AreFieldValues kind (record f { has_other = true }) (put name d ms)
   other_set none apart =
       let others = none_named (is_named name) (whole_fields kind) none in record {
         wholes = h.wholes ∙ wholes_stay name d ms (whole_fields kind) others;

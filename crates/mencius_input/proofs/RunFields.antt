@@ -12,10 +12,10 @@ use Rattle.mencius_ends.specs.declared.fault.AppFault.TheVariants.{BadLimit}
 use Rattle.mencius_format.specs.Grammar.{command_within}
 use Rattle.mencius_format.specs.Judged.{judged}
 use Rattle.mencius_input.specs.declared.field.Field.TheVariants.{Workers, Seed, Turns, Loss}
-use Rattle.mencius_input.specs.declared.fields.Fields as code
+use Rattle.mencius_input.specs.declared.fields.FieldValues as code
 use Rattle.mencius_input.specs.declared.kind.Kind.TheVariants.{Run}
 use Rattle.mencius_input.specs.declared.scenario.Shared.{Shared}
-use Rattle.mencius_input.specs.Fields.{AreFields, fitted, fitted_plan, list_kept, list_said, lists_within, plan_fits, plan_said, said_of, shared_in, shared_within}
+use Rattle.mencius_input.specs.FieldValues.{AreFieldValues, fitted, fitted_plan, list_kept, list_said, lists_within, plan_fits, plan_said, said_of, shared_in, shared_within}
 use Rattle.mencius_input.specs.FieldsOf.{field_within, names}
 use Rattle.mencius_input.specs.Plan.{commands_of, numbers_within, plan_read, plan_within}
 use Rattle.mencius_input.specs.Scenario.{all_in, all_of, has_only, number_of, scenario_of, scenario_within}
@@ -111,7 +111,7 @@ plan_judged shared (Some workers) (Some seed) (Some turns) (Some loss) (Some d) 
     ∙ ap (judged (tested shared.servers)) (mapped_items shared.servers workers seed turns loss shared.version (as_array d))
 
 -- the answer
-pub plan_fields_say : (f : code.Fields) (ms : Members) → AreFields Run f ms → has_only (names Run) ms ≡ true
+pub plan_fields_say : (f : code.FieldValues) (ms : Members) → AreFieldValues Run f ms → has_only (names Run) ms ≡ true
     → said_of (λ shared own. plan_said shared own (option_map list_kept f.list)) (shared_in f.wholes.items)
     ≡ judged (scenario_within plan_within) (scenario_of Run plan_read (object ms))
 plan_fields_say f ms h only =

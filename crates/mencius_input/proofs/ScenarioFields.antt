@@ -5,10 +5,10 @@ use Rattle.serde_json.specs.Data.{Data, Members, object}
 use Rattle.serde_json.specs.Find.{as_array, get, get_member}
 use Rattle.mencius_format.specs.Grammar.{event_within}
 use Rattle.mencius_format.specs.Judged.{judged}
-use Rattle.mencius_input.specs.declared.fields.Fields as code
+use Rattle.mencius_input.specs.declared.fields.FieldValues as code
 use Rattle.mencius_input.specs.declared.kind.Kind.TheVariants.{Replay}
 use Rattle.mencius_input.specs.declared.scenario.Shared.{Shared}
-use Rattle.mencius_input.specs.Fields.{AreFields, fitted, list_kept, list_said, said_of, schedule_said, shared_in}
+use Rattle.mencius_input.specs.FieldValues.{AreFieldValues, fitted, list_kept, list_said, said_of, schedule_said, shared_in}
 use Rattle.mencius_input.specs.FieldsOf.{names}
 use Rattle.mencius_input.specs.Scenario.{events_of, has_only, schedule_of, schedule_within, within, written_of}
 use Rattle.mencius_input.proofs.CasItems.{events_said_in}
@@ -26,7 +26,7 @@ schedule_judged shared None = refl
 schedule_judged shared (Some d) = events_said_in shared.version (list_all event_within) d
 
 -- the answer
-pub fields_say : (f : code.Fields) (ms : Members) → AreFields Replay f ms → has_only (names Replay) ms ≡ true
+pub fields_say : (f : code.FieldValues) (ms : Members) → AreFieldValues Replay f ms → has_only (names Replay) ms ≡ true
     → said_of (λ shared own. schedule_said (option_map list_kept f.list) shared) (shared_in f.wholes.items)
     ≡ judged within (written_of (object ms))
 fields_say f ms h only =

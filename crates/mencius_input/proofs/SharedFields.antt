@@ -12,7 +12,7 @@ use Rattle.mencius_input.specs.declared.field.Field.TheVariants.{Version, Server
 use Rattle.mencius_input.specs.declared.kind.Kind.{Kind}
 use Rattle.mencius_input.specs.declared.scenario.Scenario.{Scenario}
 use Rattle.mencius_input.specs.declared.scenario.Shared.{Shared}
-use Rattle.mencius_input.specs.Fields.{IsForeign, IsUnread, fitted, said_of, shared_in, shared_within, with_course}
+use Rattle.mencius_input.specs.FieldValues.{IsForeign, IsUnread, fitted, said_of, shared_in, shared_within, with_course}
 use Rattle.mencius_input.specs.FieldsOf.{names}
 use Rattle.mencius_input.specs.Scenario.{has_only, members_of, number_of, or_not_json, read_there, scenario_of, scenario_within}
 

@@ -4,7 +4,7 @@ pub mod Scenario
 pub mod Plan
 pub mod Newest
 pub mod Noted
-pub mod Fields
+pub mod FieldValues
 pub mod Events
 pub mod Kinds
 pub mod Shown

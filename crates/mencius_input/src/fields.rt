@@ -3,7 +3,7 @@
 ghost use Rattle.std.specs.Prelude.{◌≡◌, ◌<◌, IfErr, IfOk, OnOk, Some, length, map, option_map};
 ghost use Rattle.serde_json.specs.Data.{Data, Members, put};
 ghost use Rattle.serde_json.specs.Read.{max_depth, read};
-ghost use Rattle.mencius_input.specs.Fields.{AreAll, AreFields, IsUnread, list_kept, list_said};
+ghost use Rattle.mencius_input.specs.FieldValues.{AreAll, AreFieldValues, IsUnread, list_kept, list_said};
 ghost use Rattle.mencius_input.specs.FieldsOf.{default_of, whole_fields};
 ghost use Rattle.mencius_json.specs.Next.{next_members, next_value};
 ghost use Rattle.mencius_input.specs.Scenario.{json_of};
@@ -24,7 +24,7 @@ use std::alloc::Global;
 /// What is known of the fields that were read. A field that was written twice says what was written
 /// last.
 #[derive(Drop)]
-pub(crate) struct Fields {
+pub(crate) struct FieldValues {
     /// The number that each field is which has to be one, in the order of the table.
     pub wholes: Vec<Option<u64>>,
     /// What the list says.
@@ -54,7 +54,7 @@ fn defaults(alloc: Global, kind: Kind) -> Result<Vec<Option<u64>>, NoMemory>
 /// The fields of the scenario of a kind that a JSON text says. Bytes that are not JSON are `NotJson`; a
 /// value that is no object, or one with a field that no scenario of the kind has, is `BadShape`.
 #[tactic(auto, using(crate::proofs::JsonTexts::utf8_yes, crate::proofs::JsonTexts::utf8_no))]
-pub(crate) fn read_fields(alloc: Global, kind: Kind, bytes: &[u8]) -> Result<Fields, AppFault>
+pub(crate) fn read_fields(alloc: Global, kind: Kind, bytes: &[u8]) -> Result<FieldValues, AppFault>
     ensures ok { IfOk result (λ f. AreAll kind f (json_of bytes.now)) }
     ensures err { IfErr result (IsUnread kind (json_of bytes.now)) }
 {
@@ -65,7 +65,7 @@ pub(crate) fn read_fields(alloc: Global, kind: Kind, bytes: &[u8]) -> Result<Fie
 }
 
 // The fields of the scenario that a text says.
-fn read_text(alloc: Global, kind: Kind, text: &str) -> Result<Fields, AppFault>
+fn read_text(alloc: Global, kind: Kind, text: &str) -> Result<FieldValues, AppFault>
     ensures ok { IfOk result (λ f. AreAll kind f (read text.now)) }
     ensures err { IfErr result (IsUnread kind (read text.now)) }
 {
@@ -85,7 +85,7 @@ fn next_scenario(
     alloc: Global,
     kind: Kind,
     reader: &mut Tokens<'_>,
-) -> Result<Result<Fields, AppFault>, AppFault>
+) -> Result<Result<FieldValues, AppFault>, AppFault>
     ensures ok { IfOk result (λ r. (d : Data)
         × (next_value max_depth reader.old ≡ Some (d, reader.new))
         × IfOk r (λ f. AreAll kind f (Some d)) × IfErr r (IsUnread kind (Some d))) }
@@ -108,17 +108,17 @@ fn next_fields(
     kind: Kind,
     reader: &mut Tokens<'_>,
     depth: usize,
-) -> Result<Fields, AppFault>
+) -> Result<FieldValues, AppFault>
     requires { 1 < depth }
     ensures ok { IfOk result
         (λ f. (ms : Members) × (next_members depth reader.old ≡ Some (ms, reader.new))
-        × AreFields kind f ms) }
+        × AreFieldValues kind f ms) }
     ensures err { IfErr result (λ f. StopsBy (next_members depth reader.old) f) }
 {
     let Ok(wholes) = defaults(alloc, kind) else {
         return Err(AppFault::NoMemory);
     };
-    let mut fields = Fields {
+    let mut fields = FieldValues {
         wholes,
         list: None,
         has_other: false,
@@ -135,14 +135,14 @@ fn read_field(
     kind: Kind,
     reader: &mut Tokens<'_>,
     depth: usize,
-    fields: &mut Fields,
+    fields: &mut FieldValues,
     name: &str,
 ) -> Result<(), AppFault>
     requires depth { 1 < depth }
-    requires known { (ms : Members) × AreFields kind fields.old ms }
+    requires known { (ms : Members) × AreFieldValues kind fields.old ms }
     ensures ok { OnOk result ((d : Data) × (next_value depth reader.old ≡ Some (d, reader.new))
-        × ((ms : Members) → AreFields kind fields.old ms
-        → AreFields kind fields.new (put name.now d ms))) }
+        × ((ms : Members) → AreFieldValues kind fields.old ms
+        → AreFieldValues kind fields.new (put name.now d ms))) }
     ensures shorter { OnOk result (length reader.new < length reader.old) }
     ensures err { IfErr result (λ f. StopsBy (next_value depth reader.old) f) }
 {

@@ -93,7 +93,7 @@ fn version_of(scenario: &Value) -> u64
 }
 
 // Whether an item is a `cas`, by the place of that word alone.
-fn has_cas(kind: Kind, item: &Value) -> bool
+fn item_has_cas(kind: Kind, item: &Value) -> bool
     ensures { result ≡ item_has_cas kind (view item.now) }
 {
     match (item.as_str(), kind) {
@@ -107,7 +107,7 @@ fn has_cas(kind: Kind, item: &Value) -> bool
 fn is_cas_too_many(kind: Kind, version: u64, item: &Value) -> bool
     ensures { result ≡ (item_has_cas kind (view item.now) && not (takes_cas version)) }
 {
-    has_cas(kind, item) && !takes_cas(version)
+    item_has_cas(kind, item) && !takes_cas(version)
 }
 
 // The fault of an item.

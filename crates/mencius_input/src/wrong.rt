@@ -283,7 +283,7 @@ fn wrong_command(alloc: Global, text: &str, fault: AppFault) -> Result<String, N
 }
 
 // Whether a text is a `cas`, by the place of that word alone.
-fn is_cas(kind: Kind, text: &str) -> bool {
+fn text_is_cas(kind: Kind, text: &str) -> bool {
     match kind {
         Kind::Replay => event_is_cas(text),
         Kind::Run => command_is_cas(text),
@@ -299,7 +299,7 @@ pub(crate) fn wrong_item(
     text: &str,
     fault: AppFault,
 ) -> Result<String, NoMemory> {
-    if is_cas(kind, text) && !takes_cas(version) {
+    if text_is_cas(kind, text) && !takes_cas(version) {
         let newest = NEWEST_VERSION;
         return Ok(format!(in alloc; "only version {newest} has the operation cas")?);
     }

@@ -14,7 +14,7 @@ use Rattle.mencius_ends.specs.declared.fault.AppFault.TheVariants.{BadLimit, Bad
 use Rattle.mencius_format.specs.Grammar.{command_within, event_within, newest_version}
 use Rattle.mencius_format.specs.Judged.{judged, seen}
 use Rattle.mencius_input.specs.declared.field.Field.{Field}
-use Rattle.mencius_input.specs.declared.fields.Fields as code
+use Rattle.mencius_input.specs.declared.fields.FieldValues as code
 use Rattle.mencius_input.specs.declared.fields.KeptList as code_list
 use Rattle.mencius_input.specs.declared.fields.KeptList.TheVariants as kept
 use Rattle.mencius_input.specs.declared.kind.Kind.{Kind}
@@ -31,8 +31,8 @@ use Rattle.mencius_input.specs.Scenario.{◌>>=◌, all_in, cluster_within, has_
 -- ---- the lists
 
 -- what is read of the events
-abbrev pub events_in : Data → Newest (List Event)
-events_in d = record { said = judged (list_all event_within) (list_in d); has_cas = any_in has_event_cas d }
+abbrev pub events_said : Data → Newest (List Event)
+events_said d = record { said = judged (list_all event_within) (list_in d); has_cas = any_in has_event_cas d }
 
 -- a list of lists of texts, in the newest version
 abbrev pub lists_of : Data → Option (List (List Request))
@@ -43,8 +43,8 @@ abbrev pub lists_within : List (List Request) → Bool
 lists_within lists = list_all (list_all command_within) lists && nat_le (length lists) most_servers
 
 -- what is read of the commands
-abbrev pub lists_in : Data → Newest (List (List Request))
-lists_in d = record { said = judged lists_within (lists_of d); has_cas = any_in (any_in has_command_cas) d }
+abbrev pub lists_said : Data → Newest (List (List Request))
+lists_said d = record { said = judged lists_within (lists_of d); has_cas = any_in (any_in has_command_cas) d }
 
 -- the same of the lists that were kept
 abbrev pub lists_kept : Newest (Vec (Vec Command Global) Global) → Newest (List (List Request))
@@ -56,8 +56,8 @@ pub data SaidList : Type 0 where
   of_lists : Newest (List (List Request)) → SaidList
 
 abbrev pub list_said : Kind → Data → SaidList
-list_said Replay d = of_events (events_in d)
-list_said Run d = of_lists (lists_in d)
+list_said Replay d = of_events (events_said d)
+list_said Run d = of_lists (lists_said d)
 
 abbrev pub list_kept : code_list.KeptList → SaidList
 list_kept (kept.Events x) = of_events x
@@ -74,7 +74,7 @@ abbrev pub Says : {X : Type 0} → (Data → X) → List ℕ → Option X → Me
 Says says name known ms = known ≡ option_map says (get_member name ms)
 
 -- what was read of the fields, each as it was written last
-pub record AreFields (kind : Kind) (f : code.Fields) (ms : Members) : Type 0 where
+pub record AreFieldValues (kind : Kind) (f : code.FieldValues) (ms : Members) : Type 0 where
   pub wholes : f.wholes.items ≡ wholes_of (whole_fields kind) (object ms)
   pub list : Says (list_said kind) (field_name (list_field kind)) (option_map list_kept f.list) ms
   pub other : f.has_other ≡ not (has_only (names kind) ms)
@@ -90,10 +90,10 @@ IsUnread kind o fault =
     ⊎ ((fault ≡ BadShape) × (d : Data) × (o ≡ Some d) × IsForeign kind d)
 
 -- all fields of an object were read, and it has no other
-pub record AreAll (kind : Kind) (f : code.Fields) (o : Option Data) : Type 0 where
+pub record AreAll (kind : Kind) (f : code.FieldValues) (o : Option Data) : Type 0 where
   pub ms : Members
   pub there : o ≡ Some (object ms)
-  pub fields : AreFields kind f ms
+  pub fields : AreFieldValues kind f ms
   pub only : has_only (names kind) ms ≡ true
 
 -- ---- what both kinds of scenario say
