@@ -65,7 +65,7 @@ fn behind_first(text: &str) -> &str
 
 // Whether a byte is a blank.
 #[inline(always)]
-fn is_blank(byte: u8) -> bool
+pub(crate) fn is_blank(byte: u8) -> bool
     ensures { result ≡ is_space byte }
 {
     byte == b' ' || byte == b'\t' || byte == b'\n' || byte == b'\r'
@@ -105,7 +105,7 @@ fn stops_among(bytes: u8x16) -> u64
 }
 
 // Where the text of a string ends, which it does not before a place.
-fn stop_from(bytes: &[u8], place: usize) -> Option<usize>
+fn string_end_from(bytes: &[u8], place: usize) -> Option<usize>
     requires within { place ≤ length bytes.now }
     requires before { (n : ℕ) → n < place → is_stop (get_or bytes.now n 0) ≡ false }
     ensures { result ≡ position is_stop bytes.now }
@@ -122,7 +122,7 @@ fn stop_from(bytes: &[u8], place: usize) -> Option<usize>
 
 // Where the text of a string ends. Sixteen bytes are looked at together, and the last few one by one.
 #[inline(always)]
-fn stop_in(inside: &str) -> Option<usize>
+fn string_end_in(inside: &str) -> Option<usize>
     ensures { result ≡ position is_stop inside.now }
 {
     let bytes = inside.as_bytes();
@@ -134,7 +134,7 @@ fn stop_in(inside: &str) -> Option<usize>
         }
         place += 16;
     }
-    stop_from(bytes, place)
+    string_end_from(bytes, place)
 }
 
 // The text of the string whose opening quote was read, and what follows its other quote. None where
@@ -147,7 +147,7 @@ fn closed(inside: &str) -> Option<(&str, &str)>
         × (lex in_string inside.now ≡ lex between x.1.now)) }
     ensures plain { IfSome result (λ x. is_plain x.1.now ≡ true) }
 {
-    let Some(end) = stop_in(inside) else {
+    let Some(end) = string_end_in(inside) else {
         return None;
     };
     if inside.as_bytes()[end] != b'"' {

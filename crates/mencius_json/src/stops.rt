@@ -4,6 +4,7 @@ ghost use Rattle.std.specs.Prelude.{◌≡◌, IfOk, string_bytes};
 ghost use Rattle.mencius_json.specs.Stops.{NamesPlace, stop_words};
 
 use crate::crowd::crowd_in;
+use crate::plain::is_blank;
 use crate::tokens::Tokens;
 use crate::value::{MOST_DEPTH, pass, whole_number};
 use json::{Reader, Scratch, Token};
@@ -76,7 +77,7 @@ fn wrong_token(token: Token<'_>, open: &[u8], is_behind_name: bool) -> &'static 
 }
 
 // Where a token begins before which a comma may stand.
-fn past_comma(bytes: &[u8], offset: usize) -> usize {
+fn token_start(bytes: &[u8], offset: usize) -> usize {
     let behind = &bytes[offset.min(bytes.len())..];
     let passed = behind.iter().position(|b| !is_blank(*b) && *b != b',');
     offset.saturating_add(passed.unwrap_or(0))
@@ -93,7 +94,7 @@ fn last_before(
     let mut last = (0, NO_JSON);
     let mut open = Vec::new(alloc);
     let mut is_behind_name = false;
-    let mut start = past_comma(text.as_bytes(), reader.offset());
+    let mut start = token_start(text.as_bytes(), reader.offset());
     'tokens: while let Some(token) = reader.next() {
         if start >= offset {
             break;
@@ -101,14 +102,9 @@ fn last_before(
         last = (start, wrong_token(token, open.as_slice(), is_behind_name));
         is_behind_name = matches!(token, Token::Key(_));
         pass_bracket(&mut open, token)?;
-        start = past_comma(text.as_bytes(), reader.offset());
+        start = token_start(text.as_bytes(), reader.offset());
     }
     Ok(last)
-}
-
-// Whether a byte is a blank.
-fn is_blank(byte: u8) -> bool {
-    matches!(byte, b' ' | b'\t' | b'\n' | b'\r')
 }
 
 // The last byte that is no blank.

@@ -5,7 +5,7 @@ use Rattle.mencius_json.proofs.StringTexts.{closed_at, found_bounds, unclosed, u
 use Rattle.mencius_json.proofs.plain.closed.Goals as goal
 
 pub returns-in_default-clause-value : goal.returns-in_default-clause-value
-returns-in_default-clause-value c = unclosed c.args.inside.now (sym c.stop_in.ensures ∙ c.in_default.is) c.requires
+returns-in_default-clause-value c = unclosed c.args.inside.now (sym c.string_end_in.ensures ∙ c.in_default.is) c.requires
 
 pub returns-then-as_bytes-end-ne34-clause-value : goal.returns-then-as_bytes-end-ne34-clause-value
 returns-then-as_bytes-end-ne34-clause-value c =

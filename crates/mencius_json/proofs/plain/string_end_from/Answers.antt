@@ -1,7 +1,7 @@
 use Rattle.std.proofs.Common.{◌≡◌, ◌∙◌, sym, get_or, true}
 use Rattle.mencius_json.specs.Tokens.{is_stop}
 use Rattle.mencius_json.proofs.StringEnds.{first_place, nowhere}
-use Rattle.mencius_json.proofs.plain.stop_from.Goals as goal
+use Rattle.mencius_json.proofs.plain.string_end_from.Goals as goal
 
 pub returns-then-is_stop : goal.returns-then-is_stop
 returns-then-is_stop c =
