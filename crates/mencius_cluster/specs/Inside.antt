@@ -16,9 +16,13 @@ tables_in x = record {
   entries = x.journal.items;
 }
 
--- the members and the journal among the fields
+-- the members, the map's hasher and the journal among the fields
 abbrev pub state_in : Inside → ClusterState
-state_in x = record { members = x.members; journal = journal_of x.submissions.entries x.journal.items }
+state_in x = record {
+  members = x.members;
+  hasher = x.submissions.hasher;
+  journal = journal_of x.submissions.entries x.journal.items;
+}
 
 -- what every cluster keeps
 abbrev pub IsSound : Inside → Type 0

@@ -1,7 +1,8 @@
--- The salt of a cluster, from the identities of the commands that it is to take.
+-- The salt of a cluster, from the identities of the commands that it is to take, and the hashes that begin with it.
 use Rattle.std.specs.Prelude.{ℕ, ◌+◌, ◌*◌, ◌^◌, List, fold}
 use Rattle.std.specs.Hash as fed
 use Rattle.std.specs.Hash.DefaultHasher as sip
+use Rattle.std.specs.declared.hash.DefaultHasher.{DefaultHasher}
 use Rattle.mencius_base.specs.declared.command.Command.{Command}
 use Rattle.mencius_base.specs.declared.command.CommandId.{CommandId}
 
@@ -9,11 +10,18 @@ use Rattle.mencius_base.specs.declared.command.CommandId.{CommandId}
 abbrev pub word_of : CommandId → ℕ
 word_of id = id.client * 2 ^ 32 + id.number
 
+-- a hasher that has hashed a salt
+abbrev pub salted : ℕ → DefaultHasher
+salted salt = fold sip.write sip.initial (fed.u64 salt)
+
+-- the hash of an identity, by a hasher that has hashed what comes before it
+abbrev pub hash_by : DefaultHasher → CommandId → ℕ
+hash_by hasher id = sip.finish (fold sip.write hasher (fed.u64 (word_of id)))
+
 -- a hasher that writes so, after the identity of one more command
 abbrev pub after_identity : {H : Type 0} → (H → List ℕ → H) → H → Command → H
 after_identity write hasher command = fold write hasher (fed.u64 (word_of command.id))
 
 -- the hash of a salt and of the identities of commands
 abbrev pub salt_after : ℕ → List Command → ℕ
-salt_after salt commands =
-    sip.finish (fold (after_identity sip.write) (fold sip.write sip.initial (fed.u64 salt)) commands)
+salt_after salt commands = sip.finish (fold (after_identity sip.write) (salted salt) commands)

@@ -1,5 +1,6 @@
 -- The submitted commands, by ticket and by identity.
 use Rattle.std.specs.Prelude.{ℕ, List}
+use Rattle.std.specs.declared.hash.DefaultHasher.{DefaultHasher}
 use Rattle.mencius_base.specs.declared.command.CommandId.{CommandId}
 use Rattle.mencius_cluster.specs.declared.salt.Identity.{Identity}
 use Rattle.mencius_cluster.specs.declared.submission.Submission.{Submission}
@@ -12,7 +13,8 @@ Row = CommandId × Submission
 abbrev pub row_of : Identity × Submission → Row
 row_of entry = (entry.0.id, entry.1)
 
--- the rows by ticket, and how many more there is room for
+-- the rows by ticket, how many more there is room for, and what each look-up by identity begins its hash with
 pub record SubmissionTable : Type 0 where
   pub entries : List Row
   pub room : ℕ
+  pub hasher : DefaultHasher

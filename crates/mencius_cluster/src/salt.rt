@@ -1,9 +1,8 @@
-ghost use Rattle.std.specs.Prelude.{◌≡◌, fold};
+ghost use Rattle.std.specs.Prelude.{◌≡◌};
 ghost use Rattle.std.proofs.Common.{rules};
 ghost use Rattle.std.specs.Cmp.Rules.{hashing};
 ghost use Rattle.std.specs.Hash as fed;
-ghost use Rattle.std.specs.Hash.DefaultHasher as sip;
-ghost use Rattle.mencius_cluster.specs.Salt.{salt_after, word_of};
+ghost use Rattle.mencius_cluster.specs.Salt.{salt_after, salted, word_of};
 
 use mencius_base::{Command, CommandId};
 use std::hash::{BuildHasher, DefaultHasher, Hash, Hasher};
@@ -61,7 +60,7 @@ pub struct BuildSaltedHasher {
 impl BuildSaltedHasher {
     /// By this salt. Which keys of a map share a place depends on all its bits.
     pub fn new(salt: u64) -> BuildSaltedHasher
-        ensures { result.first ≡ fold sip.write sip.initial (fed.u64 salt) }
+        ensures { result.first ≡ salted salt }
     {
         let mut first = DefaultHasher::new();
         first.write_u64(salt);

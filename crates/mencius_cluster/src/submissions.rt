@@ -3,6 +3,7 @@ ghost use Rattle.std.specs.Map.{lookup};
 ghost use Rattle.mencius_base.specs.Command.{is_same_id};
 ghost use Rattle.mencius_cluster.specs.declared.submission.Answered.TheVariants.{Pending};
 ghost use Rattle.mencius_cluster.specs.Performed.{IsExecution, IsPerformed};
+ghost use Rattle.mencius_cluster.specs.Salt.{hash_by, salted};
 ghost use Rattle.mencius_model.specs.WithinLimits.{IsTicketBelow};
 
 use crate::salt::{BuildSaltedHasher, Identity};
@@ -30,18 +31,23 @@ pub struct Submissions {
 
 impl Model for Submissions {
     ghost use Rattle.std.specs.Prelude.{map};
-    ghost use Rattle.indexmap.specs.IndexMap.{spare};
+    ghost use Rattle.indexmap.specs.IndexMap.{hasher_of, spare};
     ghost use Rattle.mencius_cluster.specs.Submissions.{SubmissionTable, row_of};
 
     ghost Value = { SubmissionTable };
 
-    ghost view = { λ x. record { entries = map row_of x.rows.entries; room = spare x.rows } };
+    ghost view = { λ x. record {
+      entries = map row_of x.rows.entries;
+      room = spare x.rows;
+      hasher = (hasher_of x.rows).first;
+    } };
 }
 
 impl Submissions {
     /// No command yet. It takes no memory.
     pub fn new(alloc: Global, salt: u64) -> Submissions
-        ensures { result.entries ≡ [] }
+        ensures entries { result.entries ≡ [] }
+        ensures hasher { result.hasher ≡ salted salt }
     {
         Submissions {
             rows: IndexMap::with_hasher(alloc, BuildSaltedHasher::new(salt)),
@@ -72,13 +78,16 @@ impl Submissions {
     }
 
     /// The hash by which a command of this identity is looked for.
-    pub fn hash_of(&self, id: CommandId) -> u64 {
+    pub fn hash_of(&self, id: CommandId) -> u64
+        ensures { result ≡ hash_by self.now.hasher id }
+    {
         self.rows.hasher().hash_one(Identity { id })
     }
 
     /// Makes room for one more command. The commands that are there stay either way.
     pub fn reserve(&mut self) -> Result<(), NoMemory>
         ensures entries { self.new.entries ≡ self.old.entries }
+        ensures hasher { self.new.hasher ≡ self.old.hasher }
         ensures room { OnOk result (0 < self.new.room) }
     {
         if self.rows.is_empty() && self.rows.reserve(FIRST_COMMANDS).is_ok() {
@@ -92,8 +101,9 @@ impl Submissions {
     pub fn enroll(&mut self, command: Command, home: u8)
         requires room { 0 < self.old.room }
         requires new { lookup (is_same_id command.id) self.old.entries ≡ None }
-        ensures { self.new.entries ≡ self.old.entries
+        ensures entries { self.new.entries ≡ self.old.entries
             ++ (command.id, record { command = command; home = home; answer = Pending }) ∷ [] }
+        ensures hasher { self.new.hasher ≡ self.old.hasher }
     {
         let identity = Identity { id: command.id() };
         let submission = Submission {
@@ -119,6 +129,7 @@ impl Submissions {
             self.old.entries self.new.entries) }
         ensures executor { OnErr result (executor.new ≡ executor.old) }
         ensures rows { OnErr result (self.new.entries ≡ self.old.entries) }
+        ensures hasher { self.new.hasher ≡ self.old.hasher }
     {
         let (_, submission) = self.rows.pair_mut(ticket as usize);
         submission.execute(executor, server, ticket)
@@ -137,6 +148,7 @@ pub fn perform(
         submissions.old.entries submissions.new.entries) }
     ensures executor { OnErr result (executor.new ≡ executor.old) }
     ensures rows { OnErr result (submissions.new.entries ≡ submissions.old.entries) }
+    ensures hasher { submissions.new.hasher ≡ submissions.old.hasher }
 {
     match value {
         Value::Noop => Ok(()),

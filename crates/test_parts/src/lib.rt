@@ -1,14 +1,11 @@
-//! Tests of the parts, each by its public calls: commands and outboxes, single instances, single servers, the map, the
-//! salt of a cluster, and boards and their readers and workers. They stand apart, so that no part is proved a second
-//! time with its tests.
+//! Tests of the parts, each by its public calls: commands and outboxes, single instances, single servers, the map, and
+//! boards and their readers and workers. They stand apart, so that no part is proved a second time with its tests.
 #![tactic(auto)]
 
 #[cfg(test)]
 mod base;
 #[cfg(test)]
 mod board;
-#[cfg(test)]
-mod cluster;
 #[cfg(test)]
 mod executor;
 #[cfg(test)]

@@ -10,8 +10,8 @@ use Rattle.mencius_cluster.proofs.MapRows.{row_by_identity}
 use Rattle.mencius_cluster.proofs.SubmittedRows.{new_row}
 use Rattle.mencius_cluster.proofs.submissions.Submissions.enroll.Goals as goal
 
-pub returns : goal.returns
-returns c =
+pub returns-clause-entries : goal.returns-clause-entries
+returns-clause-entries c =
     let rows = c.self.inside.rows in
     let identity : Identity = record { id = c.id.result } in
     let row = new_row c.args.command c.args.home in
