@@ -3,6 +3,7 @@ use Rattle.std.specs.Prelude.{ℕ, Bool, true, false, ◌≡◌, ◌≢◌, ◌�
 use Rattle.mencius_base.specs.Members.{below}
 use Rattle.mencius_choices.specs.Choices.{ChooserState, first_chooser}
 use Rattle.mencius_base.specs.Plan.{PlanState, plan_of}
+use Rattle.mencius_cluster.specs.State.{new_cluster}
 use Rattle.mencius_board.specs.Boards.{BoardState, new_board}
 use Rattle.mencius_board.specs.declared.fault.BoardFault.{BoardFault}
 use Rattle.mencius_board.specs.declared.fault.BoardFault.TheVariants.{NoMemory, NoWorker}
@@ -119,4 +120,4 @@ no_plan = plan_of 0 0 0 0 []
 
 abbrev pub no_board : BoardState
 no_board = new_board (record { book = record { number = 0; log_name = 0; cells_name = 0 }; root = 0 })
-    (record { members = record { count = 0; beta = 0 }; journal = [] }) 0
+    (new_cluster (record { count = 0; beta = 0 }) 0) 0

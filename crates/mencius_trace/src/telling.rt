@@ -40,6 +40,7 @@ pub fn tell(
     ensures trace { OnOk result (trace_of cluster.new ≡ trace_after (trace_of cluster.old)
         (next cluster.old.members (trace_of cluster.old) event)) }
     ensures members { OnOk result (cluster.new.members ≡ cluster.old.members) }
+    ensures hasher { OnOk result (cluster.new.hasher ≡ cluster.old.hasher) }
 {
     push_event_line(text, place, &event)?;
     let before = note(alloc, cluster, &event)?;
