@@ -17,7 +17,7 @@ extern "C" {
 #endif
 
 struct mencius_answer {
-    uint64_t status;  /* the exit status: 0, 1 (strict, refused events), 2 (bad arguments), 3 (bad scenario), 4, 5 (no memory) */
+    uint64_t status;  /* the exit status, as docs/FORMATS.md has it; 5 also where there was no memory for the texts */
     uint64_t printed; /* how many bytes go to standard output */
     uint64_t said;    /* how many bytes go to standard error */
     uint64_t asked;   /* 1 where the input was read, else 0 */

@@ -15,7 +15,8 @@ static void *take(u64 n) {
   u64 size = 1ul << k;
   while ((u64)top + size > end()) {
     u64 want = ((u64)top + size - end() + 65535) >> 16; if (want < 64) want = 64;
-    if (__builtin_wasm_memory_grow(0, want) == (u64)-1) return 0;
+    // Where nothing grows that is -1, of which the lowering to 32 bits leaves the lower half.
+    if ((unsigned)__builtin_wasm_memory_grow(0, want) == ~0u) return 0;
   }
   b = top; top += size; *(u64 *)b = k; return b + 16;
 }
