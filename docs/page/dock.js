@@ -3,6 +3,8 @@
 
 // So many messages of an inbox are shown at first, the newest of them.
 const SHOWN = 7;
+// So many instances a server's table has, the latest of them.
+const INSTANCES = 6;
 // Whose inbox is shown whole, who shows what it heard already, and who is about to be asked for something.
 const dock = { isWhole: {}, isAgain: {}, ask: null };
 
@@ -75,7 +77,8 @@ function actions({ schedule, trace }, server) {
 function askForm(schedule, server) {
   return el('form', { class: 'ask', 'data-server': server },
     el('input', { value: commandFor(schedule, server), 'aria-label': `command for server ${server}: ID, then set KEY TEXT, get KEY, del KEY or cas KEY OLD NEW`, spellcheck: 'false' }),
-    el('button', {}, 'submit'), el('button', { type: 'button', 'data-do': 'ask -1', 'aria-label': 'no command' }, '×'));
+    el('button', {}, 'submit'), el('button', { type: 'button', 'data-do': 'ask -1', 'aria-label': 'no command' }, '×'),
+    el('small', {}, 'ID, then set KEY TEXT, get KEY, del KEY or cas KEY OLD NEW'));
 }
 
 // The next command of the client who asks at this server: its first own number that is free.
@@ -89,7 +92,7 @@ function commandFor({ events }, server) {
 // ---- what a server knows of the instances, the latest ones
 
 function table(trace, server, servers) {
-  const rows = [...trace.slots[server]].sort(([a], [b]) => a - b).slice(-8);
+  const rows = [...trace.slots[server]].sort(([a], [b]) => a - b).slice(-INSTANCES);
   if (rows.length === 0) return null;
   const body = rows.flatMap(([instance, slot]) => rowsOf(instance, slot, servers));
   return el('table', {}, el('caption', { class: 'unseen' }, `instances at server ${server}`),
@@ -101,6 +104,7 @@ function rowsOf(instance, { promised, vote, tried, promises, acceptances, propos
   const votes = vote ? `${vote.value}@b${vote.ballot}` : null;
   const first = el('tr', {}, el('th', { scope: 'row', class: ownerOf(instance, servers) }, `i${instance}`),
     ...[promised ? `b${promised}` : null, votes].map(text => el('td', {}, written(text))), el('td', { class: 'learned-value' }, written(learned)));
+  if (learned) return [first];
   const tells = [tried ? `tries b${tried}` : null, promises && `promises ${promises}`, proposal && `proposed ${proposal}`, acceptances && `accepted by ${acceptances}`];
   const told = tells.filter(Boolean).join(', ');
   return told === '' ? [first] : [first, el('tr', { class: 'tries' }, el('td'), el('td', { colspan: 3 }, told))];

@@ -22,7 +22,8 @@ function showStep(number) {
 // The texts of steps are HTML that the build made.
 function stepText(step, number) {
   const next = number < DATA.lessons.length ? `<button data-step="${number + 1}">next: ${DATA.lessons[number].title}</button>` : '';
-  return `<h2>${number}. ${step.title}</h2>${step.before}<p class="soft">Press <kbd>→</kbd> or ▶ to go through it.</p>${step.after}
+  const press = step.schedule.events.length ? '<p class="soft">Press <kbd>→</kbd> or ▶ to go through it.</p>' : '';
+  return `<h2>${number}. ${step.title}</h2>${step.before}${press}${step.after}
     <div class="question"><p><b>Find out:</b> ${step.question}</p><p id="found" class="verdict" role="status"></p>
     <details><summary>answer</summary>${step.answer}</details></div>
     <p class="acts"><button data-step="${number}">begin again</button>${next}</p>`;

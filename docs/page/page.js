@@ -67,6 +67,7 @@ function become(schedule, cursor, isKept = true) {
 }
 
 function go(cursor) {
+  hideHint();
   page.cursor = Math.max(0, Math.min(page.schedule.events.length, cursor));
   show();
 }
@@ -80,7 +81,6 @@ function undo(from, to) {
 
 // Puts an event in at the cursor. Where it is what comes next, it is stepped to.
 function add(event) {
-  hideHint();
   const { schedule, cursor, now } = page;
   if (schedule.events[cursor] === event) { go(cursor + 1); return; }
   const tried = traceOf(withEvent(prefixOf(schedule, cursor), event));
@@ -113,7 +113,7 @@ function open(schedule, cursor, isKept) {
 // ---- an event at random, of those that the buttons have
 
 function randomEvent() {
-  const { now, schedule, dice } = page, asked = REFUSABLE(schedule.servers).filter(event => !refusalOf(event));
+  const { now, schedule, dice } = page, asked = refusableEvents(schedule.servers).filter(event => !refusalOf(event));
   const runs = asked.filter(event => event.startsWith('execute')), odd = asked.filter(event => !event.startsWith('execute'));
   const roll = dice(100), { unheard } = now.trace, server = dice(schedule.servers);
   if (runs.length && roll < 35) return runs[dice(runs.length)];
@@ -129,8 +129,12 @@ function addAtRandom(number) {
 
 // ---- asking the proved code whether it would refuse an event
 
-const REFUSABLE = servers => Array.from({ length: servers }, (_, server) => [`execute ${server}`, `retry ${server}`,
-  ...Array.from({ length: servers }, (_, other) => `suspect ${server} ${other}`).filter((_, other) => other !== server)]).flat();
+// The events of this kind that buttons have.
+function refusableEvents(servers) {
+  const all = Array.from({ length: servers }, (_, server) => server);
+  const suspicions = server => all.filter(other => other !== server).map(other => `suspect ${server} ${other}`);
+  return all.flatMap(server => [`execute ${server}`, `retry ${server}`, ...suspicions(server)]);
+}
 
 // Why the event would be refused after those so far, or null.
 function refusalOf(event) {
@@ -180,11 +184,15 @@ function showBar() {
   $('slider').max = length;
   $('slider').value = cursor;
   $('where').textContent = `${cursor} of ${length}`;
+  $('told').textContent = cursor === 0 ? 'nothing has happened yet' : inSentence(page.now.trace.events.at(-1), cursor - 1);
   for (const [id, isOff] of [['undo', !past.length], ['redo', !future.length], ['first', !cursor], ['back', !cursor], ['next', cursor === length], ['last', cursor === length]]) $(id).disabled = isOff;
   $('servers').value = schedule.servers;
   const shown = asScenario(schedule);
   $('example').value = Object.keys(DATA.examples).find(name => asScenario(DATA.examples[name]) === shown) ?? '';
 }
+
+// What an event did, for a screen reader.
+const inSentence = ({ text, refusal, lines }, place) => `event ${place}, ${text}: ${refusal ? `refused, ${REFUSALS[refusal]}` : lines.join('; ') || 'nothing more'}`;
 
 function showTab() {
   const { tab, schedule, now } = page;
@@ -195,6 +203,8 @@ function showTab() {
   if (tab === 'texts') {
     $('report').textContent = now.reportText;
     $('trace').textContent = now.text;
+    const lines = now.text.split('\n'), last = lines.findLastIndex(line => line.startsWith('event '));
+    $('trace').scrollTop = $('trace').scrollHeight * Math.max(0, last - 3) / lines.length;
   }
 }
 
@@ -230,7 +240,6 @@ function hideHint() {
 
 function startStep(number) {
   showStep(number);
-  hideHint();
   const step = DATA.lessons[number - 1];
   if (step) become(step.schedule, 0);
 }

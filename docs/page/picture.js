@@ -7,7 +7,7 @@ const DRAWN = 100;
 const AROUND = 20;
 // Where the picture's lanes begin, where the first one stands, and how far they are apart, as `mencius draw` has it.
 const LEFT = 296, TOP = 84, FIRST_LANE = 452, APART = 204, HALF_ROW = 12;
-const SMALLEST = 0.86;
+const SMALLEST = 0.9;
 
 const picture = { drawn: null, svg: null, rows: [], zoom: 1, room: 800, width: 800, height: 0 };
 
@@ -22,21 +22,21 @@ function el(tag, attributes = {}, ...children) {
 }
 
 // The first and the last event to be drawn for a cursor, where the drawn part does not do.
-function partFor(cursor, count) {
-  if (count <= DRAWN) return [0, count - 1];
-  const first = Math.max(0, Math.min(cursor - DRAWN / 2, count - DRAWN));
+function partFor(cursor, length) {
+  if (length <= DRAWN) return [0, length - 1];
+  const first = Math.max(0, Math.min(cursor - DRAWN / 2, length - DRAWN));
   return [first, first + DRAWN - 1];
 }
 
-function isInPart({ first, last }, cursor, count) {
-  return first <= Math.max(0, cursor - AROUND) && last >= Math.min(count, cursor + AROUND) - 1;
+function isInPart({ first, last }, cursor, length) {
+  return first <= Math.max(0, cursor - AROUND) && last >= Math.min(length, cursor + AROUND) - 1;
 }
 
 // Draws the part around the cursor, unless it is there already. Says why where the program refuses to.
 function drawPicture(core, schedule, cursor) {
-  const drawn = picture.drawn, count = schedule.events.length;
-  if (drawn && drawn.schedule === schedule && isInPart(drawn, cursor, count)) return;
-  const [first, last] = partFor(cursor, count);
+  const drawn = picture.drawn, length = schedule.events.length;
+  if (drawn && drawn.schedule === schedule && isInPart(drawn, cursor, length)) return;
+  const [first, last] = partFor(cursor, length);
   const answer = core.call(['draw', '--from', String(first), '--to', String(Math.max(last, 0))], asScenario(schedule));
   picture.drawn = { schedule, first, last };
   if (answer.status !== 0) {
@@ -50,7 +50,7 @@ function drawPicture(core, schedule, cursor) {
   fitPicture(schedule.servers);
   markParts(picture.svg, cursor);
   $('drawing').replaceChildren(picture.svg);
-  if (count === 0) $('drawing').append(el('p', { id: 'empty' }, 'Nothing has happened. Have a client ask for something, by “submit ..” below a server, or press R for an event at random.'));
+  if (length === 0) $('drawing').append(el('p', { id: 'empty' }, 'Nothing has happened. Have a client ask for something, by “submit ..” below a server, or press R for an event at random.'));
   fillRows(schedule, first);
 }
 
@@ -65,7 +65,7 @@ function cutDrawing(svg, schedule) {
   svg.setAttribute('viewBox', `${LEFT} ${TOP} ${picture.width} ${picture.height}`);
   svg.removeAttribute('role');
   const band = document.createElementNS('http://www.w3.org/2000/svg', 'rect');
-  for (const [name, value] of Object.entries({ id: 'band', x: LEFT, width: picture.width, height: 0 })) band.setAttribute(name, value);
+  for (const [name, value] of Object.entries({ id: 'band', x: LEFT, width: 9 * picture.width, height: 0 })) band.setAttribute(name, value);
   svg.querySelector('.paper').after(band);
   picture.svg = svg;
 }
@@ -121,6 +121,16 @@ function markCursor(cursor) {
   band?.setAttribute('y', TOP + (here?.top ?? 0));
   band?.setAttribute('height', here?.height ?? 0);
   showRow(here);
+  if (cursor > 0) showLane(picture.drawn.schedule.events[cursor - 1]);
+}
+
+// Scrolls the stage so that the lane of an event is in sight.
+function showLane(event) {
+  const words = event.split(' '), server = +words[['deliver', 'lose'].includes(words[0]) ? 2 : 1];
+  const stage = $('stage'), column = $('rows').offsetWidth, apart = APART * picture.zoom;
+  const middle = column + (FIRST_LANE - LEFT) * picture.zoom + server * apart;
+  const isSeen = middle - apart / 2 >= stage.scrollLeft + column && middle + apart / 2 <= stage.scrollLeft + stage.clientWidth;
+  if (!isSeen) stage.scrollLeft = middle - (stage.clientWidth + column) / 2;
 }
 
 // Scrolls the stage so that a row is between the servers' names and the dock.

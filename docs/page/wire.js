@@ -52,6 +52,12 @@ function changeTheme() {
   root.className = shown === 'dark' ? 'light' : 'dark';
 }
 
+// Hides what stands beside the picture, or shows it again.
+function showSide() {
+  const isHidden = document.body.classList.toggle('alone');
+  $('side').setAttribute('aria-pressed', isHidden);
+}
+
 function wireBar() {
   for (const name of Object.keys(DATA.examples)) $('example').add(new Option(name.replaceAll('_', ' '), name));
   $('example').add(new Option('(none)', ''), 0);
@@ -59,16 +65,19 @@ function wireBar() {
   $('example').onchange = () => {
     const example = DATA.examples[$('example').value];
     showStep(0);
-    hideHint();
     become(example ?? { ...page.schedule, beta: 0, events: [] }, example ? example.events.length : 0);
   };
-  $('servers').onchange = () => { hideHint(); become({ servers: +$('servers').value, beta: page.schedule.beta, events: [] }, 0); };
+  $('servers').onchange = () => {
+    const wasEmpty = page.schedule.events.length === 0;
+    become({ servers: +$('servers').value, beta: page.schedule.beta, events: [] }, 0);
+    if (!wasEmpty) say('A new schedule. Undo brings the former one back.');
+  };
   const actions = {
     undo: () => undo(page.past, page.future), redo: () => undo(page.future, page.past),
     random: () => addAtRandom(1), random20: () => addAtRandom(20),
     first: () => go(0), back: () => go(page.cursor - 1), next: () => go(page.cursor + 1), last: () => go(Infinity),
     link: copyLink, json: () => save('schedule.json', 'application/json', asFile(page.schedule)), svg: savePicture,
-    theme: changeTheme, help: () => $('keys').showModal(), 'close-keys': () => $('keys').close(),
+    theme: changeTheme, side: showSide, help: () => $('keys').showModal(), 'close-keys': () => $('keys').close(),
   };
   for (const [id, action] of Object.entries(actions)) $(id).onclick = action;
   $('slider').oninput = () => go(+$('slider').value);
@@ -125,7 +134,7 @@ function wireTabs() {
   $('worker').onsubmit = event => {
     event.preventDefault();
     const schedule = drawByWorker(core, page.schedule.servers, page.schedule.beta);
-    if (schedule) { hideHint(); become(schedule, schedule.events.length); }
+    if (schedule) become(schedule, schedule.events.length);
   };
   for (const name of Object.keys(DATA.logs)) $('logs').add(new Option(name.replaceAll('_', ' '), name));
   $('log').value = DATA.logs[$('logs').value = 'same_order'];
@@ -139,7 +148,7 @@ function wireTabs() {
 const PLAIN = {
   ArrowLeft: () => go(page.cursor - 1), ArrowRight: () => go(page.cursor + 1),
   PageUp: () => go(page.cursor - 10), PageDown: () => go(page.cursor + 10), Home: () => go(0), End: () => go(Infinity),
-  Delete: takeOut, Backspace: takeOut, r: () => addAtRandom(1), R: () => addAtRandom(20), '?': () => $('keys').showModal(),
+  Delete: takeOut, Backspace: takeOut, r: () => addAtRandom(1), R: () => addAtRandom(20), '?': () => $('keys').showModal(), p: showSide,
   d: () => pressFocused('.message'), l: () => pressFocused('.lose'),
 };
 
