@@ -1,5 +1,5 @@
-"""The browsers in which the page is tried: Chromium by selenium, and Firefox by its own protocol, Marionette, since Debian
-has no geckodriver. Both have the same calls, and see the page as a user does: clicks, keys, texts."""
+"""The browsers in which the page is tried: Chromium by selenium, and Firefox by its own protocol, Marionette, since
+Debian has no geckodriver. Both have the same calls, and see the page as a user does: clicks, keys, texts."""
 import base64
 import json
 import os
@@ -37,7 +37,8 @@ class Browser:
 
     def write(self, selector, text):
         """Puts a text in the place of that of a field, as typing does."""
-        self.run(f"const field = document.querySelector({json.dumps(selector)}); field.focus(); field.value = {json.dumps(text)};"
+        self.run(f"const field = document.querySelector({json.dumps(selector)}); field.focus();"
+                 f"field.value = {json.dumps(text)};"
                  "field.dispatchEvent(new Event('input', { bubbles: true }))")
 
     def choose(self, selector, value):
@@ -54,7 +55,8 @@ class Browser:
 
 def lacking_for_chromium():
     """The packages of Debian that are not there."""
-    found = [package for package, tool in (("chromium", "chromium"), ("chromium-driver", "chromedriver")) if not shutil.which(tool)]
+    tools = (("chromium", "chromium"), ("chromium-driver", "chromedriver"))
+    found = [package for package, tool in tools if not shutil.which(tool)]
     return found + ([] if has_selenium() else ["python3-selenium"])
 
 
@@ -82,7 +84,8 @@ class Chromium(Browser):
         from selenium import webdriver
         from selenium.webdriver.chrome.service import Service
         options = webdriver.ChromeOptions()
-        for word in ("--headless=new", "--no-sandbox", "--disable-gpu", f"--window-size={width},{height}", f"--user-data-dir={folder}/chromium"):
+        for word in ("--headless=new", "--no-sandbox", "--disable-gpu", f"--window-size={width},{height}",
+                     f"--user-data-dir={folder}/chromium"):
             options.add_argument(word)
         options.set_capability("goog:loggingPrefs", {"browser": "ALL", "performance": "ALL"})
         self.driver = webdriver.Chrome(service=Service(shutil.which("chromedriver")), options=options)
@@ -159,7 +162,8 @@ class Firefox(Browser):
             free.bind(("127.0.0.1", 0))
             port = free.getsockname()[1]
         with open(os.path.join(profile, "user.js"), "w", encoding="utf-8") as file:
-            file.write(f'user_pref("marionette.port", {port});\nuser_pref("datareporting.policy.dataSubmissionEnabled", false);\n')
+            file.write(f'user_pref("marionette.port", {port});\n'
+                       'user_pref("datareporting.policy.dataSubmissionEnabled", false);\n')
         self.process = subprocess.Popen(
             ["firefox-esr", "--headless", "--marionette", "--remote-allow-system-access", "--profile", profile],
             stdout=subprocess.DEVNULL, stderr=subprocess.DEVNULL, env={**os.environ, "HOME": folder})
@@ -202,13 +206,15 @@ class Firefox(Browser):
 
     def press(self, *keys):
         codes = [KEYS.get(key, key) for key in keys]
-        actions = [{"type": "keyDown", "value": code} for code in codes] + [{"type": "keyUp", "value": code} for code in reversed(codes)]
+        actions = [{"type": "keyDown", "value": code} for code in codes]
+        actions += [{"type": "keyUp", "value": code} for code in reversed(codes)]
         self.call("WebDriver:PerformActions", actions=[{"type": "key", "id": "keyboard", "actions": actions}])
 
     def lines(self):
         self.call("Marionette:SetContext", value="chrome")
         try:
-            return self.run("return Services.console.getMessageArray().map(line => [line.sourceName ?? '', line.message])"
+            return self.run("return Services.console.getMessageArray()"
+                            ".map(line => [line.sourceName ?? '', line.message])"
                             ".filter(([source]) => source.startsWith('file:')).map(([, message]) => message)")
         finally:
             self.call("Marionette:SetContext", value="content")

@@ -43,10 +43,12 @@ class Core {
   attempt(words, input, rooms) {
     const places = [this.put(words), this.put(input), ...rooms.map(room => this.room(room)), this.room(32)];
     const [a, b, out, err, answer] = places;
-    this.exports.mencius_call(a, BigInt(words.length), b, BigInt(input.length), out, BigInt(rooms[0]), err, BigInt(rooms[1]), answer);
+    this.exports.mencius_call(a, BigInt(words.length), b, BigInt(input.length), out, BigInt(rooms[0]), err,
+      BigInt(rooms[1]), answer);
     const [status, printed, said] = [...new BigUint64Array(this.bytesAt(answer, 32).slice().buffer)].map(Number);
     const fits = printed <= rooms[0] && said <= rooms[1];
-    const texts = fits ? [[out, printed], [err, said]].map(place => new TextDecoder().decode(this.bytesAt(...place))) : null;
+    const read = (at, length) => new TextDecoder().decode(this.bytesAt(at, length));
+    const texts = fits ? [read(out, printed), read(err, said)] : null;
     for (const place of places) this.exports.mencius_give(place);
     return { status, lengths: [printed, said], texts };
   }
@@ -74,7 +76,8 @@ class Core {
       return this.answer(args, input);
     } catch (error) {
       this.restart(error);
-      return { status: 5, printed: '', said: `mencius: fault 26 NoMemory\nthe module stopped twice: ${error.message}\n` };
+      const said = `mencius: fault 26 NoMemory\nthe module stopped twice: ${error.message}\n`;
+      return { status: 5, printed: '', said };
     }
   }
 

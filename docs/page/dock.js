@@ -16,14 +16,20 @@ function summary(now) {
   const { cursor, schedule, report, trace } = now, event = trace.events.at(-1);
   const said = cursor === 0 ? 'nothing has happened yet' : `after event ${cursor - 1}`;
   const box = el('div', { class: 'summary' }, el('h2', {}, said));
-  if (event?.refusal) box.append(el('p', { class: 'bad' }, `refused: ${event.refusal}, since ${REFUSALS[event.refusal]}`));
-  box.append(el('p', {}, `${count(report.accepted, 'event')}, ${count(report.messages, 'message')}` + (schedule.beta ? `, beta ${schedule.beta}` : '')));
+  if (event?.refusal) {
+    box.append(el('p', { class: 'bad' }, `refused: ${event.refusal}, since ${REFUSALS[event.refusal]}`));
+  }
+  const counts = [count(report.accepted, 'event'), count(report.messages, 'message')];
+  box.append(el('p', {}, [...counts, ...(schedule.beta ? [`beta ${schedule.beta}`] : [])].join(', ')));
   if (report.replies.length > 0) {
     box.append(el('h3', {}, 'replies'), el('ul', { class: 'replies' }, ...report.replies.slice(-30).map(([id, reply]) =>
       el('li', { class: reply === 'pending' ? 'soft' : null }, el('b', {}, id), ` ${reply}`))));
   }
   const later = schedule.events.length - cursor;
-  if (later > 0) box.append(el('button', { 'data-do': 'cut', title: 'take out all events behind the cursor' }, `drop ${count(later, 'later event')}`));
+  if (later > 0) {
+    const title = 'take out all events behind the cursor';
+    box.append(el('button', { 'data-do': 'cut', title }, `drop ${count(later, 'later event')}`));
+  }
   return box;
 }
 
@@ -31,7 +37,8 @@ const count = (number, what) => `${number} ${what}${number === 1 ? '' : 's'}`;
 
 function card(now, server) {
   const { trace, report, schedule } = now, { front, executed, waiting } = trace.closing[server];
-  const facts = [`next own i${front}`, `executed ${executed}`, ...(waiting.length ? [`waiting ${waiting.join(' ')}`] : [])];
+  const facts = [`next own i${front}`, `executed ${executed}`];
+  if (waiting.length) facts.push(`waiting ${waiting.join(' ')}`);
   return el('section', { class: `server owner${server}`, 'data-server': server, 'aria-label': `server ${server}` },
     inbox(now, server), actions(now, server),
     el('p', { class: 'facts' }, facts.join(' · ')),
@@ -42,13 +49,16 @@ function card(now, server) {
 // ---- messages under way
 
 function inbox(now, server) {
-  const { trace } = now, due = trace.unheard.filter(({ to }) => to === server).map(({ number }) => trace.messages[number]);
+  const { trace } = now, isDue = ({ to }) => to === server;
+  const due = trace.unheard.filter(isDue).map(({ number }) => trace.messages[number]);
   const hidden = dock.isWhole[server] ? 0 : Math.max(0, due.length - SHOWN);
   const list = el('ul', { class: 'inbox', 'aria-label': `messages under way to server ${server}` });
   if (due.length === 0) list.append(el('li', { class: 'soft' }, 'no message under way'));
   if (hidden > 0) list.append(el('li', {}, el('button', { 'data-do': `whole ${server}` }, `${hidden} older ones ..`)));
   list.append(...due.slice(hidden).map(message => messageRow(now, message, server)));
-  if (dock.isAgain[server]) list.append(...trace.heardBy(server).slice(-SHOWN).map(message => messageRow(now, message, server, true)));
+  if (dock.isAgain[server]) {
+    list.append(...trace.heardBy(server).slice(-SHOWN).map(message => messageRow(now, message, server, true)));
+  }
   return list;
 }
 
@@ -58,32 +68,51 @@ function messageRow(now, { number, kind, from, instance, label }, server, isAgai
   return el('li', { class: `${ownerOf(instance, now.schedule.servers)}${isAgain ? ' again' : ''}`, 'data-m': number },
     el('button', { class: 'message', 'data-do': `deliver ${number} ${server}`, title: deliver, 'aria-label': deliver },
       el('b', {}, `${number} ${kind}`), ` ${label} `, el('i', {}, isAgain ? 'again' : `←${from}`)),
-    isAgain ? null : el('button', { class: 'lose', 'data-do': `lose ${number} ${server}`, title: `lose ${said}`, 'aria-label': `lose ${said}` }, '×'));
+    isAgain ? null : loseButton(`lose ${number} ${server}`, `lose ${said}`));
+}
+
+function loseButton(event, said) {
+  return el('button', { class: 'lose', 'data-do': event, title: said, 'aria-label': said }, '×');
 }
 
 // ---- what else may happen at a server; a button is grey where the proved code refuses the event
 
 function actions({ schedule, trace }, server) {
   const others = Array.from({ length: schedule.servers }, (_, other) => other).filter(other => other !== server);
-  const button = (event, text, label) => el('button', { 'data-do': event, 'data-asked': event, 'aria-label': label }, text);
-  const again = trace.heardBy(server).length === 0 ? null : el('button', { 'data-do': `again ${server}`, 'aria-pressed': dock.isAgain[server] ? 'true' : 'false',
-    title: 'messages that it heard already, to be delivered once more' }, 'again');
+  const button = (event, text, label) =>
+    el('button', { 'data-do': event, 'data-asked': event, 'aria-label': label }, text);
+  const again = trace.heardBy(server).length === 0 ? null : againButton(server);
   return el('div', { class: 'acts' },
-    dock.ask === server ? askForm(schedule, server) : el('button', { 'data-do': `ask ${server}`, title: `a client asks server ${server}` }, 'submit ..'),
+    dock.ask === server ? askForm(schedule, server) : askButton(server),
     button(`execute ${server}`, 'execute'), button(`retry ${server}`, 'retry'), again,
-    others.length === 0 ? null : el('span', { class: 'suspects' }, 'suspect', ...others.map(other => button(`suspect ${server} ${other}`, String(other), `suspect ${other}`))));
+    others.length === 0 ? null : el('span', { class: 'suspects' }, 'suspect',
+      ...others.map(other => button(`suspect ${server} ${other}`, String(other), `suspect ${other}`))));
 }
 
+const COMMAND = 'ID, then set KEY TEXT, get KEY, del KEY or cas KEY OLD NEW';
+
 function askForm(schedule, server) {
+  const said = `command for server ${server}: ${COMMAND}`;
   return el('form', { class: 'ask', 'data-server': server },
-    el('input', { value: commandFor(schedule, server), 'aria-label': `command for server ${server}: ID, then set KEY TEXT, get KEY, del KEY or cas KEY OLD NEW`, spellcheck: 'false' }),
-    el('button', {}, 'submit'), el('button', { type: 'button', 'data-do': 'ask -1', 'aria-label': 'no command' }, '×'),
-    el('small', {}, 'ID, then set KEY TEXT, get KEY, del KEY or cas KEY OLD NEW'));
+    el('input', { value: commandFor(schedule, server), 'aria-label': said, spellcheck: 'false' }),
+    el('button', {}, 'submit'),
+    el('button', { type: 'button', 'data-do': 'ask -1', 'aria-label': 'no command' }, '×'),
+    el('small', {}, COMMAND));
+}
+
+function askButton(server) {
+  return el('button', { 'data-do': `ask ${server}`, title: `a client asks server ${server}` }, 'submit ..');
+}
+
+function againButton(server) {
+  const title = 'messages that it heard already, to be delivered once more';
+  return el('button', { 'data-do': `again ${server}`, 'aria-pressed': String(Boolean(dock.isAgain[server])), title }, 'again');
 }
 
 // The next command of the client who asks at this server: its first own number that is free.
 function commandFor({ events }, server) {
-  const client = server + 1, used = new Set(events.filter(event => event.startsWith('submit')).map(event => event.split(' ')[2]));
+  const client = server + 1, submissions = events.filter(event => event.startsWith('submit'));
+  const used = new Set(submissions.map(event => event.split(' ')[2]));
   let number = 0;
   while (used.has(`${client}.${number}`)) number += 1;
   return `${client}.${number} set a ${['x', 'y', 'z'][used.size] ?? `v${used.size}`}`;
@@ -91,21 +120,28 @@ function commandFor({ events }, server) {
 
 // ---- what a server knows of the instances, the latest ones
 
+const COLUMNS = [
+  ['', 'instance'], ['promised', 'the greatest ballot that it promised or accepted'],
+  ['vote', 'value@ballot that it accepted last'], ['learned', 'the value that it learned'],
+];
+
 function table(trace, server, servers) {
   const rows = [...trace.slots[server]].sort(([a], [b]) => a - b).slice(-INSTANCES);
   if (rows.length === 0) return null;
   const body = rows.flatMap(([instance, slot]) => rowsOf(instance, slot, servers));
   return el('table', {}, el('caption', { class: 'unseen' }, `instances at server ${server}`),
-    el('thead', {}, el('tr', {}, ...[['', 'instance'], ['promised', 'the greatest ballot that it promised or accepted'], ['vote', 'value@ballot that it accepted last'], ['learned', 'the value that it learned']]
-      .map(([name, title]) => el('th', { title, scope: 'col' }, name)))), el('tbody', {}, ...body));
+    el('thead', {}, el('tr', {}, ...COLUMNS.map(([name, title]) => el('th', { title, scope: 'col' }, name)))),
+    el('tbody', {}, ...body));
 }
 
 function rowsOf(instance, { promised, vote, tried, promises, acceptances, proposal, learned }, servers) {
   const votes = vote ? `${vote.value}@b${vote.ballot}` : null;
   const first = el('tr', {}, el('th', { scope: 'row', class: ownerOf(instance, servers) }, `i${instance}`),
-    ...[promised ? `b${promised}` : null, votes].map(text => el('td', {}, written(text))), el('td', { class: 'learned-value' }, written(learned)));
+    ...[promised ? `b${promised}` : null, votes].map(text => el('td', {}, written(text))),
+    el('td', { class: 'learned-value' }, written(learned)));
   if (learned) return [first];
-  const tells = [tried ? `tries b${tried}` : null, promises && `promises ${promises}`, proposal && `proposed ${proposal}`, acceptances && `accepted by ${acceptances}`];
+  const tells = [tried ? `tries b${tried}` : null, promises && `promises ${promises}`,
+    proposal && `proposed ${proposal}`, acceptances && `accepted by ${acceptances}`];
   const told = tells.filter(Boolean).join(', ');
   return told === '' ? [first] : [first, el('tr', { class: 'tries' }, el('td'), el('td', { colspan: 3 }, told))];
 }

@@ -7,7 +7,8 @@ function mark(area, place) {
   behind.replaceChildren();
   if (place) {
     const [start, end] = place;
-    behind.append(text.slice(0, start), el('mark', {}, text.slice(start, end) || ' '), text.slice(Math.max(end, start)));
+    const marked = el('mark', {}, text.slice(start, end) || ' ');
+    behind.append(text.slice(0, start), marked, text.slice(Math.max(end, start)));
   } else {
     behind.append(text);
   }
@@ -27,7 +28,8 @@ function readEditor(core) {
   const area = $('source'), answer = core.call(['check'], area.value);
   if (answer.status === 0 && / workers /.test(answer.printed)) {
     mark(area, null);
-    showVerdict('verdict', `${answer.printed.trim()}: a run. Its workers choose the events: the button below has one drawn.`);
+    const kind = `${answer.printed.trim()}: a run.`;
+    showVerdict('verdict', `${kind} Its workers choose the events: the button below has one drawn.`);
     return null;
   }
   const words = answer.status === 0 ? answer.printed.trim() : wordsOf(answer.said);
@@ -41,9 +43,11 @@ function readEditor(core) {
 
 // The plan of the form: two commands of a client for each server, or the run that stands in the editor.
 function planOf(servers, beta) {
-  const commands = Array.from({ length: servers }, (_, server) => [`${server + 1}.0 set a v${server}`, `${server + 1}.1 get a`]);
+  const commands = Array.from({ length: servers }, (_, server) =>
+    [`${server + 1}.0 set a v${server}`, `${server + 1}.1 get a`]);
   const [seed, turns, loss] = ['seed', 'turns', 'loss'].map(id => $(id).value.trim() || '0');
-  return `{"version": 1, "servers": ${servers}, ${beta ? `"beta": ${beta}, ` : ''}"workers": 1, "seed": ${seed}, "turns": ${turns},`
+  return `{"version": 1, "servers": ${servers}, ${beta ? `"beta": ${beta}, ` : ''}`
+    + `"workers": 1, "seed": ${seed}, "turns": ${turns},`
     + ` "loss": ${loss},\n "commands": ${JSON.stringify(commands)}}`;
 }
 
@@ -68,23 +72,33 @@ const VIOLATIONS = {
   OneCommand: w => `Another command was submitted as ${w[1]} before. An ID names one command.`,
   Submitted: w => `Command ${w[1]} is executed or answered here, and nobody submitted it before.`,
   Once: w => `Server ${w[1]} executes command ${w[5]} again, at place ${w[3]} of its history.`,
-  SameOrder: w => `Server ${w[1]} executes ${w[7]} at place ${w[3]} of its history, where another server executed ${w[5]}. The histories would never agree again.`,
-  RealTime: w => `Server ${w[1]} executes ${w[5]} at place ${w[3]} before ${w[7]}, which had its reply already when ${w[5]} was first submitted.`,
+  SameOrder: w => `Server ${w[1]} executes ${w[7]} at place ${w[3]} of its history, where another server executed ${w[5]}.`
+    + ' The histories would never agree again.',
+  RealTime: w => `Server ${w[1]} executes ${w[5]} at place ${w[3]} before ${w[7]}, which had its reply already when`
+    + ` ${w[5]} was first submitted.`,
   OneReply: w => `Command ${w[1]} is answered ${inWords(w[5])}, and was answered ${inWords(w[3])} before.`,
-  RightReply: w => `Command ${w[1]} stands at place ${w[3]}, where a map that executes the commands before it answers ${inWords(w[5])}, and not ${inWords(w[7])}.`,
-  RightLookup: w => `Reader ${w[1]} found ${inWords(w[9])} at key ${w[3]}, which stands there after none of the first ${w[5]} to ${w[7]} commands. It has seen ${w[5]} at least.`,
+  RightReply: w => `Command ${w[1]} stands at place ${w[3]}, where a map that executes the commands before it answers`
+    + ` ${inWords(w[5])}, and not ${inWords(w[7])}.`,
+  RightLookup: w => `Reader ${w[1]} found ${inWords(w[9])} at key ${w[3]}, which stands there after none of the first`
+    + ` ${w[5]} to ${w[7]} commands. It has seen ${w[5]} at least.`,
 };
 const inWords = answer => answer === 'none' ? 'that nothing is there' : `“${answer.slice(1)}”`;
 
 function judgeLog(core) {
   const area = $('log'), answer = core.call(['judge'], area.value), words = answer.printed.trim().split(' ');
   const isBroken = words[0] === 'violation';
-  mark(area, answer.status === 0 ? null : placeOfMistake(area.value, isBroken ? `line ${words[1]}` : wordsOf(answer.said)));
-  showVerdict('judgement', answer.status === 0 || isBroken ? answer.printed.trim() : wordsOf(answer.said), answer.status !== 0);
-  $('in-words').textContent = answer.status === 0 ? keptInWords(words) : isBroken ? `Line ${words[1]} breaks the promise ${words[2]}. ${VIOLATIONS[words[2]](words.slice(3))}` : 'This line is no observation, so nothing is said of the store.';
+  const said = answer.status === 0 || isBroken ? answer.printed.trim() : wordsOf(answer.said);
+  mark(area, answer.status === 0 ? null : placeOfMistake(area.value, isBroken ? `line ${words[1]}` : said));
+  showVerdict('judgement', said, answer.status !== 0);
+  $('in-words').textContent = answer.status === 0 ? keptInWords(words) : isBroken ? brokenInWords(words)
+    : 'This line is no observation, so nothing is said of the store.';
 }
+
+const brokenInWords = words => `Line ${words[1]} breaks the promise ${words[2]}. ${VIOLATIONS[words[2]](words.slice(3))}`;
 
 function keptInWords(w) {
   const open = w[10] === '0' ? '' : ` Of the replies ${w[10]} stand in no history yet, and are not judged.`;
-  return `All eight promises are kept: ${count(+w[2], 'server')} executed ${w[6]} of ${count(+w[4], 'command')}, ${count(+w[8], 'reply').replace('replys', 'replies')} and ${count(+w[12], 'look-up')} are right.${open}`;
+  const replies = `${w[8]} ${w[8] === '1' ? 'reply' : 'replies'}`;
+  return `All eight promises are kept: ${count(+w[2], 'server')} executed ${w[6]} of ${count(+w[4], 'command')},`
+    + ` ${replies} and ${count(+w[12], 'look-up')} are right.${open}`;
 }

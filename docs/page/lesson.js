@@ -1,12 +1,13 @@
 'use strict';
-// The tutorial's steps, which docs/page/build takes out of docs/TUTORIAL.md. A step is found where the trace of the events
-// up to the cursor says all that its answer names.
+// The tutorial's steps, which docs/page/build takes out of docs/TUTORIAL.md. A step is found where the trace of the
+// events up to the cursor says all that its answer names.
 
 const lesson = { step: 0, found: new Set() };
 
 function fillLessons() {
   $('lessons').replaceChildren(...DATA.lessons.map((step, index) => el('li', {},
-    el('button', { 'data-step': index + 1, title: step.title, 'aria-label': `step ${index + 1}: ${step.title}` }, String(index + 1)))));
+    el('button', { 'data-step': index + 1, title: step.title, 'aria-label': `step ${index + 1}: ${step.title}` },
+      String(index + 1)))));
 }
 
 function showStep(number) {
@@ -21,7 +22,8 @@ function showStep(number) {
 
 // The texts of steps are HTML that the build made.
 function stepText(step, number) {
-  const next = number < DATA.lessons.length ? `<button data-step="${number + 1}">next: ${DATA.lessons[number].title}</button>` : '';
+  const following = DATA.lessons[number];
+  const next = following ? `<button data-step="${number + 1}">next: ${following.title}</button>` : '';
   const press = step.schedule.events.length ? '<p class="soft">Press <kbd>→</kbd> or ▶ to go through it.</p>' : '';
   return `<h2>${number}. ${step.title}</h2>${step.before}${press}${step.after}
     <div class="question"><p><b>Find out:</b> ${step.question}</p><p id="found" class="verdict" role="status"></p>

@@ -7,7 +7,10 @@ const TABS = ['lesson', 'editor', 'judge', 'texts'];
 const UNDONE = 500;
 
 let core;
-const page = { schedule: { servers: 3, beta: 0, events: [] }, cursor: 0, tab: 'lesson', past: [], future: [], now: null, whole: null, dice: diceOf(1) };
+const page = {
+  schedule: { servers: 3, beta: 0, events: [] }, cursor: 0, tab: 'lesson', past: [], future: [],
+  now: null, whole: null, dice: diceOf(1),
+};
 
 // A generator for steps at random, of this page alone.
 function diceOf(seed) {
@@ -99,7 +102,8 @@ function takeOut() {
   const place = page.cursor - 1, { trace } = page.whole;
   const { schedule, gone } = withRemoved(page.schedule, place, trace.events[place].firstMessage, trace.countOf(place));
   become(schedule, place);
-  if (gone.length) say(`Taken out with it, since their message is gone: ${gone.slice(0, 4).join(', ')}${gone.length > 4 ? ' ..' : ''}`);
+  const some = gone.slice(0, 4).join(', ') + (gone.length > 4 ? ' ..' : '');
+  if (gone.length) say(`Taken out with it, since their message is gone: ${some}`);
 }
 
 // Opens a schedule that was read, if the program takes it; else says why not.
@@ -114,7 +118,7 @@ function open(schedule, cursor, isKept) {
 
 function randomEvent() {
   const { now, schedule, dice } = page, asked = refusableEvents(schedule.servers).filter(event => !refusalOf(event));
-  const runs = asked.filter(event => event.startsWith('execute')), odd = asked.filter(event => !event.startsWith('execute'));
+  const [runs, odd] = [true, false].map(is => asked.filter(event => event.startsWith('execute') === is));
   const roll = dice(100), { unheard } = now.trace, server = dice(schedule.servers);
   if (runs.length && roll < 35) return runs[dice(runs.length)];
   if (odd.length && roll < 40) return odd[dice(odd.length)];
@@ -184,15 +188,21 @@ function showBar() {
   $('slider').max = length;
   $('slider').value = cursor;
   $('where').textContent = `${cursor} of ${length}`;
-  $('told').textContent = cursor === 0 ? 'nothing has happened yet' : inSentence(page.now.trace.events.at(-1), cursor - 1);
-  for (const [id, isOff] of [['undo', !past.length], ['redo', !future.length], ['first', !cursor], ['back', !cursor], ['next', cursor === length], ['last', cursor === length]]) $(id).disabled = isOff;
+  const event = page.now.trace.events.at(-1);
+  $('told').textContent = cursor === 0 ? 'nothing has happened yet' : inSentence(event, cursor - 1);
+  const atStart = cursor === 0, atEnd = cursor === length;
+  const off = { undo: !past.length, redo: !future.length, first: atStart, back: atStart, next: atEnd, last: atEnd };
+  for (const [id, isOff] of Object.entries(off)) $(id).disabled = isOff;
   $('servers').value = schedule.servers;
   const shown = asScenario(schedule);
   $('example').value = Object.keys(DATA.examples).find(name => asScenario(DATA.examples[name]) === shown) ?? '';
 }
 
 // What an event did, for a screen reader.
-const inSentence = ({ text, refusal, lines }, place) => `event ${place}, ${text}: ${refusal ? `refused, ${REFUSALS[refusal]}` : lines.join('; ') || 'nothing more'}`;
+function inSentence({ text, refusal, lines }, place) {
+  const came = refusal ? `refused, ${REFUSALS[refusal]}` : lines.join('; ') || 'nothing more';
+  return `event ${place}, ${text}: ${came}`;
+}
 
 function showTab() {
   const { tab, schedule, now } = page;
@@ -260,7 +270,8 @@ async function main() {
   const begin = performance.now();
   try {
     const module = await WebAssembly.compile(await unpacked($('module').textContent));
-    core = new Core(module, why => say(`The module stopped (${why}) and was started anew. Nothing of the schedule is lost.`));
+    core = new Core(module, why =>
+      say(`The module stopped (${why}) and was started anew. Nothing of the schedule is lost.`));
     core.start();
   } catch (error) {
     document.body.textContent = `This browser could not start the program: ${error}`;

@@ -1,6 +1,6 @@
 'use strict';
-// The picture: what `mencius draw` makes of the schedule, cut to its lanes, with the events' texts in a column that stays
-// in sight, and the servers' names above. Stepping changes classes alone; more than some rows are drawn by parts.
+// The picture: what `mencius draw` makes of the schedule, cut to its lanes, with the events' texts in a column that
+// stays in sight, and the servers' names above. Stepping changes classes alone; more than some rows are drawn by parts.
 
 // So many events are drawn at once, and so many of them at least stand before and behind the cursor.
 const DRAWN = 100;
@@ -8,6 +8,8 @@ const AROUND = 20;
 // Where the picture's lanes begin, where the first one stands, and how far they are apart, as `mencius draw` has it.
 const LEFT = 296, TOP = 84, FIRST_LANE = 452, APART = 204, HALF_ROW = 12;
 const SMALLEST = 0.9;
+const EMPTY = 'Nothing has happened. Have a client ask for something, by “submit ..” below a server, or press R for an'
+  + ' event at random.';
 
 const picture = { drawn: null, svg: null, rows: [], zoom: 1, room: 800, width: 800, height: 0 };
 
@@ -50,7 +52,7 @@ function drawPicture(core, schedule, cursor) {
   fitPicture(schedule.servers);
   markParts(picture.svg, cursor);
   $('drawing').replaceChildren(picture.svg);
-  if (length === 0) $('drawing').append(el('p', { id: 'empty' }, 'Nothing has happened. Have a client ask for something, by “submit ..” below a server, or press R for an event at random.'));
+  if (length === 0) $('drawing').append(el('p', { id: 'empty' }, EMPTY));
   fillRows(schedule, first);
 }
 
@@ -58,14 +60,16 @@ function drawPicture(core, schedule, cursor) {
 function cutDrawing(svg, schedule) {
   for (const part of svg.querySelectorAll('.foot, .key, .place, .what, :scope > title')) part.remove();
   const bottom = +/V(\d+)/.exec(svg.querySelector('.lane .line')?.getAttribute('d') ?? 'V80')[1];
-  const tops = [...svg.querySelectorAll('.event')].map(event => +/ (\d+)\)/.exec(event.firstElementChild.getAttribute('transform'))[1] - HALF_ROW - TOP);
+  const middleOf = event => +/ (\d+)\)/.exec(event.firstElementChild.getAttribute('transform'))[1];
+  const tops = [...svg.querySelectorAll('.event')].map(event => middleOf(event) - HALF_ROW - TOP);
   picture.rows = tops.map((top, index) => ({ top, height: (tops[index + 1] ?? bottom - TOP - 2) - top }));
   picture.width = +svg.getAttribute('width') - LEFT;
   picture.height = Math.max(bottom - TOP, schedule.events.length === 0 ? 90 : 0);
   svg.setAttribute('viewBox', `${LEFT} ${TOP} ${picture.width} ${picture.height}`);
   svg.removeAttribute('role');
   const band = document.createElementNS('http://www.w3.org/2000/svg', 'rect');
-  for (const [name, value] of Object.entries({ id: 'band', x: LEFT, width: 9 * picture.width, height: 0 })) band.setAttribute(name, value);
+  const shape = { id: 'band', x: LEFT, width: 9 * picture.width, height: 0 };
+  for (const [name, value] of Object.entries(shape)) band.setAttribute(name, value);
   svg.querySelector('.paper').after(band);
   picture.svg = svg;
 }
@@ -97,10 +101,11 @@ function fillRows(schedule, first) {
 }
 
 function fillHeads(servers) {
-  $('heads').replaceChildren(el('span', { class: 'corner' }, 'event'), ...Array.from({ length: servers }, (_, server) => {
+  const heads = Array.from({ length: servers }, (_, server) => {
     const owned = servers === 1 ? 'owns all' : `owns ${server}, ${server + servers}, ..`;
     return el('div', { class: `lane-head owner${server}` }, el('span', {}, el('b', {}, `server ${server}`), owned));
-  }));
+  });
+  $('heads').replaceChildren(el('span', { class: 'corner' }, 'event'), ...heads);
 }
 
 // Makes pale what has not happened yet.
@@ -129,7 +134,8 @@ function showLane(event) {
   const words = event.split(' '), server = +words[['deliver', 'lose'].includes(words[0]) ? 2 : 1];
   const stage = $('stage'), column = $('rows').offsetWidth, apart = APART * picture.zoom;
   const middle = column + (FIRST_LANE - LEFT) * picture.zoom + server * apart;
-  const isSeen = middle - apart / 2 >= stage.scrollLeft + column && middle + apart / 2 <= stage.scrollLeft + stage.clientWidth;
+  const from = stage.scrollLeft + column, to = stage.scrollLeft + stage.clientWidth;
+  const isSeen = middle - apart / 2 >= from && middle + apart / 2 <= to;
   if (!isSeen) stage.scrollLeft = middle - (stage.clientWidth + column) / 2;
 }
 
@@ -158,7 +164,8 @@ function fillKey(core) {
   const box = el('div');
   box.innerHTML = printed;
   const svg = box.querySelector('svg'), key = box.querySelector('.key');
-  for (const part of [...svg.children]) if (part !== key && part.tagName !== 'style' && part.tagName !== 'defs') part.remove();
+  const isKept = part => part === key || ['style', 'defs'].includes(part.tagName);
+  for (const part of [...svg.children]) if (!isKept(part)) part.remove();
   key.querySelector('text').remove();
   key.setAttribute('transform', 'translate(4 12)');
   svg.setAttribute('viewBox', '0 0 850 100');

@@ -1,5 +1,6 @@
 'use strict';
-// A schedule is { servers, beta, events }, of which the events are texts. It is never changed: a new one takes its place.
+// A schedule is { servers, beta, events }, of which the events are texts. It is never changed: a new one takes its
+// place.
 
 // Version 2 exactly where an operation of version 2 stands in it, as in the journal of a run.
 const versionOf = events => events.some(event => /^submit \d+ [\d.]+ cas /.test(event)) ? 2 : 1;
@@ -9,8 +10,9 @@ function asScenario({ servers, beta, events }) {
 }
 
 function asFile({ servers, beta, events }) {
-  const head = `{"version": ${versionOf(events)}, "servers": ${servers}, ` + (beta ? `"beta": ${beta}, ` : '') + '"events": [';
-  return head + (events.length ? '\n' + events.map(event => '  ' + JSON.stringify(event)).join(',\n') + '\n' : '') + ']}\n';
+  const size = `"version": ${versionOf(events)}, "servers": ${servers}, ${beta ? `"beta": ${beta}, ` : ''}`;
+  const lines = events.map(event => '  ' + JSON.stringify(event)).join(',\n');
+  return `{${size}"events": [${events.length ? `\n${lines}\n` : ''}]}\n`;
 }
 
 // A schedule out of the text of a scenario that the program has checked.
@@ -53,7 +55,8 @@ function withRemoved(schedule, place, first, count) {
   };
   const behind = schedule.events.slice(place + 1);
   const { texts, moved } = renumbered(behind.filter(event => !isGone(event)), first + count, -count);
-  return { schedule: { ...schedule, events: [...schedule.events.slice(0, place), ...texts] }, moved, gone: behind.filter(isGone) };
+  const events = [...schedule.events.slice(0, place), ...texts];
+  return { schedule: { ...schedule, events }, moved, gone: behind.filter(isGone) };
 }
 
 // ---- the schedule in a link, readable since no word of an event needs an escape

@@ -20,7 +20,8 @@ class Trace {
   read(line, words) {
     const reader = READERS[words[0]];
     if (reader) reader(this, words);
-    if (this.closing.length === 0 && words[0] !== 'event' && words[0] !== 'servers') this.events.at(-1)?.lines.push(line);
+    const isOfEvent = this.closing.length === 0 && words[0] !== 'event' && words[0] !== 'servers';
+    if (isOfEvent) this.events.at(-1)?.lines.push(line);
   }
 
   // How many messages the event at a place sent.
@@ -32,7 +33,9 @@ class Trace {
   // The messages that a server heard already, and may hear again.
   heardBy(server) {
     const due = new Set(this.unheard.filter(({ to }) => to === server).map(({ number }) => number));
-    return this.messages.filter(({ number, to }) => (to ?? server) === server && !due.has(number) && !this.lost.has(`${number} ${server}`));
+    const isHeard = ({ number, to }) =>
+      (to ?? server) === server && !due.has(number) && !this.lost.has(`${number} ${server}`);
+    return this.messages.filter(isHeard);
   }
 
   change(server, instance, changes) {
@@ -51,7 +54,8 @@ const READERS = {
     trace.slots = Array.from({ length: trace.servers }, () => new Map());
   },
   event(trace, words) {
-    trace.events.push({ text: words.slice(2).join(' '), firstMessage: trace.messages.length, refusal: null, lines: [] });
+    const text = words.slice(2).join(' ');
+    trace.events.push({ text, firstMessage: trace.messages.length, refusal: null, lines: [] });
     if (words[2] === 'lose') trace.lost.add(`${words[3]} ${words[4]}`);
   },
   refused(trace, words) {
@@ -109,7 +113,10 @@ function labelOf(words) {
   switch (words[2]) {
     case 'Skip': return `i${words[8]} until i${words[10]}`;
     case 'Learn': return `i${words[8]} = ${words[10]}`;
-    case 'Promise': return `i${words[8]} b${words[10]} ` + (words[12] === 'none' ? 'no vote' : `voted ${words[13]}@b${words[12]}`);
+    case 'Promise': {
+      const vote = words[12] === 'none' ? 'no vote' : `voted ${words[13]}@b${words[12]}`;
+      return `i${words[8]} b${words[10]} ${vote}`;
+    }
     default: return `i${words[8]} b${words[10]}` + (words[12] ? ` ${words[12]}` : '');
   }
 }

@@ -36,7 +36,10 @@ function savePicture() {
 }
 
 async function copyLink() {
-  if (!asLink(page.schedule, page.cursor, lesson.step)) { say('The schedule is too long for a link: JSON saves it as a file.'); return; }
+  if (!asLink(page.schedule, page.cursor, lesson.step)) {
+    say('The schedule is too long for a link: JSON saves it as a file.');
+    return;
+  }
   keepAddress();
   try {
     await navigator.clipboard.writeText(location.href);
@@ -140,7 +143,9 @@ function wireTabs() {
   $('log').value = DATA.logs[$('logs').value = 'same_order'];
   $('logs').onchange = () => { $('log').value = DATA.logs[$('logs').value]; judgeLog(core); };
   $('log').oninput = () => later('judge', 150, () => judgeLog(core));
-  for (const area of [$('source'), $('log')]) area.onscroll = () => { area.previousElementSibling.scrollTop = area.scrollTop; };
+  for (const area of [$('source'), $('log')]) {
+    area.onscroll = () => { area.previousElementSibling.scrollTop = area.scrollTop; };
+  }
 }
 
 // ---- keys
@@ -148,7 +153,8 @@ function wireTabs() {
 const PLAIN = {
   ArrowLeft: () => go(page.cursor - 1), ArrowRight: () => go(page.cursor + 1),
   PageUp: () => go(page.cursor - 10), PageDown: () => go(page.cursor + 10), Home: () => go(0), End: () => go(Infinity),
-  Delete: takeOut, Backspace: takeOut, r: () => addAtRandom(1), R: () => addAtRandom(20), '?': () => $('keys').showModal(), p: showSide,
+  Delete: takeOut, Backspace: takeOut, r: () => addAtRandom(1), R: () => addAtRandom(20), p: showSide,
+  '?': () => $('keys').showModal(),
   d: () => pressFocused('.message'), l: () => pressFocused('.lose'),
 };
 
@@ -159,11 +165,13 @@ function pressFocused(kind) {
 
 function keyed(event) {
   if ($('keys').open || event.altKey) return;
-  const { target, key } = event, isWriting = /TEXTAREA|SELECT/.test(target.tagName) || target.tagName === 'INPUT' && target.type !== 'range';
+  const { target, key } = event, isField = target.tagName === 'INPUT' && target.type !== 'range';
+  const isWriting = isField || ['TEXTAREA', 'SELECT'].includes(target.tagName);
   if (key === 'Escape' && dock.ask !== null) { OWN.ask(-1); return; }
   if (isWriting) return;
   if (event.ctrlKey || event.metaKey) {
-    const action = { z: () => undo(page.past, page.future), Z: () => undo(page.future, page.past), y: () => undo(page.future, page.past) }[key];
+    const back = () => undo(page.past, page.future), again = () => undo(page.future, page.past);
+    const action = { z: back, Z: again, y: again }[key];
     if (action) { event.preventDefault(); action(); }
     return;
   }
