@@ -38,23 +38,33 @@ abbrev pub nowhere_text : ℕ → ℕ → Option (List ℕ) → List ℕ
 nowhere_text from to found =
     codes " from " ++ decimal from ++ codes " to " ++ decimal to ++ codes " found " ++ held_text found
 
--- which promise is broken, and how
+-- which promise is broken, and of what
+abbrev pub subject_text : Violation → List ℕ
+subject_text (violation.OneCommand id) = named_text (codes "OneCommand command ") id
+subject_text (violation.Submitted id) = named_text (codes "Submitted command ") id
+subject_text (violation.Once server place id) = codes "Once" ++ place_text server place
+subject_text (violation.SameOrder server place expected found) = codes "SameOrder" ++ place_text server place
+subject_text (violation.RealTime server place id behind) = codes "RealTime" ++ place_text server place
+subject_text (violation.OneReply id expected found) = named_text (codes "OneReply command ") id
+subject_text (violation.RightReply id place expected found) = named_text (codes "RightReply command ") id
+subject_text (violation.RightLookup reader key from to found) = codes "RightLookup" ++ reader_text reader key
+
+-- and how
+abbrev pub details_text : Violation → List ℕ
+details_text (violation.OneCommand id) = []
+details_text (violation.Submitted id) = []
+details_text (violation.Once server place id) = named_text (codes " command ") id
+details_text (violation.SameOrder server place expected found) =
+    named_text (codes " expected ") expected ++ named_text (codes " found ") found
+details_text (violation.RealTime server place id behind) =
+    named_text (codes " command ") id ++ named_text (codes " behind ") behind
+details_text (violation.OneReply id expected found) = texts_found expected found
+details_text (violation.RightReply id place expected found) =
+    codes " place " ++ decimal place ++ texts_found expected found
+details_text (violation.RightLookup reader key from to found) = nowhere_text from to found
+
 abbrev pub violation_text : Violation → List ℕ
-violation_text (violation.OneCommand id) = codes "OneCommand command " ++ id_text id
-violation_text (violation.Submitted id) = codes "Submitted command " ++ id_text id
-violation_text (violation.Once server place id) = codes "Once" ++ place_text server place ++ codes " command " ++ id_text id
-violation_text (violation.SameOrder server place expected found) =
-    codes "SameOrder" ++ place_text server place
-    ++ (named_text (codes " expected ") expected ++ named_text (codes " found ") found)
-violation_text (violation.RealTime server place id behind) =
-    codes "RealTime" ++ place_text server place
-    ++ (named_text (codes " command ") id ++ named_text (codes " behind ") behind)
-violation_text (violation.OneReply id expected found) =
-    codes "OneReply command " ++ id_text id ++ texts_found expected found
-violation_text (violation.RightReply id place expected found) =
-    codes "RightReply command " ++ id_text id ++ codes " place " ++ decimal place ++ texts_found expected found
-violation_text (violation.RightLookup reader key from to found) =
-    codes "RightLookup" ++ reader_text reader key ++ nowhere_text from to found
+violation_text violation = subject_text violation ++ details_text violation
 
 -- of the line of this number
 abbrev pub broken_line : ℕ → Violation → List ℕ

@@ -1,4 +1,4 @@
-ghost use Rattle.std.specs.Prelude.{◌≡◌, ◌≢◌, ◌↔◌, ◌<◌, ◌≤◌, ◌+◌, ℕ, [], ◌∷◌, ◌++◌, Some, None, IsNone, IsTrue, IfOk, OnOk, MatchBool, MatchOption, length, slice_get};
+ghost use Rattle.std.specs.Prelude.{◌≡◌, ◌≢◌, ◌↔◌, ◌<◌, ◌≤◌, ◌+◌, ℕ, [], ◌∷◌, ◌++◌, Some, None, IsNone, IsTrue, IfOk, OnOk, MatchBool, MatchOption, get_or, length, slice_get};
 ghost use Rattle.std.specs.BTreeMap.{Updates, get};
 ghost use Rattle.std.specs.List.{count_by};
 ghost use Rattle.std.specs.Ordering.{nat_cmp};
@@ -6,7 +6,8 @@ ghost use Rattle.mencius_judge.specs.declared.observation.Observation.TheVariant
 ghost use Rattle.mencius_base.specs.declared.command.CommandId.{CommandId};
 ghost use Rattle.mencius_judge.specs.Log.{Log};
 ghost use Rattle.mencius_judge.specs.Promises.{Keeps};
-ghost use Rattle.mencius_judge.specs.Tables.{AreSettled, IsNoOther, IsNoOtherExecution, IsSettledAt, floor_of, is_open, key_of};
+ghost use Rattle.mencius_judge.specs.declared.histories.Next.TheVariants.{Differs, Leads};
+ghost use Rattle.mencius_judge.specs.Tables.{AreSettled, IsNext, IsNoOther, IsNoOtherExecution, IsSettledAt, floor_of, is_open, key_of};
 
 use crate::counts::{Counts, one_more};
 use crate::histories::{Histories, Next};
@@ -80,7 +81,7 @@ pub struct Judge {
 
 impl Judge {
     ghost use Rattle.mencius_judge.specs.Counts.{AreCounts};
-    ghost use Rattle.mencius_judge.specs.Judged.{IsAt, IsJudged};
+    ghost use Rattle.mencius_judge.specs.Judged.{Breaks, IsAt, IsJudged};
 
     /// Nothing was seen yet.
     pub fn new(alloc: Global) -> Result<Judge, NoMemory>
@@ -164,39 +165,51 @@ impl Judge {
         ensures { IfOk result (λ x. (w : Log) → IsAt self.old w
             → IsJudged w (Execute server id) x self.new) }
     {
+        match self.histories.next(server, id) {
+            Next::Differs { expected } => Ok(Some(self.differing(server, id, expected))),
+            Next::Follows => {
+                self.histories.follow(server);
+                Ok(None)
+            }
+            Next::Leads => self.lead(server, id),
+        }
+    }
+
+    // How it breaks a promise that a server executes a command where another one was expected.
+    fn differing(&self, server: u8, id: CommandId, expected: CommandId) -> Violation
+        ensures { (w : Log) → IsAt self.now w
+            → IsNext self.now.histories.order.items (get_or self.now.histories.counts.items server 0) id
+            (Differs expected)
+            → Breaks w (Execute server id) result }
+    {
+        if self.submissions.get(&key_of(id)).is_none() {
+            return Violation::Submitted { id };
+        }
+        Violation::SameOrder {
+            server,
+            place: self.histories.count(server),
+            expected,
+            found: id,
+        }
+    }
+
+    // A server executes a command at a place that no server had reached.
+    fn lead(&mut self, server: u8, id: CommandId) -> Result<Option<Violation>, NoMemory>
+        ensures { IfOk result (λ x. (w : Log) → IsAt self.old w
+            → IsNext self.old.histories.order.items (get_or self.old.histories.counts.items server 0) id Leads
+            → IsJudged w (Execute server id) x self.new) }
+    {
         let key = key_of(id);
         let place = self.histories.count(server);
         let Some(row) = self.submissions.get(&key) else {
             return Ok(Some(Violation::Submitted { id }));
         };
-        match self.histories.next(server, id) {
-            Next::Differs { expected } => {
-                return Ok(Some(Violation::SameOrder {
-                    server,
-                    place,
-                    expected,
-                    found: id,
-                }));
-            }
-            Next::Follows => {
-                self.histories.follow(server);
-                return Ok(None);
-            }
-            Next::Leads => {}
-        }
         if self.executions.get(&key).is_some() {
             return Ok(Some(Violation::Once { server, place, id }));
         }
-        self.settled_count = count_settled(
-            &self.executions,
-            self.with_reply.as_slice(),
-            self.settled_count,
-        );
-        if let Some(behind) = first_unsettled(
-            self.with_reply.as_slice(),
-            self.settled_count,
-            row.replies_before,
-        ) {
+        let with_reply = self.with_reply.as_slice();
+        self.settled_count = count_settled(&self.executions, with_reply, self.settled_count);
+        if let Some(behind) = first_unsettled(with_reply, self.settled_count, row.replies_before) {
             return Ok(Some(Violation::RealTime {
                 server,
                 place,
@@ -205,9 +218,8 @@ impl Judge {
             }));
         }
         self.histories.lead(server, id)?;
-        let reply = self
-            .timelines
-            .execute(&row.command, self.histories.longest())?;
+        let size = self.histories.longest();
+        let reply = self.timelines.execute(&row.command, size)?;
         if let Some(found) = other_text(&self.replies, key, &reply) {
             let found = copy_of(found)?;
             return Ok(Some(Violation::RightReply {
