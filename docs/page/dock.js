@@ -25,6 +25,9 @@ function summary(now) {
     box.append(el('h3', {}, 'replies'), el('ul', { class: 'replies' }, ...report.replies.slice(-30).map(([id, reply]) =>
       el('li', { class: reply === 'pending' ? 'soft' : null }, el('b', {}, id), ` ${reply}`))));
   }
+  if (cursor > 0) {
+    box.append(el('button', { 'data-do': 'out', title: 'Delete' }, `take out event ${cursor - 1}`));
+  }
   const later = schedule.events.length - cursor;
   if (later > 0) {
     const title = 'take out all events behind the cursor';
@@ -106,7 +109,8 @@ function askButton(server) {
 
 function againButton(server) {
   const title = 'messages that it heard already, to be delivered once more';
-  return el('button', { 'data-do': `again ${server}`, 'aria-pressed': String(Boolean(dock.isAgain[server])), title }, 'again');
+  const isPressed = String(Boolean(dock.isAgain[server]));
+  return el('button', { 'data-do': `again ${server}`, 'aria-pressed': isPressed, title }, 'again');
 }
 
 // The next command of the client who asks at this server: its first own number that is free.

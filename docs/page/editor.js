@@ -72,8 +72,8 @@ const VIOLATIONS = {
   OneCommand: w => `Another command was submitted as ${w[1]} before. An ID names one command.`,
   Submitted: w => `Command ${w[1]} is executed or answered here, and nobody submitted it before.`,
   Once: w => `Server ${w[1]} executes command ${w[5]} again, at place ${w[3]} of its history.`,
-  SameOrder: w => `Server ${w[1]} executes ${w[7]} at place ${w[3]} of its history, where another server executed ${w[5]}.`
-    + ' The histories would never agree again.',
+  SameOrder: w => `Server ${w[1]} executes ${w[7]} at place ${w[3]} of its history, where another server executed`
+    + ` ${w[5]}. The histories would never agree again.`,
   RealTime: w => `Server ${w[1]} executes ${w[5]} at place ${w[3]} before ${w[7]}, which had its reply already when`
     + ` ${w[5]} was first submitted.`,
   OneReply: w => `Command ${w[1]} is answered ${inWords(w[5])}, and was answered ${inWords(w[3])} before.`,
@@ -94,7 +94,9 @@ function judgeLog(core) {
     : 'This line is no observation, so nothing is said of the store.';
 }
 
-const brokenInWords = words => `Line ${words[1]} breaks the promise ${words[2]}. ${VIOLATIONS[words[2]](words.slice(3))}`;
+function brokenInWords([, line, promise, ...words]) {
+  return `Line ${line} breaks the promise ${promise}. ${VIOLATIONS[promise](words)}`;
+}
 
 function keptInWords(w) {
   const open = w[10] === '0' ? '' : ` Of the replies ${w[10]} stand in no history yet, and are not judged.`;

@@ -93,7 +93,7 @@ function add(event) {
   if (!become(made.schedule, cursor + 1)) return;
   const { refusal } = tried.trace.events.at(-1);
   if (refusal) say(`refused, since ${REFUSALS[refusal]}`);
-  else if (made.moved) say(`Put in at the cursor. ${count(made.moved, 'later event')} got the new number of a message.`);
+  else if (made.moved) say(`Put in at the cursor. ${count(made.moved, 'later event')} got new numbers of messages.`);
   else if (cursor < schedule.events.length) say('Put in at the cursor; the later events stay.');
 }
 

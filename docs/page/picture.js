@@ -8,8 +8,8 @@ const AROUND = 20;
 // Where the picture's lanes begin, where the first one stands, and how far they are apart, as `mencius draw` has it.
 const LEFT = 296, TOP = 84, FIRST_LANE = 452, APART = 204, HALF_ROW = 12;
 const SMALLEST = 0.9;
-const EMPTY = 'Nothing has happened. Have a client ask for something, by “submit ..” below a server, or press R for an'
-  + ' event at random.';
+const EMPTY = 'Nothing has happened. Have a client ask for something, by “submit ..” below a server, or press R for'
+  + ' an event at random.';
 
 const picture = { drawn: null, svg: null, rows: [], zoom: 1, room: 800, width: 800, height: 0 };
 

@@ -2,6 +2,7 @@
 // What buttons and keys do.
 
 const OWN = {
+  out: takeOut,
   cut: () => become(prefixOf(page.schedule, page.cursor), page.cursor),
   ask: server => { dock.ask = server < 0 ? null : server; fillDock(page.now); greyButtons(); },
   again: server => { dock.isAgain[server] = !dock.isAgain[server]; fillDock(page.now); greyButtons(); },
