@@ -53,13 +53,15 @@ class Core {
     return { status, lengths: [printed, said], texts };
   }
 
-  // The texts and the status of a call; a second attempt has room for texts of any length.
+  // The texts and the status of a call. A first attempt has the room that did for this task so far, and a second one as
+  // much as the first says.
   answer(args, input) {
     const coder = new TextEncoder(), task = args[0];
     const words = coder.encode(args.map(word => word + '\0').join('')), bytes = coder.encode(input);
-    let found = this.attempt(words, bytes, [Math.max(this.longest[task] || 0, 65536 + 8 * bytes.length), 4096]);
+    const room = this.longest[task] ?? 65536;
+    let found = this.attempt(words, bytes, [room, 4096]);
     if (!found.texts) found = this.attempt(words, bytes, found.lengths);
-    this.longest[task] = Math.max(this.longest[task] || 0, 2 * found.lengths[0]);
+    this.longest[task] = Math.max(room, Math.floor(1.5 * found.lengths[0]));
     const [printed, said] = found.texts;
     return { status: found.status, printed, said };
   }

@@ -84,6 +84,21 @@ const VIOLATIONS = {
 };
 const inWords = answer => answer === 'none' ? 'that nothing is there' : `“${answer.slice(1)}”`;
 
+// What an observer of this schedule would have seen, as a log.
+function logOf({ events }) {
+  const seen = [];
+  for (const { text, refusal, lines } of events) {
+    if (refusal) continue;
+    if (text.startsWith('submit ')) seen.push(text.replace(/^submit \d+/, 'submit'));
+    for (const line of lines) {
+      const words = line.split(' ');
+      if (words[0] === 'executed' && words[5] !== 'no-op') seen.push(`execute ${words[1]} ${words[5]}`);
+      if (words[0] === 'reply') seen.push(line);
+    }
+  }
+  return seen.map(line => line + '\n').join('');
+}
+
 function judgeLog(core) {
   const area = $('log'), answer = core.call(['judge'], area.value), words = answer.printed.trim().split(' ');
   const isBroken = words[0] === 'violation';

@@ -141,8 +141,12 @@ function wireTabs() {
     if (schedule) become(schedule, schedule.events.length);
   };
   for (const name of Object.keys(DATA.logs)) $('logs').add(new Option(name.replaceAll('_', ' '), name));
+  $('logs').add(new Option('what was seen of the schedule', ''));
   $('log').value = DATA.logs[$('logs').value = 'same_order'];
-  $('logs').onchange = () => { $('log').value = DATA.logs[$('logs').value]; judgeLog(core); };
+  $('logs').onchange = () => {
+    $('log').value = DATA.logs[$('logs').value] ?? logOf(page.now.trace);
+    judgeLog(core);
+  };
   $('log').oninput = () => later('judge', 150, () => judgeLog(core));
   for (const area of [$('source'), $('log')]) {
     area.onscroll = () => { area.previousElementSibling.scrollTop = area.scrollTop; };
