@@ -23,25 +23,39 @@ function el(tag, attributes = {}, ...children) {
   return made;
 }
 
-// The first and the last event to be drawn for a cursor, where the drawn part does not do.
-function partFor(cursor, length) {
-  if (length <= DRAWN) return [0, length - 1];
-  const first = Math.max(0, Math.min(cursor - DRAWN / 2, length - DRAWN));
-  return [first, first + DRAWN - 1];
+// The first and the last of so many events around a cursor.
+function partFor(cursor, length, size) {
+  if (length <= size) return [0, length - 1];
+  const first = Math.max(0, Math.min(cursor - Math.ceil(size / 2), length - size));
+  return [first, first + size - 1];
 }
 
-function isInPart({ first, last }, cursor, length) {
-  return first <= Math.max(0, cursor - AROUND) && last >= Math.min(length, cursor + AROUND) - 1;
+function isInPart({ first, last, size }, cursor, length) {
+  const around = Math.min(AROUND, Math.floor(size / 4));
+  return first <= Math.max(0, cursor - around) && last >= Math.min(length, cursor + around) - 1;
+}
+
+// What the program draws of the part around a cursor: fewer events where a picture of so many would be too large.
+function drawnAround(core, schedule, cursor) {
+  const scenario = asScenario(schedule);
+  let answer, part, size = DRAWN;
+  for (; size > 0; size = Math.floor(size / 4)) {
+    part = partFor(cursor, schedule.events.length, size);
+    answer = core.call(['draw', '--from', String(part[0]), '--to', String(Math.max(part[1], 0))], scenario);
+    if (answer.status === 0) break;
+  }
+  return { answer, drawn: { schedule, first: part[0], last: part[1], size } };
 }
 
 // Draws the part around the cursor, unless it is there already. Says why where the program refuses to.
 function drawPicture(core, schedule, cursor) {
   const drawn = picture.drawn, length = schedule.events.length;
   if (drawn && drawn.schedule === schedule && isInPart(drawn, cursor, length)) return;
-  const [first, last] = partFor(cursor, length);
-  const answer = core.call(['draw', '--from', String(first), '--to', String(Math.max(last, 0))], asScenario(schedule));
-  picture.drawn = { schedule, first, last };
+  const made = drawnAround(core, schedule, cursor), { answer } = made;
+  picture.drawn = made.drawn;
   if (answer.status !== 0) {
+    Object.assign(picture, { svg: null, rows: [] });
+    $('rows').replaceChildren();
     $('drawing').textContent = wordsOf(answer.said);
     return;
   }
@@ -53,7 +67,7 @@ function drawPicture(core, schedule, cursor) {
   markParts(picture.svg, cursor);
   $('drawing').replaceChildren(picture.svg);
   if (length === 0) $('drawing').append(el('p', { id: 'empty' }, EMPTY));
-  fillRows(schedule, first);
+  fillRows(schedule, picture.drawn.first);
 }
 
 // Leaves the lanes of a drawn picture, and notes where its rows stand.
@@ -147,8 +161,9 @@ function showRow(row) {
   const origin = $('picture').offsetTop, above = $('heads').offsetHeight, below = $('dock').offsetHeight;
   const top = origin + row.top * picture.zoom, bottom = top + row.height * picture.zoom;
   const seen = stage.clientHeight - below;
-  if (top - stage.scrollTop < above + 40) stage.scrollTop = top - above - 40;
-  else if (bottom - stage.scrollTop > seen - 60) stage.scrollTop = bottom - seen + 60;
+  const highest = top - above - 40, lowest = bottom - seen + 60;
+  if (stage.scrollTop > highest || lowest > highest) stage.scrollTop = highest;
+  else if (stage.scrollTop < lowest) stage.scrollTop = lowest;
 }
 
 // The event of the row at a point of the picture, or null.
