@@ -1,2 +1,4 @@
 pub mod Passes
 pub mod ShapeLists
+pub mod Needed
+pub mod Escapes

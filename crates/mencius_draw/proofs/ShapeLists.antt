@@ -1,36 +1,21 @@
 -- The shapes of lines, and the messages among them, as they are made one by one.
-use Rattle.std.proofs.Common.{◌≡◌, ◌<◌, ◌≤◌, ℕ, ◌+◌, Bool, true, false, List, [], ◌∷◌, ◌++◌, Option, Some, None, ap, sym, ◌∙◌, append-nil, append_assoc, arith, length, drop, get_or, filter_map, map, if◌then◌else◌}
-use denote.Ref.{Bor}
+use Rattle.std.proofs.Common.{◌≡◌, ◌<◌, ◌≤◌, ◌==◌, ℕ, ◌+◌, ◌-◌, ◌^◌, Bool, true, false, List, [], ◌∷◌, ◌++◌, Option, Some, None, ap, sym, refl, subst, ◌∙◌, append-nil, append_assoc, arith, length, drop, get_or, filter_map, map, if◌then◌else◌}
 use Rattle.std.specs.Prelude.{max}
-use Rattle.std.proofs.lemmas.List.{drop-map, length-map, map_push}
-use Rattle.std.specs.List.{cons_option}
+use Rattle.std.proofs.lemmas.List.{drop_all}
+use Rattle.std.proofs.lemmas.List.Splits.{length-slice_split}
+use Rattle.std.proofs.lemmas.List.Sums.{count_by-le-length}
+use Rattle.std.specs.List.{cons_option, count_by, flat_map}
 use Rattle.mencius_draw.specs.declared.facts.Fact.{Fact}
 use Rattle.mencius_draw.specs.declared.facts.Fact.TheVariants.{Event, Sent, Outcome, Closing, Unheard, Other}
 use Rattle.mencius_draw.specs.declared.layout.Spot.{Spot}
 use Rattle.mencius_draw.specs.declared.layout.Shape.{Shape}
 use Rattle.mencius_draw.specs.declared.layout.Sent.{Sent as SentMessage}
 use Rattle.mencius_draw.specs.declared.options.Options.{Options}
-use Rattle.mencius_draw.specs.Facts.{fact_of}
-use Rattle.mencius_draw.specs.Layout.{Outline, end_of, event_spot, is_drawn, lines_at, next_line, outcome_spot, outline, sent_here, shape_at, shapes_of, spot_after}
+use Rattle.mencius_draw.specs.Words.{number, word}
+use Rattle.mencius_draw.specs.Facts.{fact_of, note_of}
+use Rattle.mencius_draw.specs.Layout.{Outline, end_of, event_spot, is_drawn, lines_of, if_needed, next_line, outcome_spot, outline, sent_here, shape_of, shapes_of, spot_after, start}
 use Rattle.mencius_draw.specs.Marks.{greatest_reach, reach_of}
 use Rattle.mencius_draw.proofs.Passes.{rest_begins_at}
-
--- ---- lines
-
--- the rest of the lines begins with the next one
-pub line_begins : (ls : List (List ℕ)) (i : ℕ) → i < length ls
-    → drop i ls ≡ next_line (drop i ls) ∷ drop (i + 1) ls
-line_begins ls i h =
-    let begins : drop i ls ≡ get_or ls i [] ∷ drop (i + 1) ls = rest_begins_at ls i [] h in
-    begins ∙ ap (λ line. line ∷ drop (i + 1) ls) (sym (ap next_line begins))
-
-pub line_there : (xs : List (Bor (List ℕ))) (i : ℕ) (d : Bor (List ℕ)) → i < length xs
-    → (get_or xs i d).now ≡ next_line (drop i (lines_at xs))
-line_there xs i d h =
-    sym (ap next_line (drop-map (λ line. line.now) i xs ∙ ap (λ ys. lines_at ys) (rest_begins_at xs i d h)))
-
-pub lines_below : (xs : List (Bor (List ℕ))) (i : ℕ) → i < length xs → i < length (lines_at xs)
-lines_below xs i h = omega (arith, length-map xs (λ (line : Bor (List ℕ)). line.now))
 
 -- ---- shapes
 
@@ -65,44 +50,124 @@ spot_below o n pen (Closing server) h = same_below n pen h
 spot_below o n pen (Unheard number server) h = same_below n pen h
 spot_below o n pen Other h = same_below n pen h
 
--- what was made of the lines so far, and what the rest still gives
-pub record AreShapes (o : Options) (lines : List (List ℕ)) (i : ℕ) (pen first : Spot) (made : List Shape) : Type 0 where
-  pub shapes : map outline made ++ shapes_of o pen (drop i lines) ≡ shapes_of o first lines
-  pub end : end_of o pen (drop i lines) ≡ end_of o first lines
+-- ---- lines
+
+pub first_of : (all : List (List ℕ)) (d : List ℕ) → 0 < length all → get_or all 0 d ≡ next_line all
+first_of [] d h = absurd (omega (arith, h))
+first_of (line ∷ ls) d h = refl
+
+-- a line that says nothing, before the first one
+nothing_said : (next : List ℕ) → fact_of [] next ≡ Other
+unfolding fact_of note_of word number
+nothing_said next = refl
+
+pub end_behind_nothing : (o : Options) (all : List (List ℕ)) → end_of o start ([] ∷ all) ≡ end_of o start all
+unfolding spot_after
+end_behind_nothing o all = ap (λ fact. end_of o (spot_after o start fact) all) (nothing_said (next_line all))
+
+shapes_behind_nothing : (o : Options) (all : List (List ℕ))
+    → flat_map if_needed (shapes_of o start ([] ∷ all)) ≡ flat_map if_needed (shapes_of o start all)
+unfolding spot_after
+shapes_behind_nothing o all =
+    ap (λ fact.
+    let x : Outline = record { line = []; fact = fact; spot = spot_after o start fact } in
+    if_needed x ++ flat_map if_needed (shapes_of o x.spot all)) (nothing_said (next_line all))
+
+-- after so many lines the last of them, whose next line is not known yet, and the rest
+pub record IsPassed (o : Options) (all : List (List ℕ)) (i : ℕ) (pen : Spot) (line : List ℕ) : Type 0 where
+  pub end : end_of o pen (line ∷ drop i all) ≡ end_of o start ([] ∷ all)
   pub below : IsBelow i pen
 
-shape_is : (o : Options) (pen : Spot) (s : Shape) (ls : List (List ℕ)) → s.fact ≡ fact_of s.line.now (next_line ls)
-    → s.spot ≡ spot_after o pen s.fact → outline s ≡ shape_at o pen s.line.now ls
-shape_is o pen s ls f p =
-    let place : s.spot ≡ spot_after o pen (fact_of s.line.now (next_line ls)) = p ∙ ap (spot_after o pen) f in
-    ap (λ (x : Fact). let y : Outline = record { line = s.line.now; fact = x; spot = s.spot } in y) f
-    ∙ ap (λ (x : Spot). let y : Outline = record {
-      line = s.line.now;
-      fact = fact_of s.line.now (next_line ls);
-      spot = x;
-    } in y) place
+none_passed : (o : Options) (all : List (List ℕ)) → IsPassed o all 0 start []
+none_passed o all = record { end = refl; below = record { free = omega arith; next = omega arith } }
 
-pub shapes_further : (o : Options) (lines : List (List ℕ)) (i : ℕ) (pen first : Spot) (made : List Shape) (s : Shape)
-    → drop i lines ≡ s.line.now ∷ drop (i + 1) lines
-    → s.fact ≡ fact_of s.line.now (next_line (drop (i + 1) lines)) → s.spot ≡ spot_after o pen s.fact
-    → AreShapes o lines i pen first made → AreShapes o lines (i + 1) s.spot first (made ++ s ∷ [])
-shapes_further o lines i pen first made s begins f p had =
-    let ls = drop (i + 1) lines in
-    let same : outline s ≡ shape_at o pen s.line.now ls = shape_is o pen s ls f p in
-    let spot : s.spot ≡ (shape_at o pen s.line.now ls).spot = ap (λ x. x.spot) same in
+pub first_passed : (o : Options) (all : List (List ℕ)) (pen : Spot) → pen ≡ start → IsPassed o all 0 pen []
+first_passed o all pen e = subst (λ (p : Spot). IsPassed o all 0 p []) (sym e) (none_passed o all)
+
+line_begins : (all : List (List ℕ)) (i : ℕ) (next : List ℕ) → i < length all → next ≡ get_or all i next
+    → drop i all ≡ next ∷ drop (i + 1) all
+line_begins all i next h is = rest_begins_at all i next h ∙ ap (λ line. line ∷ drop (i + 1) all) (sym is)
+
+passed_one : (o : Options) (all : List (List ℕ)) (i : ℕ) (pen new : Spot) (line next : List ℕ)
+    → (i < length all) × (next ≡ get_or all i next) → new ≡ spot_after o pen (fact_of line next)
+    → IsPassed o all i pen line → IsPassed o all (i + 1) new next
+passed_one o all i pen new line next turn got had =
+    let bound : IsBelow (i + 1) (spot_after o pen (fact_of line next)) = spot_below o i pen (fact_of line next) had.below in
     record {
-      shapes =
-          ap (λ xs. xs ++ shapes_of o s.spot ls) (map_push outline made s)
-          ∙ append_assoc (map outline made) (outline s ∷ []) (shapes_of o s.spot ls)
-          ∙ ap (λ x. map outline made ++ x ∷ shapes_of o s.spot ls) same
-          ∙ ap (λ x. map outline made ++ shape_at o pen s.line.now ls ∷ shapes_of o x ls) spot
-          ∙ ap (λ xs. map outline made ++ shapes_of o pen xs) (sym begins) ∙ had.shapes;
-      end = ap (λ x. end_of o x ls) spot ∙ ap (λ xs. end_of o pen xs) (sym begins) ∙ had.end;
-      below = let bound = spot_below o i pen s.fact had.below in record {
-        free = omega (arith, bound.free, ap (λ (x : Spot). x.free) p);
-        next = omega (arith, bound.next, ap (λ (x : Spot). x.next) p);
-      };
+      end =
+          ap (λ p. end_of o p (next ∷ drop (i + 1) all)) got
+          ∙ ap (λ ls. end_of o pen (line ∷ ls)) (sym (line_begins all i next turn.0 turn.1)) ∙ had.end;
+      below = subst (λ (p : Spot). IsBelow (i + 1) p) (sym got) bound;
     }
+
+pub passed_further : (o : Options) (all : List (List ℕ)) (i n : ℕ) (pen new : Spot) (line next : List ℕ) → n ≡ i + 1
+    → (i < length all) × (next ≡ get_or all i next) → new ≡ spot_after o pen (fact_of line next)
+    → IsPassed o all i pen line → IsPassed o all n new next
+passed_further o all i n pen new line next e turn got had =
+    subst (λ (m : ℕ). IsPassed o all m new next) (sym e) (passed_one o all i pen new line next turn got had)
+
+pub passed_last : (o : Options) (all : List (List ℕ)) (i : ℕ) (pen new : Spot) (line : List ℕ) → i ≡ length all
+    → new ≡ spot_after o pen (fact_of line []) → IsPassed o all i pen line → new ≡ end_of o start all
+passed_last o all i pen new line e got had =
+    got ∙ ap (λ ls. end_of o pen (line ∷ ls)) (sym (drop_all i all (omega (arith, e)))) ∙ had.end ∙ end_behind_nothing o all
+
+-- a spot has room for one more level
+pub record HasRoom (pen : Spot) : Type 0 where
+  pub free : pen.free < 2 ^ 64 - 1
+  pub next : pen.next < 2 ^ 64 - 1
+
+-- and so has one behind so many lines of a text
+pub is_room : (text : List ℕ) (i : ℕ) (pen : Spot) → length text < 2 ^ 63 → i ≤ length (lines_of text) → IsBelow i pen
+    → HasRoom pen
+is_room text i pen few passed below =
+    let lines : length (lines_of text) ≡ count_by (λ b. b == 10) text + 1 = length-slice_split (λ b. b == 10) text in
+    let breaks : count_by (λ b. b == 10) text ≤ length text = count_by-le-length (λ b. b == 10) text in
+    record {
+      free = omega (arith, few, passed, lines, breaks, below.free);
+      next = omega (arith, few, passed, lines, breaks, below.next);
+    }
+
+-- the shapes of them that are needed, and of the rest
+abbrev pub AreShapes : Options → List (List ℕ) → ℕ → Spot → List ℕ → List Shape → Type 0
+AreShapes o all i pen line made =
+    map outline made ++ flat_map if_needed (shapes_of o pen (line ∷ drop i all))
+    ≡ flat_map if_needed (shapes_of o start ([] ∷ all))
+
+pub first_shapes : (o : Options) (all : List (List ℕ)) (pen : Spot) (made : List Shape) → pen ≡ start → made ≡ []
+    → AreShapes o all 0 pen [] made
+first_shapes o all pen made e none =
+    ap (λ xs. map outline xs ++ flat_map if_needed (shapes_of o pen ([] ∷ all))) none
+    ∙ ap (λ p. flat_map if_needed (shapes_of o p ([] ∷ all))) e
+
+shapes_one : (o : Options) (all : List (List ℕ)) (i : ℕ) (pen new : Spot) (line next : List ℕ)
+    (made more : List Shape) → (i < length all) × (next ≡ get_or all i next)
+    → new ≡ spot_after o pen (fact_of line next) → map outline more ≡ map outline made ++ if_needed (shape_of o pen line next)
+    → AreShapes o all i pen line made → AreShapes o all (i + 1) new next more
+shapes_one o all i pen new line next made more turn got added had =
+    let x : Outline = shape_of o pen line next in
+    let rest = next ∷ drop (i + 1) all in
+    ap (λ xs. xs ++ flat_map if_needed (shapes_of o new rest)) added
+    ∙ append_assoc (map outline made) (if_needed x) (flat_map if_needed (shapes_of o new rest))
+    ∙ ap (λ p. map outline made ++ (if_needed x ++ flat_map if_needed (shapes_of o p rest))) got
+    ∙ ap (λ ls. map outline made ++ flat_map if_needed (shapes_of o pen (line ∷ ls)))
+    (sym (line_begins all i next turn.0 turn.1))
+    ∙ had
+
+pub shapes_further : (o : Options) (all : List (List ℕ)) (i n : ℕ) (pen new : Spot) (line next : List ℕ)
+    (made more : List Shape) → n ≡ i + 1 → (i < length all) × (next ≡ get_or all i next)
+    → new ≡ spot_after o pen (fact_of line next) → map outline more ≡ map outline made ++ if_needed (shape_of o pen line next)
+    → AreShapes o all i pen line made → AreShapes o all n new next more
+shapes_further o all i n pen new line next made more e turn got added had =
+    subst (λ (m : ℕ). AreShapes o all m new next more) (sym e)
+    (shapes_one o all i pen new line next made more turn got added had)
+
+pub shapes_last : (o : Options) (all : List (List ℕ)) (i : ℕ) (pen : Spot) (line : List ℕ) (made more : List Shape)
+    → i ≡ length all → map outline more ≡ map outline made ++ if_needed (shape_of o pen line [])
+    → AreShapes o all i pen line made → map outline more ≡ flat_map if_needed (shapes_of o start all)
+shapes_last o all i pen line made more e added had =
+    added ∙ ap (λ xs. map outline made ++ xs) (sym (append-nil (if_needed (shape_of o pen line []))))
+    ∙ ap (λ ls. map outline made ++ flat_map if_needed (shapes_of o pen (line ∷ ls))) (sym (drop_all i all (omega (arith, e)))) ∙ had
+    ∙ shapes_behind_nothing o all
 
 -- ---- messages
 

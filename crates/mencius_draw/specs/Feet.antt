@@ -42,20 +42,22 @@ abbrev pub list_text : List ℕ → List ℕ
 list_text [] = codes " -"
 list_text (b ∷ bs) = b ∷ bs
 
-abbrev pub foot_at : ℕ → ℕ → List Outline → List ℕ → ℕ → List ℕ
-foot_at servers levels xs line server =
+-- the foot of a server, with the line of how far it is, its history and what it did not hear
+abbrev pub foot_at : ℕ → ℕ → List ℕ → ℕ → List ℕ → List ℕ → List ℕ
+foot_at servers levels line server history unheard =
     fixed (codes "<g class='foot' transform='translate(") ++ decimal (lane_of servers server) ++ fixed (codes " ") ++ decimal (y_of levels + 4)
     ++ fixed (codes ")'><rect class='card' x='-96' width='192' height='92' rx='8'/><text x='-86' y='20'>front ")
     ++ plain_word 3 line ++ fixed (codes ", executed ") ++ plain_word 5 line
-    ++ fixed (codes "</text><text x='-86' y='39'>history") ++ list_text (history_text server xs)
+    ++ fixed (codes "</text><text x='-86' y='39'>history") ++ list_text history
     ++ fixed (codes "</text><text x='-86' y='58'>") ++ plain (rest 8 line)
-    ++ fixed (codes "</text><text x='-86' y='77'>unheard") ++ list_text (unheard_text server xs)
+    ++ fixed (codes "</text><text x='-86' y='77'>unheard") ++ list_text unheard
     ++ fixed (codes "</text><rect x='64' y='6' width='28' height='80' fill='url(#fading)'/></g>\n")
 
 abbrev pub foot_in : ℕ → ℕ → List Outline → List ℕ → Fact → List ℕ
-foot_in servers levels xs line (Closing server) = foot_at servers levels xs line server
+foot_in servers levels xs line (Closing server) =
+    foot_at servers levels line server (history_text server xs) (unheard_text server xs)
 foot_in servers levels xs line _ = []
 
--- the foot of a server, where the line says how far it is in the end
+-- a foot, where the line says how far a server is in the end
 abbrev pub foot_text : ℕ → ℕ → List Outline → Outline → List ℕ
 foot_text servers levels xs x = foot_in servers levels xs x.line x.fact

@@ -22,12 +22,12 @@ colours Dark = DARK_COLOURS.now
 
 abbrev pub size_text : ℕ → ℕ → List ℕ
 size_text width levels =
-    fixed (codes "width='") ++ decimal width ++ fixed (codes "' height='") ++ decimal (y_of levels + 226)
+    fixed (codes "width='") ++ decimal width ++ fixed (codes "' height='") ++ decimal (y_of levels + 250)
 
 abbrev pub svg_text : ℕ → ℕ → ℕ → List ℕ
 svg_text servers width levels =
     fixed (codes "<svg xmlns='http://www.w3.org/2000/svg' ") ++ size_text width levels ++ fixed (codes "' viewBox='0 0 ")
-    ++ decimal width ++ fixed (codes " ") ++ decimal (y_of levels + 226) ++ fixed (codes "' role='img'>\n<title>Space-time diagram of a schedule; servers: ")
+    ++ decimal width ++ fixed (codes " ") ++ decimal (y_of levels + 250) ++ fixed (codes "' role='img'>\n<title>Space-time diagram of a schedule; servers: ")
     ++ decimal servers ++ fixed (codes "</title>\n")
 
 -- all that comes before the first rule

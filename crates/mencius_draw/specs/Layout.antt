@@ -1,9 +1,9 @@
 -- Where each line of a trace is drawn. Levels are counted downwards.
-use Rattle.std.specs.Prelude.{ℕ, ◌+◌, ◌==◌, ◌&&◌, List, [], ◌∷◌, Bool, false, Option, Some, None, map, nat_le, if◌then◌else◌}
-use denote.Ref.{Bor}
+use Rattle.std.specs.Prelude.{ℕ, ◌+◌, ◌==◌, ◌&&◌, ◌||◌, List, [], ◌∷◌, Bool, true, false, Option, Some, None, nat_le, if◌then◌else◌}
 use Rattle.std.specs.List.{filter_map, slice_split}
 use Rattle.mencius_draw.specs.declared.facts.Fact.{Fact}
-use Rattle.mencius_draw.specs.declared.facts.Fact.TheVariants.{Event, Sent, Outcome}
+use Rattle.mencius_draw.specs.declared.facts.Fact.TheVariants.{Event, Sent, Outcome, Closing, Unheard}
+use Rattle.mencius_draw.specs.declared.facts.Note.TheVariants.{Executed}
 use Rattle.mencius_draw.specs.declared.layout.Spot.{Spot}
 use Rattle.mencius_draw.specs.declared.layout.Shape.{Shape}
 use Rattle.mencius_draw.specs.declared.layout.Sent.{Sent as SentMessage}
@@ -51,19 +51,19 @@ spot_after o pen _ = pen
 abbrev pub lines_of : List ℕ → List (List ℕ)
 lines_of trace = slice_split (λ b. b == 10) trace
 
-abbrev pub lines_at : List (Bor (List ℕ)) → List (List ℕ)
-lines_at lines = map (λ line. line.now) lines
-
 abbrev pub next_line : List (List ℕ) → List ℕ
 next_line [] = []
 next_line (line ∷ ls) = line
 
-abbrev pub shape_at : Options → Spot → List ℕ → List (List ℕ) → Outline
-shape_at o pen line ls = record {
+abbrev pub shape_of : Options → Spot → List ℕ → List ℕ → Outline
+shape_of o pen line next = record {
   line = line;
-  fact = fact_of line (next_line ls);
-  spot = spot_after o pen (fact_of line (next_line ls));
+  fact = fact_of line next;
+  spot = spot_after o pen (fact_of line next);
 }
+
+abbrev pub shape_at : Options → Spot → List ℕ → List (List ℕ) → Outline
+shape_at o pen line ls = shape_of o pen line (next_line ls)
 
 -- the lines from a spot on, each with what it says and where it is drawn
 abbrev pub shapes_of : Options → Spot → List (List ℕ) → List Outline
@@ -74,6 +74,21 @@ shapes_of o pen (line ∷ ls) = shape_at o pen line ls ∷ shapes_of o (shape_at
 abbrev pub end_of : Options → Spot → List (List ℕ) → Spot
 end_of o pen [] = pen
 end_of o pen (line ∷ ls) = end_of o (shape_at o pen line ls).spot ls
+
+-- what is told at the foot, and a message, which an arrow may look for wherever it was sent
+abbrev pub is_told_below : Fact → Bool
+is_told_below (Sent number kind from inst) = true
+is_told_below (Outcome (Executed inst)) = true
+is_told_below (Closing server) = true
+is_told_below (Unheard number server) = true
+is_told_below _ = false
+
+abbrev pub is_needed : Outline → Bool
+is_needed x = x.spot.is_shown || is_told_below x.fact
+
+-- a line that a picture needs, and nothing for any other
+abbrev pub if_needed : Outline → List Outline
+if_needed x = if is_needed x then x ∷ [] else []
 
 abbrev pub sent_as : Fact → Spot → Option SentMessage
 sent_as (Sent number kind from inst) spot =

@@ -8,3 +8,4 @@ pub mod Marks
 pub mod Frame
 pub mod Feet
 pub mod Picture
+pub mod Laws

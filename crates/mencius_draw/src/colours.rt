@@ -156,11 +156,12 @@ pub(crate) const KEY: &str = "\
 <g transform='translate(600 0)'><path class='way Learn' d='M0 0H27'/><path class='full' d='M26 -5L36 0L26 5z'/><text x='42' y='4'>Learn</text></g>
 <g transform='translate(720 0)'><path class='way Skip' d='M0 0H27'/><path class='full' d='M26 -5L36 0L26 5z'/><text x='42' y='4'>Skip</text></g>
 <g transform='translate(0 24)'><circle class='dot' cx='8' r='5.5'/><text x='24' y='4'>asked from outside</text></g>
-<g transform='translate(170 24)'><circle class='ring' cx='8' r='5.5'/><text x='24' y='4'>heard</text></g>
-<g transform='translate(280 24)'><path class='full' d='M8 -9L17 0L8 9L-1 0z'/><text x='24' y='4'>learned</text></g>
-<g transform='translate(390 24)'><path class='full' d='M1 -7H15V7H1z'/><text x='24' y='4'>executed</text></g>
-<g transform='translate(500 24)'><path class='cross' d='M1 -7L15 7M15 -7L1 7'/><text x='24' y='4'>lost</text></g>
-<g transform='translate(610 24)'><circle class='no' cx='8' r='6'/><path class='no' d='M4 4L12 -4'/><text x='24' y='4'>refused</text></g>
+<g transform='translate(160 24)'><circle class='ring' cx='8' r='5.5'/><text x='24' y='4'>heard</text></g>
+<g transform='translate(242 24)'><path class='full' d='M8 -9L17 0L8 9L-1 0z'/><text x='24' y='4'>learned</text></g>
+<g transform='translate(334 24)'><path class='full' d='M1 -7H15V7H1z'/><text x='24' y='4'>executed</text></g>
+<g transform='translate(432 24)'><circle class='no' cx='8' r='6'/><path class='no' d='M4 4L12 -4'/><text x='24' y='4'>refused</text></g>
+<g transform='translate(520 24)'><path class='way lost Suggest' d='M0 0H30'/><path class='cross' d='M31 -7L45 7M45 -7L31 7'/><text x='54' y='4'>lost: its arrow is pale, with no point</text></g>
 <g transform='translate(0 48)'><circle class='f0' cx='4' r='4.5'/><circle class='f1' cx='13' r='4.5'/><circle class='f2' cx='22' r='4.5'/><text x='36' y='4'>the colour of a message, a box and a filled mark is that of the server that owns the instance</text></g>
-<text x='0' y='76'>i instance, b ballot, V@b a vote for V at ballot b; an arrow from more than 30 events above, of one server 8, is drawn as its end alone</text>
+<text x='0' y='76'>i instance, b ballot, V@b a vote for V at ballot b</text>
+<text x='0' y='100'>the end of an arrow alone: its message was sent more than 30 events above (8 by the same server), or by an event not drawn</text>
 ";

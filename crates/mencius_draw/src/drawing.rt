@@ -4,14 +4,14 @@ ghost use Rattle.std.specs.Prelude.{◌≡◌, ◌++◌, ◌<◌, ◌≤◌, map
 ghost use Rattle.std.specs.List.{flat_map};
 ghost use Rattle.mencius_draw.specs.Feet.{foot_text};
 ghost use Rattle.mencius_draw.specs.Frame.{rule_text};
-ghost use Rattle.mencius_draw.specs.Layout.{lines_at, outline, sents_of};
+ghost use Rattle.mencius_draw.specs.Layout.{lines_of, outline, sents_of};
 ghost use Rattle.mencius_draw.specs.Marks.{greatest_reach, shape_text};
 ghost use Rattle.mencius_draw.specs.Picture.{IsPicture, painted, servers_of};
 ghost use Rattle.mencius_draw.specs.Ways.{way_text};
 
 use crate::feet::push_foot;
 use crate::frame::{push_head, push_key, push_lanes, push_rule};
-use crate::layout::{Sent, Shape, line_at, lines_of, sents_of, shapes_of};
+use crate::layout::{Sent, Shape, end_of, first_line, sents_of, shapes_of};
 use crate::marks::{push_shape, reach_of};
 use crate::options::{MOST_LEVELS, Options, TooLarge};
 use crate::places::width_of;
@@ -89,10 +89,10 @@ fn push_feet(
 }
 
 // How many servers the first line says that there are; a picture has no room for more than seven.
-fn servers_of(lines: &[&[u8]]) -> u32
-    ensures { result ≡ servers_of (lines_at lines.now) }
+fn servers_of(trace: &str) -> u32
+    ensures { result ≡ servers_of (lines_of trace.now) }
 {
-    number(word(line_at(lines, 0), 1)).min(7)
+    number(word(first_line(trace), 1)).min(7)
 }
 
 fn painted(
@@ -126,8 +126,9 @@ fn painted(
 /// that belongs to an event has its place as `data-e`. Of a long trace the events from `first` to `last` are drawn,
 /// and no other; what stands at the foot is the end of the whole trace. A line that no trace has is passed over.
 ///
-/// A part that takes more than `MOST_LEVELS` levels is refused, with the number that it takes. The time that it
-/// takes, and the memory, grow with the length of the trace and of the picture.
+/// A part that takes more than `MOST_LEVELS` levels is refused, with the number that it takes; that takes no memory. A
+/// picture takes memory for its text, for each line of what is drawn, and of the rest for each message, each command that
+/// was executed and each line of the end; and time for each line of the trace.
 #[tactic(auto, unfolding(crate::specs::Picture::picture_of))]
 pub fn picture(
     alloc: Global,
@@ -136,11 +137,11 @@ pub fn picture(
 ) -> Result<Result<String, TooLarge>, AllocError>
     ensures { IfOk result (λ x. IsPicture options.now trace.now x) }
 {
-    let lines = lines_of(alloc, trace)?;
-    let (shapes, end) = shapes_of(alloc, options, lines.as_slice())?;
+    let end = end_of(options, trace);
     if MOST_LEVELS < end.next {
         return Ok(Err(TooLarge { levels: end.next }));
     }
-    let servers = servers_of(lines.as_slice());
+    let shapes = shapes_of(alloc, options, trace)?;
+    let servers = servers_of(trace);
     Ok(Ok(painted(alloc, options, servers, end.next, shapes.as_slice())?))
 }

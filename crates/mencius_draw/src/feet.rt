@@ -102,7 +102,8 @@ fn push_foot_at(
     server: u32,
 ) -> Result<(), AllocError>
     ensures { OnOk result (string_bytes text.new
-        ≡ string_bytes text.old ++ foot_at servers levels (map outline shapes.now) line.now server) }
+        ≡ string_bytes text.old ++ foot_at servers levels line.now server (history_text server (map outline shapes.now))
+        (unheard_text server (map outline shapes.now))) }
 {
     push_fixed(text, "<g class='foot' transform='translate(")?;
     push_lane_of(text, servers, server)?;

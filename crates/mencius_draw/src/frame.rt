@@ -50,7 +50,7 @@ fn push_size(text: &mut String, width: usize, levels: usize) -> Result<(), Alloc
     push_fixed(text, "width='")?;
     push_number(text, width)?;
     push_fixed(text, "' height='")?;
-    push_y_below(text, levels, 226)
+    push_y_below(text, levels, 250)
 }
 
 fn push_svg(text: &mut String, servers: u32, width: usize, levels: usize) -> Result<(), AllocError>
@@ -62,7 +62,7 @@ fn push_svg(text: &mut String, servers: u32, width: usize, levels: usize) -> Res
     push_fixed(text, "' viewBox='0 0 ")?;
     push_number(text, width)?;
     push_fixed(text, " ")?;
-    push_y_below(text, levels, 226)?;
+    push_y_below(text, levels, 250)?;
     push_fixed(
         text,
         "' role='img'>\n<title>Space-time diagram of a schedule; servers: ",

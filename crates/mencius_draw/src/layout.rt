@@ -1,10 +1,11 @@
 //! Where each line of a trace is drawn.
 
-ghost use Rattle.std.specs.Prelude.{◌≡◌, ◌++◌, [], ◌+◌, ◌-◌, ◌<◌, ◌≤◌, ◌^◌, drop, map, IfOk, OnOk};
-ghost use Rattle.std.specs.List.{cons_option};
-ghost use Rattle.mencius_draw.specs.Layout.{end_of, event_spot, is_drawn, lines_at, lines_of, next_line, outcome_spot, outline, sent_here, sents_of, shapes_of, spot_after, start};
+ghost use Rattle.std.specs.Prelude.{◌≡◌, ◌++◌, [], ◌+◌, ◌-◌, ◌<◌, ◌≤◌, ◌^◌, map, IfOk, OnOk};
+ghost use Rattle.std.specs.List.{cons_option, flat_map};
+ghost use Rattle.mencius_draw.specs.Facts.{fact_of};
+ghost use Rattle.mencius_draw.specs.Layout.{end_of, event_spot, is_drawn, if_needed, is_told_below, lines_of, next_line, outcome_spot, outline, sent_here, sents_of, shape_of, shapes_of, spot_after, start};
 
-use crate::facts::{Fact, Kind, fact_of};
+use crate::facts::{Fact, Kind, Note, fact_of};
 use crate::options::Options;
 use std::alloc::{AllocError, Global};
 
@@ -115,45 +116,83 @@ fn outcome_spot(pen: Spot) -> Spot
     }
 }
 
-/// The lines of a text.
-pub(crate) fn lines_of<'a>(alloc: Global, trace: &'a str) -> Result<Vec<&'a [u8]>, AllocError>
-    ensures { IfOk result (λ lines. lines_at lines.items ≡ lines_of trace.now) }
+/// The first line of a trace.
+pub(crate) fn first_line<'a>(trace: &'a str) -> &'a [u8]
+    ensures { result.now ≡ next_line (lines_of trace.now) }
 {
-    trace.as_bytes().split(|b| *b == b'\n').collect(alloc)
-}
-
-/// The line at a place, or an empty one.
-pub(crate) fn line_at<'a>(lines: &[&'a [u8]], place: usize) -> &'a [u8]
-    ensures { result.now ≡ next_line (drop place (lines_at lines.now)) }
-{
-    if place < lines.len() {
-        return lines[place];
+    match trace.as_bytes().split(|b| *b == b'\n').next() {
+        Some(line) => line,
+        None => &[],
     }
-    &[]
 }
 
-/// The shapes of the lines of a trace, and the spot behind the last.
+/// The spot behind the last line of a trace. What a line says depends on the one behind it, so each is looked at when
+/// that one comes.
+pub(crate) fn end_of(options: &Options, trace: &str) -> Spot
+    ensures { result ≡ end_of options.now start (lines_of trace.now) }
+{
+    let mut pen = start();
+    let mut line: &[u8] = &[];
+    for after in trace.as_bytes().split(|b| *b == b'\n') {
+        pen = spot_after(options, pen, fact_of(line, after));
+        line = after;
+    }
+    spot_after(options, pen, fact_of(line, &[]))
+}
+
+// Whether a line is told of at the foot, or sends a message, for which an arrow may look wherever it was sent.
+fn is_told_below(fact: Fact) -> bool
+    ensures { result ≡ is_told_below fact }
+{
+    match fact {
+        Fact::Sent { .. }
+        | Fact::Outcome(Note::Executed(_))
+        | Fact::Closing(_)
+        | Fact::Unheard { .. } => true,
+        Fact::Event { .. } | Fact::Outcome(_) | Fact::Other => false,
+    }
+}
+
+// Adds the shape of a line, where a picture needs it, and answers its spot.
+fn push_line<'a>(
+    shapes: &mut Vec<Shape<'a>>,
+    options: &Options,
+    pen: Spot,
+    line: &'a [u8],
+    next: &[u8],
+) -> Result<Spot, AllocError>
+    requires free { pen.free < 2 ^ 64 - 1 }
+    requires next { pen.next < 2 ^ 64 - 1 }
+    ensures spot { IfOk result (λ spot. spot ≡ spot_after options.now pen (fact_of line.now next.now)) }
+    ensures shapes { OnOk result (map outline shapes.new.items ≡ map outline shapes.old.items
+        ++ if_needed (shape_of options.now pen line.now next.now)) }
+{
+    let fact = fact_of(line, next);
+    let spot = spot_after(options, pen, fact);
+    if spot.is_shown || is_told_below(fact) {
+        shapes.push(Shape { line, fact, spot })?;
+    }
+    Ok(spot)
+}
+
+/// The shapes of the lines of a trace, but of those that no picture of this part needs.
 pub(crate) fn shapes_of<'a>(
     alloc: Global,
     options: &Options,
-    lines: &[&'a [u8]],
-) -> Result<(Vec<Shape<'a>>, Spot), AllocError>
-    ensures shapes { IfOk result (λ x. map outline x.0.items ≡ shapes_of options.now start (lines_at lines.now)) }
-    ensures end { IfOk result (λ x. x.1 ≡ end_of options.now start (lines_at lines.now)) }
+    trace: &'a str,
+) -> Result<Vec<Shape<'a>>, AllocError>
+    ensures { IfOk result (λ shapes. map outline shapes.items
+        ≡ flat_map if_needed (shapes_of options.now start (lines_of trace.now))) }
 {
     let mut shapes = Vec::new(alloc);
     let mut pen = start();
-    for place in 0..lines.len() {
-        let line = line_at(lines, place);
-        let fact = fact_of(line, line_at(lines, place + 1));
-        pen = spot_after(options, pen, fact);
-        shapes.push(Shape {
-            line,
-            fact,
-            spot: pen,
-        })?;
+    let mut line: &[u8] = &[];
+    for after in trace.as_bytes().split(|b| *b == b'\n') {
+        pen = push_line(&mut shapes, options, pen, line, after)?;
+        line = after;
     }
-    Ok((shapes, pen))
+    push_line(&mut shapes, options, pen, line, &[])?;
+    Ok(shapes)
 }
 
 fn sent_here(shape: &Shape) -> Option<Sent>

@@ -7,6 +7,7 @@ mod facts;
 mod feet;
 mod frame;
 mod labels;
+pub mod laws;
 mod layout;
 mod marks;
 mod options;
@@ -15,4 +16,4 @@ mod ways;
 mod words;
 
 pub use drawing::picture;
-pub use options::{Options, Scheme, TooLarge};
+pub use options::{MOST_LEVELS, Options, Scheme, TooLarge};

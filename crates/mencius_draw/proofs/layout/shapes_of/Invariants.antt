@@ -1,6 +1,9 @@
-use Rattle.mencius_draw.specs.Layout.{lines_at, start}
-use Rattle.mencius_draw.proofs.ShapeLists.{AreShapes}
+use Rattle.std.proofs.Common.{length}
+use Rattle.mencius_draw.specs.Layout.{lines_of}
+use Rattle.mencius_draw.proofs.ShapeLists.{AreShapes, IsPassed}
 use Rattle.mencius_draw.proofs.layout.shapes_of.Given as goal
 
-abbrev pub invariant-loop-place : goal.invariant-loop-place
-invariant-loop-place l = AreShapes l.options (lines_at l.lines) l.place l.pen start l.shapes.items
+abbrev pub invariant-loop-after : goal.invariant-loop-after
+invariant-loop-after l =
+    IsPassed l.options (lines_of l.trace) (length l.yielded) l.pen l.line
+    × AreShapes l.options (lines_of l.trace) (length l.yielded) l.pen l.line l.shapes.items
