@@ -1,4 +1,4 @@
-"""The operations of commands: all that draws commands or tells their version asks here."""
+"""The operations of commands: all that draws commands, tells their version or asks what they do asks here."""
 from typing import NamedTuple
 
 
@@ -16,6 +16,13 @@ OPERATIONS = {
     "cas": Operation(texts=2, version=2, times=3),
 }
 NEWEST = max(operation.version for operation in OPERATIONS.values())
+
+
+def text_after(held, word, texts):
+    """What a key holds after an operation with these texts at it, where it held this text before, or none."""
+    if word == "set" or (word == "cas" and held == texts[0]):
+        return texts[-1]
+    return None if word == "del" else held
 
 
 def version_of(events):
