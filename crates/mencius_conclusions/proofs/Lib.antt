@@ -1,3 +1,4 @@
 pub mod JournalMoments
 pub mod HandDeliveries
 pub mod LedBallots
+pub mod OneWorkers

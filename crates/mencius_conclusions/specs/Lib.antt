@@ -1,3 +1,4 @@
 pub mod Hands
 pub mod Longest
 pub mod Ballots
+pub mod OneWorker
