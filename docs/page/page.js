@@ -9,7 +9,7 @@ const UNDONE = 500;
 let core;
 const page = {
   schedule: { servers: 3, beta: 0, events: [] }, cursor: 0, tab: 'lesson', past: [], future: [],
-  now: null, whole: null, dice: diceOf(1),
+  now: null, whole: null, edited: null, dice: diceOf(1),
 };
 
 // A generator for steps at random, of this page alone.
@@ -206,7 +206,9 @@ function inSentence({ text, refusal, lines }, place) {
 
 function showTab() {
   const { tab, schedule, now } = page;
-  if (tab === 'editor' && document.activeElement !== $('source')) {
+  // What somebody writes there is not taken away by a step.
+  if (tab === 'editor' && page.edited !== schedule && document.activeElement !== $('source')) {
+    page.edited = schedule;
     $('source').value = asFile(schedule);
     readEditor(core);
   }
@@ -256,11 +258,8 @@ function startStep(number) {
 
 function openAddress(isFirst) {
   const link = readLink(location.hash);
-  if (link && open(link.schedule, link.cursor, !isFirst)) {
-    showStep(link.step);
-    return;
-  }
-  if (!isFirst) return;
+  showStep(link ? link.step : lesson.step);
+  if (link && open(link.schedule, link.cursor, !isFirst) || !isFirst) return;
   showStep(0);
   become(DATA.examples[DATA.first.example], DATA.first.cursor, false);
   showHint(DATA.first.hint);

@@ -16,12 +16,17 @@ function press(button) {
   else add(button.dataset.do);
 }
 
-// Hands a command in, if its words are those of one.
+// Hands a command in, if its words are those of one and the program does not refuse it.
 function submit(form) {
   const event = `submit ${form.dataset.server} ${form.querySelector('input').value}`;
   const answer = core.call(['check'], asScenario({ servers: 1, beta: 0, events: [event] }));
-  if (answer.status === 0) add(event);
-  else say(wordsOf(answer.said).replace(/^event 0 "[^"]*": /, ''));
+  if (answer.status !== 0) {
+    say(wordsOf(answer.said).replace(/^event 0 "[^"]*": /, ''));
+    return;
+  }
+  const refusal = refusalOf(event);
+  if (refusal) say(`The proved code would refuse this: ${refusal}, since ${REFUSALS[refusal]}.`);
+  else add(event);
 }
 
 function save(name, type, text) {
@@ -133,7 +138,9 @@ function wireTabs() {
   };
   $('source').oninput = () => later('check', 200, () => {
     const schedule = readEditor(core);
-    if (schedule) become(schedule, schedule.events.length);
+    if (!schedule) return;
+    page.edited = schedule;
+    become(schedule, schedule.events.length);
   });
   $('worker').onsubmit = event => {
     event.preventDefault();
