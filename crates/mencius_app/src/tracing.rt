@@ -5,7 +5,9 @@ ghost use Rattle.std.specs.Io.KnownBytes.{Appends, IsAtEnd};
 ghost use Rattle.mencius_app.specs.Calls.{AsksLittle, IsCause};
 ghost use Rattle.mencius_app.specs.Findings.{IsFoundIn, IsToldAs};
 ghost use Rattle.mencius_app.specs.Input.{IsFaultOf};
+ghost use Rattle.mencius_app.specs.Replay.{salt_of_events};
 ghost use Rattle.mencius_app.specs.Trace.{IsTraceOf};
+ghost use Rattle.mencius_cluster.specs.Salt.{salted};
 ghost use Rattle.mencius_cluster.specs.State.{trace_of};
 ghost use Rattle.mencius_trace.specs.Closing.{told_from, trace_text};
 
@@ -56,14 +58,15 @@ pub(crate) fn traced(alloc: Global, members: Members, events: Events) -> Result<
     Ok(text)
 }
 
-// Adds the trace of a new cluster and these events.
+// Adds the trace of these events and of a new cluster, which has their salt.
 fn push_trace(
     alloc: Global,
     text: &mut String,
     cluster: &mut Cluster,
     events: Events,
 ) -> Result<(), NoMemory>
-    requires { cluster.old.journal ≡ [] }
+    requires journal { cluster.old.journal ≡ [] }
+    requires salt { cluster.old.hasher ≡ salted (salt_of_events events) }
     ensures { OnOk result (string_bytes text.new
         ≡ string_bytes text.old ++ trace_text cluster.old.members events) }
 {

@@ -44,6 +44,7 @@ pub fn note_across(
     ensures journal { OnOk result (cluster.new.journal ≡ cluster.old.journal
         ++ accepted_from cluster.old.members (trace_of cluster.old) events.items) }
     ensures members { cluster.new.members ≡ cluster.old.members }
+    ensures hasher { cluster.new.hasher ≡ cluster.old.hasher }
 
     // What a caller concludes.
     ensures comparable { IfOk result (λ n. IsComparable n.earlier.items n.later.items) }
@@ -92,6 +93,7 @@ fn step_all(cluster: &mut Cluster, events: Vec<Event>) -> Result<(), NoMemory>
     ensures journal { OnOk result (cluster.new.journal ≡ cluster.old.journal
         ++ accepted_from cluster.old.members (trace_of cluster.old) events.items) }
     ensures members { cluster.new.members ≡ cluster.old.members }
+    ensures hasher { cluster.new.hasher ≡ cluster.old.hasher }
     ensures taken { OnErr result ((taken : List Event)
         × (cluster.new.journal ≡ cluster.old.journal ++ taken)) }
 {
