@@ -1,7 +1,7 @@
 -- What a check reads of an input.
 use Rattle.std.proofs.Common.{◌≡◌, ◌≢◌, ◌≤◌, ◌⊎◌, ◌++◌, inl, inr, ℕ, List, length, Option, Some, None, IfSome, IfOk, IfErr, Result, Ok, Err, String, Global, string_bytes, ap, sym, subst, ◌∙◌}
 use Rattle.mencius_ends.specs.declared.fault.AppFault.{AppFault}
-use Rattle.mencius_ends.specs.declared.fault.AppFault.TheVariants.{BadShape, BoardFailed, NoMemory}
+use Rattle.mencius_ends.specs.declared.fault.AppFault.TheVariants.{BadShape, NoMemory}
 use Rattle.mencius_ends.specs.Ends.{most_bytes}
 use Rattle.mencius_input.specs.declared.kind.Kind.{Kind}
 use Rattle.mencius_input.specs.declared.kind.Kind.TheVariants as kind
@@ -17,7 +17,7 @@ use Rattle.mencius_app.specs.Findings.{IsFoundIn, IsToldByFields}
 use Rattle.mencius_app.specs.Input.{IsBadInput, unless_long}
 use Rattle.mencius_app.specs.declared.finding.Finding.{Finding}
 use Rattle.mencius_app.proofs.FindingWords.{of_bytes}
-use Rattle.mencius_app.proofs.Inputs.{bad_there, failing, flipped, no_board, no_read, no_write, own_fault, plan_bad, says_by_bytes, scenario_bad}
+use Rattle.mencius_app.proofs.Inputs.{bad_there, failing, flipped, no_read, no_write, own_fault, plan_bad, says_by_bytes, scenario_bad}
 use Rattle.mencius_app.proofs.ScenarioKinds.{meant_as_replay}
 use Rattle.mencius_input.specs.declared.scenario.Scenario.{Scenario}
 use Rattle.mencius_base.specs.declared.event.Event.{Event}
@@ -119,20 +119,13 @@ module _ (known : Option (List ℕ)) (bytes text : List ℕ) (whole : IfSome kno
       → IfErr r (λ found. (found.fault ≡ NoMemory) ⊎ (checked text ≡ Err found.fault))
       → IfErr r (λ found. IsReadingCause (IsCheckFaultOf known) reads reads_now found.fault)
   fault_read reads reads_now (Ok s) h = tt
-  fault_read reads reads_now (Err found) (inl memory) = own_fault (inl memory)
+  fault_read reads reads_now (Err found) (inl memory) = own_fault memory
   fault_read reads reads_now (Err found) (inr e) = record {
     bad_input = λ _. bad_there checked known bytes found.fault whole
         (ap (unless_long checked) (sym is) ∙ says_by_bytes checked text fits ∙ e);
     read_failed = λ broken. absurd (no_read found.fault (checked_bad text found.fault e) broken);
     no_writer = no_write found.fault (checked_bad text found.fault e);
   }
-
-  pub no_board_read : (r : Result (String Global) Finding)
-      → IfErr r (λ found. (found.fault ≡ NoMemory) ⊎ (checked text ≡ Err found.fault))
-      → IfErr r (λ found. found.fault ≢ BoardFailed)
-  no_board_read (Ok s) h = tt
-  no_board_read (Err found) (inl memory) = λ e. (let same = sym memory ∙ e in absurd (cc))
-  no_board_read (Err found) (inr e) = no_board found.fault (checked_bad text found.fault e)
 
   pub words_read : (r : Result (String Global) Finding)
       → IfErr r (λ found. AreWordsByFields found.fault text found.words)

@@ -1,14 +1,18 @@
 -- Why a task ended at a fault.
-use Rattle.std.proofs.Common.{◌≡◌, ◌≤◌, ◌+◌, arith, inr, ℕ, Bool, false, List, [], Option, Some, None, IfSome, IfErr, Result, Ok, Err, String, Global, refl, sym, subst}
+use Rattle.std.proofs.Common.{◌≡◌, ◌≢◌, ◌≤◌, ◌+◌, ◌∙◌, arith, inr, ℕ, Bool, false, List, [], Option, Some, None, IfSome, IfErr, Result, Ok, Err, String, Global, refl, sym, subst}
 use Rattle.clap.specs.Words.{Text}
 use Rattle.mencius_ends.specs.declared.fault.AppFault.{AppFault}
 use Rattle.mencius_ends.specs.Ends.{TakesAtMost, most_bytes, most_failed_calls}
 use Rattle.mencius_app.specs.Calls.{AsksAs, AsksLittle, IsCause}
 use Rattle.mencius_app.specs.Replay.{IsReplayOf, accepts_all}
 use Rattle.mencius_app.specs.Run.{IsRunOf}
-use Rattle.mencius_app.specs.Ending.{IsAskedFor, IsFaultFor, IsInputFaultOf, IsTextOf, ending_at, ending_of, ending_with, fault_in, tells_of_refusals}
+use Rattle.mencius_app.specs.Ending.{IsAskedFor, IsFaultFor, IsInputFaultOf, IsTextOf, ending_at, ending_of, ending_of_run, ending_with, fault_in, tells_of_refusals}
 use Rattle.mencius_app.specs.declared.finding.Finding.{Finding}
+use Rattle.mencius_app.specs.RunFindings.{IfFound}
+use Rattle.mencius_app.specs.declared.run_finding.RunFinding.{RunFinding}
+use Rattle.mencius_app.specs.declared.run_finding.RunFinding.TheVariants as at
 use Rattle.mencius_app.specs.declared.ending.Ending.{Ending}
+use Rattle.mencius_app.specs.declared.ending.Ending.TheVariants.{BoardFailed}
 use Rattle.mencius_command_line.specs.CommandLine.{Asked, asked, asked_check, asked_draw, asked_judge, asked_replay, asked_run, asked_trace, faults, line_of}
 
 -- where its text is also one of another kind
@@ -48,6 +52,32 @@ pub of_result : {T : Type 0} (done : Result T Finding) (ending : Ending) (P : Ap
     → ending ≡ ending_of done → IfErr done (λ found. P found.fault) → IfSome (fault_in ending) P
 of_result (Ok x) ending P e h = subst (λ d. IfSome (fault_in d) P) (sym e) tt
 of_result (Err found) ending P e h = of_finding found ending P e h
+
+-- and so of a run, which found nothing where its board failed
+pub of_run : {T : Type 0} (done : Result T RunFinding) (ending : Ending) (P : AppFault → Type 0)
+    → ending ≡ ending_of_run done → IfErr done (IfFound (λ found. P found.fault)) → IfSome (fault_in ending) P
+of_run (Ok x) ending P e h = subst (λ d. IfSome (fault_in d) P) (sym e) tt
+of_run (Err (at.Found found)) ending P e h = of_finding found ending P e h
+of_run (Err at.BoardFailed) ending P e h = subst (λ d. IfSome (fault_in d) P) (sym e) tt
+
+-- a finding is no board's
+pub found_not_board : (found : Finding) (ending : Ending) → ending ≡ ending_at found → ending ≢ BoardFailed
+found_not_board found ending e is = worded found.words (sym e ∙ is) where
+  worded : (words : Option (String Global)) → ending_with found.fault words ≡ BoardFailed → ⊥
+  worded None g = absurd (cc)
+  worded (Some line) g = absurd (cc)
+
+pub done_not_board : {T : Type 0} (done : Result T Finding) (ending : Ending) → ending ≡ ending_of done
+    → ending ≢ BoardFailed
+done_not_board (Ok x) ending e is = (let both = sym e ∙ is in absurd (cc))
+done_not_board (Err found) ending e is = found_not_board found ending e is
+
+-- only a run whose board failed ends so
+pub board_of_run : {T K : Type 0} (done : Result T RunFinding) (ending : Ending) → ending ≡ ending_of_run done
+    → (done ≡ Err at.BoardFailed → K) → ending ≡ BoardFailed → K
+board_of_run (Ok x) ending e failed is = (let both = sym e ∙ is in absurd (cc))
+board_of_run (Err (at.Found found)) ending e failed is = absurd (found_not_board found ending e is)
+board_of_run (Err at.BoardFailed) ending e failed is = failed refl
 
 -- what holds of a task holds of the arguments that ask for it
 pub of_task : (arguments : List Text) (task : Asked) (known : Option (List ℕ)) (reads reads_now writes writes_now : ℕ)

@@ -7,10 +7,13 @@ use Rattle.mencius_input.specs.declared.kind.Kind.{Kind}
 use Rattle.mencius_input.specs.Explanations.{IsToldUnread}
 use Rattle.mencius_trace.specs.Words.{line_feed}
 use Rattle.mencius_app.specs.Findings.{AreWordsOfInput, IsFoundIn, IsToldAs, IsToldByFields, Telling}
-use Rattle.mencius_app.specs.Ending.{TellsOf, ending_at, ending_of, ending_with, is_explained, telling_of}
+use Rattle.mencius_app.specs.Ending.{TellsOf, ending_at, ending_of, ending_of_run, ending_with, is_explained, telling_of}
 use Rattle.mencius_app.specs.declared.finding.Finding.{Finding}
+use Rattle.mencius_app.specs.RunFindings.{IfFound}
+use Rattle.mencius_app.specs.declared.run_finding.RunFinding.{RunFinding}
+use Rattle.mencius_app.specs.declared.run_finding.RunFinding.TheVariants as at
 use Rattle.mencius_app.specs.declared.ending.Ending.{Ending}
-use Rattle.mencius_app.specs.declared.ending.Ending.TheVariants.{Done, Refused, BadCommandLine, Failed, Explained}
+use Rattle.mencius_app.specs.declared.ending.Ending.TheVariants.{Done, Refused, BadCommandLine, Failed, Explained, BoardFailed}
 use Rattle.mencius_command_line.specs.CommandLine.{Asked}
 
 -- ---- the bytes
@@ -60,6 +63,7 @@ unexplained asked known Done plain = tt
 unexplained asked known Refused plain = tt
 unexplained asked known BadCommandLine plain = tt
 unexplained asked known (Failed fault) plain = tt
+unexplained asked known BoardFailed plain = tt
 unexplained asked known (Explained fault words) plain = absurd (cc)
 
 pub told_of_finding : (asked : Asked) (known : Option (List ℕ)) (found : Finding) (ending : Ending)
@@ -75,3 +79,10 @@ pub told_of_result : {T : Type 0} (asked : Asked) (known : Option (List ℕ)) (d
     → ending ≡ ending_of done → IfErr done (IsFoundIn (telling_of asked) known) → TellsOf asked known ending
 told_of_result asked known (Ok done) ending e h = subst (TellsOf asked known) (sym e) tt
 told_of_result asked known (Err found) ending e h = told_of_finding asked known found ending e h
+
+pub told_of_run : {T : Type 0} (asked : Asked) (known : Option (List ℕ)) (done : Result T RunFinding) (ending : Ending)
+    → ending ≡ ending_of_run done → IfErr done (IfFound (IsFoundIn (telling_of asked) known))
+    → TellsOf asked known ending
+told_of_run asked known (Ok done) ending e h = subst (TellsOf asked known) (sym e) tt
+told_of_run asked known (Err (at.Found found)) ending e h = told_of_finding asked known found ending e h
+told_of_run asked known (Err at.BoardFailed) ending e h = subst (TellsOf asked known) (sym e) tt

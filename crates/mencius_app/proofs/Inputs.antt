@@ -7,7 +7,7 @@ use Rattle.std.specs.Io.KnownBytes.{Appends, Keeps}
 use Rattle.std.proofs.lemmas.Bool.{le-ltb, lt-ltb}
 use Rattle.serde_json.specs.Data.{Data}
 use Rattle.mencius_ends.specs.declared.fault.AppFault.{AppFault}
-use Rattle.mencius_ends.specs.declared.fault.AppFault.TheVariants.{NotJson, BadShape, BadLimit, ReadFailed, WriteFailed, BoardFailed, NoMemory}
+use Rattle.mencius_ends.specs.declared.fault.AppFault.TheVariants.{NotJson, BadShape, BadLimit, ReadFailed, WriteFailed, NoMemory}
 use Rattle.mencius_ends.specs.Ends.{HasFailed, WritesFront, most_bytes}
 use Rattle.mencius_format.specs.Judged.{FailsBy, Gives, judged, seen}
 use Rattle.mencius_input.specs.declared.kind.Kind.TheVariants.{Run}
@@ -19,7 +19,9 @@ use Rattle.mencius_app.specs.Input.{HasFault, IsBadInput, Says, input_of, unless
 use Rattle.mencius_app.specs.Replay.{IsMadeOf}
 use Rattle.mencius_app.specs.declared.finding.Finding.{Finding}
 use Rattle.mencius_base.specs.declared.event.Event.{Event}
-use Rattle.mencius_app.specs.Run.{IsOwnFault}
+use Rattle.mencius_app.specs.RunFindings.{IfFound}
+use Rattle.mencius_app.specs.declared.run_finding.RunFinding.{RunFinding}
+use Rattle.mencius_app.specs.declared.run_finding.RunFinding.TheVariants as at
 use Rattle.mencius_input.specs.declared.scenario.Scenario.{Scenario}
 
 -- ---- long inputs
@@ -59,7 +61,7 @@ scenario_bad bytes fault e = json_bad within written_of (json_of bytes) fault e
 pub plan_bad : (bytes : List ℕ) (fault : AppFault) → plan bytes ≡ Err fault → IsBadInput fault
 plan_bad bytes fault e = json_bad (scenario_within plan_within) (scenario_of Run plan_read) (json_of bytes) fault e
 
--- a bad input is no failed reader or writer, and no failed board
+-- a bad input is no failed reader or writer
 other_bad : (fault other : AppFault) → fault ≡ other → (other ≢ NotJson) × (other ≢ BadShape) × (other ≢ BadLimit)
     → IsBadInput fault → ⊥
 other_bad fault other e none (inl h) = none.0 (sym e ∙ h)
@@ -72,9 +74,6 @@ no_read fault bad e = other_bad fault ReadFailed e (λ h. absurd (cc), λ h. abs
 pub no_write : (fault : AppFault) → IsBadInput fault → fault ≢ WriteFailed
 no_write fault bad e = other_bad fault WriteFailed e (λ h. absurd (cc), λ h. absurd (cc), λ h. absurd (cc)) bad
 
-pub no_board : (fault : AppFault) → IsBadInput fault → fault ≢ BoardFailed
-no_board fault bad e = other_bad fault BoardFailed e (λ h. absurd (cc), λ h. absurd (cc), λ h. absurd (cc)) bad
-
 no_memory : (fault : AppFault) → IsBadInput fault → fault ≢ NoMemory
 no_memory fault bad e = other_bad fault NoMemory e (λ h. absurd (cc), λ h. absurd (cc), λ h. absurd (cc)) bad
 
@@ -85,18 +84,13 @@ pub at_err : {T E : Type 0} (r : Result T E) (error : E) (P : E → Type 0) → 
     → IfErr r P
 at_err r error P is h = let failed = err_from_is_err_and r is in rw (failed.1, failed.2) h
 
--- memory ran out, or the board failed
-pub own_fault : {F : AppFault → Type 0} {reads reads_now : ℕ} {fault : AppFault} → IsOwnFault fault
+-- memory ran out
+pub own_fault : {F : AppFault → Type 0} {reads reads_now : ℕ} {fault : AppFault} → fault ≡ NoMemory
     → IsReadingCause F reads reads_now fault
-own_fault {F} {reads} {reads_now} {fault} (inl memory) = record {
+own_fault {F} {reads} {reads_now} {fault} memory = record {
   bad_input = λ bad. absurd (no_memory fault bad memory);
   read_failed = λ e. let same = sym memory ∙ e in absurd (cc);
   no_writer = λ e. let same = sym memory ∙ e in absurd (cc);
-}
-own_fault {F} {reads} {reads_now} {fault} (inr board) = record {
-  bad_input = λ bad. absurd (no_board fault bad board);
-  read_failed = λ e. let same = sym board ∙ e in absurd (cc);
-  no_writer = λ e. let same = sym board ∙ e in absurd (cc);
 }
 
 -- a reader answered no bytes
@@ -115,7 +109,7 @@ unread read known reads reads_now fault (inr (inl broken)) long failed = record 
   read_failed = failed;
   no_writer = λ e. let same = sym broken ∙ e in absurd (cc);
 }
-unread read known reads reads_now fault (inr (inr memory)) long failed = own_fault (inl memory)
+unread read known reads reads_now fault (inr (inr memory)) long failed = own_fault memory
 
 pub flipped : (known : Option (List ℕ)) (bytes : List ℕ) → IfSome known (λ all. bytes ≡ all)
     → IfSome known (λ all. all ≡ bytes)
@@ -130,7 +124,6 @@ failing BadLimit answer h = inr h
 failing ReadFailed answer h = inr h
 failing WriteFailed answer h = inr h
 failing NoMemory answer h = inl refl
-failing BoardFailed answer h = inr h
 
 pub bad_there : {Y : Type 0} (read : List ℕ → Result Y AppFault) (known : Option (List ℕ)) (bytes : List ℕ)
     (fault : AppFault) → IfSome known (λ all. bytes ≡ all) → unless_long read bytes ≡ Err fault
@@ -157,20 +150,13 @@ module _ {X Y : Type 0} (read : List ℕ → Result Y AppFault)
       → IfErr r (IsReadingCause (HasFault (unless_long read) known) reads reads_now)
   misread reads reads_now (Ok x) gives = tt
   misread reads reads_now (Err fault) gives = elim (failing fault (read text) gives) [
-    | inl memory ↦ own_fault (inl memory)
+    | inl memory ↦ own_fault memory
     | inr e ↦ record {
       bad_input = λ _. bad_there read known bytes fault whole
           (ap (unless_long read) (sym is) ∙ says_by_bytes read text fits ∙ e);
       read_failed = λ broken. absurd (no_read fault (bad text fault e) broken);
       no_writer = no_write fault (bad text fault e);
     }
-  ]
-
-  pub no_board_read : (r : Result X AppFault) → Gives (seen view r) (read text) → IfErr r (λ fault. fault ≢ BoardFailed)
-  no_board_read (Ok x) gives = tt
-  no_board_read (Err fault) gives = elim (failing fault (read text) gives) [
-    | inl memory ↦ λ e. (let same = sym memory ∙ e in absurd (cc))
-    | inr e ↦ no_board fault (bad text fault e)
   ]
 
 -- ---- writing
@@ -222,3 +208,11 @@ made text_of known said_there text says is = record { written = said_there; says
 pub at_finding : {T : Type 0} (r : Result T Finding) (fault : AppFault) (P : AppFault → Type 0)
     → IsErrAnd r (λ found. (found.fault ≡ fault) × (found.words ≡ None)) → P fault → IfErr r (λ found. P found.fault)
 at_finding r fault P is h = let failed = err_from_is_err_and r is in rw (failed.1, failed.2.0) h
+
+-- ---- a run
+
+-- what holds of all that is found holds of what a run found
+pub also_found : {P Q : Finding → Type 0} (run : RunFinding) → ((found : Finding) → P found → Q found) → IfFound P run
+    → IfFound Q run
+also_found (at.Found found) also h = also found h
+also_found at.BoardFailed also h = tt

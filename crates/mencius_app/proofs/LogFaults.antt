@@ -10,8 +10,8 @@ use Rattle.mencius_app.specs.Findings.{IsFoundIn}
 use Rattle.mencius_app.specs.Judging.{IsJudgement, IsJudgementOf, IsToldByLine}
 use Rattle.mencius_app.specs.declared.finding.Finding.{Finding}
 use Rattle.mencius_app.specs.declared.ending.Ending.{Ending}
-use Rattle.mencius_app.specs.declared.ending.Ending.TheVariants.{Done, Refused, BadCommandLine}
-use Rattle.mencius_app.proofs.EndingCauses.{of_finding}
+use Rattle.mencius_app.specs.declared.ending.Ending.TheVariants.{Done, Refused, BadCommandLine, BoardFailed}
+use Rattle.mencius_app.proofs.EndingCauses.{found_not_board, of_finding}
 use Rattle.mencius_app.proofs.FindingWords.{told_of_finding}
 
 pub text_of_judgement : (known : Option (List ℕ)) (text : List ℕ) → IsJudgement known text
@@ -57,6 +57,12 @@ judged_never_bad (Err found) ending e is = no_fault found.words (sym e ∙ is)
     no_fault : (words : Option (String Global)) → ending_with found.fault words ≡ BadCommandLine → ⊥
     no_fault None g = absurd (cc)
     no_fault (Some line) g = absurd (cc)
+
+pub judged_not_board : (done : Result Bool Finding) (ending : Ending) → ending ≡ ending_of_judgement done
+    → ending ≢ BoardFailed
+judged_not_board (Ok true) ending e is = (let both = sym e ∙ is in absurd (cc))
+judged_not_board (Ok false) ending e is = (let both = sym e ∙ is in absurd (cc))
+judged_not_board (Err found) ending e is = found_not_board found ending e is
 
 -- words with a line feed are the line of them
 pub line_of_words : (line : Option (String Global)) (given : Option (String Global)) (words : String Global)

@@ -24,7 +24,7 @@ reading_as also h = record {
 pub refused_cause : (o : Options) (known : Option (List ℕ)) (trace : List ℕ) (reads reads_now : ℕ) (found : Finding)
     → IsTraceOf known trace → IsRefusedAs o trace found
     → IsReadingCause (IsDrawingFaultOf o known) reads reads_now found.fault
-refused_cause o known trace reads reads_now found is (inl memory) = own_fault (inl memory.0)
+refused_cause o known trace reads reads_now found is (inl memory) = own_fault memory.0
 refused_cause o known trace reads reads_now found is (inr large) = record {
   bad_input = λ _. inr (large.0, levels_in o trace, (trace, is, refl, large.1));
   read_failed = λ e. let same : BadLimit ≡ ReadFailed = sym large.0 ∙ e in absurd (cc);

@@ -5,11 +5,11 @@ use Rattle.std.specs.Io.KnownBytes.{Appends}
 use Rattle.clap.specs.Words.{IsAmong, Text}
 use Rattle.clap.specs.declared.error.kind.ErrorKind.{ErrorKind}
 use Rattle.mencius_ends.specs.declared.fault.AppFault.{AppFault}
+use Rattle.mencius_ends.specs.declared.fault.AppFault.TheVariants.{NotJson, BadShape, BadLimit, ReadFailed, WriteFailed, NoMemory}
 use Rattle.mencius_command_line.specs.CommandLine.{Asked, are_texts, asked, asked_check, asked_draw, asked_judge, asked_replay, asked_run, asked_trace, faults, line_of}
 use Rattle.mencius_command_line.specs.Help.{shown_for}
 use Rattle.mencius_input.specs.declared.kind.Kind.TheVariants as input
 use Rattle.mencius_ends.specs.Fault.{fault_name, fault_number}
-use Rattle.mencius_ends.specs.Status.{status_of}
 use Rattle.mencius_app.specs.Input.{IsFaultOf, IsPlanFaultOf}
 use Rattle.mencius_app.specs.Judging.{IsJudgementOf, IsLogFaultOf, IsToldByLine}
 use Rattle.mencius_app.specs.Replay.{IsJudgedReplayOf}
@@ -22,10 +22,21 @@ use Rattle.mencius_app.specs.Run.{IsRunOf}
 use Rattle.mencius_app.specs.declared.calling.RunOptions.{RunOptions}
 use Rattle.mencius_app.specs.declared.calling.TheConstants.{NOT_TEXT}
 use Rattle.mencius_app.specs.declared.finding.Finding.{Finding}
+use Rattle.mencius_app.specs.declared.run_finding.RunFinding.{RunFinding}
+use Rattle.mencius_app.specs.declared.run_finding.RunFinding.TheVariants as at
 use Rattle.mencius_app.specs.declared.ending.Ending.{Ending}
-use Rattle.mencius_app.specs.declared.ending.Ending.TheVariants.{Done, Refused, BadCommandLine, Failed, Explained}
+use Rattle.mencius_app.specs.declared.ending.Ending.TheVariants.{Done, Refused, BadCommandLine, Failed, Explained, BoardFailed}
 
 -- ---- the end
+
+-- the exit status of a fault: of a bad scenario, of a reader or writer that failed, and where memory ran out
+abbrev pub status_of : AppFault → ℕ
+status_of NotJson = 3
+status_of BadShape = 3
+status_of BadLimit = 3
+status_of ReadFailed = 4
+status_of WriteFailed = 4
+status_of NoMemory = 5
 
 abbrev pub status_of_ending : Ending → ℕ
 status_of_ending Done = 0
@@ -33,8 +44,9 @@ status_of_ending Refused = 1
 status_of_ending BadCommandLine = 2
 status_of_ending (Failed fault) = status_of fault
 status_of_ending (Explained fault words) = status_of fault
+status_of_ending BoardFailed = 5
 
--- the fault that a call ended at
+-- the fault that a call ended at, unless it is its board's
 abbrev pub fault_in : Ending → Option AppFault
 fault_in (Failed fault) = Some fault
 fault_in (Explained fault words) = Some fault
@@ -43,6 +55,10 @@ fault_in _ = None
 -- a fault's number and name
 abbrev pub fault_line : AppFault → List ℕ
 fault_line fault = codes "mencius: fault " ++ decimal (fault_number fault) ++ 32 ∷ fault_name fault ++ line_feed
+
+-- and of a board that failed
+abbrev pub board_line : List ℕ
+board_line = codes "mencius: fault 27 BoardFailed" ++ line_feed
 
 -- there are words for the fault
 abbrev pub is_explained : Ending → Bool
@@ -53,6 +69,7 @@ is_explained _ = false
 abbrev pub lines_of_ending : Ending → List ℕ
 lines_of_ending (Failed fault) = fault_line fault
 lines_of_ending (Explained fault words) = fault_line fault ++ string_bytes words
+lines_of_ending BoardFailed = board_line
 lines_of_ending _ = []
 
 -- how a call ends at a fault, with words for it where there are any
@@ -67,6 +84,12 @@ ending_at found = ending_with found.fault found.words
 abbrev pub ending_of : {T : Type 0} → Result T Finding → Ending
 ending_of (Ok done) = Done
 ending_of (Err found) = ending_at found
+
+-- how a call ends whose run came to this
+abbrev pub ending_of_run : {T : Type 0} → Result T RunFinding → Ending
+ending_of_run (Ok done) = Done
+ending_of_run (Err (at.Found found)) = ending_at found
+ending_of_run (Err at.BoardFailed) = BoardFailed
 
 -- how a call ends that judged a log
 abbrev pub ending_of_judgement : Result Bool Finding → Ending

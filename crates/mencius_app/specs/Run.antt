@@ -1,11 +1,9 @@
 -- The text of a run, and which input it is of.
-use Rattle.std.specs.Prelude.{◌≡◌, ◌⊎◌, ℕ, Bool, true, if◌then◌else◌, Ok, List, [], ◌∷◌, ◌++◌, codes, Option, Some, None}
+use Rattle.std.specs.Prelude.{◌≡◌, ℕ, Bool, true, if◌then◌else◌, Ok, List, [], ◌∷◌, ◌++◌, codes, Option, Some, None}
 use Rattle.mencius_model.specs.Store.{value_at}
 use Rattle.mencius_model.specs.Next.{replay}
 use Rattle.mencius_model.specs.Replying.{longest_commands}
 use Rattle.mencius_cluster.specs.State.{ClusterState, trace_of}
-use Rattle.mencius_ends.specs.declared.fault.AppFault.{AppFault}
-use Rattle.mencius_ends.specs.declared.fault.AppFault.TheVariants.{BoardFailed, NoMemory}
 use Rattle.mencius_app.specs.Input.{Says, plan_input_of}
 use Rattle.mencius_app.specs.Journal.{ReadsBack, journal_text}
 use Rattle.mencius_app.specs.Plan.{IsOutcome}
@@ -45,10 +43,6 @@ run_text with_journal key x = journal_line with_journal x ++ (report_text x.memb
 abbrev pub IsFound : Option (List ℕ) → ClusterState → Option (List ℕ) → Type 0
 IsFound None x found = Unit {0}
 IsFound (Some key) x found = found ≡ held_at x key
-
--- memory ran out, or the board failed: no fault of the input, the reader or the writer
-abbrev pub IsOwnFault : AppFault → Type 0
-IsOwnFault fault = (fault ≡ NoMemory) ⊎ (fault ≡ BoardFailed)
 
 -- ---- the whole
 

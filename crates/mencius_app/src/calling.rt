@@ -7,7 +7,7 @@ ghost use Rattle.mencius_command_line.specs.CommandLine.{are_texts, asked, asked
 ghost use Rattle.mencius_command_line.specs.Help.{shown_for};
 ghost use Rattle.mencius_ends.specs.Ends.{HasFailed, WritesFront, most_failed_calls};
 ghost use Rattle.mencius_app.specs.Calls.{AsksAs, AsksLittle, IsCause};
-ghost use Rattle.mencius_app.specs.Ending.{AsksToRun, Did, DidTask, IsAskedFor, IsComplaint, IsFaultFor, IsInputFaultOf, IsMistaken, IsTextOf, TellsOf, asked_with, ending_at, ending_of, ending_of_judgement, fault_in, is_explained};
+ghost use Rattle.mencius_app.specs.Ending.{AsksToRun, Did, DidTask, IsAskedFor, IsComplaint, IsFaultFor, IsInputFaultOf, IsMistaken, IsTextOf, TellsOf, asked_with, ending_at, ending_of, ending_of_judgement, ending_of_run, fault_in, is_explained};
 
 use crate::checking::check;
 use crate::drawing::draw;
@@ -15,6 +15,7 @@ use crate::ending::{Ending, write_both};
 use crate::finding::Finding;
 use crate::judging::judge;
 use crate::replaying::replay_judged;
+use crate::run_finding::RunFinding;
 use crate::running::run;
 use crate::tracing::trace;
 use clap::Error;
@@ -82,8 +83,8 @@ pub fn perform<R: Source, W: Sink, E: Sink, T: Threads + Wait + Sync>(
         (IsAskedFor (bytes_of arguments.now) (R.remaining source.old))
         (R.failed source.old) (R.failed source.new) (W.failed sink.old) (W.failed sink.new)
         (W.contents sink.old) (W.contents sink.new)) }
-    ensures board { fault_in result ≡ Some AppFault.BoardFailed
-        → AsksToRun (bytes_of arguments.now) }
+    ensures board { result ≡ Ending.BoardFailed
+        → AsksToRun (bytes_of arguments.now) × (sink.new ≡ sink.old) }
     ensures explained { is_explained result ≡ true → faults (line_of (bytes_of arguments.now)) ≡ [] }
     ensures words { TellsOf (asked (line_of (bytes_of arguments.now))) (R.remaining source.old)
         result }
@@ -118,6 +119,7 @@ pub(crate) fn tell<W: Sink, E: Sink>(
         × (shown_for (kind_of error.now) (bytes_of arguments.now) ≡ Some text)
         × Appends (W.contents sink.old) (W.contents sink.new) text }
     ensures all_accepted { result ≢ Ending.Refused }
+    ensures no_board { result ≢ Ending.BoardFailed }
     ensures plain { is_explained result ≡ false }
     ensures misused { result ≡ Ending.BadCommandLine → (kind_of error.now ≢ ErrorKind.OutOfMemory)
         × (shown_for (kind_of error.now) (bytes_of arguments.now) ≡ None)
@@ -198,8 +200,7 @@ pub(crate) fn perform_alone<R: Source, W: Sink>(
         (IsTextOf (asked_in task) (R.remaining source.old))
         (R.failed source.old) (R.failed source.new) (W.failed sink.old) (W.failed sink.new)
         (W.contents sink.old) (W.contents sink.new))) }
-    ensures no_board { IfOk result (λ ending. IfSome (fault_in ending)
-        (λ f. f ≢ AppFault.BoardFailed)) }
+    ensures no_board { IfOk result (λ ending. ending ≢ Ending.BoardFailed) }
     ensures words { IfOk result (TellsOf (asked_in task) (R.remaining source.old)) }
     ensures asked { AsksAs (asked_in task) (R.remaining source.old) (R.remaining source.new)
         (R.failed source.old) (R.failed source.new) (W.failed sink.old) (W.failed sink.new) }
@@ -235,6 +236,7 @@ fn perform_run<R: Source, W: Sink, T: Threads + Wait + Sync>(
         DidTask (asked_with options.now) (R.remaining source.old) (W.contents sink.old)
         (W.contents sink.new) false }
     ensures no_other { (result ≢ Ending.Refused) × (result ≢ Ending.BadCommandLine) }
+    ensures board { result ≡ Ending.BoardFailed → sink.new ≡ sink.old }
     ensures fault { IfSome (fault_in result)
         (IsCause (IsInputFaultOf (asked_with options.now) (R.remaining source.old))
         (IsTextOf (asked_with options.now) (R.remaining source.old))
@@ -245,7 +247,7 @@ fn perform_run<R: Source, W: Sink, T: Threads + Wait + Sync>(
         (R.failed source.old) (R.failed source.new) (W.failed sink.old) (W.failed sink.new) }
 {
     let key = options.key.as_deref();
-    ending_of(run(rt, alloc, source, sink, &Open, options.with_journal, key))
+    ending_of_run(run(rt, alloc, source, sink, &Open, options.with_journal, key))
 }
 
 /// How a call ends whose work came to this.
@@ -255,6 +257,17 @@ pub(crate) fn ending_of(done: Result<(), Finding>) -> Ending
     match done {
         Ok(()) => Ending::Done,
         Err(found) => ending_at(found),
+    }
+}
+
+// How a call ends whose run came to this.
+fn ending_of_run(done: Result<(), RunFinding>) -> Ending
+    ensures { result ≡ ending_of_run done }
+{
+    match done {
+        Ok(()) => Ending::Done,
+        Err(RunFinding::Found(found)) => ending_at(found),
+        Err(RunFinding::BoardFailed) => Ending::BoardFailed,
     }
 }
 

@@ -1,6 +1,6 @@
 //! What a check of a scenario prints.
 
-ghost use Rattle.std.specs.Prelude.{ℕ, List, ◌≡◌, ◌≢◌, ◌⊎◌, ◌++◌, map, string_bytes, IfErr, IfOk, IfSome, OnOk, Err, Ok};
+ghost use Rattle.std.specs.Prelude.{ℕ, List, ◌≡◌, ◌⊎◌, ◌++◌, map, string_bytes, IfErr, IfOk, IfSome, OnOk, Err, Ok};
 ghost use Rattle.std.specs.List.{flat_map};
 ghost use Rattle.std.specs.Io.KnownBytes.{Appends, IsAtEnd};
 ghost use Rattle.mencius_input.specs.Kinds.{kind_in};
@@ -39,7 +39,6 @@ pub fn check<R: Source, W: Sink>(alloc: Global, source: &mut R, sink: &mut W) ->
         (IsCheckOf (R.remaining source.old)) (R.failed source.old) (R.failed source.new)
         (W.failed sink.old) (W.failed sink.new) (W.contents sink.old) (W.contents sink.new)
         found.fault) }
-    ensures no_board { IfErr result (λ found. found.fault ≢ AppFault.BoardFailed) }
 
     // The words, where there are any, are of the fault in these bytes.
     ensures words { IfErr result (IsFoundIn IsToldByFields (R.remaining source.old)) }
@@ -57,7 +56,6 @@ fn read_line<R: Source>(alloc: Global, source: &mut R) -> Result<String, Finding
     ensures line { IfOk result (λ s. IsCheckOf (R.remaining source.old) (string_bytes s)) }
     ensures fault { IfErr result (λ found. IsReadingCause (IsCheckFaultOf (R.remaining source.old))
         (R.failed source.old) (R.failed source.new) found.fault) }
-    ensures no_board { IfErr result (λ found. found.fault ≢ AppFault.BoardFailed) }
     ensures words { IfErr result (IsFoundIn IsToldByFields (R.remaining source.old)) }
     ensures asked { AsksReader (R.remaining source.old) (R.remaining source.new)
         (R.failed source.old) (R.failed source.new) }

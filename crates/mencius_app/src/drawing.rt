@@ -1,6 +1,6 @@
 //! What a picture of a scenario prints.
 
-ghost use Rattle.std.specs.Prelude.{ℕ, List, ◌≡◌, ◌≢◌, ◌⊎◌, ◌++◌, IfErr, IfOk, IfSome, Ok, OnOk, string_bytes};
+ghost use Rattle.std.specs.Prelude.{ℕ, List, ◌≡◌, ◌⊎◌, ◌++◌, IfErr, IfOk, IfSome, Ok, OnOk, string_bytes};
 ghost use Rattle.std.specs.Io.KnownBytes.{Appends, IsAtEnd};
 ghost use Rattle.mencius_draw.specs.Picture.{IsPicture};
 ghost use Rattle.mencius_trace.specs.Words.{line_feed};
@@ -37,7 +37,6 @@ pub fn draw<R: Source, W: Sink>(
         (IsPictureOf options.now (R.remaining source.old)) (R.failed source.old)
         (R.failed source.new) (W.failed sink.old) (W.failed sink.new) (W.contents sink.old)
         (W.contents sink.new) found.fault) }
-    ensures no_board { IfErr result (λ found. found.fault ≢ AppFault.BoardFailed) }
     ensures words { IfErr result
         (IsFoundIn (IsToldOfPicture options.now) (R.remaining source.old)) }
     ensures asked { AsksLittle (R.remaining source.old) (R.remaining source.new)

@@ -3,10 +3,9 @@
 ghost use Rattle.std.specs.Prelude.{◌≡◌, ◌⊎◌, ◌++◌, OnOk, OnErr};
 ghost use Rattle.std.specs.Io.KnownBytes.{Appends};
 ghost use Rattle.mencius_ends.specs.Ends.{HasFailed, WritesFront};
-ghost use Rattle.mencius_ends.specs.Status.{status_of};
-ghost use Rattle.mencius_app.specs.Ending.{fault_line, lines_of_ending, status_of_ending};
+ghost use Rattle.mencius_app.specs.Ending.{board_line, fault_line, lines_of_ending, status_of, status_of_ending};
 
-use mencius_input::{AppFault, Sink, exit_status, write_all};
+use mencius_input::{AppFault, Sink, write_all};
 
 /// How a call of the program went.
 #[derive(Debug, Drop, PartialEq, Eq)]
@@ -26,12 +25,15 @@ pub enum Ending {
         /// Where the input is wrong, and how, with a line feed at the end of each line.
         words: String,
     },
+    /// A run ended as the board that its workers share failed.
+    BoardFailed,
 }
 
 /// Ends a call of the program: writes the line of a fault, `mencius: fault NUMBER NAME`, where the
 /// call ended at one, and behind it the words for it, if there are any; and answers the exit status:
 /// 0 where it was done, 1 where a strict replay had refused events or a judged log breaks a promise, 2
-/// for a bad command line, and else [`exit_status`] of the fault. If the lines can't be written, the status stays the same.
+/// for a bad command line, 5 where the board failed, and else [`exit_status`] of the fault. If the lines
+/// can't be written, the status stays the same.
 pub fn end<E: Sink>(ending: Ending, errors: &mut E) -> u8
     ensures status { result ≡ status_of_ending ending }
     ensures lines { Appends (E.contents errors.old) (E.contents errors.new) (lines_of_ending ending)
@@ -45,6 +47,23 @@ pub fn end<E: Sink>(ending: Ending, errors: &mut E) -> u8
         Ending::BadCommandLine => 2,
         Ending::Failed(fault) => tell(errors, fault, ""),
         Ending::Explained { fault, words } => tell(errors, fault, words.as_str()),
+        Ending::BoardFailed => {
+            // Nobody is left to tell where standard error fails.
+            let _ = write_all(errors, line_of_board().as_bytes());
+            5
+        }
+    }
+}
+
+/// The exit status of a task that ended at a fault: 3 for a bad scenario, 4 where reading or writing
+/// failed, and 5 where memory ran out.
+pub fn exit_status(fault: AppFault) -> u8
+    ensures { result ≡ status_of fault }
+{
+    match fault {
+        AppFault::NotJson | AppFault::BadShape | AppFault::BadLimit => 3,
+        AppFault::ReadFailed | AppFault::WriteFailed => 4,
+        AppFault::NoMemory => 5,
     }
 }
 
@@ -87,6 +106,12 @@ fn line_of_fault(fault: AppFault) -> &'static str
         AppFault::ReadFailed => "mencius: fault 24 ReadFailed\n",
         AppFault::WriteFailed => "mencius: fault 25 WriteFailed\n",
         AppFault::NoMemory => "mencius: fault 26 NoMemory\n",
-        AppFault::BoardFailed => "mencius: fault 27 BoardFailed\n",
     }
+}
+
+// And of a board that failed.
+fn line_of_board() -> &'static str
+    ensures { result.now ≡ board_line }
+{
+    "mencius: fault 27 BoardFailed\n"
 }

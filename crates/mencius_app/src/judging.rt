@@ -1,6 +1,6 @@
 //! What a judgement of a log prints.
 
-ghost use Rattle.std.specs.Prelude.{ℕ, List, ◌≡◌, ◌≢◌, ◌≤◌, ◌+◌, ◌++◌, Some, string_bytes, IfErr, IfOk, IfSome};
+ghost use Rattle.std.specs.Prelude.{ℕ, List, ◌≡◌, ◌≤◌, ◌+◌, ◌++◌, Some, string_bytes, IfErr, IfOk, IfSome};
 ghost use Rattle.std.specs.Prelude.{String};
 ghost use Rattle.std.specs.Global.{Global};
 ghost use Rattle.std.specs.Io.KnownBytes.{Appends};
@@ -11,7 +11,7 @@ ghost use Rattle.mencius_app.specs.Findings.{IsFoundIn};
 ghost use Rattle.mencius_app.specs.Judging.{IsJudgement, IsJudgementOf, IsLogFaultOf, IsToldByLine, is_kept, verdict_line};
 
 use crate::finding::{Finding, as_line};
-use mencius_input::{AppFault, Sink, Source, write_all};
+use mencius_input::{Sink, Source, write_all};
 use mencius_judge::{Unjudged, Verdict, judge_log, push_broken, push_kept};
 use std::alloc::{AllocError, Global};
 
@@ -37,7 +37,6 @@ pub fn judge<R: Source, W: Sink>(
         (IsJudgement (R.remaining source.old)) (R.failed source.old) (R.failed source.new)
         (W.failed sink.old) (W.failed sink.new) (W.contents sink.old) (W.contents sink.new)
         found.fault) }
-    ensures no_board { IfErr result (λ found. found.fault ≢ AppFault.BoardFailed) }
     ensures words { IfErr result (IsFoundIn IsToldByLine (R.remaining source.old)) }
     ensures few_reads { R.failed source.new ≤ R.failed source.old + most_failed_calls }
     ensures few_writes { W.failed sink.new ≤ W.failed sink.old + most_failed_calls }
@@ -53,7 +52,6 @@ fn read_judgement<R: Source>(alloc: Global, source: &mut R) -> Result<(String, b
         IsJudgementOf (R.remaining source.old) (string_bytes x.0) x.1) }
     ensures fault { IfErr result (λ found. IsReadingCause (IsLogFaultOf (R.remaining source.old))
         (R.failed source.old) (R.failed source.new) found.fault) }
-    ensures no_board { IfErr result (λ found. found.fault ≢ AppFault.BoardFailed) }
     ensures words { IfErr result (IsFoundIn IsToldByLine (R.remaining source.old)) }
     ensures few { R.failed source.new ≤ R.failed source.old + most_failed_calls }
 {

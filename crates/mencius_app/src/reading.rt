@@ -1,13 +1,13 @@
 //! How a task reads its scenario.
 
-ghost use Rattle.std.specs.Prelude.{◌≡◌, ◌≢◌, IfErr, IfOk, OnOk};
+ghost use Rattle.std.specs.Prelude.{◌≡◌, IfErr, IfOk, OnOk};
 ghost use Rattle.std.specs.Io.KnownBytes.{IsAtEnd};
 ghost use Rattle.mencius_app.specs.Calls.{AsksReader, IsReadingCause};
 ghost use Rattle.mencius_app.specs.Findings.{IsFoundIn, IsToldAs};
 ghost use Rattle.mencius_app.specs.Input.{IsFaultOf, Says, input_of};
 
 use crate::finding::{Finding, misread_as, unread};
-use mencius_input::{AppFault, Events, Kind, Scenario, Source, read_all, read_scenario};
+use mencius_input::{Events, Kind, Scenario, Source, read_all, read_scenario};
 use std::alloc::Global;
 
 /// The scenario of `replay` that a reader has, or what is wrong with it.
@@ -19,7 +19,6 @@ pub(crate) fn read_input<R: Source>(
     ensures said { IfOk result (λ s. Says input_of (R.remaining source.old) s) }
     ensures fault { IfErr result (λ found. IsReadingCause (IsFaultOf (R.remaining source.old))
         (R.failed source.old) (R.failed source.new) found.fault) }
-    ensures no_board { IfErr result (λ found. found.fault ≢ AppFault.BoardFailed) }
     ensures words { IfErr result (IsFoundIn (IsToldAs Kind.Replay) (R.remaining source.old)) }
     ensures asked { AsksReader (R.remaining source.old) (R.remaining source.new)
         (R.failed source.old) (R.failed source.new) }

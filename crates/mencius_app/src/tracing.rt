@@ -1,6 +1,6 @@
 //! What a trace of a scenario prints.
 
-ghost use Rattle.std.specs.Prelude.{ℕ, List, ◌≡◌, ◌≢◌, ◌++◌, [], string_bytes, IfErr, IfOk, OnOk};
+ghost use Rattle.std.specs.Prelude.{ℕ, List, ◌≡◌, ◌++◌, [], string_bytes, IfErr, IfOk, OnOk};
 ghost use Rattle.std.specs.Io.KnownBytes.{Appends, IsAtEnd};
 ghost use Rattle.mencius_app.specs.Calls.{AsksLittle, IsCause};
 ghost use Rattle.mencius_app.specs.Findings.{IsFoundIn, IsToldAs};
@@ -15,7 +15,7 @@ use crate::finding::Finding;
 use crate::reading::read_input;
 use mencius_base::{Members, NoMemory};
 use mencius_cluster::{Cluster, salt_after};
-use mencius_input::{AppFault, Events, Kind, Sink, Source, write_all};
+use mencius_input::{Events, Kind, Sink, Source, write_all};
 use mencius_trace::{push_closing, tell};
 use std::alloc::Global;
 
@@ -34,7 +34,6 @@ pub fn trace<R: Source, W: Sink>(alloc: Global, source: &mut R, sink: &mut W) ->
         (IsTraceOf (R.remaining source.old)) (R.failed source.old) (R.failed source.new)
         (W.failed sink.old) (W.failed sink.new) (W.contents sink.old) (W.contents sink.new)
         found.fault) }
-    ensures no_board { IfErr result (λ found. found.fault ≢ AppFault.BoardFailed) }
     ensures words { IfErr result (IsFoundIn (IsToldAs Kind.Replay) (R.remaining source.old)) }
     ensures asked { AsksLittle (R.remaining source.old) (R.remaining source.new)
         (R.failed source.old) (R.failed source.new) (W.failed sink.old) (W.failed sink.new) }

@@ -1,21 +1,22 @@
 //! A call of the program that starts no thread, from its words to how it ends.
 
-ghost use Rattle.std.specs.Prelude.{◌≡◌, ◌≢◌, ◌⊎◌, ℕ, List, false, true, IfSome, Some, []};
+ghost use Rattle.std.specs.Prelude.{◌≡◌, ◌≢◌, ◌⊎◌, ℕ, List, false, true, IfSome, []};
 ghost use Rattle.std.specs.Io.KnownBytes.{Appends};
 ghost use Rattle.mencius_command_line.specs.CommandLine.{are_texts, asked, bytes_of, faults, line_of};
 ghost use Rattle.mencius_ends.specs.Ends.{HasFailed, WritesFront};
 ghost use Rattle.mencius_app.specs.Calls.{AsksAs, AsksLittle, IsCause};
-ghost use Rattle.mencius_app.specs.Ending.{AsksToRun, Did, DidTask, IsAskedFor, IsComplaint, IsFaultFor, IsInputFaultOf, IsMistaken, IsTextOf, TellsOf, asked_with, fault_in, is_explained};
+ghost use Rattle.mencius_app.specs.Ending.{Did, DidTask, IsAskedFor, IsComplaint, IsFaultFor, IsInputFaultOf, IsMistaken, IsTextOf, TellsOf, asked_with, fault_in, is_explained};
 
 use crate::calling::{NOT_TEXT, RunOptions, ending_of, perform_alone, tell};
 use crate::ending::Ending;
 use crate::turns::run_in_turns;
 use mencius_command_line::{are_texts, read_arguments};
-use mencius_input::{AppFault, Sink, Source, write_all};
+use mencius_input::{Sink, Source, write_all};
 use std::alloc::Global;
 
 /// Does what [`perform`](crate::perform) does, and starts no thread: a run is one of
-/// [`run_in_turns`](crate::run_in_turns). It waits for nobody, and its clauses are those of `perform`.
+/// [`run_in_turns`](crate::run_in_turns). It waits for nobody, has no board that could fail, and its clauses are
+/// those of `perform` but for that.
 pub fn perform_in_turns<R: Source, W: Sink, E: Sink>(
     alloc: Global,
     arguments: &[Vec<u8>],
@@ -49,8 +50,7 @@ pub fn perform_in_turns<R: Source, W: Sink, E: Sink>(
         (IsAskedFor (bytes_of arguments.now) (R.remaining source.old))
         (R.failed source.old) (R.failed source.new) (W.failed sink.old) (W.failed sink.new)
         (W.contents sink.old) (W.contents sink.new)) }
-    ensures board { fault_in result ≡ Some AppFault.BoardFailed
-        → AsksToRun (bytes_of arguments.now) }
+    ensures no_board { result ≢ Ending.BoardFailed }
     ensures explained { is_explained result ≡ true → faults (line_of (bytes_of arguments.now)) ≡ [] }
     ensures words { TellsOf (asked (line_of (bytes_of arguments.now))) (R.remaining source.old)
         result }
@@ -83,6 +83,7 @@ fn perform_run_in_turns<R: Source, W: Sink>(
         DidTask (asked_with options.now) (R.remaining source.old) (W.contents sink.old)
         (W.contents sink.new) false }
     ensures no_other { (result ≢ Ending.Refused) × (result ≢ Ending.BadCommandLine) }
+    ensures no_board { result ≢ Ending.BoardFailed }
     ensures fault { IfSome (fault_in result)
         (IsCause (IsInputFaultOf (asked_with options.now) (R.remaining source.old))
         (IsTextOf (asked_with options.now) (R.remaining source.old))

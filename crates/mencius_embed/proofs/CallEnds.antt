@@ -5,11 +5,10 @@ use Rattle.std.proofs.Common.{◌≡◌, ◌≢◌, ◌⊎◌, ◌≤◌, ◌++�
 use Rattle.clap.specs.Words.{Text}
 use Rattle.mencius_command_line.specs.CommandLine.{are_texts, asked, faults, line_of}
 use Rattle.mencius_ends.specs.Ends.{HasFailed, WritesFront}
-use Rattle.mencius_ends.specs.declared.fault.AppFault.TheVariants.{BoardFailed}
 use Rattle.mencius_app.specs.Calls.{IsCause}
-use Rattle.mencius_app.specs.Ending.{AsksToRun, Did, IsAskedFor, IsComplaint, IsFaultFor, IsMistaken, TellsOf, fault_in, is_explained, lines_of_ending}
+use Rattle.mencius_app.specs.Ending.{Did, IsAskedFor, IsComplaint, IsFaultFor, IsMistaken, TellsOf, fault_in, is_explained, lines_of_ending}
 use Rattle.mencius_app.specs.declared.ending.Ending.{Ending}
-use Rattle.mencius_app.specs.declared.ending.Ending.TheVariants.{Done, Refused, BadCommandLine}
+use Rattle.mencius_app.specs.declared.ending.Ending.TheVariants.{Done, Refused, BadCommandLine, BoardFailed}
 use Rattle.mencius_embed.specs.Calls.{IsEndOf}
 
 none_failed : (old new : ℕ) → new ≤ 0 → HasFailed old new → ⊥
@@ -44,12 +43,12 @@ module _ (arguments args : List Text) (input before out err_0 err_1 err : List �
       → (ending ≢ BadCommandLine → err_1 ≡ err_0)
       → IfSome (fault_in ending) (IsCause (IsFaultFor args (Some input)) (IsAskedFor args (Some input)) 0 0 w_0 w_1
       (Some before) (Some out))
-      → (fault_in ending ≡ Some BoardFailed → AsksToRun args)
+      → ending ≢ BoardFailed
       → (is_explained ending ≡ true → faults (line_of args) ≡ [])
       → TellsOf (asked (line_of args)) (Some input) ending
       → Appends (Some err_1) (Some err) (lines_of_ending ending) ⊎ HasFailed e_1 e_2
       → IsEndOf arguments input ending out err is_asked
-  call_ended done refused not_text misused complaint quiet fault board explained words lines =
+  call_ended done refused not_text misused complaint quiet fault no_board explained words lines =
       let last = written e_1 e_2 e_last lines in
       let w_is : w_1 ≡ 0 = omega (arith, w_still) in
       record {
@@ -74,7 +73,7 @@ module _ (arguments args : List Text) (input before out err_0 err_1 err : List �
             (IsAskedFor args (Some input)) 0 0 0 n (Some before) (Some out))) w_is
             (subst (λ n. IfSome (fault_in ending) (IsCause (IsFaultFor args (Some input))
             (IsAskedFor args (Some input)) 0 0 n w_1 (Some before) (Some out))) w_none fault));
-        board = λ e. subst AsksToRun args_is (board e);
+        no_board = no_board;
         explained = λ e. ap (λ a. faults (line_of a)) (sym args_is) ∙ explained e;
         words = subst (λ a. TellsOf (asked (line_of a)) (Some input) ending) args_is words;
         told = λ other. lines_said quiet other last;

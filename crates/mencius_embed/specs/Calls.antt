@@ -3,10 +3,10 @@ use Rattle.std.specs.Prelude.{◌≡◌, ◌≢◌, ◌⊎◌, ◌<◌, ◌≤�
 use Rattle.clap.specs.Words.{Text}
 use Rattle.mencius_command_line.specs.CommandLine.{are_texts, asked, faults, line_of}
 use Rattle.mencius_app.specs.declared.ending.Ending.{Ending}
-use Rattle.mencius_app.specs.declared.ending.Ending.TheVariants.{Done, Refused, BadCommandLine}
+use Rattle.mencius_app.specs.declared.ending.Ending.TheVariants.{Done, Refused, BadCommandLine, BoardFailed}
 use Rattle.mencius_app.specs.Calls.{IsCause}
-use Rattle.mencius_app.specs.Ending.{AsksToRun, Did, IsAskedFor, IsComplaint, IsFaultFor, IsMistaken, TellsOf, fault_in, is_explained, lines_of_ending, status_of_ending}
-use Rattle.mencius_ends.specs.declared.fault.AppFault.TheVariants.{BoardFailed}
+use Rattle.mencius_app.specs.Ending.{Did, IsAskedFor, IsComplaint, IsFaultFor, IsMistaken, TellsOf, fault_in, is_explained, lines_of_ending, status_of, status_of_ending}
+use Rattle.mencius_ends.specs.declared.fault.AppFault.TheVariants.{NoMemory}
 use Rattle.mencius_embed.specs.declared.Answer.{Answer}
 
 -- ---- arguments
@@ -35,7 +35,7 @@ pub record IsEndOf (arguments : List Text) (input : List ℕ) (ending : Ending) 
   -- which fault, and when: neither reading nor writing fails
   pub fault : IfSome (fault_in ending) (IsCause (IsFaultFor arguments (Some input)) (IsAskedFor arguments (Some input))
       0 0 0 0 (Some []) (Some printed))
-  pub board : fault_in ending ≡ Some BoardFailed → AsksToRun arguments
+  pub no_board : ending ≢ BoardFailed
   pub explained : is_explained ending ≡ true → faults (line_of arguments) ≡ []
   pub words : TellsOf (asked (line_of arguments)) (Some input) ending
   pub told : ending ≢ BadCommandLine → said ≡ lines_of_ending ending
@@ -49,7 +49,7 @@ IsCall arguments input status printed said is_asked =
 
 -- the status of a call for which there is no memory
 abbrev pub memory_status : ℕ
-memory_status = 5
+memory_status = status_of NoMemory
 
 -- a text was put to the front of a room, where it fits, and the rest of the room stays
 abbrev pub IsPut : List ℕ → List ℕ → List ℕ → Type 0

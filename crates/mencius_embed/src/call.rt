@@ -5,7 +5,7 @@ ghost use Rattle.mencius_app.specs.Ending.{status_of_ending};
 ghost use Rattle.mencius_embed.specs.Calls.{IsCall, memory_status, words_in};
 
 use crate::streams::{Input, Text};
-use mencius_app::{end, perform_in_turns};
+use mencius_app::{AppFault, end, exit_status, perform_in_turns};
 use mencius_base::NoMemory;
 use std::alloc::Global;
 
@@ -31,7 +31,7 @@ impl Called {
         ensures unread { result.is_asked ≡ false }
     {
         Called {
-            status: 5,
+            status: exit_status(AppFault::NoMemory),
             printed: Vec::new(alloc),
             said: Vec::new(alloc),
             is_asked: false,

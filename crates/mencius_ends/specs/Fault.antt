@@ -1,7 +1,7 @@
 -- The number and the name of each fault.
 use Rattle.std.specs.Prelude.{ℕ, List, codes}
 use Rattle.mencius_ends.specs.declared.fault.AppFault.{AppFault}
-use Rattle.mencius_ends.specs.declared.fault.AppFault.TheVariants.{NotJson, BadShape, BadLimit, ReadFailed, WriteFailed, NoMemory, BoardFailed}
+use Rattle.mencius_ends.specs.declared.fault.AppFault.TheVariants.{NotJson, BadShape, BadLimit, ReadFailed, WriteFailed, NoMemory}
 
 abbrev pub fault_number : AppFault → ℕ
 fault_number NotJson = 21
@@ -10,7 +10,6 @@ fault_number BadLimit = 23
 fault_number ReadFailed = 24
 fault_number WriteFailed = 25
 fault_number NoMemory = 26
-fault_number BoardFailed = 27
 
 abbrev pub fault_name : AppFault → List ℕ
 fault_name NotJson = codes "NotJson"
@@ -19,4 +18,3 @@ fault_name BadLimit = codes "BadLimit"
 fault_name ReadFailed = codes "ReadFailed"
 fault_name WriteFailed = codes "WriteFailed"
 fault_name NoMemory = codes "NoMemory"
-fault_name BoardFailed = codes "BoardFailed"

@@ -1,12 +1,12 @@
 ghost use Rattle.std.specs.Prelude.{◌≡◌};
 ghost use Rattle.mencius_ends.specs.Fault.{fault_name, fault_number};
-ghost use Rattle.mencius_ends.specs.Status.{status_of};
 
 use json::Invalid;
+use mencius_base::NoMemory;
 use std::alloc::{AllocError, AllocFailed};
 use thiserror::Error;
 
-/// Why a run ended without doing its work.
+/// Why a task ended without doing its work: what its input, its reader, its writer or its memory lacked.
 #[derive(Clone, Copy, Debug, PartialEq, Eq, Error)]
 pub enum AppFault {
     #[error("the scenario is not JSON")]
@@ -21,12 +21,10 @@ pub enum AppFault {
     WriteFailed,
     #[error("memory ran out")]
     NoMemory,
-    #[error("the board that the workers share failed")]
-    BoardFailed,
 }
 
 impl AppFault {
-    /// The number of the fault, 21 to 27, as the program prints it.
+    /// The number of the fault, 21 to 26, as the program prints it.
     pub fn number(&self) -> u8
         ensures { result ≡ fault_number self.now }
     {
@@ -37,7 +35,6 @@ impl AppFault {
             AppFault::ReadFailed => 24,
             AppFault::WriteFailed => 25,
             AppFault::NoMemory => 26,
-            AppFault::BoardFailed => 27,
         }
     }
 
@@ -52,7 +49,6 @@ impl AppFault {
             AppFault::ReadFailed => "ReadFailed",
             AppFault::WriteFailed => "WriteFailed",
             AppFault::NoMemory => "NoMemory",
-            AppFault::BoardFailed => "BoardFailed",
         }
     }
 }
@@ -77,6 +73,16 @@ impl<T: Drop> From<AllocFailed<T>> for AppFault {
     }
 }
 
+impl From<NoMemory> for AppFault {
+    ghost use Rattle.mencius_ends.specs.declared.fault.AppFault.TheVariants as fault;
+
+    ghost from_gives = { λ _ f. f ≡ fault.NoMemory };
+
+    fn from(_refused: NoMemory) -> AppFault {
+        AppFault::NoMemory
+    }
+}
+
 impl From<Invalid> for AppFault {
     ghost use Rattle.mencius_ends.specs.declared.fault.AppFault.TheVariants as fault;
 
@@ -84,17 +90,5 @@ impl From<Invalid> for AppFault {
 
     fn from(_invalid: Invalid) -> AppFault {
         AppFault::NotJson
-    }
-}
-
-/// The exit status of a run that ended with a fault: 3 for a bad scenario, 4 where reading or
-/// writing failed, and 5 where memory ran out or the board failed.
-pub fn exit_status(fault: AppFault) -> u8
-    ensures { result ≡ status_of fault }
-{
-    match fault {
-        AppFault::NotJson | AppFault::BadShape | AppFault::BadLimit => 3,
-        AppFault::ReadFailed | AppFault::WriteFailed => 4,
-        AppFault::NoMemory | AppFault::BoardFailed => 5,
     }
 }

@@ -1,5 +1,5 @@
-//! The two ends of a run: the faults that end it and its exit statuses, readers and writers that
-//! count their failures, and reading all and writing all.
+//! The two ends of a run: the faults that end it, readers and writers that count their failures, and
+//! reading all and writing all.
 #![tactic(auto)]
 
 mod fault;
@@ -8,7 +8,7 @@ mod sink;
 mod source;
 mod write;
 
-pub use fault::{AppFault, exit_status};
+pub use fault::AppFault;
 pub use read::read_all;
 pub use sink::Sink;
 pub use source::{Source, Std};

@@ -4,7 +4,7 @@ use Rattle.std.specs.Option.{option_zip}
 use Rattle.std.specs.Result.{IsErrAnd}
 use Rattle.std.proofs.lemmas.Result.{err_from_is_err_and}
 use Rattle.mencius_ends.specs.declared.fault.AppFault.{AppFault}
-use Rattle.mencius_ends.specs.declared.fault.AppFault.TheVariants.{NotJson, BadShape, BadLimit, ReadFailed, WriteFailed, NoMemory, BoardFailed}
+use Rattle.mencius_ends.specs.declared.fault.AppFault.TheVariants.{NotJson, BadShape, BadLimit, ReadFailed, WriteFailed, NoMemory}
 use Rattle.mencius_format.specs.Judged.{judged, joined, seen, FailsBy, Gives}
 
 pub zip_none : {X Y : Type 0} (o : Option X) → option_zip {T = X} {U = Y} o None ≡ None
@@ -56,7 +56,6 @@ fails BadShape answer e = e
 fails BadLimit answer e = e
 fails ReadFailed answer e = e
 fails WriteFailed answer e = e
-fails BoardFailed answer e = e
 
 pub given : {X : Type 0} (result answer : Result X AppFault) → result ≡ answer → Gives result answer
 given (Ok x) answer e = sym e
@@ -72,7 +71,6 @@ fails_on step BadShape answer on e = ap step e ∙ on
 fails_on step BadLimit answer on e = ap step e ∙ on
 fails_on step ReadFailed answer on e = ap step e ∙ on
 fails_on step WriteFailed answer on e = ap step e ∙ on
-fails_on step BoardFailed answer on e = ap step e ∙ on
 
 seen_given : {X Y : Type 0} (make : X → Y) (result answer : Result X AppFault) → Gives result answer
     → Gives (seen make result) (seen make answer)
@@ -91,7 +89,6 @@ joined_given (Err NotJson) a s answer h given = rw h refl
 joined_given (Err BadShape) a s answer h given = rw h refl
 joined_given (Err ReadFailed) a s answer h given = rw h refl
 joined_given (Err WriteFailed) a s answer h given = rw h refl
-joined_given (Err BoardFailed) a s answer h given = rw h refl
 
 -- what is made of one thing, and of two
 pub made_given : {X Y : Type 0} (make : X → Y) (f : X → Bool) (g : Y → Bool) → ((x : X) → g (make x) ≡ f x)

@@ -70,9 +70,7 @@ fn read_text(alloc: Global, kind: Kind, text: &str) -> Result<FieldValues, AppFa
     ensures err { IfErr result (IsUnread kind (read text.now)) }
 {
     let mut scratch = Scratch::new(alloc);
-    let Ok(mut reader) = Tokens::new(text, &mut scratch) else {
-        return Err(AppFault::NoMemory);
-    };
+    let mut reader = Tokens::new(text, &mut scratch)?;
     let fields = next_scenario(alloc, kind, &mut reader)?;
     if reader.next().is_some() {
         return Err(AppFault::NotJson);
@@ -115,9 +113,7 @@ fn next_fields(
         × AreFieldValues kind f ms) }
     ensures err { IfErr result (λ f. StopsBy (next_members depth reader.old) f) }
 {
-    let Ok(wholes) = defaults(alloc, kind) else {
-        return Err(AppFault::NoMemory);
-    };
+    let wholes = defaults(alloc, kind)?;
     let mut fields = FieldValues {
         wholes,
         list: None,

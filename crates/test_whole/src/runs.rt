@@ -1,7 +1,7 @@
 //! Workers of a run: one alone takes its turns on a board one after the other, and each turn passes the gate.
 
 use crate::courses::{cluster_after, new_cluster};
-use mencius_app::{AppFault, Open, Std, read_plan, report, run};
+use mencius_app::{Open, RunFinding, Std, read_plan, report, run};
 use mencius_board::{Board, Chooser, Gate, lend, run_workers, worker_turn};
 use mencius_cluster::Cluster;
 use std::alloc::Global;
@@ -23,10 +23,10 @@ pub fn ran<R: Threads + Wait + Sync, G: Gate + Sync>(
     scenario: &str,
     gate: &G,
     written: &mut Vec<u8>,
-) -> Result<(), AppFault> {
+) -> Result<(), RunFinding> {
     let mut source = Std::new(scenario.as_bytes());
     let mut sink = Std::new(written);
-    run(rt, alloc, &mut source, &mut sink, gate, true, None).map_err(|finding| finding.fault)
+    run(rt, alloc, &mut source, &mut sink, gate, true, None)
 }
 
 // A cluster after the turns of a run's one worker, each taken on a board.

@@ -1,7 +1,9 @@
 //! Readers and writers that fail, are interrupted, or take little at a time, under each call that takes some.
 
 use crate::courses::cluster_after;
-use mencius_app::{AppFault, Open, Sink, Source, Std, check, replay, report, run, trace};
+use mencius_app::{
+    AppFault, Finding, Open, RunFinding, Sink, Source, Std, check, replay, report, run, trace,
+};
 use std::alloc::Global;
 use std::io;
 use std::io::{ErrorKind, Read, Write};
@@ -129,6 +131,15 @@ const READS: [(Call, &str, &str); 4] = [
 // The same of the call that only writes.
 const REPORTED: (Call, &str, &str) = (Call::Report, SCENARIO, REPORT);
 
+// What a run found, whose board does not fail here.
+fn found_in<R: Abort>(rt: &R, ran: Result<(), RunFinding>) -> Result<(), Finding> {
+    match ran {
+        Ok(()) => Ok(()),
+        Err(RunFinding::Found(found)) => Err(found),
+        Err(RunFinding::BoardFailed) => panic!(rt; "the board failed"),
+    }
+}
+
 // Makes a call; a run is asked for its journal and looks `a` up.
 fn make<R: Abort + Threads + Wait + Sync>(
     rt: &R,
@@ -141,7 +152,7 @@ fn make<R: Abort + Threads + Wait + Sync>(
         Call::Replay => replay(alloc, source, sink),
         Call::Trace => trace(alloc, source, sink),
         Call::Check => check(alloc, source, sink),
-        Call::Run => run(rt, alloc, source, sink, &Open, true, Some("a")),
+        Call::Run => found_in(rt, run(rt, alloc, source, sink, &Open, true, Some("a"))),
         Call::Report => return report(alloc, &cluster_after(rt, alloc, SCENARIO), sink),
     };
     made.map_err(|finding| finding.fault)

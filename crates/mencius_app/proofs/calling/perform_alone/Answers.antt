@@ -2,8 +2,8 @@ use Rattle.std.proofs.Common.{◌≡◌, Some, arith, false, refl, true}
 use Rattle.std.proofs.lemmas.Result.{IfErr-weaker}
 use Rattle.mencius_command_line.specs.CommandLine.{asked_check, asked_draw, asked_replay, asked_trace}
 use Rattle.mencius_app.specs.Ending.{tells_of_refusals}
-use Rattle.mencius_app.proofs.EndingCauses.{as_text, of_finding, of_result, text_of_replay}
-use Rattle.mencius_app.proofs.LogFaults.{judged_done, judged_never_bad, of_judgement, text_of_judgement, told_of_judgement}
+use Rattle.mencius_app.proofs.EndingCauses.{as_text, done_not_board, found_not_board, of_finding, of_result, text_of_replay}
+use Rattle.mencius_app.proofs.LogFaults.{judged_done, judged_never_bad, judged_not_board, of_judgement, text_of_judgement, told_of_judgement}
 use Rattle.mencius_app.proofs.FindingWords.{told_of_finding, told_of_result}
 use Rattle.mencius_app.proofs.calling.perform_alone.Goals as goal
 
@@ -28,18 +28,16 @@ returns-in-Check-clause-fault g c =
     (IfErr-weaker c.check.result _ _ (λ found h. as_text (λ text is. (false, (is, refl))) h) c.check.ensures.fault))
 
 pub returns-in-Err-clause-no_board : goal.returns-in-Err-clause-no_board
-returns-in-Err-clause-no_board g c = of_finding c.in-Err.found _ _ c.ending_at.ensures c.in-Err.ensures.no_board
+returns-in-Err-clause-no_board g c = found_not_board c.in-Err.found _ c.ending_at.ensures
 
 pub returns-in-Trace-clause-no_board : goal.returns-in-Trace-clause-no_board
-returns-in-Trace-clause-no_board g c = of_result c.trace.result _ _ c.ending_of.ensures c.trace.ensures.no_board
+returns-in-Trace-clause-no_board g c = done_not_board c.trace.result _ c.ending_of.ensures
 
 pub returns-in-Draw-clause-no_board : goal.returns-in-Draw-clause-no_board
-returns-in-Draw-clause-no_board g c =
-    of_result c.draw.result _ _ c.ending_of-in-Draw.ensures c.draw.ensures.no_board
+returns-in-Draw-clause-no_board g c = done_not_board c.draw.result _ c.ending_of-in-Draw.ensures
 
 pub returns-in-Check-clause-no_board : goal.returns-in-Check-clause-no_board
-returns-in-Check-clause-no_board g c =
-    of_result c.check.result _ _ c.ending_of-in-Check.ensures c.check.ensures.no_board
+returns-in-Check-clause-no_board g c = done_not_board c.check.result _ c.ending_of-in-Check.ensures
 
 pub returns-in-Err-clause-words : goal.returns-in-Err-clause-words
 returns-in-Err-clause-words g c =
@@ -74,8 +72,7 @@ returns-in-Judge-clause-fault g c =
     (IfErr-weaker c.judge.result _ _ (λ found h. as_text (text_of_judgement _) h) c.judge.ensures.fault))
 
 pub returns-in-Judge-clause-no_board : goal.returns-in-Judge-clause-no_board
-returns-in-Judge-clause-no_board g c =
-    of_judgement c.judge.result _ _ c.ending_of_judgement.ensures c.judge.ensures.no_board
+returns-in-Judge-clause-no_board g c = judged_not_board c.judge.result _ c.ending_of_judgement.ensures
 
 pub returns-in-Judge-clause-words : goal.returns-in-Judge-clause-words
 returns-in-Judge-clause-words g c =

@@ -1,15 +1,20 @@
 use Rattle.std.proofs.lemmas.Result.{IfErr-weaker}
 use Rattle.mencius_app.specs.Ending.{asked_with}
-use Rattle.mencius_app.proofs.EndingCauses.{as_text, of_result, text_of_run}
-use Rattle.mencius_app.proofs.FindingWords.{told_of_result}
+use Rattle.mencius_app.proofs.EndingCauses.{as_text, board_of_run, of_run, text_of_run}
+use Rattle.mencius_app.proofs.FindingWords.{told_of_run}
+use Rattle.mencius_app.proofs.Inputs.{also_found}
 use Rattle.mencius_app.proofs.calling.perform_run.Goals as goal
+
+pub returns-clause-board : goal.returns-clause-board
+returns-clause-board g c = board_of_run c.run.result _ c.ending_of_run.ensures c.run.ensures.board
 
 pub returns-clause-fault : goal.returns-clause-fault
 returns-clause-fault g c =
-    of_result c.run.result _ _ c.ending_of.ensures (IfErr-weaker c.run.result _ _ (λ found h. as_text (λ text is.
-    text_of_run _ _ _ _ text c.as_deref-key.ensures.value is) h) c.run.ensures.fault)
+    of_run c.run.result _ _ c.ending_of_run.ensures (IfErr-weaker c.run.result _ _ (λ run h. also_found run
+    (λ found cause. as_text (λ text is. text_of_run _ _ _ _ text c.as_deref-key.ensures.value is) cause) h)
+    c.run.ensures.fault)
 
 pub returns-clause-words : goal.returns-clause-words
 returns-clause-words g c =
-    told_of_result (asked_with c.args.options.now) (g.R.Source.remaining c.args.source.now) c.run.result _
-    c.ending_of.ensures c.run.ensures.words
+    told_of_run (asked_with c.args.options.now) (g.R.Source.remaining c.args.source.now) c.run.result _
+    c.ending_of_run.ensures c.run.ensures.words

@@ -1,4 +1,4 @@
-use Rattle.mencius_app.proofs.CheckedInputs.{fault_read, line_read, no_board_read, words_read}
+use Rattle.mencius_app.proofs.CheckedInputs.{fault_read, line_read, words_read}
 use Rattle.mencius_app.proofs.Inputs.{short}
 use Rattle.mencius_app.proofs.checking.read_line.Goals as goal
 
@@ -12,12 +12,6 @@ pub returns-clause-fault : goal.returns-clause-fault
 returns-clause-fault g c =
     fault_read _ c.in-Ok.bytes.items c.as_slice.result.now c.in-Ok.ensures.whole
     (short _ _ c.as_slice.ensures.len c.in-Ok.ensures.fits) c.as_slice.ensures.value _ _ c.line_in.result
-    c.line_in.ensures.fault
-
-pub returns-clause-no_board : goal.returns-clause-no_board
-returns-clause-no_board g c =
-    no_board_read _ c.in-Ok.bytes.items c.as_slice.result.now c.in-Ok.ensures.whole
-    (short _ _ c.as_slice.ensures.len c.in-Ok.ensures.fits) c.as_slice.ensures.value c.line_in.result
     c.line_in.ensures.fault
 
 pub returns-clause-words : goal.returns-clause-words

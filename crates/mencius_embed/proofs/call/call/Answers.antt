@@ -20,5 +20,5 @@ returns c =
           (λ e. let is = performed.ensures.misused e in
           (is.0, ap (λ source. source.is_asked) is.1, ap (λ sink. sink.bytes.items) is.2)) performed.ensures.complaint
           (λ other. ap (λ errors. errors.bytes.items) (performed.ensures.quiet other)) performed.ensures.fault
-          performed.ensures.board performed.ensures.explained performed.ensures.words c.end-status.ensures.lines,
+          performed.ensures.no_board performed.ensures.explained performed.ensures.words c.end-status.ensures.lines,
     )

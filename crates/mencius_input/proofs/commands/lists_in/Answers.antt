@@ -35,7 +35,7 @@ items-preserved c =
     (ap (λ bit. l.has_cas || bit) done.ok.3)
     (sym done.ok.2)
     (few_seen (λ list. list.items) most_servers _ _ _ _ _ _ _ c.where_room-commands.ensures
-    (ap (λ n. nat_lt n most_servers) many) c.in-Ok.ensures)
+    (ap (λ n. nat_lt n most_servers) many) c.in_ok-note.ensures)
 
 pub returns-clause-ok : goal.returns-clause-ok
 returns-clause-ok c =

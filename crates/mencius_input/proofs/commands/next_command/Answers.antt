@@ -8,11 +8,11 @@ use Rattle.mencius_input.proofs.commands.next_command.Goals as goal
 pub returns-in_err-text-clause-err : goal.returns-in_err-text-clause-err
 returns-in_err-text-clause-err c = stops_at _ _ _ c.from_residual.ensures.1 (inr (refl, c.in_err-text.ensures.err))
 
-pub returns-in-Ok-clause-ok : goal.returns-in-Ok-clause-ok
-returns-in-Ok-clause-ok c =
+pub returns-in_ok-note_command-in-Some-clause-ok : goal.returns-in_ok-note_command-in-Some-clause-ok
+returns-in_ok-note_command-in-Some-clause-ok c =
     let read = c.in_ok-text.ensures.ok in
     let text = rw c.in-Some.is at read.2 in
-    (read.0, read.1, rw (← text) c.in-Ok.ensures.noted, rw (← text) c.in-Ok.ensures.cas)
+    (read.0, read.1, rw (← text) c.in_ok-note_command-in-Some.ensures.noted, rw (← text) c.in_ok-note_command-in-Some.ensures.cas)
 
 pub returns-in-None-clause-ok : goal.returns-in-None-clause-ok
 returns-in-None-clause-ok c =

@@ -8,12 +8,12 @@ use Rattle.mencius_input.proofs.Stops.{stops_at, stops_whole}
 use Rattle.mencius_input.proofs.fields.next_fields.Goals as goal
 
 pub fields-init : goal.fields-init
-fields-init c = (no_members, members_start _ _, no_fields _ _ c.in-Ok.ensures)
+fields-init c = (no_members, members_start _ _, no_fields _ _ c.in_ok-wholes.ensures)
 
 pub returns-in_err-name-clause-err : goal.returns-in_err-name-clause-err
 returns-in_err-name-clause-err c =
     let l = c.fields in
-    stops_at _ _ _ c.from_residual.ensures.1
+    stops_at _ _ _ c.from_residual-in_err-name.ensures.1
     (inr (refl, members_no_name _ _ l.reader l.invariant.0 l.invariant.1 c.in_err-name.ensures))
 
 pub fields-preserved : goal.fields-preserved
