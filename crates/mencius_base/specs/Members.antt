@@ -9,6 +9,10 @@ pub record Membership : Type 0 where
   pub count : ℕ
   pub beta : ℕ
 
+-- so many servers, of whom nothing else is said: what they share is 0
+abbrev pub new_members : ℕ → Membership
+new_members count = record { count = count; beta = 0 }
+
 -- more than half of them
 abbrev pub majority : Membership → ℕ
 majority m = m.count / 2 + 1

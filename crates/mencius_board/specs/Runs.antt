@@ -1,6 +1,6 @@
 -- Workers that take turns on one board, and what a board comes to by all turns of a plan.
 use Rattle.std.specs.Prelude.{ℕ, Bool, true, false, ◌≡◌, ◌≢◌, ◌⊎◌, ◌<◌, ◌+◌, ◌==◌, List, [], ◌∷◌, map, set, get_or, slice_get, Some, Result, Ok, Err, IfErr, if◌then◌else◌, length}
-use Rattle.mencius_base.specs.Members.{below}
+use Rattle.mencius_base.specs.Members.{below, new_members}
 use Rattle.mencius_choices.specs.Choices.{ChooserState, first_chooser}
 use Rattle.mencius_base.specs.Plan.{PlanState, plan_of}
 use Rattle.mencius_cluster.specs.State.{new_cluster}
@@ -120,4 +120,4 @@ no_plan = plan_of 0 0 0 0 []
 
 abbrev pub no_board : BoardState
 no_board = new_board (record { book = record { number = 0; log_name = 0; cells_name = 0 }; root = 0 })
-    (new_cluster (record { count = 0; beta = 0 }) 0) 0
+    (new_cluster (new_members 0) 0) 0

@@ -86,7 +86,7 @@ report-one_skip_over_three_instances = refl
 
 -- looking ahead: a suspicion reaches twice beta past the own front, from an instance below beta past it
 abbrev looking_ahead : Membership
-looking_ahead = record { count = 3; beta = 2 }
+looking_ahead = record three { beta = 2 }
 
 abbrev suspicions_of_idle_servers : List Event
 suspicions_of_idle_servers = Suspect 1 0 ∷ Suspect 1 2 ∷ Suspect 0 1 ∷ Suspect 0 2 ∷ []

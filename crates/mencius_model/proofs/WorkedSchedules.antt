@@ -9,7 +9,7 @@ use Rattle.mencius_base.specs.declared.command.Op.TheVariants.{Set, Get}
 use Rattle.mencius_base.specs.declared.event.Event.{Event}
 use Rattle.mencius_base.specs.declared.event.Event.TheVariants.{Submit, Deliver, Lose, Suspect, Retry, Execute}
 use Rattle.mencius_base.specs.declared.refusal.Refusal.{Refusal}
-use Rattle.mencius_base.specs.Members.{Membership, below, instances, most_messages, most_events, most_rounds}
+use Rattle.mencius_base.specs.Members.{Membership, new_members, below, instances, most_messages, most_events, most_rounds}
 use Rattle.mencius_model.specs.Trace.{Trace, events, sent}
 use Rattle.mencius_model.specs.Server.{front, done}
 use Rattle.mencius_model.specs.Next.{replay}
@@ -18,10 +18,10 @@ use Rattle.mencius_model.specs.Executed.{executed}
 use Rattle.mencius_model.specs.Replying.{Reply, NotYet, Is, reply_of, longest_at}
 
 abbrev one : Membership
-one = record { count = 1; beta = 0 }
+one = new_members 1
 
 abbrev pub three : Membership
-three = record { count = 3; beta = 0 }
+three = new_members 3
 
 -- client 1 binds the key `a` to the text `x`
 abbrev pub set_a : Command

@@ -8,19 +8,18 @@ use Rattle.std.specs.Fmt.{digits}
 use Rattle.std.specs.List.{flat_map}
 use Rattle.mencius_base.specs.declared.command.Command.{Command}
 use Rattle.mencius_base.specs.declared.command.Op.TheVariants.{Set, Get}
-use Rattle.mencius_base.specs.Members.{Membership}
 use Rattle.mencius_base.specs.declared.event.Event.{Event}
 use Rattle.mencius_base.specs.declared.event.Event.TheVariants.{Submit, Deliver, Lose, Suspect, Retry, Execute}
-use Rattle.mencius_base.specs.Members.{below, instances, most_messages, most_events, most_rounds}
+use Rattle.mencius_base.specs.Members.{Membership, new_members, below, instances, most_messages, most_events, most_rounds}
 use Rattle.mencius_model.specs.Store.{store_after}
 use Rattle.mencius_trace.specs.Words.{former_text, line_feed}
 use Rattle.mencius_trace.specs.Closing.{trace_text}
 
 abbrev three : Membership
-three = record { count = 3; beta = 0 }
+three = new_members 3
 
 abbrev one : Membership
-one = record { count = 1; beta = 0 }
+one = new_members 1
 
 -- lines, each with its end
 abbrev text_of : List (List ℕ) → List ℕ
