@@ -37,7 +37,6 @@ pub fn read_all<R: Source>(alloc: Global, source: &mut R) -> Result<Vec<u8>, App
     ensures taken { TakesAtMost (most_bytes + 1) (R.remaining source.old) (R.remaining source.new) }
     ensures tried { R.failed source.new ≤ R.failed source.old + most_failed_calls }
 {
-    keep_freed_pages(alloc);
     let mut bytes = Vec::new(alloc);
     let mut retries = 0u32;
     let mut room = Vec::new(alloc);
@@ -57,12 +56,4 @@ pub fn read_all<R: Source>(alloc: Global, source: &mut R) -> Result<Vec<u8>, App
         }
     }
     Err(AppFault::BadLimit)
-}
-
-// Lets the heap keep the pages of large blocks that are freed. The C library's gives them back to the
-// system, until a block as large as this was freed once; what a cluster keeps would then be put on new
-// pages, which cost more than all else about it. The block itself is never touched, and where it is
-// refused only those pages are lost: reading needs no such block.
-fn keep_freed_pages(alloc: Global) {
-    let _block = Vec::<u8>::with_capacity(alloc, MOST_BYTES);
 }
