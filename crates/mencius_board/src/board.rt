@@ -83,9 +83,7 @@ impl Board {
         cluster.replays();
         let log = ShownLog::new();
         let opening = log.mark();
-        let Ok(writer) = open_writer(rt, alloc, &opening, readers) else {
-            return Err(BoardFault::NoMemory);
-        };
+        let writer = open_writer(rt, alloc, &opening, readers)?;
         Ok(Board {
             cluster,
             log,
@@ -128,9 +126,7 @@ impl Board {
         ensures err { OnErr result (self.new ≡ record self.old { pending = self.new.pending }) }
         ensures fault { IfErr result IsShowFault }
     {
-        let Ok(list) = copy_longest(alloc, &self.cluster) else {
-            return Err(BoardFault::NoMemory);
-        };
+        let list = copy_longest(alloc, &self.cluster)?;
         hand_over(list.as_slice(), &mut self.handed, &mut self.writer)?;
         record(list.as_slice(), &mut self.log);
         let mark = self.log.mark();

@@ -1,6 +1,8 @@
 ghost use Rattle.std.specs.Prelude.{◌≡◌};
 ghost use Rattle.mencius_board.specs.Faults.{board_fault_name, board_fault_number};
 
+use mencius_base::NoMemory;
+use std::alloc::AllocError;
 use thiserror::Error;
 
 /// Why a board, a reader or the workers give up.
@@ -44,5 +46,25 @@ impl BoardFault {
             BoardFault::ShowRefused => "ShowRefused",
             BoardFault::NoWorker => "NoWorker",
         }
+    }
+}
+
+impl From<NoMemory> for BoardFault {
+    ghost use Rattle.mencius_board.specs.declared.fault.BoardFault.TheVariants as fault;
+
+    ghost from_gives = { λ _ f. f ≡ fault.NoMemory };
+
+    fn from(_refused: NoMemory) -> BoardFault {
+        BoardFault::NoMemory
+    }
+}
+
+impl From<AllocError> for BoardFault {
+    ghost use Rattle.mencius_board.specs.declared.fault.BoardFault.TheVariants as fault;
+
+    ghost from_gives = { λ _ f. f ≡ fault.NoMemory };
+
+    fn from(_refused: AllocError) -> BoardFault {
+        BoardFault::NoMemory
     }
 }

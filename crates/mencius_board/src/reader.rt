@@ -70,9 +70,7 @@ impl Reader {
         ensures fault { IfErr result IsLookupFault }
     {
         // The longest text that a command sets.
-        let Ok(room) = String::with_capacity(alloc, MOST_TEXT_BYTES) else {
-            return Err(BoardFault::NoMemory);
-        };
+        let room = String::with_capacity(alloc, MOST_TEXT_BYTES)?;
         let least = self.count;
         let found = replace_with(&mut self.home, room, |home, room| {
             read(home, key, room, least)

@@ -25,9 +25,7 @@ pub fn worker_turn(board: &mut Board, chooser: &mut Chooser) -> Result<(), Board
     ensures turn { EndsTurn chooser.old chooser.new board.old board.new result }
     ensures drawn { chooser.new.drawing ≡ drawn chooser.old.drawing }
 {
-    let Ok(event) = chooser.choose(board.cluster()) else {
-        return Err(BoardFault::NoMemory);
-    };
+    let event = chooser.choose(board.cluster())?;
     match board.step(event) {
         Ok(_) => Ok(()),
         Err(refusal) => {
@@ -275,18 +273,14 @@ pub fn run_workers<'p, R: Threads + Wait + Sync, G: Gate + Sync>(
     ensures failed { IfErr result (HaveFailed plan.now) }
     ensures fault { IfErr result (IsRunFault plan.now.turns) }
 {
-    let Ok(choosers) = Vec::with_capacity(alloc, usize::from(plan.workers())) else {
-        return Err(BoardFault::NoMemory);
-    };
-    let Ok(ends) = thread::scope(
+    let choosers = Vec::with_capacity(alloc, usize::from(plan.workers()))?;
+    let ends = thread::scope(
         thread::scope_env(),
         rt,
         |scope| -> Result<Vec<Ended>, NoMemory>
             ensures { IfOk result (λ x. (vec_len x ≡ plan.entry.now.workers)
                 × HaveEnded x.items plan.entry.now plan.entry.now.workers) }
         { start_all(scope, rt, alloc, board, plan, gate) },
-    ) else {
-        return Err(BoardFault::NoMemory);
-    };
+    )?;
     settle(plan, ends, choosers)
 }

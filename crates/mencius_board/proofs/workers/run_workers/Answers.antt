@@ -5,7 +5,7 @@ use Rattle.mencius_board.proofs.workers.run_workers.Goals as goal
 
 pub returns : goal.returns
 returns g c =
-    let ended = c.in-Ok-scope.ensures.1 in let ends = c.in-Ok-scope.ends in
+    let ended = c.in_ok-ends.ensures.1 in let ends = c.in_ok-ends.ends in
     let many : length ends.items ≡ c.args.plan.now.workers = sym ends.ok.0 ∙ ended.0 in
     let all =
     come_to c.args.plan.now ends.items (λ list. list.items) vec_len c.settle.result (λ list. list.ok.0) many ended.1

@@ -14,8 +14,8 @@ invariant_of-result g c =
       replays = c.replays.ensures;
       grows = c.growth.ensures.commands;
     })
-    c.new-log.ensures c.mark-opening.ensures c.in-Ok.ensures.seen c.in-Ok.ensures.shown
-    c.in-Ok.ensures.pending
+    c.new-log.ensures c.mark-opening.ensures c.in_ok-writer.ensures.seen c.in_ok-writer.ensures.shown
+    c.in_ok-writer.ensures.pending
 
 empty_board : (x : ClusterState) (log opening : MarkState) (shown : VersionState) (pending : List Command) (places : ℕ)
     → log.log ≡ [] → opening ≡ log → shown ≡ record { mark = opening; list = opening.log } → pending ≡ []
@@ -29,4 +29,4 @@ empty_board x log opening shown pending places empty same is none =
 pub returns-clause-board : goal.returns-clause-board
 returns-clause-board g c =
     empty_board c.args.cluster c.new-log.result c.mark-opening.result _ _ c.args.readers c.new-log.ensures
-    c.mark-opening.ensures c.in-Ok.ensures.shown c.in-Ok.ensures.pending
+    c.mark-opening.ensures c.in_ok-writer.ensures.shown c.in_ok-writer.ensures.pending

@@ -13,15 +13,15 @@ invariant_of-self-2 g c =
     let now = c.replace_with.new.dest in
     let mark : MarkState = c.mark-mark.result in
     let same : mark ≡ c.record.new.log = search rules in
-    let whole : c.record.new.log.log ≡ c.in-Ok.list.items = search rules in
-    let all : c.in-Ok.list.items ≡ longest c.self.inside.cluster = search rules in
+    let whole : c.record.new.log.log ≡ c.in_ok-list.list.items = search rules in
+    let all : c.in_ok-list.list.items ≡ longest c.self.inside.cluster = search rules in
     let opening : c.self.inside.opening ≡ mark_of c.record.new.log.book [] = search rules in
     let shown : now.desk.shown.value ≡ record { mark = mark; list = mark.log } = search rules in
     let none : added (drop now.behind now.log.items) ≡ [] = search rules in
     let seen : book_of (view now.desk.place) ≡ Some mark.book = search rules in
     let was = c.hand_over.new.writer in
     sound_shown c.self.inside.cluster c.record.new.log c.self.inside.opening mark (view now.desk.place)
-    now.desk.shown.value (drop now.behind now.log.items) c.hand_over.new.handed c.in-Ok.list.items
+    now.desk.shown.value (drop now.behind now.log.items) c.hand_over.new.handed c.in_ok-list.list.items
     was.desk.shown.value.list (drop was.behind was.log.items) c.self.invariant.steady opening same whole all
     (search rules) (search rules) shown none seen
 
