@@ -29,7 +29,7 @@ use Rattle.mencius_conclusions.specs.OneWorker.{OneCluster, OneText}
 
 -- the cluster that an event leaves, which it refuses for this cause
 abbrev after_cause : ClusterState → Event → Option Refusal → ClusterState
-after_cause x e None = record { members = x.members; journal = x.journal ++ e ∷ [] }
+after_cause x e None = record { members = x.members; hasher = x.hasher; journal = x.journal ++ e ∷ [] }
 after_cause x e (Some r) = x
 
 abbrev after_event : ClusterState → Event → ClusterState
@@ -39,10 +39,11 @@ no_cause : (w v : Trace) (o : Option Refusal) → step_or w o ≡ Ok v → o ≡
 no_cause w v None e = refl
 no_cause w v (Some r) e = absurd (cc)
 
-same_cluster : (x y : ClusterState) → x.members ≡ y.members → x.journal ≡ y.journal → x ≡ y
-same_cluster x y members journal =
-    ap (λ m. record { members = m; journal = x.journal }) members
-    ∙ ap (λ es. record { members = y.members; journal = es }) journal
+same_cluster : (x y : ClusterState) → x.members ≡ y.members → x.hasher ≡ y.hasher → x.journal ≡ y.journal → x ≡ y
+same_cluster x y members hasher journal =
+    ap (λ m. record { members = m; hasher = x.hasher; journal = x.journal }) members
+    ∙ (ap (λ h. record { members = y.members; hasher = h; journal = x.journal }) hasher
+    ∙ ap (λ es. record { members = y.members; hasher = y.hasher; journal = es }) journal)
 
 left_by : (before after : BoardState) (e : Event) → IsAccepted before after e ⊎ IsRefusedBy before after e
     → after.cluster ≡ after_event before.cluster e
@@ -50,7 +51,7 @@ left_by before after e (inl is) =
     let x : ClusterState = before.cluster in
     let none = no_cause (with_event x.members (trace_of x) e) (trace_of after.cluster)
     (refused x.members (trace_of x) e) is.stepped.trace in
-    same_cluster after.cluster (after_cause x e None) is.stepped.members is.stepped.journal
+    same_cluster after.cluster (after_cause x e None) is.stepped.members is.stepped.hasher is.stepped.journal
     ∙ ap (after_cause x e) (sym none)
 left_by before after e (inr is) = elim is.is [
   | inl r ↦ ap (λ b. b.cluster) is.same ∙ ap (after_cause before.cluster e) (sym r)
