@@ -91,7 +91,12 @@ class ProgramReference:
         self.call, self.kinds = call, kinds
 
     def expect(self, schedule):
-        return answers.read_texts(self.printed("trace", schedule) + self.printed("replay", schedule))
+        texts = answers.read_texts(self.printed("trace", schedule) + self.printed("replay", schedule))
+        return dataclasses.replace(texts, events=[self.of_kinds(lines) for lines in texts.events],
+                                   closing=self.of_kinds(texts.closing))
+
+    def of_kinds(self, lines):
+        return [line for line in lines if answers.kind_of(line) in self.kinds]
 
     def printed(self, task, schedule):
         status, printed = self.call([task], schedule.text().encode())
