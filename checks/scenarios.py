@@ -1,6 +1,7 @@
 """Scenarios for the checks: those of tests/, and some that are made here."""
 import json
 import os
+import re
 import sys
 
 import shared
@@ -21,6 +22,13 @@ def read(*parts):
 def names(folder, ending):
     """The names of the files of a folder of tests/ that end so, without that ending."""
     return [name[:-len(ending)] for name in sorted(os.listdir(os.path.join(TESTS, folder))) if name.endswith(ending)]
+
+
+def pages_of_help():
+    """The text of each page of help by its task, the program's own first, by "": tests/help.txt has them one after the
+    other, each behind the command line that asks for it."""
+    parts = re.split(r"^\$ mencius (?:(\w+) )?--help\n", read("help.txt"), flags=re.MULTILINE)[1:]
+    return {task or "": page for task, page in zip(parts[::2], parts[1::2])}
 
 
 def schema(task):
