@@ -24,8 +24,8 @@ def matches(pattern, text):
 def passes(schema, value, top):
     """Whether a schema passes a value."""
     known = {"$schema", "title", "description", "$defs", "$ref", "type", "const", "minimum", "maximum", "pattern",
-             "anyOf", "allOf", "if", "then", "properties", "required", "additionalProperties", "items", "minItems",
-             "maxItems"}
+             "anyOf", "allOf", "if", "then", "else", "properties", "required", "additionalProperties", "items",
+             "minItems", "maxItems"}
     unknown = set(schema) - known
     if unknown:
         raise ValueError("the validator does not know " + ", ".join(sorted(unknown)))
@@ -50,7 +50,10 @@ def passes_value(schema, value, top):
         return False
     if not all(passes(part, value, top) for part in schema.get("allOf", [])):
         return False
-    return "if" not in schema or not passes(schema["if"], value, top) or passes(schema["then"], value, top)
+    if "if" not in schema:
+        return True
+    is_so = passes(schema["if"], value, top)
+    return passes(schema.get("then" if is_so else "else", {}), value, top)
 
 
 def passes_object(schema, value, top):

@@ -31,9 +31,12 @@ def pages_of_help():
     return {task or "": page for task, page in zip(parts[::2], parts[1::2])}
 
 
-def schema(task):
-    """The schema of the scenarios of a task, as JSON, with the fields in their order."""
-    with open(os.path.join(shared.TOP, "docs", task + ".schema.json"), encoding="utf-8") as file:
+SCHEMA = "docs/scenario.schema.json"
+
+
+def schema():
+    """The schema of scenarios, as JSON, with the fields in their order."""
+    with open(os.path.join(shared.TOP, SCHEMA), encoding="utf-8") as file:
         return json.load(file)
 
 

@@ -8,6 +8,7 @@ the seed too, so that some schedules have much of a thing and others nothing of 
 import dataclasses
 import random
 
+import members
 import reference
 from operations import NEWEST, OPERATIONS, of_version
 
@@ -23,8 +24,6 @@ RATES = {
     "cuts": ("of 100 events, how many cut a server off for a while", (0, 0, 2, 4)),
     "refusals": ("of 100 events, how many are such as a cluster refuses", (2, 5, 10)),
 }
-SERVERS = (1, 2, 2, 3, 3, 3, 3, 3, 3, 3, 3, 4, 4, 4, 5, 5, 6, 7)
-BETAS = (0, 0, 0, 0, 1, 2, 3, 5)
 KEYS = ("a", "a", "a", "a", "b", "A")
 TEXTS = ("x", "y", "", "")
 LATE = 60  # events for which a late message is on its way, at most
@@ -53,10 +52,10 @@ class Dice:
 
 @dataclasses.dataclass
 class Wish:
-    """What the schedules are to be like; None is drawn. `rates` has those of RATES that are not to be drawn."""
+    """What the schedules are to be like. `members` has those fields of the cluster that are not to be drawn, and `rates`
+    those of RATES."""
     events: int
-    servers: int = None
-    beta: int = None
+    members: dict = dataclasses.field(default_factory=dict)
     has_cas: bool = True
     has_refusals: bool = True
     rates: dict = dataclasses.field(default_factory=dict)
@@ -67,7 +66,7 @@ def draw(seed, wish):
     drawing = Drawing(seed, wish)
     while len(drawing.events) < wish.events:
         drawing.draw_event()
-    return reference.Schedule(f"seed {seed}", drawing.count, drawing.beta, drawing.events[:wish.events])
+    return reference.Schedule(f"seed {seed}", drawing.members, drawing.events[:wish.events])
 
 
 class Drawing:
@@ -75,14 +74,14 @@ class Drawing:
 
     def __init__(self, seed, wish):
         self.dice = Dice(seed)
-        servers, beta = self.dice.pick(SERVERS), self.dice.pick(BETAS)
+        drawn = {name: self.dice.pick(field.drawn) for name, field in members.FIELDS.items()}
         self.rates = {name: wish.rates.get(name, self.dice.pick(rates)) for name, (_, rates) in RATES.items()}
-        self.count = servers if wish.servers is None else wish.servers
-        self.beta = beta if wish.beta is None else wish.beta
+        self.members = {**drawn, **wish.members}
+        self.count = self.members["servers"]
         self.majority = self.count // 2 + 1
         self.wish = wish
         self.calm_from = wish.events * self.dice.pick((50, 60, 70, 80)) // 100
-        self.cluster = reference.Cluster(self.count, self.beta)
+        self.cluster = reference.Cluster(self.members)
         self.events, self.messages = [], []
         self.identities = []  # each command's home with its identity
         self.on_way = {}  # each message with a server that it is on its way to, and the event before which it is late

@@ -5,16 +5,16 @@ import json
 import answers
 import calling
 import driver
+import members
 import store
 from operations import version_of
 
 
 @dataclasses.dataclass
 class Schedule:
-    """A scenario of `mencius replay`, under a name."""
+    """A scenario of `mencius replay`, under a name: its members, by the fields of members.py, and its events."""
     name: str
-    servers: int
-    beta: int
+    members: dict
     events: list
 
     def version(self):
@@ -23,18 +23,18 @@ class Schedule:
 
     def front(self, count):
         """The schedule of the first so many events."""
-        return Schedule(self.name, self.servers, self.beta, self.events[:count])
+        return Schedule(self.name, self.members, self.events[:count])
 
     def text(self):
         """The scenario as JSON, with an event a line."""
-        head = {"version": self.version(), "servers": self.servers, **({"beta": self.beta} if self.beta else {})}
+        head = {"version": self.version(), **members.written(self.members)}
         events = ",\n  ".join(json.dumps(event) for event in self.events)
         return json.dumps(head)[:-1] + ', "events": [' + (f"\n  {events}\n" if events else "") + "]}\n"
 
 
 def schedule_of(name, scenario):
     """The schedule that a scenario is, as `json` reads it."""
-    return Schedule(name, scenario["servers"], scenario.get("beta", 0), scenario["events"])
+    return Schedule(name, members.members_of(scenario), scenario["events"])
 
 
 @dataclasses.dataclass
@@ -48,10 +48,10 @@ class Sent:
 
 
 class Cluster:
-    """A cluster of store.py that is stepped event by event."""
+    """A cluster of store.py of such members, which is stepped event by event."""
 
-    def __init__(self, servers, beta):
-        self.driver = store.replay({"servers": servers, "beta": beta, "events": []})
+    def __init__(self, of):
+        self.driver = store.replay({**of, "events": []})
 
     def step(self, event):
         """The name of the refusal, or None, and the messages that were sent."""
@@ -75,7 +75,7 @@ class StoreReference:
     kinds = frozenset({"event", "sent"})
 
     def expect(self, schedule):
-        replayed = store.replay(dataclasses.asdict(schedule))
+        replayed = store.replay({**schedule.members, "events": schedule.events})
         return answers.read_texts("\n".join(replayed.trace + replayed.report()))
 
 

@@ -5,6 +5,7 @@ event's messages, and gets its number anew. Where the event that sent it goes, i
 """
 import dataclasses
 
+import members
 import reference
 
 
@@ -24,7 +25,7 @@ class Item:
 
 def name_messages(schedule):
     """The events of a schedule as items."""
-    cluster = reference.Cluster(schedule.servers, schedule.beta)
+    cluster = reference.Cluster(schedule.members)
     senders, items = [], []
     for place, text in enumerate(schedule.events):
         item = Item(place, text)
@@ -37,9 +38,10 @@ def name_messages(schedule):
     return items
 
 
-def number_messages(items, servers, beta, name):
-    """The schedule of the items, and the items that it has: without those whose message is not sent now."""
-    cluster = reference.Cluster(servers, beta)
+def number_messages(items, of, name):
+    """The schedule of the items with such members, and the items that it has: without those whose message is not sent
+    now."""
+    cluster = reference.Cluster(of)
     numbers, texts, kept = {}, [], []
     for item in items:
         text = item.text
@@ -53,7 +55,7 @@ def number_messages(items, servers, beta, name):
         kept.append(item)
         _, sent = cluster.step(text)
         numbers.update({(item.place, order): message.number for order, message in enumerate(sent)})
-    return reference.Schedule(name, servers, beta, texts), kept
+    return reference.Schedule(name, of, texts), kept
 
 
 class Shortening:
@@ -70,9 +72,9 @@ class Shortening:
         while self.make_smaller():
             self.leave_out()
 
-    def takes(self, items, servers, beta):
-        """Goes on with these items if they still show the difference."""
-        schedule, kept = number_messages(items, servers, beta, self.best.name)
+    def takes(self, items, of):
+        """Goes on with these items and members if they still show the difference."""
+        schedule, kept = number_messages(items, of, self.best.name)
         self.tries += 1
         does = self.differs(schedule)
         if does:
@@ -87,15 +89,12 @@ class Shortening:
             start, length = len(self.items) - size, len(self.items)
             while start > -size:
                 begin = max(start, 0)
-                self.takes(self.items[:begin] + self.items[start + size:], self.best.servers, self.best.beta)
+                self.takes(self.items[:begin] + self.items[start + size:], self.best.members)
                 start = min(start, len(self.items)) - size
             # Greater parts are tried once.
             if size > 1 or len(self.items) == length:
                 size //= 2
 
     def make_smaller(self):
-        """Takes the least cluster and the least beta that still show the difference; tells whether one did."""
-        for servers in range(1, self.best.servers):
-            if self.takes(self.items, servers, self.best.beta):
-                return True
-        return any(self.takes(self.items, self.best.servers, beta) for beta in range(min(self.best.beta, 8)))
+        """Takes smaller members that still show the difference; tells whether some did."""
+        return any(self.takes(self.items, smaller) for smaller in members.smaller(self.best.members))

@@ -20,7 +20,8 @@ function summary(now) {
     box.append(el('p', { class: 'bad' }, `refused: ${event.refusal}, since ${REFUSALS[event.refusal]}`));
   }
   const counts = [count(report.accepted, 'event'), count(report.messages, 'message')];
-  box.append(el('p', {}, [...counts, ...(schedule.beta ? [`beta ${schedule.beta}`] : [])].join(', ')));
+  const common = saidOf(schedule).filter(([name]) => name !== 'servers').map(([name, value]) => `${name} ${value}`);
+  box.append(el('p', {}, [...counts, ...common].join(', ')));
   if (report.replies.length > 0) {
     box.append(el('h3', {}, 'replies'), el('ul', { class: 'replies' }, ...report.replies.slice(-30).map(([id, reply]) =>
       el('li', { class: reply === 'pending' ? 'soft' : null }, el('b', {}, id), ` ${reply}`))));

@@ -42,18 +42,18 @@ function readEditor(core) {
 // ---- a schedule that a worker draws
 
 // The plan of the form: two commands of a client for each server, or the run that stands in the editor.
-function planOf(servers, beta) {
-  const commands = Array.from({ length: servers }, (_, server) =>
+function planOf(schedule) {
+  const commands = Array.from({ length: schedule.servers }, (_, server) =>
     [`${server + 1}.0 set a v${server}`, `${server + 1}.1 get a`]);
   const [seed, turns, loss] = ['seed', 'turns', 'loss'].map(id => $(id).value.trim() || '0');
-  return `{"version": 1, "servers": ${servers}, ${beta ? `"beta": ${beta}, ` : ''}`
-    + `"workers": 1, "seed": ${seed}, "turns": ${turns},`
-    + ` "loss": ${loss},\n "commands": ${JSON.stringify(commands)}}`;
+  const course = [['workers', 1], ['seed', seed], ['turns', turns], ['loss', loss]];
+  return `{${fieldsOf([['version', 1], ...saidOf(schedule), ...course])},\n "commands": ${JSON.stringify(commands)}}`;
 }
 
-function drawByWorker(core, servers, beta) {
+// The schedule that a worker draws for the members of this one.
+function drawByWorker(core, former) {
   const isRun = / workers /.test(core.call(['check'], $('source').value).printed);
-  const plan = isRun ? $('source').value : planOf(servers, beta);
+  const plan = isRun ? $('source').value : planOf(former);
   const answer = core.call(['run', '--journal'], plan);
   $('plan').textContent = plan;
   if (answer.status !== 0) {

@@ -8,7 +8,7 @@ const UNDONE = 500;
 
 let core;
 const page = {
-  schedule: { servers: 3, beta: 0, events: [] }, cursor: 0, tab: 'lesson', past: [], future: [],
+  schedule: emptyOf({ servers: 3 }), cursor: 0, tab: 'lesson', past: [], future: [],
   now: null, whole: null, edited: null, dice: diceOf(1),
 };
 

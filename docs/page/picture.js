@@ -175,7 +175,7 @@ function eventAt(y) {
 
 // The explanation of marks and lines at the foot of every picture, for the help.
 function fillKey(core) {
-  const { printed } = core.call(['draw'], asScenario({ servers: 1, beta: 0, events: [] }));
+  const { printed } = core.call(['draw'], asScenario(emptyOf({ servers: 1 })));
   const box = el('div');
   box.innerHTML = printed;
   const svg = box.querySelector('svg'), key = box.querySelector('.key');

@@ -1,24 +1,44 @@
 'use strict';
-// A schedule is { servers, beta, events }, of which the events are texts. It is never changed: a new one takes its
-// place.
+// A schedule has the fields of MEMBERS, which say what cluster it is of, and `events`, which are texts. It is never
+// changed: a new one takes its place.
+
+// The fields of the members: the letter of each in a link, and what it is where a scenario does not say it.
+const MEMBERS = { servers: { letter: 'n' }, beta: { letter: 'b', unsaid: 0 } };
+
+// A schedule of no events, with these members.
+const emptyOf = members => ({ ...membersOf(members), events: [] });
+
+// The members of a scenario or of a schedule.
+function membersOf(scenario) {
+  return Object.fromEntries(Object.entries(MEMBERS).map(([name, { unsaid }]) => [name, scenario[name] ?? unsaid]));
+}
+
+// The fields of the members that have to be said: [name, value] of each.
+function saidOf(schedule) {
+  return Object.entries(membersOf(schedule)).filter(([name, value]) => value !== MEMBERS[name].unsaid);
+}
 
 // Version 2 exactly where an operation of version 2 stands in it, as in the journal of a run.
 const versionOf = events => events.some(event => /^submit \d+ [\d.]+ cas /.test(event)) ? 2 : 1;
 
-function asScenario({ servers, beta, events }) {
-  return JSON.stringify({ version: versionOf(events), servers, ...(beta ? { beta } : {}), events });
+function asScenario(schedule) {
+  const { events } = schedule;
+  return JSON.stringify({ version: versionOf(events), ...Object.fromEntries(saidOf(schedule)), events });
 }
 
-function asFile({ servers, beta, events }) {
-  const size = `"version": ${versionOf(events)}, "servers": ${servers}, ${beta ? `"beta": ${beta}, ` : ''}`;
+function asFile(schedule) {
+  const { events } = schedule;
+  const size = fieldsOf([['version', versionOf(events)], ...saidOf(schedule)]);
   const lines = events.map(event => '  ' + JSON.stringify(event)).join(',\n');
-  return `{${size}"events": [${events.length ? `\n${lines}\n` : ''}]}\n`;
+  return `{${size}, "events": [${events.length ? `\n${lines}\n` : ''}]}\n`;
 }
+
+const fieldsOf = numbers => numbers.map(([name, value]) => `"${name}": ${value}`).join(', ');
 
 // A schedule out of the text of a scenario that the program has checked.
 function readScenario(text) {
-  const { servers, beta = 0, events } = JSON.parse(text);
-  return { servers, beta, events };
+  const scenario = JSON.parse(text);
+  return { ...membersOf(scenario), events: scenario.events };
 }
 
 const prefixOf = (schedule, length) => ({ ...schedule, events: schedule.events.slice(0, length) });
@@ -64,19 +84,23 @@ function withRemoved(schedule, place, first, count) {
 // So long a link may be: a longer one is not taken by every browser.
 const LONGEST_LINK = 60_000;
 
-function asLink({ servers, beta, events }, cursor, step) {
-  const texts = events.map(event => encodeURIComponent(event).replaceAll('%20', '+')).join(';');
-  const link = `#n=${servers}${beta ? `&b=${beta}` : ''}&at=${cursor}${step ? `&step=${step}` : ''}&e=${texts}`;
+function asLink(schedule, cursor, step) {
+  const texts = schedule.events.map(event => encodeURIComponent(event).replaceAll('%20', '+')).join(';');
+  const members = saidOf(schedule).map(([name, value]) => `${MEMBERS[name].letter}=${value}&`).join('');
+  const link = `#${members}at=${cursor}${step ? `&step=${step}` : ''}&e=${texts}`;
   return link.length > LONGEST_LINK ? null : link;
 }
 
 // What a link holds, which the program has to check yet; null where it is none.
 function readLink(hash) {
-  const fields = /^#n=(\d+)(?:&b=(\d+))?&at=(\d+)(?:&step=(\d+))?&e=(.*)$/.exec(hash);
+  const fields = /^#((?:[a-z]=\d+&)+)at=(\d+)(?:&step=(\d+))?&e=(.*)$/.exec(hash);
   if (!fields) return null;
-  const [servers, beta, cursor, step] = fields.slice(1, 5).map(digits => Number(digits || 0));
-  const events = fields[5] === '' ? [] : fields[5].split(';').map(readPart);
-  return { schedule: { servers, beta, events }, cursor, step };
+  const said = new Map(fields[1].split('&').slice(0, -1).map(part => [part[0], Number(part.slice(2))]));
+  const named = Object.entries(MEMBERS).map(([name, { letter }]) => [name, said.get(letter)]);
+  const members = membersOf(Object.fromEntries(named));
+  const [cursor, step] = fields.slice(2, 4).map(digits => Number(digits || 0));
+  const events = fields[4] === '' ? [] : fields[4].split(';').map(readPart);
+  return Object.values(members).includes(undefined) ? null : { schedule: { ...members, events }, cursor, step };
 }
 
 function readPart(text) {

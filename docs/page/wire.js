@@ -19,7 +19,7 @@ function press(button) {
 // Hands a command in, if its words are those of one and the program does not refuse it.
 function submit(form) {
   const event = `submit ${form.dataset.server} ${form.querySelector('input').value}`;
-  const answer = core.call(['check'], asScenario({ servers: 1, beta: 0, events: [event] }));
+  const answer = core.call(['check'], asScenario(withEvent(emptyOf({ servers: 1 }), event)));
   if (answer.status !== 0) {
     say(wordsOf(answer.said).replace(/^event 0 "[^"]*": /, ''));
     return;
@@ -74,11 +74,11 @@ function wireBar() {
   $('example').onchange = () => {
     const example = DATA.examples[$('example').value];
     showStep(0);
-    become(example ?? { ...page.schedule, beta: 0, events: [] }, example ? example.events.length : 0);
+    become(example ?? emptyOf({ servers: page.schedule.servers }), example ? example.events.length : 0);
   };
   $('servers').onchange = () => {
     const wasEmpty = page.schedule.events.length === 0;
-    become({ servers: +$('servers').value, beta: page.schedule.beta, events: [] }, 0);
+    become(emptyOf({ ...page.schedule, servers: +$('servers').value }), 0);
     if (!wasEmpty) say('A new schedule. Undo brings the former one back.');
   };
   const actions = {
@@ -144,7 +144,7 @@ function wireTabs() {
   });
   $('worker').onsubmit = event => {
     event.preventDefault();
-    const schedule = drawByWorker(core, page.schedule.servers, page.schedule.beta);
+    const schedule = drawByWorker(core, page.schedule);
     if (schedule) become(schedule, schedule.events.length);
   };
   for (const name of Object.keys(DATA.logs)) $('logs').add(new Option(name.replaceAll('_', ' '), name));
