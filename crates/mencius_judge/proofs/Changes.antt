@@ -16,7 +16,7 @@ use Rattle.mencius_base.specs.declared.command.Op.TheVariants.{Set, Get, Del, Ca
 use Rattle.mencius_model.specs.Store.{Store, apply, is_held, key_of, store_after, value_at}
 use Rattle.mencius_model.proofs.MapContents.{tested}
 use Rattle.mencius_judge.specs.declared.timeline.Timeline.{Timeline}
-use Rattle.mencius_judge.specs.Timelines.{AreTimelines, IsTimelineOf, held_by, text_after, text_of}
+use Rattle.mencius_judge.specs.Timelines.{AreTimelines, Becomes, IsTimelineOf, held_by, text_of}
 use Rattle.mencius_judge.proofs.Periods.{unchanged}
 use Rattle.mencius_judge.proofs.TextMaps.{other_bytes, same_bytes}
 
@@ -48,17 +48,21 @@ get_elsewhere m (Cas other held text) key e = by_held (is_held (finite.get m oth
     by_held true = get-put m other text key ∙ ap (λ bit. cond bit (Some text) (finite.get m key)) e
     by_held false = refl
 
--- and makes of its own what its definition says
-get_own : (m : Store) (op : Op) → finite.get (apply m op) (key_of op) ≡ text_after (finite.get m (key_of op)) op
-get_own m (Set key text) =
-    get-put m key text key ∙ ap (λ bit. cond bit (Some text) (finite.get m key)) (same_bytes key)
-get_own m (Get key) = refl
-get_own m (Del key) =
-    get-taken m key key ∙ ap (λ bit. cond bit None (finite.get m key)) (same_bytes key)
-get_own m (Cas key held text) = by_held (is_held (finite.get m key) held)
+-- and this becomes of its own
+pub put_there : (m : Store) (key text : List ℕ) → Some text ≡ finite.get (finite.insert m key text) key
+put_there m key text =
+    sym (get-put m key text key ∙ ap (λ bit. cond bit (Some text) (finite.get m key)) (same_bytes key))
+
+pub taken_there : (m : Store) (key : List ℕ) → None ≡ finite.get (finite.remove m key) key
+taken_there m key = sym (get-taken m key key ∙ ap (λ bit. cond bit None (finite.get m key)) (same_bytes key))
+
+pub put_where_held : (m : Store) (key held text : List ℕ) (former new : Option (List ℕ)) → finite.get m key ≡ former
+    → new ≡ cond (is_held former held) (Some text) former
+    → new ≡ finite.get (cond (is_held (finite.get m key) held) (finite.insert m key text) m) key
+put_where_held m key held text former new e is = is ∙ sym (ap (λ o. cond (is_held o held) (Some text) o) e) ∙ by_held (is_held (finite.get m key) held)
   where
-    by_held : (bit : Bool) → finite.get (cond bit (finite.insert m key text) m) key ≡ cond bit (Some text) (finite.get m key)
-    by_held true = get-put m key text key ∙ ap (λ bit. cond bit (Some text) (finite.get m key)) (same_bytes key)
+    by_held : (bit : Bool) → cond bit (Some text) (finite.get m key) ≡ finite.get (cond bit (finite.insert m key text) m) key
+    by_held true = put_there m key text
     by_held false = refl
 
 store_more : (cs : List Command) (c : Command) → store_after (cs ++ c ∷ []) ≡ apply (store_after cs) c.op
@@ -89,12 +93,6 @@ module _ (cs : List Command) (c : Command) where
       → held_by (cs ++ c ∷ []) key (length cs + 1) ≡ held_by cs key (length cs)
   held_elsewhere key ne =
       last key ∙ get_elsewhere (store_after cs) c.op key (other_bytes (key_of c.op) key ne) ∙ sym (held_all cs key)
-
-  pub held_own : held_by (cs ++ c ∷ []) (key_of c.op) (length cs + 1)
-      ≡ text_after (held_by cs (key_of c.op) (length cs)) c.op
-  held_own =
-      last (key_of c.op) ∙ get_own (store_after cs) c.op
-      ∙ ap (λ held. text_after held c.op) (sym (held_all cs (key_of c.op)))
 
   -- ---- all timelines
 
@@ -139,7 +137,7 @@ IsChange by_key new key text count =
     × ((x : List ℕ) → x ≢ key → get_by_text new x ≡ get_by_text by_key x)
 
 module _ (cs : List Command) (c : Command) (by_key new : BTreeMap (String Global) Timeline) (held text : Option (List ℕ))
-    (h : AreTimelines cs by_key) (is : held ≡ text_of (get_by_text by_key (key_of c.op))) (becomes : text ≡ text_after held c.op) where
+    (h : AreTimelines cs by_key) (is : held ≡ text_of (get_by_text by_key (key_of c.op))) (becomes : Becomes held c.op text) where
   pub held_is : held ≡ held_by cs (key_of c.op) (length cs)
   held_is = is ∙ text_now (held_by cs (key_of c.op)) (length cs) (get_by_text by_key (key_of c.op)) (h (key_of c.op))
 
@@ -147,7 +145,7 @@ module _ (cs : List Command) (c : Command) (by_key new : BTreeMap (String Global
   answer_is = held_is ∙ held_all cs (key_of c.op)
 
   after_is : held_by (cs ++ c ∷ []) (key_of c.op) (length cs + 1) ≡ text
-  after_is = held_own cs c ∙ ap (λ x. text_after x c.op) (sym held_is) ∙ sym becomes
+  after_is = last cs c (key_of c.op) ∙ sym (becomes (store_after cs) (sym answer_is))
 
   pub with_change : IsChange by_key new (key_of c.op) text (length cs + 1) → AreTimelines (cs ++ c ∷ []) new
   with_change change = counted cs c new (λ key. ⊎_elim

@@ -1,11 +1,11 @@
 -- What each key held after each number of commands, and how that is kept: by the periods in which it held one text.
-use Rattle.std.specs.Prelude.{◌≡◌, ◌≢◌, ◌≤◌, ◌<◌, ℕ, List, [], Option, Some, None, length, slice_get, take, if◌then◌else◌}
+use Rattle.std.specs.Prelude.{◌≡◌, ◌≢◌, ◌≤◌, ◌<◌, ℕ, List, [], Option, Some, None, length, slice_get, take}
 use Rattle.std.proofs.Common.{Global, String, Vec}
 use Rattle.std.specs.BTreeMap.{BTreeMap, get_by_text}
+use Rattle.std.specs.FinMap as finite
 use Rattle.mencius_base.specs.declared.command.Command.{Command}
 use Rattle.mencius_base.specs.declared.command.Op.{Op}
-use Rattle.mencius_base.specs.declared.command.Op.TheVariants.{Set, Get, Del, Cas}
-use Rattle.mencius_model.specs.Store.{is_held, value_at}
+use Rattle.mencius_model.specs.Store.{Store, apply, key_of, value_at}
 use Rattle.mencius_judge.specs.declared.timeline.Period.{Period}
 use Rattle.mencius_judge.specs.declared.timeline.Timeline.{Timeline}
 
@@ -13,12 +13,9 @@ use Rattle.mencius_judge.specs.declared.timeline.Timeline.{Timeline}
 abbrev pub held_by : List Command → List ℕ → ℕ → Option (List ℕ)
 held_by commands key n = value_at key (take n commands)
 
--- what the key of an operation holds after it, where it held this before
-abbrev pub text_after : Option (List ℕ) → Op → Option (List ℕ)
-text_after held (Set key text) = Some text
-text_after held (Get key) = held
-text_after held (Del key) = None
-text_after held (Cas key expected text) = if is_held held expected then Some text else held
+-- the key of an operation holds this text after it, in each map that held that one there before
+abbrev pub Becomes : Option (List ℕ) → Op → Option (List ℕ) → Type 0
+Becomes held op text = (store : Store) → finite.get store (key_of op) ≡ held → text ≡ finite.get (apply store op) (key_of op)
 
 -- ---- the first number of commands
 

@@ -12,7 +12,8 @@ ghost use Rattle.mencius_judge.specs.Tables.{AreSettled, IsNext, IsNoOther, IsNo
 use crate::counts::{Counts, one_more};
 use crate::histories::{Histories, Next};
 use crate::observation::Observation;
-use crate::texts::{copy_of, copy_of_key, is_same_op, is_same_text};
+use crate::operations::is_same_op;
+use crate::texts::{copy_of, copy_of_key, is_same_text};
 use crate::timelines::Timelines;
 use crate::violation::Violation;
 use mencius_base::{Command, CommandId, Key, NoMemory, Text};

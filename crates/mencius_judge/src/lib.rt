@@ -11,6 +11,7 @@ mod judge;
 pub mod laws;
 mod line;
 mod observation;
+mod operations;
 mod reading;
 mod texts;
 mod timeline;
@@ -26,6 +27,3 @@ pub use observation::Observation;
 pub use reading::{Breach, Unjudged, Verdict, judge_log};
 pub use told::{push_broken, push_kept};
 pub use violation::{Promise, Violation};
-
-#[cfg(test)]
-mod tests;

@@ -1,36 +1,6 @@
 ghost use Rattle.std.specs.Prelude.{◌≡◌, ◌↔◌, IfOk, IsTrue};
 
-use mencius_base::{Key, NoMemory, Op, Text};
-
-/// Whether two operations are the same.
-pub fn is_same_op(first: &Op, second: &Op) -> bool
-    ensures { IsTrue result ↔ (first.now ≡ second.now) }
-{
-    match (first, second) {
-        (
-            Op::Set { key, text },
-            Op::Set {
-                key: other,
-                text: value,
-            },
-        ) => key.as_str() == other.as_str() && text.as_str() == value.as_str(),
-        (Op::Get { key }, Op::Get { key: other }) => key.as_str() == other.as_str(),
-        (Op::Del { key }, Op::Del { key: other }) => key.as_str() == other.as_str(),
-        (
-            Op::Cas { key, held, text },
-            Op::Cas {
-                key: other,
-                held: former,
-                text: value,
-            },
-        ) => {
-            key.as_str() == other.as_str()
-                && held.as_str() == former.as_str()
-                && text.as_str() == value.as_str()
-        }
-        _ => false,
-    }
-}
+use mencius_base::{Key, NoMemory, Text};
 
 /// Whether two texts are the same: none, or of the same bytes.
 pub fn is_same_text(first: &Option<Text>, second: &Option<Text>) -> bool

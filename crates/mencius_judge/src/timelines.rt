@@ -1,12 +1,13 @@
 ghost use Rattle.std.specs.Prelude.{◌≡◌, ◌≢◌, ◌++◌, ◌∷◌, ℕ, ◌+◌, ◌≤◌, List, [], IfOk, OnOk, MatchOption, Option, length};
 ghost use Rattle.std.specs.BTreeMap.{get_by_text};
 ghost use Rattle.mencius_base.specs.declared.command.Command.{Command};
-ghost use Rattle.mencius_model.specs.Store.{is_held, key_of, out};
-ghost use Rattle.mencius_judge.specs.Timelines.{AreTimelines, HasNone, IsFirstCount, IsTimelineOf, held_by, text_after, text_of};
+ghost use Rattle.mencius_model.specs.Store.{out};
+ghost use Rattle.mencius_judge.specs.Timelines.{AreTimelines, HasNone, IsFirstCount, IsTimelineOf, held_by, text_of};
 
+use crate::operations::{key_of, text_after};
 use crate::texts::{copy_of, is_same_text};
 use crate::timeline::{Timeline, put_text};
-use mencius_base::{Command, NoMemory, Op, Text};
+use mencius_base::{Command, NoMemory, Text};
 use std::alloc::Global;
 use std::collections::BTreeMap;
 
@@ -101,41 +102,4 @@ fn first_absence(text: &Option<Text>, from: usize, to: usize) -> Option<usize>
         return Some(from);
     }
     None
-}
-
-// The key that an operation is about.
-fn key_of(op: &Op) -> &str
-    ensures { result.now ≡ key_of op.now }
-{
-    match op {
-        Op::Set { key, .. } | Op::Get { key } | Op::Del { key } | Op::Cas { key, .. } =>
-            key.as_str(),
-    }
-}
-
-// What the key of an operation holds after it, where it held this before.
-fn text_after(held: &Option<Text>, op: &Op) -> Result<Option<Text>, NoMemory>
-    ensures { IfOk result (λ text. text ≡ text_after held.now op.now) }
-{
-    match op {
-        Op::Set { text, .. } => Ok(Some(text.clone()?)),
-        Op::Get { .. } => copy_of(held),
-        Op::Del { .. } => Ok(None),
-        Op::Cas {
-            held: expected,
-            text,
-            ..
-        } if is_held(held, expected) => Ok(Some(text.clone()?)),
-        Op::Cas { .. } => copy_of(held),
-    }
-}
-
-// Whether a text is held, and it is exactly this one.
-fn is_held(held: &Option<Text>, expected: &Text) -> bool
-    ensures { result ≡ is_held held.now expected.now }
-{
-    match held {
-        Some(held) => held.as_str() == expected.as_str(),
-        None => false,
-    }
 }

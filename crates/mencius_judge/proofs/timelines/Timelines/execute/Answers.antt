@@ -2,7 +2,7 @@ use Rattle.std.proofs.Common.{◌≡◌, ◌∷◌, [], ◌++◌, sym, subst, ap
 use Rattle.std.specs.BTreeMap.{get_by_text}
 use Rattle.mencius_base.specs.declared.command.Command.{Command}
 use Rattle.mencius_model.specs.Store.{key_of}
-use Rattle.mencius_judge.specs.Timelines.{AreTimelines, text_after, text_of}
+use Rattle.mencius_judge.specs.Timelines.{AreTimelines, Becomes, text_of}
 use Rattle.mencius_judge.proofs.Changes.{IsChange, answer_is, with_change, without_change}
 use Rattle.mencius_judge.proofs.timelines.Timelines.execute.Goals as goal
 use Rattle.mencius_judge.proofs.timelines.Timelines.execute.Goals.{then-not-is_same_text+in_ok-change, else-not-is_same_text}
@@ -16,7 +16,7 @@ returns c =
     let key : c.key_of-key.result.now ≡ key_of command.op = c.key_of-key.ensures ∙ ap key_of c.op-op.ensures.op in
     let is : held ≡ text_of (get_by_text by_key (key_of command.op)) =
     c.in_ok-held.ensures ∙ ap (λ k. text_of (get_by_text by_key k)) key in
-    let becomes : text ≡ text_after held command.op = c.in_ok-text.ensures ∙ ap (text_after held) c.op-op.ensures.op in
+    let becomes : Becomes held command.op text = subst (λ op. Becomes held op text) c.op-op.ensures.op c.in_ok-text.ensures in
     record {
       reply = λ cs h. answer_is cs command by_key by_key held text h is becomes;
       after = λ cs h size. elim c.if-not-is_same_text.branch [

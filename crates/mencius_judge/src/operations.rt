@@ -1,0 +1,76 @@
+//! All that tells one operation on the map from another.
+
+ghost use Rattle.std.specs.Prelude.{◌≡◌, ◌↔◌, IfOk, IsTrue};
+ghost use Rattle.mencius_model.specs.Store.{is_held, key_of};
+ghost use Rattle.mencius_judge.specs.Timelines.{Becomes};
+
+use crate::texts::copy_of;
+use mencius_base::{NoMemory, Op, Text};
+
+/// Whether two operations are the same.
+pub fn is_same_op(first: &Op, second: &Op) -> bool
+    ensures { IsTrue result ↔ (first.now ≡ second.now) }
+{
+    match (first, second) {
+        (
+            Op::Set { key, text },
+            Op::Set {
+                key: other,
+                text: value,
+            },
+        ) => key.as_str() == other.as_str() && text.as_str() == value.as_str(),
+        (Op::Get { key }, Op::Get { key: other }) => key.as_str() == other.as_str(),
+        (Op::Del { key }, Op::Del { key: other }) => key.as_str() == other.as_str(),
+        (
+            Op::Cas { key, held, text },
+            Op::Cas {
+                key: other,
+                held: former,
+                text: value,
+            },
+        ) => {
+            key.as_str() == other.as_str()
+                && held.as_str() == former.as_str()
+                && text.as_str() == value.as_str()
+        }
+        _ => false,
+    }
+}
+
+/// The key that an operation is about.
+pub fn key_of(op: &Op) -> &str
+    ensures { result.now ≡ key_of op.now }
+{
+    match op {
+        Op::Set { key, .. } | Op::Get { key } | Op::Del { key } | Op::Cas { key, .. } =>
+            key.as_str(),
+    }
+}
+
+/// What the key of an operation holds after it, where it held this before.
+#[tactic(auto, using(crate::proofs::Changes::put_there, crate::proofs::Changes::taken_there, crate::proofs::Changes::put_where_held))]
+pub fn text_after(held: &Option<Text>, op: &Op) -> Result<Option<Text>, NoMemory>
+    ensures { IfOk result (Becomes held.now op.now) }
+{
+    match op {
+        Op::Set { text, .. } => Ok(Some(text.clone()?)),
+        Op::Get { .. } => copy_of(held),
+        Op::Del { .. } => Ok(None),
+        Op::Cas {
+            held: expected,
+            text,
+            ..
+        } if is_held(held, expected) => Ok(Some(text.clone()?)),
+        Op::Cas { .. } => copy_of(held),
+    }
+}
+
+// Whether a text is held, and it is exactly this one.
+fn is_held(held: &Option<Text>, expected: &Text) -> bool
+    ensures { result ≡ is_held held.now expected.now }
+{
+    match held {
+        Some(held) => held.as_str() == expected.as_str(),
+        None => false,
+    }
+}
