@@ -20,7 +20,7 @@ function summary(now) {
     box.append(el('p', { class: 'bad' }, `refused: ${event.refusal}, since ${REFUSALS[event.refusal]}`));
   }
   const counts = [count(report.accepted, 'event'), count(report.messages, 'message')];
-  const common = saidOf(schedule).filter(([name]) => name !== 'servers').map(([name, value]) => `${name} ${value}`);
+  const common = saidOf(schedule).filter(([name]) => COMMON.includes(name)).map(([name, value]) => `${name} ${value}`);
   box.append(el('p', {}, [...counts, ...common].join(', ')));
   if (report.replies.length > 0) {
     box.append(el('h3', {}, 'replies'), el('ul', { class: 'replies' }, ...report.replies.slice(-30).map(([id, reply]) =>

@@ -2,11 +2,17 @@
 // A schedule has the fields of MEMBERS, which say what cluster it is of, and `events`, which are texts. It is never
 // changed: a new one takes its place.
 
-// The fields of the members: the letter of each in a link, and what it is where a scenario does not say it.
-const MEMBERS = { servers: { letter: 'n' }, beta: { letter: 'b', unsaid: 0 } };
+// The fields of the members: the letter of each in a link, and of those that a scenario may leave out what they are
+// then, and what they mean.
+const MEMBERS = {
+  servers: { letter: 'n' },
+  beta: { letter: 'b', unsaid: 0, meaning: 'how far past its own front a suspicion looks' },
+};
+const COMMON = Object.keys(MEMBERS).filter(name => name !== 'servers');
 
-// A schedule of no events, with these members.
-const emptyOf = members => ({ ...membersOf(members), events: [] });
+// The schedule that a scenario is, and one of no events with its members.
+const scheduleOf = scenario => ({ ...membersOf(scenario), events: scenario.events });
+const emptyOf = scenario => scheduleOf({ ...scenario, events: [] });
 
 // The members of a scenario or of a schedule.
 function membersOf(scenario) {
@@ -37,8 +43,7 @@ const fieldsOf = numbers => numbers.map(([name, value]) => `"${name}": ${value}`
 
 // A schedule out of the text of a scenario that the program has checked.
 function readScenario(text) {
-  const scenario = JSON.parse(text);
-  return { ...membersOf(scenario), events: scenario.events };
+  return scheduleOf(JSON.parse(text));
 }
 
 const prefixOf = (schedule, length) => ({ ...schedule, events: schedule.events.slice(0, length) });

@@ -67,6 +67,18 @@ function showSide() {
   $('side').setAttribute('aria-pressed', isHidden);
 }
 
+// A field that the servers have in common. The events stay, if the program takes the number.
+function wireCommon(name) {
+  const input = el('input', { id: name, type: 'number', min: 0 });
+  $('common').append(el('label', { title: MEMBERS[name].meaning }, `${name} `, input));
+  input.onchange = () => {
+    if (!open({ ...page.schedule, [name]: Number(input.value) }, page.cursor)) showBar();
+    else if (page.schedule.events.length > 0) {
+      say('The events stay. Some may send other messages now, and later messages have other numbers then.');
+    }
+  };
+}
+
 function wireBar() {
   for (const name of Object.keys(DATA.examples)) $('example').add(new Option(name.replaceAll('_', ' '), name));
   $('example').add(new Option('(none)', ''), 0);
@@ -81,6 +93,7 @@ function wireBar() {
     become(emptyOf({ ...page.schedule, servers: +$('servers').value }), 0);
     if (!wasEmpty) say('A new schedule. Undo brings the former one back.');
   };
+  COMMON.forEach(wireCommon);
   const actions = {
     undo: () => undo(page.past, page.future), redo: () => undo(page.future, page.past),
     random: () => addAtRandom(1), random20: () => addAtRandom(20),
