@@ -9,3 +9,6 @@ pub mod RunFields
 pub mod StepsAndCommands
 pub mod FaultPlaces
 pub mod NameOrder
+pub mod PlacedNames
+pub mod PlacedFields
+pub mod PlacedFaults

@@ -236,6 +236,33 @@ names_start text d whole left None same empty is object =
 names_start text d whole left (Some x) same begins is object =
     ahead (tokens text) left (token_of x) (value 127 (tokens text)) (sym same ∙ begins) refl (ap is_object is ∙ object)
 
+-- the names of a text are those of fields of which its object was made
+pub record IsNamed (text : List ℕ) (all : Members) : Type 0 where
+  pub fields : json.Members
+  pub same : names_in text ≡ names_of fields
+  pub good : of_members fields no_members ≡ Some all
+
+abbrev members_said : Option Data → Option Members
+members_said o = option_and_then as_object o
+
+pub names_made : (text : List ℕ) (ms : Members) → read text ≡ Some (Data.object ms) → IsNamed text ms
+unfolding names_in
+names_made text ms is = by_value (value 127 (tokens text)) refl is
+  where
+    by_value : (o : Option (Json × List Token)) → value 127 (tokens text) ≡ o → whole_value o ≡ Some (Data.object ms)
+        → IsNamed text ms
+    by_value None begins is = absurd cc
+    by_value (Some (j, next ∷ others)) begins is = absurd cc
+    by_value (Some (j, [])) begins is =
+        let r = object_read j (ap is_object is) in
+        record {
+          fields = r.ms;
+          same = ap names_read begins ∙ ap (λ j. names_read (Some (j, []))) r.same;
+          good = r.good
+              ∙ sym (ap members_said (ap (option_map Data.object) r.good))
+              ∙ ap members_said (sym (ap of_json r.same) ∙ is);
+        }
+
 -- ---- the first of the fields that has a place
 
 module _ (kind : Kind) (fault : AppFault) (d : Data) (names : List (List ℕ)) where

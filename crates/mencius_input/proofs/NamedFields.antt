@@ -25,10 +25,10 @@ use Rattle.mencius_input.specs.Scenario.{has_only, number_in, number_of, whole_i
 
 -- ---- names
 
-same_name : (key l : List ℕ) → bytes_eq key l ≡ true → key ≡ l
+pub same_name : (key l : List ℕ) → bytes_eq key l ≡ true → key ≡ l
 same_name key l e = let same = bytes_eq-Decides key l in same.0 e
 
-other_name : (key l : List ℕ) → bytes_eq key l ≡ false → key ≡ l → ⊥
+pub other_name : (key l : List ℕ) → bytes_eq key l ≡ false → key ≡ l → ⊥
 other_name key l e same = let decided = bytes_eq-Decides key l in true≢false (sym (decided.1 same) ∙ e)
 
 -- the field has this name
@@ -40,7 +40,7 @@ one_of_fields name [] = refl
 one_of_fields name (f ∷ fs) = ap (λ bit. is_named name f || bit) (one_of_fields name fs)
 
 -- a name of a kind is that of a number or of the list
-one_of_names : (kind : Kind) (name : List ℕ) → is_one_of name (names kind)
+pub one_of_names : (kind : Kind) (name : List ℕ) → is_one_of name (names kind)
     ≡ (list_any (is_named name) (whole_fields kind) || (is_named name (list_field kind) || false))
 one_of_names kind name =
     one_of_fields name (fields kind)

@@ -24,13 +24,13 @@ use Rattle.mencius_input.proofs.SharedFields.{fitted_judged, members_in, shared_
 
 -- ---- what an object says as a plan, by its fields
 
-abbrev planned : ℕ → Option ℕ → Option ℕ → Option ℕ → Option ℕ → Option Data → Option PlanState
+abbrev pub planned : ℕ → Option ℕ → Option ℕ → Option ℕ → Option ℕ → Option Data → Option PlanState
 planned version ow os ot ol value =
     option_and_then (λ workers. option_and_then (λ seed. option_and_then (λ turns. option_and_then (λ loss.
     option_and_then (λ lists. option_and_then (λ commands. Some (plan_of workers seed turns loss commands))
     (all_of (commands_of version) lists)) (option_and_then as_array value)) ol) ot) os) ow
 
-plan_bound : (version : ℕ) (ms : Members) → plan_read version (object ms)
+pub plan_bound : (version : ℕ) (ms : Members) → plan_read version (object ms)
     ≡ planned version (number_of Workers (object ms)) (number_of Seed (object ms)) (number_of Turns (object ms))
     (number_of Loss (object ms)) (get_member (codes "commands") ms)
 unfolding plan_read
@@ -91,7 +91,7 @@ module _ (servers workers seed turns loss : ℕ) where
   mapped None = refl
   mapped (Some all) = refl
 
-  mapped_items : (version : ℕ) (o : Option Items)
+  pub mapped_items : (version : ℕ) (o : Option Items)
       → option_map of (option_and_then (all_of (commands_of version)) o)
       ≡ option_and_then (λ lists. option_and_then (λ commands. Some (of commands)) (all_of (commands_of version) lists)) o
   mapped_items version None = refl

@@ -15,7 +15,7 @@ use Rattle.mencius_input.proofs.CasItems.{events_said_in}
 use Rattle.mencius_input.proofs.SharedFields.{fitted_judged, no_course, shared_say}
 
 -- what an object says as events, by its field
-schedule_bound : (version : ℕ) (ms : Members) → schedule_of version (object ms)
+pub schedule_bound : (version : ℕ) (ms : Members) → schedule_of version (object ms)
     ≡ option_and_then (events_of version) (option_and_then as_array (get_member (codes "events") ms))
 unfolding schedule_of
 schedule_bound version ms = refl

@@ -39,14 +39,14 @@ fitted_judged {X} shared test fits same (Some x) = by_test (test x) (same x)
 
 -- ---- what an object says, by its fields
 
-abbrev bound : {X : Type 0} → Bool → Option ℕ → Option ℕ → Option ℕ → (ℕ → Option X) → Option (Scenario X)
+abbrev pub bound : {X : Type 0} → Bool → Option ℕ → Option ℕ → Option ℕ → (ℕ → Option X) → Option (Scenario X)
 bound only ov os ox course_of =
     option_and_then (λ version. option_and_then (λ members. option_and_then (λ course.
     if only then Some (record { version = version; members = members; course = course }) else None)
     (course_of version))
     (option_and_then (λ servers. option_and_then (λ beta. Some (record { count = servers; beta = beta })) ox) os)) ov
 
-scenario_bound : {X : Type 0} (kind : Kind) (course_of : ℕ → Data → Option X) (ms : Members)
+pub scenario_bound : {X : Type 0} (kind : Kind) (course_of : ℕ → Data → Option X) (ms : Members)
     → scenario_of kind course_of (object ms)
     ≡ bound (has_only (names kind) ms) (number_of Version (object ms)) (number_of Servers (object ms))
     (number_of Beta (object ms)) (λ version. course_of version (object ms))

@@ -9,4 +9,5 @@ pub mod Events
 pub mod Kinds
 pub mod Shown
 pub mod Places
+pub mod Laws
 pub mod Explanations

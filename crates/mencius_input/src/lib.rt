@@ -1,5 +1,6 @@
-//! What the input of the program says, read exactly: the bytes of a scenario. The faults that end a
-//! run, and its readers and writers, are those of `mencius_ends`.
+//! What the input of the program says, read exactly: the bytes of a scenario. That a mistake in them has
+//! a place is the law of [`laws`]. The faults that end a run, and its readers and writers, are those of
+//! `mencius_ends`.
 #![tactic(auto)]
 
 mod commands;
@@ -8,6 +9,7 @@ mod explaining;
 mod field;
 mod fields;
 mod kind;
+pub mod laws;
 mod newest;
 mod places;
 mod plan;

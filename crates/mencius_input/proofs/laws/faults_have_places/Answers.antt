@@ -1,0 +1,5 @@
+use Rattle.mencius_input.proofs.PlacedFaults.{places_there}
+use Rattle.mencius_input.proofs.laws.faults_have_places.Goals as goal
+
+pub returns : goal.returns
+returns c = places_there
