@@ -1,10 +1,11 @@
 -- The words that tell where a scenario has a fault.
 use Rattle.std.specs.Prelude.{ℕ, ◌≡◌, ◌+◌, ◌++◌, ◌==◌, List, ◌∷◌, codes, decimal, drop, flat_map, Option, Some, None, MatchOption, if◌then◌else◌}
 use Rattle.mencius_ends.specs.declared.fault.AppFault.{AppFault}
-use Rattle.mencius_ends.specs.declared.fault.AppFault.TheVariants.{BadLimit, BadShape}
+use Rattle.mencius_ends.specs.declared.fault.AppFault.TheVariants.{BadLimit, BadShape, NotJson}
 use Rattle.mencius_json.specs.Crowds.{crowd_in}
 use Rattle.mencius_json.specs.declared.crowd.Crowd.{Crowd}
 use Rattle.mencius_json.specs.declared.crowd.Crowd.TheVariants.{Braces, Brackets, Separators}
+use Rattle.mencius_json.specs.Stops.{IsStop}
 use Rattle.mencius_input.specs.declared.field.Field.{Field}
 use Rattle.mencius_input.specs.declared.field.Field.TheVariants.{Commands}
 use Rattle.mencius_input.specs.declared.field.Shape.{Shape}
@@ -95,6 +96,7 @@ IsPlaced kind fault bytes words =
 
 -- what is said of a fault of bytes that were read
 abbrev pub IsTold : Kind → AppFault → List ℕ → List ℕ → Type 0
+IsTold kind NotJson bytes words = IsStop bytes words
 IsTold kind BadShape bytes words = IsPlaced kind BadShape bytes words
 IsTold kind BadLimit bytes words = IsPlaced kind BadLimit bytes words
 IsTold kind fault bytes words = Unit {0}

@@ -1,10 +1,41 @@
 -- How it is told where a text stops being JSON.
-use Rattle.std.specs.Prelude.{ℕ, ◌≡◌, ◌++◌, List, codes, decimal}
+use Rattle.std.specs.Prelude.{ℕ, ◌≡◌, ◌≤◌, ◌+◌, ◌++◌, ◌==◌, List, [], ◌∷◌, Bool, true, false, bit_and, codes, decimal, fold, length, take, if◌then◌else◌}
+use Rattle.std.specs.List.{starts_with}
+use Rattle.std.specs.Str.{IsUtf8}
+use Rattle.std.specs.Str.Lossy.{utf8_valid_len}
 
--- what is wrong at a line and a column
-abbrev pub stop_words : ℕ → ℕ → List ℕ → List ℕ
-stop_words line column wrong = codes "line " ++ decimal line ++ codes ", column " ++ decimal column ++ codes ": " ++ wrong
+-- ---- the place of a byte: its line and its column in characters, both from 1
 
--- words that name a line and a column, and say what is wrong there
-abbrev pub NamesPlace : List ℕ → Type 0
-NamesPlace words = (line : ℕ) × (column : ℕ) × (wrong : List ℕ) × (words ≡ stop_words line column wrong)
+-- where a byte leaves them that stands there
+abbrev pub behind_one : ℕ × ℕ → ℕ → ℕ × ℕ
+behind_one place byte =
+    if byte == 10 then (place.0 + 1, 1)
+    else if bit_and byte 0xc0 == 0x80 then place else (place.0, place.1 + 1)
+
+-- of what stands behind the front of a text
+abbrev pub place_behind : List ℕ → ℕ × ℕ
+place_behind front = fold behind_one (1, 1) front
+
+-- ---- what is said of it
+
+-- what is wrong at a place
+abbrev pub stop_words : ℕ × ℕ → List ℕ → List ℕ
+stop_words place wrong =
+    codes "line " ++ decimal place.0 ++ codes ", column " ++ decimal place.1 ++ codes ": " ++ wrong
+
+-- a byte order mark comes first
+abbrev pub has_mark : List ℕ → Bool
+has_mark bytes = starts_with ◌==◌ bytes (0xef ∷ 0xbb ∷ 0xbf ∷ [])
+
+-- what is wrong at an offset of bytes: a mark comes before all else, and then that they are no UTF-8
+pub record IsWrongAt (bytes : List ℕ) (offset : ℕ) (wrong : List ℕ) : Type 0 where
+  pub within : offset ≤ length bytes
+  pub mark : has_mark bytes ≡ true → (offset ≡ 0) × (wrong ≡ codes "a byte order mark, which JSON does not have")
+  pub utf8 : has_mark bytes ≡ false → (IsUtf8 bytes → ⊥)
+      → (offset ≡ utf8_valid_len bytes) × (wrong ≡ codes "not UTF-8")
+
+-- words that name the place of an offset, and say what is wrong there
+abbrev pub IsStop : List ℕ → List ℕ → Type 0
+IsStop bytes words =
+    (offset : ℕ) × (wrong : List ℕ) × IsWrongAt bytes offset wrong
+    × (words ≡ stop_words (place_behind (take offset bytes)) wrong)

@@ -1,7 +1,7 @@
 //! Where a text stops being JSON.
 
 ghost use Rattle.std.specs.Prelude.{◌≡◌, IfOk, string_bytes};
-ghost use Rattle.mencius_json.specs.Stops.{NamesPlace, stop_words};
+ghost use Rattle.mencius_json.specs.Stops.{IsStop, IsWrongAt, place_behind, stop_words};
 
 use crate::crowd::crowd_in;
 use crate::plain::is_blank;
@@ -16,16 +16,18 @@ const NO_JSON: &str = "not JSON";
 
 const NO_COLON: &str = "a colon is missing behind this name";
 
-// Where the byte at an offset stands: its line and its column in characters, both from 1.
-fn line_and_column(bytes: &[u8], offset: usize) -> (usize, usize) {
+// The line and the column of what stands behind the front of a text, in characters and both from 1.
+fn line_and_column(front: &[u8]) -> (usize, usize)
+    ensures { result ≡ place_behind front.now }
+{
     let mut line = 1usize;
     let mut column = 1usize;
-    for byte in &bytes[..offset.min(bytes.len())] {
+    'bytes: for byte in front {
         if *byte == b'\n' {
-            line = line.saturating_add(1);
+            line += 1;
             column = 1;
         } else if *byte & 0xc0 != 0x80 {
-            column = column.saturating_add(1);
+            column += 1;
         }
     }
     (line, column)
@@ -200,31 +202,38 @@ fn stop_of(alloc: Global, text: &str) -> Result<(usize, &'static str), NoMemory>
 }
 
 // Where bytes that are no JSON stop being it, and what is wrong there.
-fn wrong_bytes(alloc: Global, bytes: &[u8]) -> Result<(usize, &'static str), NoMemory> {
+fn wrong_bytes(alloc: Global, bytes: &[u8]) -> Result<(usize, &'static str), NoMemory>
+    ensures { IfOk result (λ x. IsWrongAt bytes.now x.0 x.1.now) }
+{
     if bytes.starts_with(b"\xef\xbb\xbf") {
         return Ok((0, "a byte order mark, which JSON does not have"));
     }
     match std::str::from_utf8(bytes) {
-        Ok(text) => stop_of(alloc, text),
+        Ok(text) => {
+            let (offset, wrong) = stop_of(alloc, text)?;
+            Ok((offset.min(bytes.len()), wrong))
+        }
         Err(e) => Ok((e.valid_up_to(), "not UTF-8")),
     }
 }
 
 // What is wrong at a line and a column.
 fn wrong_at(alloc: Global, line: usize, column: usize, wrong: &str) -> Result<String, NoMemory>
-    ensures { IfOk result (λ s. string_bytes s ≡ stop_words line column wrong.now) }
+    ensures { IfOk result (λ s. string_bytes s ≡ stop_words (line, column) wrong.now) }
 {
     Ok(format!(in alloc; "line {line}, column {column}: {wrong}")?)
 }
 
 /// Where bytes that are no JSON stop being it, and what is wrong there, in a person's words, as in
 /// `line 1, column 7: a comma is missing before this`. Lines and columns count from 1, and columns are
-/// characters. Where too much of the text is JSON for a tree of it, as [`crowd_in`] has it, what is wrong is
-/// not looked for: it is `not JSON` where reading stopped. It fails for want of memory alone.
+/// characters. A byte order mark is told before all else, and then, behind the longest front that is
+/// UTF-8, that the bytes are not. Where too much of the text is JSON for a tree of it, as [`crowd_in`] has
+/// it, what is wrong is not looked for: it is `not JSON` where reading stopped. It fails for want of memory
+/// alone.
 pub fn stop_in(alloc: Global, bytes: &[u8]) -> Result<String, NoMemory>
-    ensures { IfOk result (λ s. NamesPlace (string_bytes s)) }
+    ensures { IfOk result (λ s. IsStop bytes.now (string_bytes s)) }
 {
-    let (offset, what) = wrong_bytes(alloc, bytes)?;
-    let (line, column) = line_and_column(bytes, offset);
-    wrong_at(alloc, line, column, what)
+    let (offset, wrong) = wrong_bytes(alloc, bytes)?;
+    let (line, column) = line_and_column(&bytes[..offset]);
+    wrong_at(alloc, line, column, wrong)
 }
