@@ -61,7 +61,7 @@ IsItemTold None words = words ≡ codes "is no string"
 IsItemTold (Some text) words = (said : List ℕ) × (words ≡ shown_text text ++ 58 ∷ 32 ∷ said)
 
 abbrev pub IsToldBy : Kind → AppFault → PlaceState → List ℕ → Type 0
-IsToldBy kind fault place.whole_value words = words ≡ codes "the text is no JSON object"
+IsToldBy kind fault place.no_object words = words ≡ codes "the text is no JSON object"
 IsToldBy kind fault (place.unknown_field name) words = words ≡ shown_text name ++ unknown_words kind
 IsToldBy kind fault (place.missing_field field) words = words ≡ field_words field (codes "missing")
 IsToldBy kind fault (place.bad_number field) words = words ≡ field_words field (number_words fault field)
@@ -69,7 +69,7 @@ IsToldBy kind fault (place.great_number field) words = words ≡ field_words fie
 IsToldBy kind fault (place.no_list field) words = words ≡ field_words field (codes "no list")
 IsToldBy kind fault (place.event_item index version text) words =
     (said : List ℕ) × (words ≡ codes "event " ++ decimal index ++ 32 ∷ said) × IsItemTold text said
-IsToldBy kind fault (place.list_item n) words = words ≡ codes "item " ++ decimal n ++ codes " of the field \"commands\" is no list"
+IsToldBy kind fault (place.no_sublist n) words = words ≡ codes "item " ++ decimal n ++ codes " of the field \"commands\" is no list"
 IsToldBy kind fault (place.command_item n index version text) words =
     (said : List ℕ) × (words ≡ codes "command " ++ decimal index ++ codes " of list " ++ decimal n ++ 32 ∷ said)
     × IsItemTold text said

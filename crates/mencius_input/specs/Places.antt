@@ -30,26 +30,26 @@ use Rattle.mencius_input.specs.Scenario.{item_said, json_of, number_of, whole_in
 
 -- as definitions have it, in which a text is its bytes
 pub data PlaceState : Type 0 where
-  whole_value : PlaceState
+  no_object : PlaceState
   unknown_field : List ℕ → PlaceState
   missing_field : Field → PlaceState
   bad_number : Field → PlaceState
   great_number : Field → PlaceState
   no_list : Field → PlaceState
   event_item : ℕ → ℕ → Option (List ℕ) → PlaceState
-  list_item : ℕ → PlaceState
+  no_sublist : ℕ → PlaceState
   command_item : ℕ → ℕ → ℕ → Option (List ℕ) → PlaceState
   list_count : ℕ → ℕ → PlaceState
 
 abbrev pub place_state : Place → PlaceState
-place_state place.Whole = whole_value
+place_state place.NoObject = no_object
 place_state (place.Unknown name) = unknown_field (string_bytes name)
 place_state (place.Missing field) = missing_field field
 place_state (place.Number field) = bad_number field
 place_state (place.GreatNumber field) = great_number field
 place_state (place.NoList field) = no_list field
 place_state (place.Event index version text) = event_item index version (option_map string_bytes text)
-place_state (place.List at) = list_item at
+place_state (place.NoSublist at) = no_sublist at
 place_state (place.Command at index version text) = command_item at index version (option_map string_bytes text)
 place_state (place.Lists count servers) = list_count count servers
 
@@ -106,7 +106,7 @@ events_place fault version items = option_map (λ x. event_item x.0 version x.1)
 
 -- in an item of the commands of a run, which should be a list
 abbrev pub commands_place : AppFault → ℕ → ℕ → Option Items → Option PlaceState
-commands_place fault version at None = if is_shape fault then Some (list_item at) else None
+commands_place fault version at None = if is_shape fault then Some (no_sublist at) else None
 commands_place fault version at (Some items) = option_map (λ x. command_item at x.0 version x.1) (first_item Run fault version items)
 
 abbrev pub list_place : AppFault → ℕ → ℕ → Data → Option PlaceState
@@ -194,7 +194,7 @@ lack_place kind fault d = if is_shape fault then option_map missing_field (find 
 abbrev pub place_in : Kind → AppFault → List (List ℕ) → Data → Option PlaceState
 place_in kind fault names d =
     if is_some (as_object d) then option_or (first_in kind fault d names) (lack_place kind fault d)
-    else if is_shape fault then Some whole_value else None
+    else if is_shape fault then Some no_object else None
 
 -- in what the bytes say as JSON
 abbrev pub first_place : Kind → AppFault → List ℕ → Option PlaceState

@@ -172,7 +172,7 @@ fn wrong_place(
     ensures { IfOk result (λ s. IsToldBy kind fault (place_state place.now) (string_bytes s)) }
 {
     match place {
-        Place::Whole => Ok(String::from_str(alloc, "the text is no JSON object")?),
+        Place::NoObject => Ok(String::from_str(alloc, "the text is no JSON object")?),
         Place::Unknown { name } => of_unknown(alloc, kind, name.as_str()),
         Place::Missing { field } => of_field(alloc, *field, "missing"),
         Place::Number { field } => {
@@ -192,7 +192,7 @@ fn wrong_place(
             let said = of_item(alloc, Kind::Replay, *version, text, fault)?;
             of_event(alloc, *index, said.as_str())
         }
-        Place::List { list } => of_list(alloc, *list),
+        Place::NoSublist { list } => of_list(alloc, *list),
         Place::Command {
             list,
             index,

@@ -28,7 +28,7 @@ use std::alloc::Global;
 #[derive(Debug, Drop, PartialEq, Eq)]
 pub enum Place {
     /// The whole value, which is no object.
-    Whole,
+    NoObject,
     /// A field that no scenario of the kind has.
     Unknown {
         name: String,
@@ -56,7 +56,7 @@ pub enum Place {
         text: Option<String>,
     },
     /// An item of the commands, from 0, that is no list.
-    List {
+    NoSublist {
         list: usize,
     },
     /// A command, by its list and its index there, both from 0, and as an event is.
@@ -246,7 +246,7 @@ fn place_in_list(
 {
     let Some(items) = value.as_array() else {
         if is_shape(fault) {
-            return Ok(Some(Place::List { list }));
+            return Ok(Some(Place::NoSublist { list }));
         }
         return Ok(None);
     };
@@ -521,7 +521,7 @@ fn place_in(
 {
     if scenario.as_object().is_none() {
         if is_shape(fault) {
-            return Ok(Some(Place::Whole));
+            return Ok(Some(Place::NoObject));
         }
         return Ok(None);
     }

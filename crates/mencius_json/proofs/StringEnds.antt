@@ -9,7 +9,7 @@ use lib.Lanes.{Each1, chunk, top, zip2}
 use Rattle.std.specs.List.{position, position_or_len, prefix_len}
 use Rattle.std.specs.Simd.Lanes.{mask_l}
 use Rattle.std.specs.Int.Bits.{bit_xor}
-use Rattle.mencius_json.specs.Tokens.{is_stop}
+use Rattle.mencius_json.specs.Tokens.{ends_string}
 use Rattle.mencius_json.proofs.FirstBytes.{not_true}
 
 -- ---- the first place
@@ -69,12 +69,12 @@ agreed true y h = sym h
 agreed false y h = sym (not_true y h)
 
 -- of the bytes from the blank on, a changed second bit brings the quote alone below 33
-pub one_comparison : (byte : ℕ) → byte < 256 → nat_lt (bit_xor byte 2) 33 ≡ is_stop byte
+pub one_comparison : (byte : ℕ) → byte < 256 → nat_lt (bit_xor byte 2) 33 ≡ ends_string byte
 unfolding passes agree
 one_comparison byte less =
-    agreed _ _ (passed_each (λ each. agree (nat_lt (bit_xor each 2) 33) (is_stop each)) 256 byte refl less)
+    agreed _ _ (passed_each (λ each. agree (nat_lt (bit_xor each 2) 33) (ends_string each)) 256 byte refl less)
 
-stops_each : (vector : List ℕ) → Each1 (Fits w8) vector → map (λ x. nat_lt (bit_xor x 2) 33) vector ≡ map is_stop vector
+stops_each : (vector : List ℕ) → Each1 (Fits w8) vector → map (λ x. nat_lt (bit_xor x 2) 33) vector ≡ map ends_string vector
 stops_each [] fits = refl
 stops_each (x ∷ xs) fits =
     ap₂ (λ (a : Bool) (bs : List Bool). a ∷ bs) (one_comparison x fits.0.fits) (stops_each xs fits.1)
@@ -83,7 +83,7 @@ stops_each (x ∷ xs) fits =
 pub compared : (vector : List ℕ) → length vector ≡ 16 → Each1 (Fits w8) vector
     → mask_l
     (map (top 7) (zip2 (λ a d. cond (nat_lt a d) 255 0) (zip2 bit_xor vector (replicate 16 2)) (replicate 16 33)))
-    % 2 ^ 64 ≡ mask_l (map is_stop vector)
+    % 2 ^ 64 ≡ mask_l (map ends_string vector)
 compared vector long fits =
     let changed : zip2 bit_xor vector (replicate 16 2) ≡ map (λ x. bit_xor x 2) vector =
     zip2_splat bit_xor vector 16 2 long in
@@ -94,22 +94,22 @@ compared vector long fits =
 
 -- ---- among sixteen bytes of a text
 
-none_before : (text : List ℕ) (from n m : ℕ) → ((l : ℕ) → l < from → is_stop (get_or text l 0) ≡ false)
-    → ((l : ℕ) → from ≤ l → l < n → is_stop (get_or text l 0) ≡ false) → m < n → is_stop (get_or text m 0) ≡ false
+none_before : (text : List ℕ) (from n m : ℕ) → ((l : ℕ) → l < from → ends_string (get_or text l 0) ≡ false)
+    → ((l : ℕ) → from ≤ l → l < n → ends_string (get_or text l 0) ≡ false) → m < n → ends_string (get_or text m 0) ≡ false
 none_before text from n m early late less = by_order (cases_order m from)
   where
-    by_order : (m ≡ from) ⊎ ((m < from) ⊎ (from < m)) → is_stop (get_or text m 0) ≡ false
+    by_order : (m ≡ from) ⊎ ((m < from) ⊎ (from < m)) → ends_string (get_or text m 0) ≡ false
     by_order (inl same) = late m (omega arith) less
     by_order (inr (inl under)) = early m under
     by_order (inr (inr over)) = late m (omega arith) less
 
 -- where it does not stop among them
 pub passed_over : (text : List ℕ) (from mask : ℕ) → from + 16 ≤ length text
-    → ((l : ℕ) → l < from → is_stop (get_or text l 0) ≡ false) → mask ≡ mask_l (map is_stop (chunk from 16 text))
+    → ((l : ℕ) → l < from → ends_string (get_or text l 0) ≡ false) → mask ≡ mask_l (map ends_string (chunk from 16 text))
     → mask ≡ 0
-    → (m : ℕ) → m < from + 16 → is_stop (get_or text m 0) ≡ false
+    → (m : ℕ) → m < from + 16 → ends_string (get_or text m 0) ≡ false
 passed_over text from mask room before is empty m less =
-    none_before text from (from + 16) m before (none_from_empty_mask is_stop text from 16 0 room (sym is ∙ empty)) less
+    none_before text from (from + 16) m before (none_from_empty_mask ends_string text from 16 0 room (sym is ∙ empty)) less
 
 lower : (a : Bool) (n l m : ℕ) → (0 < m → n < l) → 0 < cond a 1 0 + 2 * m → cond (not a) (1 + n) 0 < suc l
 lower true n l m more some = omega arith
@@ -121,17 +121,17 @@ some_bit test (x ∷ xs) some = lower (test x) _ (length xs) (mask_l (map test x
 
 -- where it stops among them
 pub stops_at : (text : List ℕ) (from mask : ℕ) → from + 16 ≤ length text
-    → ((l : ℕ) → l < from → is_stop (get_or text l 0) ≡ false) → mask ≡ mask_l (map is_stop (chunk from 16 text))
-    → 0 < mask → Some (from + count_trailing_zeros 64 mask) ≡ position is_stop text
+    → ((l : ℕ) → l < from → ends_string (get_or text l 0) ≡ false) → mask ≡ mask_l (map ends_string (chunk from 16 text))
+    → 0 < mask → Some (from + count_trailing_zeros 64 mask) ≡ position ends_string text
 stops_at text from mask room before is some =
     let sixteen : List ℕ = chunk from 16 text in
     let long = length-chunk from 16 text room in
-    let bit : 0 < mask_l (map is_stop sixteen) = rw (← is) some in
-    let count : count_trailing_zeros 64 mask ≡ prefix_len (λ x. not (is_stop x)) sixteen =
-    ap (count_trailing_zeros 64) is ∙ trailing_mask_l is_stop 64 sixteen (omega (arith, long)) bit in
-    let less : count_trailing_zeros 64 mask < 16 = omega (arith, some_bit is_stop sixteen bit, long, count) in
+    let bit : 0 < mask_l (map ends_string sixteen) = rw (← is) some in
+    let count : count_trailing_zeros 64 mask ≡ prefix_len (λ x. not (ends_string x)) sixteen =
+    ap (count_trailing_zeros 64) is ∙ trailing_mask_l ends_string 64 sixteen (omega (arith, long)) bit in
+    let less : count_trailing_zeros 64 mask < 16 = omega (arith, some_bit ends_string sixteen bit, long, count) in
     let n : ℕ = count_trailing_zeros 64 mask in
-    first_place is_stop text (from + n) (omega arith)
+    first_place ends_string text (from + n) (omega arith)
     (λ m under.
-    none_before text from (from + n) m before (run_in_chunk_fails is_stop text from 16 n 0 room count) under)
-    (run_in_chunk_stops is_stop text from 16 n 0 room count less)
+    none_before text from (from + n) m before (run_in_chunk_fails ends_string text from 16 n 0 room count) under)
+    (run_in_chunk_stops ends_string text from 16 n 0 room count less)

@@ -6,7 +6,7 @@ use Rattle.std.proofs.lemmas.List.{drop_more, drop_all}
 use Rattle.std.proofs.lemmas.List.Quantifiers.{position-Some}
 use Rattle.json.specs.Lex.{between, lex, in_string}
 use Rattle.json.specs.Text.{content, plain, prepend}
-use Rattle.mencius_json.specs.Tokens.{is_plain, is_stop}
+use Rattle.mencius_json.specs.Tokens.{is_plain, ends_string}
 use Rattle.mencius_json.proofs.StringEnds.{none_passes}
 use Rattle.mencius_json.proofs.FirstBytes.{eqb_false, last_of_four, neither, not_true, plain-drop, string_passes}
 
@@ -29,7 +29,7 @@ one_passed : (x : ℕ) (xs : List ℕ) → (x == 34) ≡ false → (x == 92) ≡
 unfolding content
 one_passed x xs e fails lacks = last_of_four (x == 34) (x == 92) (nat_lt x 32) _ _ _ _ e fails lacks
 
-passed : (xs : List ℕ) (n : ℕ) → n ≤ length xs → ((m : ℕ) → m < n → is_stop (get_or xs m 0) ≡ false)
+passed : (xs : List ℕ) (n : ℕ) → n ≤ length xs → ((m : ℕ) → m < n → ends_string (get_or xs m 0) ≡ false)
     → is_plain xs ≡ true → Passed xs n
 passed xs zero le none h = record { text = prepend-nil _; rest = refl }
 passed [] (suc n) le none h = absurd (omega arith)
@@ -50,13 +50,13 @@ passed (x ∷ xs) (suc n) le none h =
 
 record Stops (xs : List ℕ) (n : ℕ) : Type 0 where
   less : n < length xs
-  stop : is_stop (get_or xs n 0) ≡ true
+  stop : ends_string (get_or xs n 0) ≡ true
   before : Passed xs n
   here : drop n xs ≡ get_or xs n 0 ∷ drop (n + 1) xs
 
-stops : (xs : List ℕ) (n : ℕ) → position is_stop xs ≡ Some n → is_plain xs ≡ true → Stops xs n
+stops : (xs : List ℕ) (n : ℕ) → position ends_string xs ≡ Some n → is_plain xs ≡ true → Stops xs n
 stops xs n e h =
-    let found = position-Some is_stop xs n 0 e in
+    let found = position-Some ends_string xs n 0 e in
     record {
       less = found.0;
       stop = found.1;
@@ -72,7 +72,7 @@ append-nil : (xs : List ℕ) → xs ++ [] ≡ xs
 append-nil [] = refl
 append-nil (x ∷ xs) = ap (λ (l : List ℕ). x ∷ l) (append-nil xs)
 
-pub closed_at : (xs : List ℕ) (n : ℕ) → position is_stop xs ≡ Some n → is_plain xs ≡ true → get_or xs n 0 ≡ 34
+pub closed_at : (xs : List ℕ) (n : ℕ) → position ends_string xs ≡ Some n → is_plain xs ≡ true → get_or xs n 0 ≡ 34
     → Closed xs n
 unfolding content lex
 closed_at xs n e h quoted =
@@ -98,7 +98,7 @@ control_byte x xs e h l =
     rw (e, off, l) refl
 
 -- it stops at a byte that may not stand in a string
-pub unclosed_at : (xs : List ℕ) (n : ℕ) → position is_stop xs ≡ Some n → is_plain xs ≡ true → get_or xs n 0 ≢ 34
+pub unclosed_at : (xs : List ℕ) (n : ℕ) → position ends_string xs ≡ Some n → is_plain xs ≡ true → get_or xs n 0 ≢ 34
     → content plain xs ≡ None
 unclosed_at xs n e h other =
     let s = stops xs n e h in
@@ -111,19 +111,19 @@ unclosed_at xs n e h other =
     ∙ ap (prepend (take n xs)) none
 
 -- the text ends first
-pub unclosed : (xs : List ℕ) → position is_stop xs ≡ None → is_plain xs ≡ true → content plain xs ≡ None
+pub unclosed : (xs : List ℕ) → position ends_string xs ≡ None → is_plain xs ≡ true → content plain xs ≡ None
 unfolding content
 unclosed xs e h =
-    let run = passed xs (length xs) (omega arith) (none_passes is_stop xs e) h in
+    let run = passed xs (length xs) (omega arith) (none_passes ends_string xs e) h in
     run.text
     ∙ ap (λ (bytes : List ℕ). prepend (take (length xs) xs) (content plain bytes))
     (drop_all (length xs) xs (omega arith))
 
 -- where a text stops it has an ASCII byte
-pub found_bounds : (xs : List ℕ) (n : ℕ) → position is_stop xs ≡ Some n
+pub found_bounds : (xs : List ℕ) (n : ℕ) → position ends_string xs ≡ Some n
     → (n < length xs) × (get_or xs n 0 < 128)
 found_bounds xs n e =
-    let found = position-Some is_stop xs n 0 e in (
+    let found = position-Some ends_string xs n 0 e in (
       found.0,
       elim (or_cases (get_or xs n 0 == 34) (nat_lt (get_or xs n 0) 32) found.1) [
         | inl quoted ↦ omega (arith, eqb-true (get_or xs n 0) 34 quoted)

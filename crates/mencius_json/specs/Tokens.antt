@@ -48,8 +48,8 @@ abbrev pub first : List ℕ → ℕ
 first text = get_or text 0 0
 
 -- the text of a string ends here: at its quote, or at a byte that may not stand in it
-abbrev pub is_stop : ℕ → Bool
-is_stop byte = (byte == 34) || nat_lt byte 32
+abbrev pub ends_string : ℕ → Bool
+ends_string byte = (byte == 34) || nat_lt byte 32
 
 -- a word has ended here
 abbrev pub is_delimiter : ℕ → Bool

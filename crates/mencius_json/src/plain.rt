@@ -12,7 +12,7 @@ ghost use Rattle.json.specs.Token.{Token as SpecToken, bad};
 ghost use Rattle.json.specs.Word.{ends_word, is_space};
 ghost use Rattle.json.specs.Word as spec;
 ghost use Rattle.mencius_json.specs.Steps.{Begins, Takes};
-ghost use Rattle.mencius_json.specs.Tokens.{first, is_delimiter, is_plain, is_spelled, is_stop, is_word, may_begin, may_close, refused_at, tokens_at};
+ghost use Rattle.mencius_json.specs.Tokens.{first, is_delimiter, is_plain, is_spelled, ends_string, is_word, may_begin, may_close, refused_at, tokens_at};
 
 use json::{Token, is_number};
 use std::marker::Model;
@@ -87,8 +87,8 @@ fn past_blanks(text: &str) -> &str
 }
 
 // Whether the text of a string ends at a byte.
-fn is_stop(byte: u8) -> bool
-    ensures { result ≡ is_stop byte }
+fn ends_string(byte: u8) -> bool
+    ensures { result ≡ ends_string byte }
 {
     byte == b'"' || byte < b' '
 }
@@ -97,7 +97,7 @@ fn is_stop(byte: u8) -> bool
 // second bit brings the quote alone below 33, so that one comparison is enough.
 #[inline(always)]
 fn stops_among(bytes: u8x16) -> u64
-    ensures { result ≡ mask_l (map is_stop bytes) }
+    ensures { result ≡ mask_l (map ends_string bytes) }
 {
     (bytes ^ u8x16::splat(2))
         .simd_lt(u8x16::splat(33))
@@ -107,12 +107,12 @@ fn stops_among(bytes: u8x16) -> u64
 // Where the text of a string ends, which it does not before a place.
 fn string_end_from(bytes: &[u8], place: usize) -> Option<usize>
     requires within { place ≤ length bytes.now }
-    requires before { (n : ℕ) → n < place → is_stop (get_or bytes.now n 0) ≡ false }
-    ensures { result ≡ position is_stop bytes.now }
+    requires before { (n : ℕ) → n < place → ends_string (get_or bytes.now n 0) ≡ false }
+    ensures { result ≡ position ends_string bytes.now }
 {
     let mut place = place;
     'bytes: while place < bytes.len() {
-        if is_stop(bytes[place]) {
+        if ends_string(bytes[place]) {
             return Some(place);
         }
         place += 1;
@@ -123,7 +123,7 @@ fn string_end_from(bytes: &[u8], place: usize) -> Option<usize>
 // Where the text of a string ends. Sixteen bytes are looked at together, and the last few one by one.
 #[inline(always)]
 fn string_end_in(inside: &str) -> Option<usize>
-    ensures { result ≡ position is_stop inside.now }
+    ensures { result ≡ position ends_string inside.now }
 {
     let bytes = inside.as_bytes();
     let mut place = 0;

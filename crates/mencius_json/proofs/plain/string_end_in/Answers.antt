@@ -1,7 +1,7 @@
 use Rattle.std.proofs.Common.{◌≤◌, ◌+◌, ◌∙◌, ap, arith, length, map}
 use Rattle.std.specs.Simd.Lanes.{mask_l}
 use lib.Lanes.{chunk}
-use Rattle.mencius_json.specs.Tokens.{is_stop}
+use Rattle.mencius_json.specs.Tokens.{ends_string}
 use Rattle.mencius_json.proofs.StringEnds.{passed_over, stops_at}
 use Rattle.mencius_json.proofs.plain.string_end_in.Goals as goal
 
@@ -10,7 +10,7 @@ returns-then-stops-ne0 c =
     let same = c.as_bytes-bytes.ensures.value in
     let so = c.chunks.place in
     let room : so + 16 ≤ length c.args.inside.now = rw (← same) (omega arith) in
-    let is = c.stops_among-stops.ensures ∙ ap (λ text. mask_l (map is_stop (chunk so 16 text))) same in
+    let is = c.stops_among-stops.ensures ∙ ap (λ text. mask_l (map ends_string (chunk so 16 text))) same in
     stops_at c.args.inside.now so c.stops_among-stops.result room c.chunks.invariant.before is (omega arith)
 
 pub chunks-preserved : goal.chunks-preserved
@@ -18,7 +18,7 @@ chunks-preserved c =
     let same = c.as_bytes-bytes.ensures.value in
     let so = c.chunks.place in
     let room : so + 16 ≤ length c.args.inside.now = rw (← same) (omega arith) in
-    let is = c.stops_among-stops.ensures ∙ ap (λ text. mask_l (map is_stop (chunk so 16 text))) same in
+    let is = c.stops_among-stops.ensures ∙ ap (λ text. mask_l (map ends_string (chunk so 16 text))) same in
     let mask = c.stops_among-stops.result in
     record {
       within = room;
