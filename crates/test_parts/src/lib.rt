@@ -1,5 +1,6 @@
-//! Tests of the parts, each by its public calls: commands and outboxes, single instances, single servers, the map, and
-//! boards and their readers and workers. They stand apart, so that no part is proved a second time with its tests.
+//! Tests of the parts, each by its public calls: commands and outboxes, single instances, single servers, the map,
+//! boards and their readers and workers, and the judge of logs. They stand apart, so that no part is proved a second
+//! time with its tests.
 #![tactic(auto)]
 
 #[cfg(test)]
@@ -8,6 +9,8 @@ mod base;
 mod board;
 #[cfg(test)]
 mod executor;
+#[cfg(test)]
+mod judge;
 #[cfg(test)]
 mod server;
 #[cfg(test)]

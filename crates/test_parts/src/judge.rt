@@ -1,0 +1,111 @@
+//! Logs, line by line: what a line says, and which line is the first to break a promise.
+
+use mencius_judge::{Judge, Promise, parse_line};
+use std::alloc::Global;
+use std::test::Fail;
+
+// Of the lines behind a log that keeps all promises, the first that breaks one, from 0, and which one.
+type Found = Option<(usize, Promise)>;
+
+// Two commands at one key, and the same executed by a server.
+const TWO: &str = "submit 1.0 set a x\nsubmit 2.0 set a y";
+
+const BOTH: &str = "submit 1.0 set a x\nsubmit 2.0 set a y\nexecute 0 1.0\nexecute 0 2.0";
+
+const LOGS: [(&str, &str, Found); 14] = [
+    // a reply before its execution, and a client that asks once more
+    (
+        TWO,
+        "reply 1.0 =y\nexecute 0 2.0\nexecute 0 1.0\nexecute 1 2.0\nreply 2.0 none\nsubmit 1.0 set a x",
+        None,
+    ),
+    (TWO, "submit 1.0 set a z", Some((0, Promise::OneCommand))),
+    (TWO, "execute 0 3.0", Some((0, Promise::Submitted))),
+    (BOTH, "execute 0 1.0", Some((0, Promise::Once))),
+    (BOTH, "execute 1 2.0", Some((0, Promise::SameOrder))),
+    (
+        "submit 1.0 set a x\nreply 1.0 none",
+        "submit 2.0 set a y\nexecute 0 2.0",
+        Some((1, Promise::RealTime)),
+    ),
+    (
+        TWO,
+        "reply 1.0 none\nreply 1.0 =x",
+        Some((1, Promise::OneReply)),
+    ),
+    (BOTH, "reply 2.0 none", Some((0, Promise::RightReply))),
+    // found out at the execution
+    (
+        TWO,
+        "reply 2.0 none\nexecute 0 1.0\nexecute 0 2.0",
+        Some((2, Promise::RightReply)),
+    ),
+    // a late reader beside one that is ahead of it, told of a server that executed nothing
+    (
+        BOTH,
+        "lookup 2 a =y\nlookup 1 a =x\ntold 1 1\nlookup 1 a =x",
+        None,
+    ),
+    (
+        BOTH,
+        "lookup 1 a =y\nlookup 1 a =x",
+        Some((1, Promise::RightLookup)),
+    ),
+    (
+        BOTH,
+        "told 1 0\nlookup 1 a =x",
+        Some((1, Promise::RightLookup)),
+    ),
+    (BOTH, "lookup 1 a =z", Some((0, Promise::RightLookup))),
+    (TWO, "lookup 1 a =x", Some((0, Promise::RightLookup))),
+];
+
+// Has a judge see the lines, up to the first that breaks a promise.
+fn see(alloc: Global, judge: &mut Judge, lines: &str) -> Result<Found, Fail> {
+    for (place, line) in lines.split('\n').enumerate() {
+        let said = parse_line(alloc, line.as_bytes()).ok();
+        let observation = said.flatten().ok_or("no observation")?;
+        if let Some(violation) = judge.observe(&observation)? {
+            return Ok(Some((place, violation.promise())));
+        }
+    }
+    Ok(None)
+}
+
+#[test]
+fn worked_logs(rt: HostRuntime) -> Result<(), Fail> {
+    let alloc = rt.alloc();
+    for (before, lines, found) in LOGS {
+        let mut judge = Judge::new(alloc)?;
+        assert_eq!(rt; see(alloc, &mut judge, before)?, None, "{before}");
+        assert_eq!(rt; see(alloc, &mut judge, lines)?, found, "{lines}");
+    }
+    Ok(())
+}
+
+// Whether a line says an observation, where it has no fault.
+fn says(alloc: Global, line: &str) -> Option<bool> {
+    let said = parse_line(alloc, line.as_bytes()).ok()?;
+    Some(said.is_some())
+}
+
+#[test]
+fn lines_say_observations(rt: HostRuntime) {
+    let alloc = rt.alloc();
+    for line in ["", "# a remark"] {
+        assert_eq!(rt; says(alloc, line), Some(false), "{line}");
+    }
+    for line in [
+        "submit 1.0 cas a x y",
+        "execute 255 1.0",
+        "reply 1.0 none",
+        "reply 1.0 =",
+        "lookup 7 a =x",
+        "told 7 0",
+    ] {
+        assert_eq!(rt; says(alloc, line), Some(true), "{line}");
+    }
+    for line in ["execute 256 1.0", "reply 1.0 x", "told 7", " told 7 0"] {
+        assert_eq!(rt; says(alloc, line), None, "{line}");
+    }
+}
