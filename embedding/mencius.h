@@ -1,4 +1,5 @@
-/* The program `mencius` as a call: one function, which does what the program does, over bytes in memory.
+/* The program `mencius` as a call: a function which does what the program does, over bytes in memory, and another one
+ * which tells what each server of a cluster knows after a schedule.
  *
  * The proved code reads and writes what it is given here and nothing else: no file, no clock, no variable of the
  * environment. It takes memory by malloc, realloc and free, gives all of it back before it returns, and keeps nothing
@@ -32,6 +33,12 @@ struct mencius_answer {
 void mencius_call(const uint8_t *words, size_t words_length, const uint8_t *input, size_t input_length,
                   uint8_t *printed, size_t printed_room, uint8_t *said, size_t said_room,
                   struct mencius_answer *answer);
+
+/* `input` is a scenario of `replay`. `printed` gets what each server knows after its events: a line for each refused
+ * event, and then for each server its line of the report and a line for each instance that it heard of, as
+ * docs/EMBEDDING.md has them. All else is as of mencius_call with the argument `trace`. */
+void mencius_state(const uint8_t *input, size_t input_length, uint8_t *printed, size_t printed_room, uint8_t *said,
+                   size_t said_room, struct mencius_answer *answer);
 
 #ifdef __cplusplus
 }

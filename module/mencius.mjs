@@ -34,26 +34,26 @@ function put(bytes) {
   return at;
 }
 
-// One call with so much room for both texts: the answer's four numbers, and the texts where they fit.
-function call(words, input, printedRoom, saidRoom) {
+// One call of an export with these bytes, and so much room for both texts: the answer's four numbers, and the texts
+// where they fit.
+function call(name, inputs, printedRoom, saidRoom) {
   const x = module();
-  const [a, b, out, err, answer] = [put(words), put(input), room(printedRoom), room(saidRoom), room(32)];
-  x.mencius_call(a, wide(words.length), b, wide(input.length), out, wide(printedRoom), err, wide(saidRoom), answer);
+  const given = inputs.map(bytes => [put(bytes), wide(bytes.length)]);
+  const [out, err, answer] = [room(printedRoom), room(saidRoom), room(32)];
+  x[name](...given.flat(), out, wide(printedRoom), err, wide(saidRoom), answer);
   const [status, printed, said, asked] =
     [...new BigUint64Array(x.memory.buffer.slice(Number(answer), Number(answer) + 32))].map(Number);
   const fits = printed <= printedRoom && said <= saidRoom;
   const texts = fits ? { printed: bytesAt(out, printed).slice(), said: bytesAt(err, said).slice() } : null;
-  for (const at of [a, b, out, err, answer]) x.mencius_give(at);
+  for (const at of [...given.map(([at]) => at), out, err, answer]) x.mencius_give(at);
   return { status, asked: asked !== 0, lengths: [printed, said], texts };
 }
 
-// The program, called with these arguments and this input: its status, its texts, and whether it read the input.
-// An argument is a string or its bytes.
-export function mencius(args, input = new Uint8Array(0)) {
-  const words = Buffer.concat(args.flatMap(word => [Buffer.from(word), Buffer.alloc(1)]));
+// What an export answers to these bytes, the last of which are a scenario or a log.
+function ask(name, inputs) {
   try {
-    let { status, asked, lengths, texts } = call(words, input, 65_536 + 8 * input.length, 4_096);
-    if (!texts) ({ texts } = call(words, input, ...lengths));
+    let { status, asked, lengths, texts } = call(name, inputs, 65_536 + 8 * inputs.at(-1).length, 4_096);
+    if (!texts) ({ texts } = call(name, inputs, ...lengths));
     return { status, asked, ...texts };
   } catch (e) {
     exports = undefined;
@@ -61,6 +61,17 @@ export function mencius(args, input = new Uint8Array(0)) {
     const said = `mencius: fault 26 NoMemory\nmencius: the module stopped: ${e.message}\n`;
     return { status: 5, asked: true, printed: new Uint8Array(0), said: Buffer.from(said) };
   }
+}
+
+// The program, called with these arguments and this input: its status, its texts, and whether it read the input.
+// An argument is a string or its bytes.
+export function mencius(args, input = new Uint8Array(0)) {
+  return ask('mencius_call', [Buffer.concat(args.flatMap(word => [Buffer.from(word), Buffer.alloc(1)])), input]);
+}
+
+// What each server knows after this scenario of `replay`, as docs/EMBEDDING.md tells ("What servers know").
+export function state(input) {
+  return ask('mencius_state', [input]);
 }
 
 // Standard input to its end or to the greatest length, and whether reading failed.

@@ -251,7 +251,7 @@ fn perform_run<R: Source, W: Sink, T: Threads + Wait + Sync>(
 }
 
 /// How a call ends whose work came to this.
-pub(crate) fn ending_of(done: Result<(), Finding>) -> Ending
+pub fn ending_of(done: Result<(), Finding>) -> Ending
     ensures { result ≡ ending_of done }
 {
     match done {

@@ -1,5 +1,5 @@
 //! The edge of the program, from the bytes of a scenario to the bytes of a report: what a replay, a
-//! trace, a check, a judgement and a run make of their input, and the texts that they print.
+//! trace, a state, a check, a judgement and a run make of their input, and the texts that they print.
 #![tactic(auto)]
 
 mod arguments;
@@ -15,12 +15,14 @@ mod reading;
 mod replaying;
 mod run_finding;
 mod running;
+mod stating;
 mod tracing;
 mod turns;
 mod turns_calling;
+mod votes;
 
 pub use arguments::arguments_of;
-pub use calling::perform;
+pub use calling::{ending_of, perform};
 pub use checking::check;
 pub use drawing::draw;
 pub use ending::{Ending, end, exit_status};
@@ -33,6 +35,7 @@ pub use printed::report;
 pub use replaying::{replay, replay_judged};
 pub use run_finding::RunFinding;
 pub use running::run;
+pub use stating::state;
 pub use tracing::trace;
 pub use turns::run_in_turns;
 pub use turns_calling::perform_in_turns;

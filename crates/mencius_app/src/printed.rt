@@ -66,7 +66,12 @@ fn push_servers(text: &mut String, cluster: &Cluster) -> Result<(), AllocError>
     Ok(())
 }
 
-fn push_server(text: &mut String, cluster: &Cluster, server: u8) -> Result<(), AllocError>
+/// Adds the line of a server: its front, how far it is, and its history.
+pub(crate) fn push_server(
+    text: &mut String,
+    cluster: &Cluster,
+    server: u8,
+) -> Result<(), AllocError>
     requires { server < cluster.now.members.count }
     ensures { OnOk result (string_bytes text.new
         ≡ string_bytes text.old ++ server_line cluster.now.members (trace_of cluster.now) server) }

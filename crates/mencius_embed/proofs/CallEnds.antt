@@ -16,7 +16,7 @@ none_failed old new none (inl more) = omega (arith, more, none)
 none_failed old new none (inr most) = omega (arith, most, none)
 
 -- what was written, where nothing failed
-written : {X : Type 0} (old new : ℕ) → new ≤ 0 → X ⊎ HasFailed old new → X
+pub written : {X : Type 0} (old new : ℕ) → new ≤ 0 → X ⊎ HasFailed old new → X
 written old new none (inl x) = x
 written old new none (inr failed) = absurd (none_failed old new none failed)
 

@@ -1,2 +1,3 @@
 pub mod CallEnds
 pub mod ToldAnswers
+pub mod StateEnds

@@ -1,11 +1,13 @@
 -- A call of the program over bytes in memory: what it prints, says and answers.
 use Rattle.std.specs.Prelude.{◌≡◌, ◌≢◌, ◌⊎◌, ◌<◌, ◌≤◌, ◌==◌, ℕ, Bool, true, false, List, [], ◌∷◌, ◌++◌, length, drop, if◌then◌else◌, Some, IfSome}
 use Rattle.clap.specs.Words.{Text}
-use Rattle.mencius_command_line.specs.CommandLine.{are_texts, asked, faults, line_of}
+use Rattle.mencius_command_line.specs.CommandLine.{are_texts, asked, asked_trace, faults, line_of}
 use Rattle.mencius_app.specs.declared.ending.Ending.{Ending}
 use Rattle.mencius_app.specs.declared.ending.Ending.TheVariants.{Done, Refused, BadCommandLine, BoardFailed}
 use Rattle.mencius_app.specs.Calls.{IsCause}
 use Rattle.mencius_app.specs.Ending.{Did, IsAskedFor, IsComplaint, IsFaultFor, IsMistaken, TellsOf, fault_in, is_explained, lines_of_ending, status_of, status_of_ending}
+use Rattle.mencius_app.specs.Input.{IsFaultOf}
+use Rattle.mencius_app.specs.States.{IsStateOf}
 use Rattle.mencius_ends.specs.declared.fault.AppFault.TheVariants.{NoMemory}
 use Rattle.mencius_embed.specs.declared.Answer.{Answer}
 
@@ -45,6 +47,23 @@ abbrev pub IsCall : List Text → List ℕ → ℕ → List ℕ → List ℕ →
 IsCall arguments input status printed said is_asked =
     (ending : Ending) × (status ≡ status_of_ending ending) × IsEndOf arguments input ending printed said is_asked
 
+-- ---- a state
+
+-- the state after this scenario was asked for, and it ended so. It printed and said these texts, each whole
+pub record IsEndOfState (input : List ℕ) (ending : Ending) (printed said : List ℕ) : Type 0 where
+  pub done : ending ≡ Done → IsStateOf (Some input) printed
+  -- it ends at a fault else: which, and when, where neither reading nor writing fails
+  pub no_other : (ending ≢ Refused) × (ending ≢ BadCommandLine) × (ending ≢ BoardFailed)
+  pub fault : IfSome (fault_in ending)
+      (IsCause (IsFaultOf (Some input)) (IsStateOf (Some input)) 0 0 0 0 (Some []) (Some printed))
+  pub words : TellsOf asked_trace (Some input) ending
+  pub told : said ≡ lines_of_ending ending
+
+-- and this is its status
+abbrev pub IsStateCall : List ℕ → ℕ → List ℕ → List ℕ → Type 0
+IsStateCall input status printed said =
+    (ending : Ending) × (status ≡ status_of_ending ending) × IsEndOfState input ending printed said
+
 -- ---- an answer
 
 -- the status of a call for which there is no memory
@@ -76,4 +95,11 @@ IsAnswered words input answer out then_out err then_err =
     ((status : ℕ) × (printed said : List ℕ) × (is_asked : Bool)
     × IsCall (words_in words) input status printed said is_asked
     × Tells answer status printed said is_asked out then_out err then_err)
+    ⊎ Tells answer memory_status [] [] false out then_out err then_err
+
+-- the answer to a call for the state after this scenario, which is always read
+abbrev pub IsStateAnswered : List ℕ → Answer → List ℕ → List ℕ → List ℕ → List ℕ → Type 0
+IsStateAnswered input answer out then_out err then_err =
+    ((status : ℕ) × (printed said : List ℕ) × IsStateCall input status printed said
+    × Tells answer status printed said true out then_out err then_err)
     ⊎ Tells answer memory_status [] [] false out then_out err then_err

@@ -1,11 +1,11 @@
 //! A call of the program over bytes.
 
-ghost use Rattle.std.specs.Prelude.{◌≡◌, ◌++◌, [], IfOk, false, take, drop, map};
+ghost use Rattle.std.specs.Prelude.{◌≡◌, ◌++◌, [], IfOk, false, true, take, drop, map};
 ghost use Rattle.mencius_app.specs.Ending.{status_of_ending};
-ghost use Rattle.mencius_embed.specs.Calls.{IsCall, memory_status, words_in};
+ghost use Rattle.mencius_embed.specs.Calls.{IsCall, IsStateCall, memory_status, words_in};
 
 use crate::streams::{Input, Text};
-use mencius_app::{AppFault, end, exit_status, perform_in_turns};
+use mencius_app::{AppFault, end, ending_of, exit_status, perform_in_turns, state};
 use mencius_base::NoMemory;
 use std::alloc::Global;
 
@@ -65,6 +65,33 @@ pub(crate) fn call(alloc: Global, words: &[u8], input: &[u8]) -> Result<Called, 
         printed: sink.bytes,
         said: errors.bytes,
         is_asked: source.is_asked,
+    })
+}
+
+/// Asks for the state after the scenario that this input is.
+pub(crate) fn call_for_state(alloc: Global, input: &[u8]) -> Result<Called, NoMemory>
+    ensures ended { IfOk result (λ x. IsStateCall input.now x.status x.printed.items x.said.items) }
+    ensures read { IfOk result (λ x. x.is_asked ≡ true) }
+{
+    let mut source = Input {
+        rest: input,
+        is_asked: false,
+    };
+    let mut sink = Text::new(alloc);
+    let mut errors = Text::new(alloc);
+    let ending = ending_of(state(alloc, &mut source, &mut sink));
+    if sink.failures > 0 {
+        return Err(NoMemory);
+    }
+    let exit = end(ending, &mut errors);
+    if errors.failures > 0 {
+        return Err(NoMemory);
+    }
+    Ok(Called {
+        status: exit,
+        printed: sink.bytes,
+        said: errors.bytes,
+        is_asked: true,
     })
 }
 

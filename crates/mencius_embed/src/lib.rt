@@ -2,12 +2,12 @@
 //! input go in, standard output, standard error and the exit status come out.
 #![tactic(auto)]
 
-ghost use Rattle.mencius_embed.specs.Calls.{IsAnswered, IsPut};
+ghost use Rattle.mencius_embed.specs.Calls.{IsAnswered, IsPut, IsStateAnswered, Tells};
 
 mod call;
 mod streams;
 
-use crate::call::{Called, call};
+use crate::call::{Called, call, call_for_state};
 use std::alloc::Global;
 
 /// How a call of the program ended, and how many bytes it printed and said.
@@ -44,6 +44,40 @@ pub extern "C" fn mencius_call(
         Ok(called) => called,
         Err(_) => Called::without_memory(alloc),
     };
+    tell(&called, printed, said, answer);
+}
+
+/// Steps a new cluster through the events of this scenario of `replay`, and tells what each server knows then. What is
+/// printed is a line `refused PLACE REFUSAL` for each refused event, and then of each server its line of the report and
+/// a line for each instance that it heard of:
+///
+/// `slot SERVER instance INSTANCE promised BALLOT vote BALLOT VALUE tries BALLOT promises COUNT proposed VALUE acceptances
+/// COUNT learned VALUE`
+///
+/// The vote is `none` where it accepted nothing, and a value is `none` where there is none. A proposal and both counts are
+/// those of the ballot that it tries, 0 before its first. All else is as at [`mencius_call`] with the argument `trace`.
+#[unsafe(no_mangle)]
+pub extern "C" fn mencius_state(
+    alloc: Global,
+    input: &[u8],
+    printed: &mut [u8],
+    said: &mut [u8],
+    answer: &mut Answer,
+)
+    ensures { IsStateAnswered input.now answer.new printed.old printed.new said.old said.new }
+{
+    let called = match call_for_state(alloc, input) {
+        Ok(called) => called,
+        Err(_) => Called::without_memory(alloc),
+    };
+    tell(&called, printed, said, answer);
+}
+
+// Tells of a call, and puts its texts where there is room.
+fn tell(called: &Called, printed: &mut [u8], said: &mut [u8], answer: &mut Answer)
+    ensures { Tells answer.new called.now.status called.now.printed.items called.now.said.items
+        called.now.is_asked printed.old printed.new said.old said.new }
+{
     put(called.printed.as_slice(), printed);
     put(called.said.as_slice(), said);
     answer.status = u64::from(called.status);

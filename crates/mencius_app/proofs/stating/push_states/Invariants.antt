@@ -1,0 +1,8 @@
+use Rattle.std.proofs.Common.{◌≡◌, ◌++◌, string_bytes}
+use Rattle.mencius_app.specs.States.{server_states}
+use Rattle.mencius_cluster.specs.State.{trace_of}
+use Rattle.mencius_app.proofs.stating.push_states.Given as goal
+
+abbrev pub invariant-loop-server : goal.invariant-loop-server
+invariant-loop-server l =
+    string_bytes l.text ≡ string_bytes l.initial.text ++ server_states l.cluster.members (trace_of l.cluster) l.server

@@ -1,0 +1,270 @@
+//! What the state after a scenario prints.
+
+ghost use Rattle.std.specs.Prelude.{ℕ, List, ◌≡◌, ◌<◌, ◌++◌, [], string_bytes, IfErr, IfOk, OnOk};
+ghost use Rattle.std.specs.Io.KnownBytes.{Appends, IsAtEnd};
+ghost use Rattle.mencius_app.specs.Calls.{AsksLittle, IsCause};
+ghost use Rattle.mencius_app.specs.Findings.{IsFoundIn, IsToldAs};
+ghost use Rattle.mencius_app.specs.Input.{IsFaultOf};
+ghost use Rattle.mencius_app.specs.Replay.{salt_of_events};
+ghost use Rattle.mencius_app.specs.States.{IsStateOf, acceptor_text, is_known, learner_text, proposer_text, server_state, server_states, slot_line, slot_line_at, slot_lines, slot_text, state_text, value_or_none};
+ghost use Rattle.mencius_base.specs.Limits.{instance_count};
+ghost use Rattle.mencius_cluster.specs.Salt.{salted};
+ghost use Rattle.mencius_cluster.specs.State.{trace_of};
+ghost use Rattle.mencius_model.specs.Instance.{accepted};
+ghost use Rattle.mencius_trace.specs.Facts.{vote_text, value_text};
+
+use crate::finding::Finding;
+use crate::printed::push_server;
+use crate::reading::read_input;
+use crate::replaying::step_all;
+use crate::votes::{accepted_by, vote_of};
+use mencius_base::{Ballot, INSTANCES, Members, NoMemory, Value, Vote};
+use mencius_cluster::{Cluster, Glance, salt_after};
+use mencius_format::push_id;
+use mencius_input::{Events, Kind, Sink, Source, write_all};
+use std::alloc::{AllocError, Global};
+
+/// Reads a scenario to its end, steps a new cluster through its events, and writes a line for each event that was
+/// refused, and then for each server its line of the report and a line for each instance that it heard of: what it
+/// promised and accepted there, which ballot it tries, what it proposed at that, how many servers' promises and
+/// acceptances it heard of it, and what it learned. The whole text is made before any of it is written.
+///
+/// It goes along the messages once for each server, and up to the proposal for each instance where that accepted
+/// something. An event that runs out of memory ends it with `NoMemory`.
+pub fn state<R: Source, W: Sink>(alloc: Global, source: &mut R, sink: &mut W) -> Result<(), Finding>
+    // All bytes were read, they are a scenario, and the text of the state after it was written.
+    ensures end { OnOk result (IsAtEnd (R.remaining source.new)) }
+    ensures done { OnOk result ((text : List ℕ) × IsStateOf (R.remaining source.old) text
+        × Appends (W.contents sink.old) (W.contents sink.new) text) }
+
+    // Which fault, and when; and how much was asked of reader and writer, whatever the answer.
+    ensures fault { IfErr result (λ found. IsCause (IsFaultOf (R.remaining source.old))
+        (IsStateOf (R.remaining source.old)) (R.failed source.old) (R.failed source.new)
+        (W.failed sink.old) (W.failed sink.new) (W.contents sink.old) (W.contents sink.new)
+        found.fault) }
+    ensures words { IfErr result (IsFoundIn (IsToldAs Kind.Replay) (R.remaining source.old)) }
+    ensures asked { AsksLittle (R.remaining source.old) (R.remaining source.new)
+        (R.failed source.old) (R.failed source.new) (W.failed sink.old) (W.failed sink.new) }
+{
+    let scenario = read_input(alloc, source)?;
+    let text = state_of(alloc, scenario.members, scenario.course)?;
+    write_all(sink, text.as_bytes())?;
+    Ok(())
+}
+
+// The text of the state after events.
+fn state_of(alloc: Global, members: Members, events: Events) -> Result<String, NoMemory>
+    ensures text { IfOk result (λ s. string_bytes s ≡ state_text members events) }
+{
+    let Ok(mut cluster) = Cluster::with_salt(alloc, members, salt_after(0, events.commands()))
+    else {
+        return Err(NoMemory);
+    };
+    let mut text = String::new(alloc);
+    push_state(alloc, &mut text, &mut cluster, events)?;
+    Ok(text)
+}
+
+// Steps a new cluster, which has the salt of the events, through them, and adds a line for each that is
+// refused, and then the state.
+fn push_state(
+    alloc: Global,
+    text: &mut String,
+    cluster: &mut Cluster,
+    events: Events,
+) -> Result<(), NoMemory>
+    requires journal { cluster.old.journal ≡ [] }
+    requires salt { cluster.old.hasher ≡ salted (salt_of_events events) }
+    ensures { OnOk result (string_bytes text.new
+        ≡ string_bytes text.old ++ state_text cluster.old.members events) }
+{
+    step_all(cluster, events, text)?;
+    push_states(alloc, text, cluster)?;
+    Ok(())
+}
+
+fn push_states(alloc: Global, text: &mut String, cluster: &Cluster) -> Result<(), AllocError>
+    ensures { OnOk result (string_bytes text.new ≡ string_bytes text.old
+        ++ server_states cluster.now.members (trace_of cluster.now) cluster.now.members.count) }
+{
+    for server in 0..cluster.servers() {
+        push_server_state(alloc, text, cluster, server)?;
+    }
+    Ok(())
+}
+
+fn push_server_state(
+    alloc: Global,
+    text: &mut String,
+    cluster: &Cluster,
+    server: u8,
+) -> Result<(), AllocError>
+    requires { server < cluster.now.members.count }
+    ensures { OnOk result (string_bytes text.new
+        ≡ string_bytes text.old ++ server_state cluster.now.members (trace_of cluster.now) server) }
+{
+    push_server(text, cluster, server)?;
+    push_slots(alloc, text, cluster, server)
+}
+
+// A line for each instance that the server heard of.
+fn push_slots(
+    alloc: Global,
+    text: &mut String,
+    cluster: &Cluster,
+    server: u8,
+) -> Result<(), AllocError>
+    requires { server < cluster.now.members.count }
+    ensures { OnOk result (string_bytes text.new ≡ string_bytes text.old
+        ++ slot_lines cluster.now.members (trace_of cluster.now) server instance_count) }
+{
+    let ballots = accepted_by(alloc, cluster, server)?;
+    for inst in 0..INSTANCES {
+        push_slot_at(text, cluster, server, inst, ballots[inst as usize])?;
+    }
+    Ok(())
+}
+
+// The line of an instance where the server accepted this ballot last, if it heard of the instance.
+fn push_slot_at(
+    text: &mut String,
+    cluster: &Cluster,
+    server: u8,
+    inst: u32,
+    ballot: Option<Ballot>,
+) -> Result<(), AllocError>
+    requires member { server < cluster.now.members.count }
+    requires small { inst < instance_count }
+    requires ballot { ballot ≡ accepted (trace_of cluster.now) server inst }
+    ensures { OnOk result (string_bytes text.new ≡ string_bytes text.old
+        ++ slot_line_at cluster.now.members (trace_of cluster.now) server inst) }
+{
+    let Some(glance) = cluster.glance(server, inst) else {
+        unreachable!();
+    };
+    let vote = vote_of(cluster, inst, ballot);
+    push_slot(text, cluster, server, inst, &glance, vote)
+}
+
+fn push_slot(
+    text: &mut String,
+    cluster: &Cluster,
+    server: u8,
+    inst: u32,
+    glance: &Glance,
+    vote: Option<Vote>,
+) -> Result<(), AllocError>
+    ensures { OnOk result (string_bytes text.new ≡ string_bytes text.old
+        ++ slot_line (trace_of cluster.now) server inst glance.now vote) }
+{
+    if !is_known(glance, &vote) {
+        return Ok(());
+    }
+    write!(text, "slot {server} instance {inst}")?;
+    push_knowledge(text, cluster, glance, vote)?;
+    text.push('\n')
+}
+
+// Whether anything was heard or done at an instance of which this is known.
+fn is_known(glance: &Glance, vote: &Option<Vote>) -> bool
+    ensures { result ≡ is_known glance.now vote.now }
+{
+    glance.promised > Ballot::OWNER
+        || vote.is_some()
+        || glance.trying > Ballot::OWNER
+        || glance.proposal.is_some()
+        || glance.learned.is_some()
+}
+
+// What is known, as acceptor, as proposer and as learner.
+fn push_knowledge(
+    text: &mut String,
+    cluster: &Cluster,
+    glance: &Glance,
+    vote: Option<Vote>,
+) -> Result<(), AllocError>
+    ensures { OnOk result (string_bytes text.new
+        ≡ string_bytes text.old ++ slot_text (trace_of cluster.now) glance.now vote) }
+{
+    push_acceptor(text, cluster, glance.promised, vote)?;
+    push_proposer(text, cluster, glance)?;
+    push_learner(text, cluster, glance.learned)
+}
+
+fn push_acceptor(
+    text: &mut String,
+    cluster: &Cluster,
+    promised: Ballot,
+    vote: Option<Vote>,
+) -> Result<(), AllocError>
+    ensures { OnOk result (string_bytes text.new
+        ≡ string_bytes text.old ++ acceptor_text (trace_of cluster.now) promised vote) }
+{
+    let promised = promised.number();
+    write!(text, " promised {promised}")?;
+    push_vote(text, cluster, vote)
+}
+
+fn push_proposer(text: &mut String, cluster: &Cluster, glance: &Glance) -> Result<(), AllocError>
+    ensures { OnOk result (string_bytes text.new
+        ≡ string_bytes text.old ++ proposer_text (trace_of cluster.now) glance.now) }
+{
+    let tried = glance.trying.number();
+    let promises = glance.promises;
+    let acceptances = glance.accepts;
+    write!(text, " tries {tried} promises {promises} proposed ")?;
+    push_known_value(text, cluster, glance.proposal)?;
+    write!(text, " acceptances {acceptances}")
+}
+
+fn push_learner(
+    text: &mut String,
+    cluster: &Cluster,
+    learned: Option<Value>,
+) -> Result<(), AllocError>
+    ensures { OnOk result (string_bytes text.new
+        ≡ string_bytes text.old ++ learner_text (trace_of cluster.now) learned) }
+{
+    text.push_str(" learned ")?;
+    push_known_value(text, cluster, learned)
+}
+
+fn push_vote(text: &mut String, cluster: &Cluster, vote: Option<Vote>) -> Result<(), AllocError>
+    ensures { OnOk result (string_bytes text.new
+        ≡ string_bytes text.old ++ vote_text (trace_of cluster.now) vote) }
+{
+    let Some(vote) = vote else {
+        return text.push_str(" vote none");
+    };
+    let ballot = vote.ballot.number();
+    write!(text, " vote {ballot} ")?;
+    push_value(text, cluster, vote.value)
+}
+
+fn push_known_value(
+    text: &mut String,
+    cluster: &Cluster,
+    value: Option<Value>,
+) -> Result<(), AllocError>
+    ensures { OnOk result (string_bytes text.new
+        ≡ string_bytes text.old ++ value_or_none (trace_of cluster.now) value) }
+{
+    match value {
+        Some(value) => push_value(text, cluster, value),
+        None => text.push_str("none"),
+    }
+}
+
+// A command goes by its identity.
+fn push_value(text: &mut String, cluster: &Cluster, value: Value) -> Result<(), AllocError>
+    ensures { OnOk result (string_bytes text.new
+        ≡ string_bytes text.old ++ value_text (trace_of cluster.now) value) }
+{
+    match value {
+        Value::Noop => text.push_str("no-op"),
+        Value::Ticket(ticket) => match cluster.command(ticket) {
+            Some(command) => push_id(text, command.id()),
+            None => Ok(()),
+        },
+    }
+}
