@@ -35,7 +35,8 @@ IsDrawingFaultOf options known fault =
 abbrev pub too_large_words : ℕ → List ℕ
 too_large_words levels =
     codes "the picture takes " ++ decimal levels
-    ++ codes " levels and has at most 50000: ask for fewer events by `--from` and `--to`"
+    ++ codes " levels and has at most " ++ decimal most_levels
+    ++ codes ": ask for fewer events by `--from` and `--to`"
 
 -- a picture's fault is told as that of a trace, or it says how many levels are too many
 abbrev pub IsToldOfPicture : Options → AppFault → List ℕ → List ℕ → Type 0

@@ -11,7 +11,7 @@ ghost use Rattle.mencius_app.specs.Findings.{IsFoundIn};
 use crate::finding::{Finding, as_line};
 use crate::reading::read_input;
 use crate::tracing::traced;
-use mencius_draw::{Options, TooLarge, picture};
+use mencius_draw::{MOST_LEVELS, Options, TooLarge, picture};
 use mencius_input::{AppFault, Sink, Source, write_all};
 use std::alloc::Global;
 
@@ -76,7 +76,7 @@ fn words_of_levels(alloc: Global, levels: usize) -> Option<String>
     ensures { IfSome result (λ line. string_bytes line ≡ too_large_words levels ++ line_feed) }
 {
     let words = format!(in alloc;
-        "the picture takes {levels} levels and has at most 50000: ask for fewer events by `--from` and `--to`"
+        "the picture takes {levels} levels and has at most {MOST_LEVELS}: ask for fewer events by `--from` and `--to`"
     );
     as_line(words.ok()?)
 }
