@@ -137,6 +137,13 @@ function main(args) {
   return answer.status;
 }
 
-if (process.argv[1] && fileURLToPath(import.meta.url) === realpathSync(process.argv[1])) {
-  process.exitCode = main(readArguments());
+// Whether this file was started, and not imported: the first word may be anything where `node -e` imports it.
+function isProgram() {
+  try {
+    return fileURLToPath(import.meta.url) === realpathSync(process.argv[1]);
+  } catch {
+    return false;
+  }
 }
+
+if (isProgram()) process.exitCode = main(readArguments());
