@@ -16,6 +16,12 @@ const NO_JSON: &str = "not JSON";
 
 const NO_COLON: &str = "a colon is missing behind this name";
 
+const NO_VALUE: &str = "a value is missing before this";
+
+const NO_NAME: &str = "a name in double quotes has to stand here";
+
+const GOES_ON: &str = "the text goes on behind its value";
+
 // The line and the column of what stands behind the front of a text, in characters and both from 1.
 fn line_and_column(front: &[u8]) -> (usize, usize)
     ensures { result ≡ place_behind front.now }
@@ -66,14 +72,20 @@ fn pass_bracket(open: &mut Vec<u8>, token: Token<'_>) -> Result<(), NoMemory> {
 
 // What is wrong with a token at which reading stopped, where these brackets are open; behind a name it is its value.
 fn wrong_token(token: Token<'_>, open: &[u8], is_behind_name: bool) -> &'static str {
-    match (token, open.last()) {
+    match (token, open) {
         (Token::Number(text), _) if whole_number(text).is_none() => "the number is too great",
         (Token::BeginArray | Token::BeginObject, _) if open.len() >= MOST_DEPTH => {
             "nested more than 127 deep"
         }
-        (Token::String(_), Some(b'{')) if !is_behind_name => NO_COLON,
-        (Token::EndObject, Some(b'[')) => "a ] is missing before this",
-        (Token::EndArray, Some(b'{')) => "a } is missing before this",
+        (Token::Key(_), _) => "a colon stands behind this string, which is no name",
+        (Token::EndObject | Token::EndArray, _) if is_behind_name => NO_VALUE,
+        (Token::EndObject, [.., b'[']) => "a ] is missing before this",
+        (Token::EndArray, [.., b'{']) => "a } is missing before this",
+        (Token::EndObject | Token::EndArray, []) => NO_VALUE,
+        (Token::EndObject | Token::EndArray, [_]) => GOES_ON,
+        (Token::String(_), [.., b'{']) if !is_behind_name => NO_COLON,
+        (_, [.., b'{']) if !is_behind_name => NO_NAME,
+        (_, []) => GOES_ON,
         _ => NO_JSON,
     }
 }
@@ -85,15 +97,26 @@ fn token_start(bytes: &[u8], offset: usize) -> usize {
     offset.saturating_add(passed.unwrap_or(0))
 }
 
-// The last token that begins before an offset: where it begins, and what is wrong with it.
-fn last_before(
-    alloc: Global,
-    text: &str,
-    offset: usize,
-) -> Result<(usize, &'static str), NoMemory> {
+// What is known of the last token that begins before an offset.
+#[derive(Clone, Copy)]
+struct Last {
+    // Where it begins.
+    start: usize,
+    // What is wrong with it, if reading stopped there.
+    wrong: &'static str,
+    // Whether the innermost bracket that is open behind it is that of an object.
+    is_in_object: bool,
+}
+
+// The last token that begins before an offset.
+fn last_before(alloc: Global, text: &str, offset: usize) -> Result<Last, NoMemory> {
     let mut scratch = Scratch::new(alloc);
     let mut reader = Reader::new(text, &mut scratch)?;
-    let mut last = (0, NO_JSON);
+    let mut last = Last {
+        start: 0,
+        wrong: NO_JSON,
+        is_in_object: false,
+    };
     let mut open = Vec::new(alloc);
     let mut is_behind_name = false;
     let mut start = token_start(text.as_bytes(), reader.offset());
@@ -101,9 +124,14 @@ fn last_before(
         if start >= offset {
             break;
         }
-        last = (start, wrong_token(token, open.as_slice(), is_behind_name));
+        let wrong = wrong_token(token, open.as_slice(), is_behind_name);
         is_behind_name = matches!(token, Token::Key(_));
         pass_bracket(&mut open, token)?;
+        last = Last {
+            start,
+            wrong,
+            is_in_object: matches!(open.last(), Some(b'{')),
+        };
         start = token_start(text.as_bytes(), reader.offset());
     }
     Ok(last)
@@ -130,18 +158,21 @@ fn wrong_string(inside: &[u8]) -> &'static str {
 }
 
 // What is wrong with what stands where a value or a name has to.
-fn wrong_beginning(rest: &[u8]) -> &'static str {
+fn wrong_beginning(rest: &[u8], is_name: bool) -> &'static str {
     match rest {
         [b'"', inside @ ..] => wrong_string(inside),
         [b'A'..=b'Z' | b'a'..=b'z' | b'_', ..] => "a word in no quotes",
-        _ => NO_JSON,
+        _ if is_name => NO_NAME,
+        [b',' | b':' | b']' | b'}', ..] => NO_VALUE,
+        [b'0'..=b'9' | b'-' | b'+' | b'.', ..] => "no number as JSON writes it",
+        _ => "a value has to stand here",
     }
 }
 
 // What is wrong with what stands behind a value whose last byte this is, where a comma or a bracket has to.
 fn wrong_next(last: u8, rest: &[u8]) -> &'static str {
     match (last, rest) {
-        (_, [b':', ..]) => NO_JSON,
+        (_, [b':', ..]) => "a colon, which stands behind a name alone",
         (b'"', [b'"', ..]) => "a comma is missing before this",
         (b'"', _) => "a comma or a quote is missing before this",
         _ => "a comma is missing before this",
@@ -149,13 +180,14 @@ fn wrong_next(last: u8, rest: &[u8]) -> &'static str {
 }
 
 // What is wrong with what stands behind the front of a value.
-fn wrong_behind(front: &[u8], rest: &[u8], is_whole: bool) -> &'static str {
+fn wrong_behind(front: &[u8], rest: &[u8], is_whole: bool, is_in_object: bool) -> &'static str {
     match (last_solid(front), rest) {
         (_, [b'/', b'/' | b'*', ..]) => "a comment, which JSON does not have",
         (_, [b'\'', ..]) => "a single quote, where a string of JSON stands in double quotes",
         (Some(b','), [b']' | b'}', ..]) => "a comma stands before the closing bracket",
-        (None | Some(b'[' | b'{' | b',' | b':'), _) => wrong_beginning(rest),
-        (Some(_), _) if is_whole => "the text goes on behind its value",
+        (Some(b'{' | b','), _) if is_in_object => wrong_beginning(rest, true),
+        (None | Some(b'[' | b',' | b':'), _) => wrong_beginning(rest, false),
+        (Some(_), _) if is_whole => GOES_ON,
         (Some(last), _) => wrong_next(last, rest),
     }
 }
@@ -189,16 +221,18 @@ fn stop_of(alloc: Global, text: &str) -> Result<(usize, &'static str), NoMemory>
         return Ok((offset, NO_JSON));
     }
     let Some(is_whole) = front_of(alloc, front)? else {
-        return last_before(alloc, text, offset);
+        let last = last_before(alloc, text, offset)?;
+        return Ok((last.start, last.wrong));
     };
     if rest.is_empty() {
         return Ok((offset, wrong_end(alloc, text)?));
     }
-    let (name, wrong) = last_before(alloc, text, offset)?;
-    if wrong == NO_COLON {
-        return Ok((name, wrong));
+    let last = last_before(alloc, text, offset)?;
+    if last.wrong == NO_COLON {
+        return Ok((last.start, last.wrong));
     }
-    Ok((offset, wrong_behind(front, rest, is_whole)))
+    let wrong = wrong_behind(front, rest, is_whole, last.is_in_object);
+    Ok((offset, wrong))
 }
 
 // Where bytes that are no JSON stop being it, and what is wrong there.
