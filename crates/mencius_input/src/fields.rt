@@ -149,6 +149,8 @@ fn read_field(
         }
         None => {
             if name == list_field(kind).name() {
+                // What an earlier one says is let go first, so that only one list takes room.
+                fields.list = None;
                 let kept = next_list(alloc, kind, reader, depth)?;
                 fields.list = Some(kept);
             } else {
