@@ -22,3 +22,4 @@ pub mod LineWords
 pub mod Counted
 pub mod TakenLines
 pub mod LogEnds
+pub mod WrittenLines

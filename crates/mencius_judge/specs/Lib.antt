@@ -10,4 +10,5 @@ pub mod Lines
 pub mod Counts
 pub mod Told
 pub mod Reading
+pub mod Written
 pub mod Taken

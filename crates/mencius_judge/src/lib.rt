@@ -18,6 +18,7 @@ mod timeline;
 mod timelines;
 mod told;
 mod violation;
+mod writing;
 mod wrong;
 
 pub use counts::Counts;
@@ -27,3 +28,4 @@ pub use observation::Observation;
 pub use reading::{Breach, Unjudged, Verdict, judge_log};
 pub use told::{push_broken, push_kept};
 pub use violation::{Promise, Violation};
+pub use writing::push_observation;

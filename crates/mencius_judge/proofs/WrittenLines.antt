@@ -1,0 +1,295 @@
+-- A line that was written says its observation, and a log's lines say the log.
+use Rattle.std.proofs.Common.{◌≡◌, ◌≢◌, ℕ, ◌+◌, ◌<◌, ◌≤◌, ◌^◌, ◌&&◌, List, [], ◌∷◌, ◌++◌, length, Bool, true, false, Some, None, Option, Ok, refl, ap, subst, sym, arith, codes, nat_le, nat_lt, lit<}
+use Rattle.std.specs.Prelude.{IsAscii, decimal}
+use Rattle.std.specs.List.{list_all}
+use Rattle.std.specs.Str.{is_utf8}
+use Rattle.std.specs.Str.Parse.{AllDigits}
+use Rattle.std.proofs.lemmas.Bool.{and_from, and_parts}
+use Rattle.std.proofs.lemmas.Bool.Decides.{nat_tests}
+use Rattle.std.proofs.lemmas.Fmt.{digits_decimal, length-decimal-le}
+use Rattle.std.proofs.lemmas.List.{length-append}
+use Rattle.std.proofs.lemmas.List.Folds.{list_all-append}
+use Rattle.std.proofs.lemmas.Str.{IsUtf8-from_ascii, is_utf8-from_IsUtf8}
+use Rattle.std.proofs.lemmas.Str.Ascii.{IsAscii-cons, IsAscii-nil}
+use Rattle.std.proofs.lemmas.Str.Parse.{numerals_by_value, tells_digits, digit_from_value}
+use Rattle.mencius_base.specs.Command.{bad_op, is_key_length, is_name, is_name_byte, is_text_length}
+use Rattle.mencius_base.specs.Limits.{most_text_bytes}
+use Rattle.mencius_base.specs.declared.command.CommandId.{CommandId}
+use Rattle.mencius_base.specs.declared.command.Op.{Op}
+use Rattle.mencius_base.specs.declared.command.Op.TheVariants.{Set, Get, Del, Cas}
+use Rattle.mencius_format.specs.Grammar.{id_of, id_within, newest_version, two_numbers}
+use Rattle.mencius_format.specs.Operations.{op_text}
+use Rattle.mencius_format.specs.Texts.{command_text, id_text}
+use Rattle.mencius_format.specs.Words.{words}
+use Rattle.mencius_format.proofs.OperationWords.{both_hold, most_op_bytes, op_word}
+use Rattle.mencius_format.proofs.TextWords.{commands_read_back}
+use Rattle.mencius_format.proofs.WrittenWords.{Lacks, cut_at, entry_good, lacks_append, lacks_dot, lacks_space, name_again, named_lacks, number_again, uncut}
+use Rattle.mencius_judge.specs.declared.observation.Observation.{Observation}
+use Rattle.mencius_judge.specs.declared.observation.Observation.TheVariants.{Submit, Execute, Reply, Lookup, Tell}
+use Rattle.mencius_judge.specs.Lines.{answer_of, answer_within, is_passed_over, line_said, most_line_bytes, observation_of, observation_within}
+use Rattle.mencius_judge.specs.Reading.{Adds, IsInLine}
+use Rattle.mencius_judge.specs.Told.{held_text}
+use Rattle.mencius_judge.specs.Written.{IsAnswer, IsIdentity, IsSayable, LogsReadBack, ObservationsReadBack, line_of, observation_text}
+
+-- ---- words
+
+u8 : (n : ℕ) → n < 2 ^ 8 → n < 2 ^ 64
+u8 n h = omega (arith, h)
+
+u32 : (n : ℕ) → n < 2 ^ 32 → n < 2 ^ 64
+u32 n h = omega (arith, h)
+
+id_again : (id : CommandId) → IsIdentity id → id_of (id_text id) ≡ Some id
+unfolding id_of two_numbers
+id_again id h =
+    rw (
+      cut_at 46 (decimal id.client) (decimal id.number) (lacks_dot id.client (u32 id.client h.0)) refl,
+      uncut 46 (decimal id.number) (lacks_dot id.number (u32 id.number h.1)),
+      number_again id.client (u32 id.client h.0),
+      number_again id.number (u32 id.number h.1),
+    ) refl
+
+id_lacks : (id : CommandId) → IsIdentity id → Lacks 32 (id_text id)
+id_lacks id h = lacks_append 32 (decimal id.client) (46 ∷ decimal id.number) (lacks_space id.client (u32 id.client h.0))
+    (λ e. absurd (omega arith), lacks_space id.number (u32 id.number h.1))
+
+answer_again : (text : Option (List ℕ)) → IsAnswer text → answer_of (held_text text) ≡ Some text
+unfolding answer_of
+answer_again None h = refl
+answer_again (Some text) h = rw (name_again text h.0) refl
+
+no_space : (x : ℕ) → 32 < x → x ≢ 32
+no_space x less e = omega (arith, less, e)
+
+answer_lacks : (text : Option (List ℕ)) → IsAnswer text → Lacks 32 (held_text text)
+answer_lacks None h = (
+  no_space 110 (lit< tt),
+  (no_space 111 (lit< tt), (no_space 110 (lit< tt), (no_space 101 (lit< tt), tt))),
+)
+answer_lacks (Some text) h = (λ e. absurd (omega arith), named_lacks text h.0)
+
+said_again : (o : Observation) → IsSayable o → observation_of (words (observation_text o)) ≡ Some o
+unfolding observation_of
+said_again (Submit command) h = rw ((commands_read_back newest_version command h (λ e. refl)).0) refl
+said_again (Execute server id) h =
+    rw (
+      cut_at 32 (decimal server) (id_text id) (lacks_space server (u8 server h.0)) refl,
+      uncut 32 (id_text id) (id_lacks id h.1),
+      number_again server (u8 server h.0),
+      id_again id h.1,
+    ) refl
+said_again (Reply id text) h =
+    rw (
+      cut_at 32 (id_text id) (held_text text) (id_lacks id h.0) refl,
+      uncut 32 (held_text text) (answer_lacks text h.1),
+      id_again id h.0,
+      answer_again text h.1,
+    ) refl
+said_again (Lookup reader key text) h =
+    rw (
+      cut_at 32 (decimal reader) (key ++ 32 ∷ held_text text) (lacks_space reader (u32 reader h.0)) refl,
+      cut_at 32 key (held_text text) (named_lacks key h.1) refl,
+      uncut 32 (held_text text) (answer_lacks text h.3),
+      number_again reader (u32 reader h.0),
+      name_again key h.1,
+      answer_again text h.3,
+    ) refl
+said_again (Tell reader server) h =
+    rw (
+      cut_at 32 (decimal reader) (decimal server) (lacks_space reader (u32 reader h.0)) refl,
+      uncut 32 (decimal server) (lacks_space server (u8 server h.1)),
+      number_again reader (u32 reader h.0),
+      number_again server (u8 server h.1),
+    ) refl
+
+-- ---- limits
+
+below_test : (n m : ℕ) → n < m → nat_lt n m ≡ true
+below_test n m h = grind (arith, nat_tests)
+
+id_fits : (id : CommandId) → IsIdentity id → id_within id ≡ true
+id_fits id h = both_hold _ _ (below_test id.client (2 ^ 32) h.0) (below_test id.number (2 ^ 32) h.1)
+
+answer_fits : (text : Option (List ℕ)) → IsAnswer text → answer_within text ≡ true
+answer_fits None h = refl
+answer_fits (Some text) h = h.1
+
+within_again : (o : Observation) → IsSayable o → observation_within o ≡ true
+within_again (Submit command) h = (commands_read_back newest_version command h (λ e. refl)).1
+within_again (Execute server id) h = both_hold _ _ (below_test server (2 ^ 8) h.0) (id_fits id h.1)
+within_again (Reply id text) h = both_hold _ _ (id_fits id h.0) (answer_fits text h.1)
+within_again (Lookup reader key text) h =
+    both_hold _ _ (below_test reader (2 ^ 32) h.0) (both_hold _ _ h.2 (answer_fits text h.3))
+within_again (Tell reader server) h =
+    both_hold _ _ (below_test reader (2 ^ 32) h.0) (below_test server (2 ^ 8) h.1)
+
+-- ---- the bytes of a line
+
+-- a byte of ASCII that ends no line
+abbrev is_shown : ℕ → Bool
+is_shown x = nat_le 32 x && nat_lt x 128
+
+abbrev AreShown : List ℕ → Type 0
+AreShown s = list_all is_shown s ≡ true
+
+shown_ascii : (s : List ℕ) → AreShown s → IsAscii s
+shown_ascii [] h = IsAscii-nil
+shown_ascii (x ∷ xs) h =
+    let parts = and_parts (is_shown x) (list_all is_shown xs) h in
+    IsAscii-cons x xs (grind (arith, nat_tests, parts.0)) (shown_ascii xs parts.1)
+
+shown_in_line : (s : List ℕ) → AreShown s → IsInLine s
+shown_in_line [] h = tt
+shown_in_line (x ∷ xs) h =
+    let parts = and_parts (is_shown x) (list_all is_shown xs) h in
+    (λ e. grind (arith, nat_tests, parts.0, e), shown_in_line xs parts.1)
+
+-- a text of such bytes, and at most so long
+record IsShort (most : ℕ) (s : List ℕ) : Type 0 where
+  shown : AreShown s
+  short : length s ≤ most
+
+beside : (m n : ℕ) (xs ys : List ℕ) → IsShort m xs → IsShort n ys → IsShort (m + n) (xs ++ ys)
+beside m n xs ys h l = record {
+  shown = rw (list_all-append is_shown xs ys, h.shown, l.shown) refl;
+  short = omega (arith, length-append xs ys, h.short, l.short);
+}
+
+-- two texts with one byte between
+around : (m n byte : ℕ) (xs ys : List ℕ) → is_shown byte ≡ true → IsShort m xs → IsShort n ys
+    → IsShort (m + (1 + n)) (xs ++ byte ∷ ys)
+around m n byte xs ys one h l =
+    beside m (1 + n) xs (byte ∷ ys) h (record {
+      shown = and_from (is_shown byte) (list_all is_shown ys) one l.shown;
+      short = omega (arith, l.short);
+    })
+
+digit_shown : (x : ℕ) → 48 ≤ x → x < 58 → is_shown x ≡ true
+digit_shown x l h = grind (arith, nat_tests)
+
+digits_shown : (ds : List ℕ) → AllDigits 10 ds → AreShown ds
+digits_shown [] h = refl
+digits_shown (d ∷ ds) h =
+    let r = digit_from_value d h.0 in
+    and_from (is_shown d) (list_all is_shown ds) (digit_shown d (omega arith) (omega arith)) (digits_shown ds h.1)
+
+number_short : (len n : ℕ) → 0 < len → n < 10 ^ len → n < 2 ^ 64 → IsShort len (decimal n)
+number_short len n some fits small = record {
+  shown = digits_shown (decimal n) (digits_decimal (numerals_by_value (AllDigits 10) tells_digits) n small);
+  short = length-decimal-le len n some fits small;
+}
+
+u8_short : (n : ℕ) → n < 2 ^ 8 → IsShort 3 (decimal n)
+u8_short n h = number_short 3 n (omega arith) (omega arith) (u8 n h)
+
+u32_short : (n : ℕ) → n < 2 ^ 32 → IsShort 10 (decimal n)
+u32_short n h = number_short 10 n (omega arith) (omega arith) (u32 n h)
+
+id_short : (id : CommandId) → IsIdentity id → IsShort 21 (id_text id)
+id_short id h =
+    around 10 10 46 (decimal id.client) (decimal id.number) refl (u32_short id.client h.0) (u32_short id.number h.1)
+
+name_byte_shown : (x : ℕ) → is_name_byte x ≡ true → is_shown x ≡ true
+name_byte_shown x h = grind (arith, nat_tests)
+
+name_bytes_shown : (xs : List ℕ) → list_all is_name_byte xs ≡ true → AreShown xs
+name_bytes_shown [] h = refl
+name_bytes_shown (x ∷ xs) h =
+    let parts = and_parts (is_name_byte x) (list_all is_name_byte xs) h in
+    and_from (is_shown x) (list_all is_shown xs) (name_byte_shown x parts.0) (name_bytes_shown xs parts.1)
+
+name_shown : (xs : List ℕ) → is_name xs ≡ true → AreShown xs
+unfolding is_name
+name_shown xs h = name_bytes_shown xs h
+
+name_short : (most : ℕ) (xs : List ℕ) → is_name xs ≡ true → length xs ≤ most → IsShort most xs
+name_short most xs h l = record { shown = name_shown xs h; short = l }
+
+-- a word, and names behind it
+op_shown : (o : Op) → bad_op o ≡ None → AreShown (op_text o)
+op_shown (Set key text) h =
+    let good = entry_good key [] text h in
+    (around (length key) (length text) 32 key text refl (name_short _ key good.key_named (omega arith))
+    (name_short _ text good.text_named (omega arith))).shown
+op_shown (Get key) h = name_shown key (entry_good key [] [] h).key_named
+op_shown (Del key) h = name_shown key (entry_good key [] [] h).key_named
+op_shown (Cas key held text) h =
+    let good = entry_good key held text h in
+    (around (length key) (length held + (1 + length text)) 32 key (held ++ 32 ∷ text) refl
+    (name_short _ key good.key_named (omega arith))
+    (around (length held) (length text) 32 held text refl (name_short _ held good.held_named (omega arith))
+    (name_short _ text good.text_named (omega arith)))).shown
+
+op_short : (o : Op) → bad_op o ≡ None → IsShort most_op_bytes (op_text o)
+op_short o h = record { shown = op_shown o h; short = (op_word o h).short }
+
+answer_short : (text : Option (List ℕ)) → IsAnswer text → IsShort 257 (held_text text)
+answer_short None h = record { shown = refl; short = omega arith }
+answer_short (Some text) h = record { shown = name_shown text h.0; short = omega (arith, answer_length text h.1) }
+  where
+    answer_length : (s : List ℕ) → is_text_length s ≡ true → length s ≤ most_text_bytes
+    answer_length s h = grind (arith, nat_tests)
+
+-- behind the word of its kind
+behind : (word text : List ℕ) (m n : ℕ) → IsShort m word → IsShort n text → m + n ≤ most_line_bytes
+    → IsShort most_line_bytes (word ++ text)
+behind word text m n h l le =
+    let r = beside m n word text h l in record { shown = r.shown; short = omega (arith, r.short) }
+
+line_short : (o : Observation) → IsSayable o → IsShort most_line_bytes (observation_text o)
+line_short (Submit command) h = behind (codes "submit ") (command_text command) 7 (21 + (1 + most_op_bytes))
+    (record { shown = refl; short = omega arith })
+    (around 21 most_op_bytes 32 (id_text command.id) (op_text command.op) refl (id_short command.id (h.0, h.1))
+    (op_short command.op h.2)) (omega arith)
+line_short (Execute server id) h = behind (codes "execute ") (decimal server ++ 32 ∷ id_text id) 8 (3 + (1 + 21))
+    (record { shown = refl; short = omega arith })
+    (around 3 21 32 (decimal server) (id_text id) refl (u8_short server h.0) (id_short id h.1)) (omega arith)
+line_short (Reply id text) h = behind (codes "reply ") (id_text id ++ 32 ∷ held_text text) 6 (21 + (1 + 257))
+    (record { shown = refl; short = omega arith })
+    (around 21 257 32 (id_text id) (held_text text) refl (id_short id h.0) (answer_short text h.1)) (omega arith)
+line_short (Lookup reader key text) h =
+    behind (codes "lookup ") (decimal reader ++ 32 ∷ (key ++ 32 ∷ held_text text)) 7 (10 + (1 + (64 + (1 + 257))))
+    (record { shown = refl; short = omega arith })
+    (around 10 (64 + (1 + 257)) 32 (decimal reader) (key ++ 32 ∷ held_text text) refl (u32_short reader h.0)
+    (around 64 257 32 key (held_text text) refl (name_short 64 key h.1 (key_length key h.2))
+    (answer_short text h.3))) (omega arith)
+  where
+    key_length : (s : List ℕ) → is_key_length s ≡ true → length s ≤ 64
+    key_length s h = grind (arith, nat_tests)
+line_short (Tell reader server) h = behind (codes "told ") (decimal reader ++ 32 ∷ decimal server) 5 (10 + (1 + 3))
+    (record { shown = refl; short = omega arith })
+    (around 10 3 32 (decimal reader) (decimal server) refl (u32_short reader h.0) (u8_short server h.1)) (omega arith)
+
+-- ---- the laws
+
+no_remark : (o : Observation) → is_passed_over (observation_text o) ≡ false
+no_remark (Submit command) = refl
+no_remark (Execute server id) = refl
+no_remark (Reply id text) = refl
+no_remark (Lookup reader key text) = refl
+no_remark (Tell reader server) = refl
+
+line_again : (line : List ℕ) (o : Observation) → IsShort most_line_bytes line → is_passed_over line ≡ false
+    → observation_of (words line) ≡ Some o → observation_within o ≡ true → line_said line ≡ Ok (Some o)
+line_again line o h seen said fits =
+    let fit : nat_lt most_line_bytes (length line) ≡ false = grind (arith, nat_tests, h.short) in
+    let utf8 : is_utf8 line ≡ true =
+    is_utf8-from_IsUtf8 line (IsUtf8-from_ascii line (shown_ascii line h.shown)) in
+    rw (fit, seen, utf8, said, fits) refl
+
+pub observations_read_back : ObservationsReadBack
+observations_read_back o h =
+    let bytes = line_short o h in (
+      shown_in_line (observation_text o) bytes.shown,
+      line_again (observation_text o) o bytes (no_remark o) (said_again o h) (within_again o h),
+    )
+
+pub logs_read_back : LogsReadBack
+logs_read_back [] h = ([], refl, refl)
+logs_read_back (o ∷ w) h =
+    let one = observations_read_back o h.0 in
+    let rest = logs_read_back w h.1 in (
+      observation_text o ∷ rest.0,
+      ap (λ xs. xs ++ line_of o) rest.1,
+      (one.0, w, rest.2, subst (λ said. Adds said w (o ∷ w)) (sym one.1) refl),
+    )
