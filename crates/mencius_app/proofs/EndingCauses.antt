@@ -34,10 +34,11 @@ text_of_replay is_strict known text h =
     let all = accepts_all h.written.members h.written.course in
     (tells_of_refusals is_strict all, (all, (h, refl), refl))
 
-pub text_of_run : (known : Option (List ℕ)) (with_journal : Bool) (key there : Option (List ℕ)) (text : List ℕ)
-    → key ≡ there → IsRunOf known with_journal key text → IsTextOf (asked_run with_journal there) known text
-text_of_run known with_journal key there text same is =
-    (false, (subst (λ y. IsRunOf known with_journal y text) same is, refl))
+pub text_of_run : (known : Option (List ℕ)) (with_journal with_observations : Bool) (key there : Option (List ℕ)) (text : List ℕ)
+    → key ≡ there → IsRunOf known with_journal with_observations key text
+    → IsTextOf (asked_run with_journal with_observations there) known text
+text_of_run known with_journal with_observations key there text same is =
+    (false, (subst (λ y. IsRunOf known with_journal with_observations y text) same is, refl))
 
 -- what holds of the fault of a finding holds of the fault of the ending that it makes
 pub of_finding : (found : Finding) (ending : Ending) (P : AppFault → Type 0) → ending ≡ ending_at found
@@ -113,4 +114,4 @@ asks_as asked_trace known reads writes writes_now few = little known reads write
 asks_as (asked_draw part) known reads writes writes_now few = little known reads writes writes_now few
 asks_as asked_check known reads writes writes_now few = little known reads writes writes_now few
 asks_as asked_judge known reads writes writes_now few = (omega arith, few)
-asks_as (asked_run with_journal key) known reads writes writes_now few = little known reads writes writes_now few
+asks_as (asked_run with_journal with_observations key) known reads writes writes_now few = little known reads writes writes_now few

@@ -105,7 +105,7 @@ telling_of (asked_draw (Some part)) = IsToldOfPicture part
 telling_of (asked_draw None) = IsToldAs input.Replay
 telling_of asked_check = IsToldByFields
 telling_of asked_judge = IsToldByLine
-telling_of (asked_run with_journal key) = IsToldAs input.Run
+telling_of (asked_run with_journal with_observations key) = IsToldAs input.Run
 
 -- what words there are say where all that a reader has, so far as that is known, has the fault
 abbrev pub TellsOf : Asked → Option (List ℕ) → Ending → Type 0
@@ -143,7 +143,8 @@ IsTaskOf (asked_draw (Some part)) known told text = IsPictureOf part known text 
 IsTaskOf (asked_draw None) known told text = ⊥
 IsTaskOf asked_check known told text = IsCheckOf known text × (told ≡ false)
 IsTaskOf asked_judge known told text = (kept : Bool) × IsJudgementOf known text kept × (told ≡ not kept)
-IsTaskOf (asked_run with_journal key) known told text = IsRunOf known with_journal key text × (told ≡ false)
+IsTaskOf (asked_run with_journal with_observations key) known told text =
+    IsRunOf known with_journal with_observations key text × (told ≡ false)
 
 -- the text of a task was written, whole
 abbrev pub DidTask : Asked → Option (List ℕ) → Option (List ℕ) → Option (List ℕ) → Bool → Type 0
@@ -166,10 +167,10 @@ IsAskedFor arguments known text =
 
 -- a run with these options
 abbrev pub asked_with : RunOptions → Asked
-asked_with options = asked_run options.with_journal (option_map string_bytes options.key)
+asked_with options = asked_run options.with_journal options.with_observations (option_map string_bytes options.key)
 
 abbrev pub is_run : Asked → Bool
-is_run (asked_run with_journal key) = true
+is_run (asked_run with_journal with_observations key) = true
 is_run _ = false
 
 -- the arguments ask for a run
@@ -178,7 +179,7 @@ AsksToRun arguments = (faults (line_of arguments) ≡ []) × (is_run (asked (lin
 
 -- the input of a task is bad in this way, where it is known
 abbrev pub IsInputFaultOf : Asked → Option (List ℕ) → AppFault → Type 0
-IsInputFaultOf (asked_run with_journal key) known fault = IsPlanFaultOf known fault
+IsInputFaultOf (asked_run with_journal with_observations key) known fault = IsPlanFaultOf known fault
 IsInputFaultOf asked_check known fault = IsCheckFaultOf known fault
 IsInputFaultOf (asked_draw (Some part)) known fault = IsDrawingFaultOf part known fault
 IsInputFaultOf asked_judge known fault = IsLogFaultOf known fault

@@ -8,6 +8,8 @@ use Rattle.mencius_app.specs.Input.{Says, plan_input_of}
 use Rattle.mencius_app.specs.Journal.{ReadsBack, journal_text}
 use Rattle.mencius_app.specs.Plan.{IsOutcome}
 use Rattle.mencius_app.specs.Report.{report_text}
+use Rattle.mencius_judge.specs.Observed.{observed}
+use Rattle.mencius_judge.specs.Written.{log_text}
 use Rattle.mencius_trace.specs.Words.{former_text, line_feed}
 use Rattle.mencius_input.specs.declared.scenario.Scenario.{Scenario}
 use Rattle.mencius_base.specs.Plan.{PlanState}
@@ -35,9 +37,15 @@ abbrev pub lookup_line : Option (List ℕ) → ClusterState → List ℕ
 lookup_line None x = []
 lookup_line (Some key) x = held_line key (held_at x key)
 
--- the journal's line, the report, and the lookup
-abbrev pub run_text : Bool → Option (List ℕ) → ClusterState → List ℕ
-run_text with_journal key x = journal_line with_journal x ++ (report_text x.members (trace_of x) ++ lookup_line key x)
+-- what was seen of the servers, as a log, or the report
+abbrev pub body_text : Bool → ClusterState → List ℕ
+body_text with_observations x =
+    if with_observations then log_text (observed (trace_of x)) else report_text x.members (trace_of x)
+
+-- the journal's line, the log or the report, and the lookup
+abbrev pub run_text : Bool → Bool → Option (List ℕ) → ClusterState → List ℕ
+run_text with_journal with_observations key x =
+    journal_line with_journal x ++ (body_text with_observations x ++ lookup_line key x)
 
 -- what was found at the key, where one is looked up
 abbrev pub IsFound : Option (List ℕ) → ClusterState → Option (List ℕ) → Type 0
@@ -48,12 +56,12 @@ IsFound (Some key) x found = found ≡ held_at x key
 
 -- a text of a run by all that a reader has, so far as that is known: that of the cluster to which all turns of the plan
 -- came, whose journal replays, and whose journal's line says it again
-pub record IsRunOf (known : Option (List ℕ)) (with_journal : Bool) (key : Option (List ℕ)) (text : List ℕ)
-    : Type 0 where
+pub record IsRunOf (known : Option (List ℕ)) (with_journal with_observations : Bool) (key : Option (List ℕ))
+    (text : List ℕ) : Type 0 where
   pub written : Scenario PlanState
   pub says : Says plan_input_of known written
   pub cluster : ClusterState
   pub outcome : IsOutcome written cluster
   pub replays : replay cluster.members cluster.journal ≡ Ok (trace_of cluster)
-  pub run : text ≡ run_text with_journal key cluster
+  pub run : text ≡ run_text with_journal with_observations key cluster
   pub reads_back : with_journal ≡ true → ReadsBack cluster

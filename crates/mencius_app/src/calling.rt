@@ -175,6 +175,8 @@ fn complain<E: Sink>(alloc: Global, error: &Error, errors: &mut E) -> Ending
 pub(crate) struct RunOptions {
     /// Whether the journal's line comes first.
     pub with_journal: bool,
+    /// Whether what was seen of the servers stands in place of the report.
+    pub with_observations: bool,
     /// The key that is looked up, if there is one.
     pub key: Option<String>,
 }
@@ -220,7 +222,15 @@ pub(crate) fn perform_alone<R: Source, W: Sink>(
         Task::Draw(options) => Ok(ending_of(draw(alloc, source, sink, &options))),
         Task::Check => Ok(ending_of(check(alloc, source, sink))),
         Task::Judge => Ok(ending_of_judgement(judge(alloc, source, sink))),
-        Task::Run { with_journal, key } => Err(RunOptions { with_journal, key }),
+        Task::Run {
+            with_journal,
+            with_observations,
+            key,
+        } => Err(RunOptions {
+            with_journal,
+            with_observations,
+            key,
+        }),
     }
 }
 
@@ -247,7 +257,16 @@ fn perform_run<R: Source, W: Sink, T: Threads + Wait + Sync>(
         (R.failed source.old) (R.failed source.new) (W.failed sink.old) (W.failed sink.new) }
 {
     let key = options.key.as_deref();
-    ending_of_run(run(rt, alloc, source, sink, &Open, options.with_journal, key))
+    ending_of_run(run(
+        rt,
+        alloc,
+        source,
+        sink,
+        &Open,
+        options.with_journal,
+        options.with_observations,
+        key,
+    ))
 }
 
 /// How a call ends whose work came to this.

@@ -94,5 +94,12 @@ fn perform_run_in_turns<R: Source, W: Sink>(
         (R.failed source.old) (R.failed source.new) (W.failed sink.old) (W.failed sink.new) }
 {
     let key = options.key.as_deref();
-    ending_of(run_in_turns(alloc, source, sink, options.with_journal, key))
+    ending_of(run_in_turns(
+        alloc,
+        source,
+        sink,
+        options.with_journal,
+        options.with_observations,
+        key,
+    ))
 }

@@ -159,11 +159,11 @@ run-taken : fault_at (codes "run" ∷ []) ≡ []
 unfolding clap_on_literals
 run-taken = refl
 
-run-asked : asked_at (codes "run" ∷ []) ≡ asked_run false None
+run-asked : asked_at (codes "run" ∷ []) ≡ asked_run false false None
 unfolding clap_on_literals
 run-asked = refl
 
-run-with-both : asked_at (codes "run" ∷ codes "--journal" ∷ codes "--lookup" ∷ codes "a" ∷ []) ≡ asked_run true (Some
+run-with-both : asked_at (codes "run" ∷ codes "--journal" ∷ codes "--lookup" ∷ codes "a" ∷ []) ≡ asked_run true false (Some
     (codes "a"))
 unfolding clap_on_literals
 run-with-both = refl
@@ -171,6 +171,10 @@ run-with-both = refl
 run-with-both-taken : fault_at (codes "run" ∷ codes "--lookup=a" ∷ codes "--journal" ∷ []) ≡ []
 unfolding clap_on_literals is_name
 run-with-both-taken = refl
+
+run-with-observations : asked_at (codes "run" ∷ codes "--observations" ∷ []) ≡ asked_run false true None
+unfolding clap_on_literals
+run-with-observations = refl
 
 journal-twice : fault_at (codes "run" ∷ codes "--journal" ∷ codes "--journal" ∷ []) ≡ kind.ArgumentConflict ∷ []
 unfolding clap_on_literals
@@ -181,7 +185,7 @@ unfolding clap_on_literals
 key-missing = refl
 
 -- a key may begin with a hyphen, behind `=` and apart, and is then no option
-hyphen-key : asked_at (codes "run" ∷ codes "--lookup=-a" ∷ []) ≡ asked_run false (Some (codes "-a"))
+hyphen-key : asked_at (codes "run" ∷ codes "--lookup=-a" ∷ []) ≡ asked_run false false (Some (codes "-a"))
 unfolding clap_on_literals
 hyphen-key = refl
 
@@ -189,7 +193,7 @@ hyphen-key-taken : fault_at (codes "run" ∷ codes "--lookup=-a" ∷ []) ≡ []
 unfolding clap_on_literals is_name
 hyphen-key-taken = refl
 
-hyphen-key-apart : asked_at (codes "run" ∷ codes "--lookup" ∷ codes "-a" ∷ []) ≡ asked_run false (Some (codes "-a"))
+hyphen-key-apart : asked_at (codes "run" ∷ codes "--lookup" ∷ codes "-a" ∷ []) ≡ asked_run false false (Some (codes "-a"))
 unfolding clap_on_literals
 hyphen-key-apart = refl
 
@@ -197,7 +201,7 @@ hyphen-key-apart-taken : fault_at (codes "run" ∷ codes "--lookup" ∷ codes "-
 unfolding clap_on_literals is_name
 hyphen-key-apart-taken = refl
 
-option-as-a-key : asked_at (codes "run" ∷ codes "--lookup" ∷ codes "--journal" ∷ []) ≡ asked_run false (Some
+option-as-a-key : asked_at (codes "run" ∷ codes "--lookup" ∷ codes "--journal" ∷ []) ≡ asked_run false false (Some
     (codes "--journal"))
 unfolding clap_on_literals
 option-as-a-key = refl

@@ -30,6 +30,11 @@ strict_option = record (new_rule (codes "strict")) { long = Some (codes "strict"
 abbrev pub journal_option : Rule
 journal_option = record (new_rule (codes "journal")) { long = Some (codes "journal"); action = Some SetTrue }
 
+-- `--observations`
+abbrev pub observations_option : Rule
+observations_option =
+    record (new_rule (codes "observations")) { long = Some (codes "observations"); action = Some SetTrue }
+
 -- `--lookup KEY`
 abbrev pub lookup_option : Rule
 lookup_option = record (new_rule (codes "lookup")) { long = Some (codes "lookup"); action = Some Set; value_names = 1 }
@@ -47,7 +52,7 @@ abbrev pub judge_task : App
 judge_task = new_app (codes "judge")
 
 abbrev pub run_task : App
-run_task = with_rule (with_rule (new_app (codes "run")) journal_option) lookup_option
+run_task = with_rule (with_rule (with_rule (new_app (codes "run")) journal_option) observations_option) lookup_option
 
 -- with the tasks that take events as they stand
 abbrev pub with_replays : App
@@ -61,20 +66,21 @@ program = with_subcommand (with_subcommand with_replays judge_task.top) run_task
 -- ---- what is asked for
 
 -- a replay, strict or not; a trace; a picture of this part, or of one whose places are none; a check; a judgement; or a
--- run, with its journal or not, and with a key to look up or none
+-- run, with its journal or not, with its observations or its report, and with a key to look up or none
 pub data Asked : Type 0 where
   asked_replay : (is_strict : Bool) → Asked
   asked_trace : Asked
   asked_draw : (part : Option Options) → Asked
   asked_check : Asked
   asked_judge : Asked
-  asked_run : (with_journal : Bool) (key : Option Text) → Asked
+  asked_run : (with_journal with_observations : Bool) (key : Option Text) → Asked
 
 -- the task of this name, with what was found of its options
 abbrev pub asked_by : Option (Text × List Row) → Asked
 asked_by None = asked_replay false
 asked_by (Some (name, rows)) =
-    if bytes_eq name (codes "run") then asked_run (has_flag (codes "journal") rows) (first_of (codes "lookup") rows)
+    if bytes_eq name (codes "run")
+    then asked_run (has_flag (codes "journal") rows) (has_flag (codes "observations") rows) (first_of (codes "lookup") rows)
     else if bytes_eq name (codes "trace") then asked_trace
     else if bytes_eq name (codes "draw") then asked_draw (options_of rows)
     else if bytes_eq name (codes "check") then asked_check
@@ -103,7 +109,8 @@ asked_in task.Trace = asked_trace
 asked_in (task.Draw options) = asked_draw (Some options)
 asked_in task.Check = asked_check
 asked_in task.Judge = asked_judge
-asked_in (task.Run with_journal key) = asked_run with_journal (option_map string_bytes key)
+asked_in (task.Run with_journal with_observations key) =
+    asked_run with_journal with_observations (option_map string_bytes key)
 
 -- ---- what is wrong with it
 
@@ -123,8 +130,8 @@ value_faults asked_trace = []
 value_faults (asked_draw part) = part_faults part
 value_faults asked_check = []
 value_faults asked_judge = []
-value_faults (asked_run with_journal None) = []
-value_faults (asked_run with_journal (Some key)) = bad_key_faults (if is_key key then None else Some key)
+value_faults (asked_run with_journal with_observations None) = []
+value_faults (asked_run with_journal with_observations (Some key)) = bad_key_faults (if is_key key then None else Some key)
 
 -- what `clap` has against the words, and else what is wrong with a value
 abbrev pub faults : List Text → Kinds

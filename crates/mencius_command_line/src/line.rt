@@ -3,7 +3,7 @@
 ghost use Rattle.std.specs.Prelude.{◌≡◌, ◌≤◌, ◌∷◌, false, IfErr, IfOk, Some, codes, length, map, option_copied, option_map, string_bytes};
 ghost use Rattle.clap.specs.declared.builder.command.Command.TheViews.{out-Command as fields_of};
 ghost use Rattle.clap.specs.Words.{FailsBy, HasKind, app_of, first_of, found_of, kind_of, rows_of, rule_of, subcommand_rows_of};
-ghost use Rattle.mencius_command_line.specs.CommandLine.{asked, asked_by, asked_in, bad_key_faults, faults, check_task, is_key, journal_option, judge_task, lookup_option, program, replay_task, run_task, strict_option, trace_task, value_faults, with_joined_key, with_replays, without_tasks, words_read};
+ghost use Rattle.mencius_command_line.specs.CommandLine.{asked, asked_by, asked_in, bad_key_faults, faults, check_task, is_key, journal_option, judge_task, lookup_option, observations_option, program, replay_task, run_task, strict_option, trace_task, value_faults, with_joined_key, with_replays, without_tasks, words_read};
 ghost use Rattle.mencius_command_line.specs.Flags.{has_flag};
 
 use crate::drawing::{draw_command, options_of};
@@ -33,6 +33,8 @@ pub enum Task {
     Run {
         /// Whether the journal is printed before the report.
         with_journal: bool,
+        /// Whether what was seen of the servers is printed in place of the report.
+        with_observations: bool,
         /// The key that is looked up at the end.
         key: Option<String>,
     },
@@ -63,6 +65,16 @@ fn journal_option<'a>(alloc: Global) -> Arg<'a>
         .action(ArgAction::SetTrue)
 }
 
+// The option `--observations`.
+fn observations_option<'a>(alloc: Global) -> Arg<'a>
+    ensures rule { rule_of result ≡ observations_option }
+    ensures local { result.global ≡ false }
+{
+    Arg::new(alloc, "observations")
+        .long("observations")
+        .action(ArgAction::SetTrue)
+}
+
 // The option `--lookup KEY`.
 fn lookup_option<'a>(alloc: Global) -> Arg<'a>
     ensures rule { rule_of result ≡ lookup_option }
@@ -82,6 +94,7 @@ fn run_command<'a>(alloc: Global) -> Result<Command<'a>, AllocError>
     Command::new(alloc, "run")
         .override_usage(RUN_USAGE)
         .arg(journal_option(alloc))?
+        .arg(observations_option(alloc))?
         .arg(lookup_option(alloc))
 }
 
@@ -226,8 +239,13 @@ fn task_named(alloc: Global, name: &str, options: &ArgMatches) -> Result<Task, E
 {
     if name == "run" {
         let with_journal = has_flag(options, "journal");
+        let with_observations = has_flag(options, "observations");
         let key = key_of(alloc, options)?;
-        return Ok(Task::Run { with_journal, key });
+        return Ok(Task::Run {
+            with_journal,
+            with_observations,
+            key,
+        });
     }
     if name == "trace" {
         return Ok(Task::Trace);
@@ -297,8 +315,8 @@ fn key_error(alloc: Global, key: &str) -> Result<Error, AllocError>
 /// words are taken, which task and which options they ask for, and the kind of the error where they
 /// are not taken, is what `clap` says of a program with a version and the six subcommands
 /// `replay [--strict]`, `trace`, `draw [--from EVENT] [--to EVENT] [--dark] [--light]`, `check`, `judge` and
-/// `run [--journal] [--lookup KEY]`, once `--lookup` and the word behind it are joined to `--lookup=KEY`; and a KEY that
-/// is no key of a command is refused, and an EVENT that is no number.
+/// `run [--journal] [--observations] [--lookup KEY]`, once `--lookup` and the word behind it are joined to
+/// `--lookup=KEY`; and a KEY that is no key of a command is refused, and an EVENT that is no number.
 ///
 /// # Errors
 ///

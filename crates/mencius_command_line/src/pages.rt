@@ -345,6 +345,9 @@ What is printed, in this order:
                             which prints the report again
   servers .., server .., reply ..
                             the report, as `replay` prints it
+  submit .., execute .., reply ..
+                            with --observations, in its place: what was seen of the servers,
+                            as a log that `judge` reads
   lookup KEY =TEXT          with --lookup KEY: what the longest history leaves at KEY, this
   lookup KEY none           .. text, or nothing
 
@@ -355,6 +358,7 @@ Usage: mencius run [OPTIONS] < SCENARIO
 
 Options:
       --journal       First prints the accepted events, as a scenario of `replay`
+      --observations  Prints what was seen of the servers in place of the report
       --lookup <KEY>  Last prints what the longest history leaves at KEY
   -h, --help          Print help
 
@@ -368,9 +372,10 @@ From 3 on, standard error has the line `mencius: fault NUMBER NAME`, and of a sc
 is bad or cannot be read a second one, which says where it is wrong, unless memory for it
 ran out. Nothing was printed then, unless writing failed.
 
-Examples, at the top of the repository; the second replays a run:
+Examples, at the top of the repository; the second replays a run, the third judges one:
   ./mencius run --lookup a < examples/calm_run.json
   ./mencius run --journal < examples/calm_run.json | sed -n 1p | ./mencius replay
+  ./mencius run --observations < examples/lossy_run.json | ./mencius judge
 
 docs/FORMATS.md describes the format in full, and examples/ has runs to try.
 ";

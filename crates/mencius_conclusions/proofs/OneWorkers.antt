@@ -224,11 +224,11 @@ said_once bytes written said is says =
     cc
 
 pub one_text : OneText
-one_text bytes with_journal key text other written is one run also =
+one_text bytes with_journal with_observations key text other written is one run also =
     let first : IsOutcome written run.cluster =
     subst (λ s. IsOutcome s run.cluster) (said_once bytes written run.written is run.says) run.outcome in
     let second : IsOutcome written also.cluster =
     subst (λ s. IsOutcome s also.cluster) (said_once bytes written also.written is also.says) also.outcome in
     let boards = one_cluster written.course _ _ first.board second.board one refl first.ran second.ran in
     let same : run.cluster ≡ also.cluster = first.is ∙ (boards ∙ sym second.is) in
-    run.run ∙ (ap (run_text with_journal key) same ∙ sym also.run)
+    run.run ∙ (ap (run_text with_journal with_observations key) same ∙ sym also.run)

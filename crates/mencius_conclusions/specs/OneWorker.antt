@@ -14,6 +14,7 @@ OneCluster = (plan : PlanState) (old other new other_new : BoardState) → plan.
 
 -- two texts of a run by the same bytes are the same, where these say a plan with one worker
 abbrev pub OneText : Type 0
-OneText = (bytes : List ℕ) (with_journal : Bool) (key : Option (List ℕ)) (text other : List ℕ)
+OneText = (bytes : List ℕ) (with_journal with_observations : Bool) (key : Option (List ℕ)) (text other : List ℕ)
     (written : Scenario PlanState) → plan_input_of bytes ≡ Ok written → written.course.workers ≡ 1
-    → IsRunOf (Some bytes) with_journal key text → IsRunOf (Some bytes) with_journal key other → text ≡ other
+    → IsRunOf (Some bytes) with_journal with_observations key text
+    → IsRunOf (Some bytes) with_journal with_observations key other → text ≡ other

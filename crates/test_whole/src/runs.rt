@@ -26,7 +26,7 @@ pub fn ran<R: Threads + Wait + Sync, G: Gate + Sync>(
 ) -> Result<(), RunFinding> {
     let mut source = Std::new(scenario.as_bytes());
     let mut sink = Std::new(written);
-    run(rt, alloc, &mut source, &mut sink, gate, true, None)
+    run(rt, alloc, &mut source, &mut sink, gate, true, false, None)
 }
 
 // A cluster after the turns of a run's one worker, each taken on a board.

@@ -152,7 +152,10 @@ fn make<R: Abort + Threads + Wait + Sync>(
         Call::Replay => replay(alloc, source, sink),
         Call::Trace => trace(alloc, source, sink),
         Call::Check => check(alloc, source, sink),
-        Call::Run => found_in(rt, run(rt, alloc, source, sink, &Open, true, Some("a"))),
+        Call::Run => found_in(
+            rt,
+            run(rt, alloc, source, sink, &Open, true, false, Some("a")),
+        ),
         Call::Report => return report(alloc, &cluster_after(rt, alloc, SCENARIO), sink),
     };
     made.map_err(|finding| finding.fault)

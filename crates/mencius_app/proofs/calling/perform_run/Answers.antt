@@ -11,7 +11,7 @@ returns-clause-board g c = board_of_run c.run.result _ c.ending_of_run.ensures c
 pub returns-clause-fault : goal.returns-clause-fault
 returns-clause-fault g c =
     of_run c.run.result _ _ c.ending_of_run.ensures (IfErr-weaker c.run.result _ _ (λ run h. also_found run
-    (λ found cause. as_text (λ text is. text_of_run _ _ _ _ text c.as_deref-key.ensures.value is) cause) h)
+    (λ found cause. as_text (λ text is. text_of_run _ _ _ _ _ text c.as_deref-key.ensures.value is) cause) h)
     c.run.ensures.fault)
 
 pub returns-clause-words : goal.returns-clause-words

@@ -10,7 +10,7 @@ returns-clause-no_board g c = done_not_board c.run_in_turns.result _ c.ending_of
 pub returns-clause-fault : goal.returns-clause-fault
 returns-clause-fault g c =
     of_result c.run_in_turns.result _ _ c.ending_of.ensures (IfErr-weaker c.run_in_turns.result _ _ (λ found h. as_text (λ text is.
-    text_of_run _ _ _ _ text c.as_deref-key.ensures.value is) h) c.run_in_turns.ensures.fault)
+    text_of_run _ _ _ _ _ text c.as_deref-key.ensures.value is) h) c.run_in_turns.ensures.fault)
 
 pub returns-clause-words : goal.returns-clause-words
 returns-clause-words g c =

@@ -1,7 +1,8 @@
 use Rattle.std.proofs.Common.{List, ◌≡◌, ◌∙◌, [], ap, map, rules, string_bytes, subst, sym, true}
+use Rattle.std.proofs.lemmas.Bool.{and_parts}
 use Rattle.std.proofs.lemmas.Result.{IfOk-weaker}
 use Rattle.clap.specs.Kinds.{FailsBy, HasKind, or_else}
-use Rattle.clap.specs.Words.{Kinds, Text, app_of, fault_of, is_simple_and_free, subcommand_of, subcommand_rows_of}
+use Rattle.clap.specs.Words.{Kinds, Text, app_of, fault_of, is_simple, is_simple_and_free, subcommand_of, subcommand_rows_of}
 use Rattle.mencius_command_line.specs.CommandLine.{Asked, asked_by, asked_in, value_faults, program, words_read}
 use Rattle.mencius_command_line.proofs.CommandLines.{err_first, err_of, kinds_next, program_simple}
 use Rattle.mencius_command_line.proofs.line.read_command_line.Goals as goal
@@ -9,6 +10,9 @@ use Rattle.mencius_command_line.proofs.line.read_command_line.Goals as goal
 -- what words ask for that were joined
 abbrev asked_there : List Text → Asked
 asked_there words = asked_by (subcommand_of program words)
+
+plain_program : is_simple program ≡ true
+plain_program = (and_parts (is_simple program) _ program_simple).0
 
 pub returns-in_err-matches-clause-faults : goal.returns-in_err-matches-clause-faults
 returns-in_err-matches-clause-faults c =
@@ -32,7 +36,10 @@ returns-in_err-task-clause-faults c =
     c.in_ok-command.ensures ∙ program_simple in
     let none : fault_of program words ≡ [] = ap (λ a. fault_of a words) (sym c.in_ok-command.ensures)
     ∙ c.in_ok-matches.ensures.kinds simple in
-    let there : asked_by (subcommand_rows_of c.in_ok-matches.matches) ≡ asked_there words = search rules in
+    let found : subcommand_rows_of c.in_ok-matches.matches ≡ subcommand_of program words =
+    (c.in_ok-matches.ensures.ok.2 (ap is_simple c.in_ok-command.ensures ∙ plain_program)).1
+    ∙ ap (λ a. subcommand_of a words) c.in_ok-command.ensures in
+    let there : asked_by (subcommand_rows_of c.in_ok-matches.matches) ≡ asked_there words = ap asked_by found in
     subst (λ ws. FailsBy (or_else (fault_of program ws) (value_faults (asked_there ws)))
     c.from_residual-in_err-task.result) joined
     (rw (kinds_next (fault_of program words) (value_faults (asked_there words)) none)
@@ -47,7 +54,10 @@ returns-clause-faults c =
     c.in_ok-command.ensures ∙ program_simple in
     let none : fault_of program words ≡ [] = ap (λ a. fault_of a words) (sym c.in_ok-command.ensures)
     ∙ c.in_ok-matches.ensures.kinds simple in
-    let said : asked_in c.in_ok-task.task ≡ asked_there words = search rules in
+    let found : subcommand_rows_of c.in_ok-matches.matches ≡ subcommand_of program words =
+    (c.in_ok-matches.ensures.ok.2 (ap is_simple c.in_ok-command.ensures ∙ plain_program)).1
+    ∙ ap (λ a. subcommand_of a words) c.in_ok-command.ensures in
+    let said : asked_in c.in_ok-task.task ≡ asked_there words = c.in_ok-task.ensures.task ∙ ap asked_by found in
     subst (λ ws. FailsBy (or_else (fault_of program ws) (value_faults (asked_there ws))) c.with_good_key.result) joined
     (subst (λ (ks : Kinds). FailsBy ks c.with_good_key.result) (ap value_faults said
     ∙ sym (kinds_next (fault_of program words) (value_faults (asked_there words)) none)) c.with_good_key.ensures.faults)
@@ -56,5 +66,8 @@ pub returns-clause-task : goal.returns-clause-task
 returns-clause-task c =
     let words = map string_bytes c.as_slice.result.now in
     let joined : words ≡ words_read (map string_bytes c.args.words.now) = search rules in
-    let said : asked_in c.in_ok-task.task ≡ asked_there words = search rules in
+    let found : subcommand_rows_of c.in_ok-matches.matches ≡ subcommand_of program words =
+    (c.in_ok-matches.ensures.ok.2 (ap is_simple c.in_ok-command.ensures ∙ plain_program)).1
+    ∙ ap (λ a. subcommand_of a words) c.in_ok-command.ensures in
+    let said : asked_in c.in_ok-task.task ≡ asked_there words = c.in_ok-task.ensures.task ∙ ap asked_by found in
     IfOk-weaker c.with_good_key.result _ _ (λ task h. h ∙ said ∙ ap asked_there joined) c.with_good_key.ensures.task
