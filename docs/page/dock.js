@@ -140,9 +140,10 @@ function table(trace, server, servers) {
 }
 
 function rowsOf(instance, { promised, vote, tried, promises, acceptances, proposal, learned }, servers) {
-  const votes = vote ? `${vote.value}@b${vote.ballot}` : null;
+  // Where a card is too narrow for a vote, its ballot goes below.
+  const voted = vote ? [vote.value, `@b${vote.ballot}`].map(part => el('span', {}, part)) : [written(null)];
   const first = el('tr', {}, el('th', { scope: 'row', class: ownerOf(instance, servers) }, `i${instance}`),
-    ...[promised ? `b${promised}` : null, votes].map(text => el('td', {}, written(text))),
+    el('td', {}, written(promised ? `b${promised}` : null)), el('td', { class: 'vote' }, ...voted),
     el('td', { class: 'learned-value' }, written(learned)));
   if (learned) return [first];
   const tells = [tried ? `tries b${tried}` : null, promises && `promises ${promises}`,

@@ -183,7 +183,7 @@ function fillKey(core) {
   for (const part of [...svg.children]) if (!isKept(part)) part.remove();
   key.querySelector('text').remove();
   key.setAttribute('transform', 'translate(4 12)');
-  svg.setAttribute('viewBox', '0 0 850 100');
+  svg.setAttribute('viewBox', '0 0 850 118');
   svg.setAttribute('width', '100%');
   svg.removeAttribute('height');
   $('key').replaceChildren(svg);
