@@ -1,7 +1,8 @@
 -- One step more of a pass along a list: what was made so far, and what the rest still gives, make the whole.
-use Rattle.std.proofs.Common.{◌≡◌, ◌<◌, ℕ, zero, suc, ◌+◌, List, [], ◌∷◌, ◌++◌, Result, Ok, Err, OnOk, ap, sym, ◌∙◌, append-nil, append_assoc, arith, add-one, length, drop, drop-cons, get_or, map}
+use Rattle.std.proofs.Common.{◌≡◌, ◌<◌, ◌≤◌, ℕ, zero, suc, ◌+◌, List, [], ◌∷◌, ◌++◌, Result, Ok, Err, OnOk, ap, sym, ◌∙◌, append-nil, append_assoc, arith, add-one, length, drop, drop-cons, get_or, map}
 use Rattle.std.specs.List.{flat_map, range_with_len}
 use Rattle.std.proofs.lemmas.Grind.{flat_map-append}
+use Rattle.std.proofs.lemmas.List.{drop_all}
 
 -- the rest begins with the item that comes next
 pub rest_begins_at : {X : Type 0} (xs : List X) (i : ℕ) (d : X) → i < length xs
@@ -17,6 +18,12 @@ text_further f g xs i d old new whole h had got =
     ap (λ text. text ++ flat_map f (map g (drop (i + 1) xs))) got
     ∙ append_assoc old (f (g (get_or xs i d))) (flat_map f (map g (drop (i + 1) xs)))
     ∙ ap (λ ys. old ++ flat_map f (map g ys)) (sym (rest_begins_at xs i d h)) ∙ had
+
+-- a text that got what each item gives
+pub text_whole : {X Y : Type 0} (f : Y → List ℕ) (g : X → Y) (xs : List X) (i : ℕ) (text whole : List ℕ)
+    → length xs ≤ i → text ++ flat_map f (map g (drop i xs)) ≡ whole → text ≡ whole
+text_whole f g xs i text whole h had =
+    sym (append-nil text) ∙ ap (λ ys. text ++ flat_map f (map g ys)) (sym (drop_all i xs h)) ∙ had
 
 -- a text that gets what the next number gives
 range_last : (a n j : ℕ) → a + n ≡ j → range_with_len a (suc n) ≡ range_with_len a n ++ j ∷ []

@@ -1,12 +1,12 @@
 -- What each server came to, below its lane.
-use Rattle.std.specs.Prelude.{ℕ, ◌+◌, ◌==◌, ◌&&◌, List, [], ◌∷◌, ◌++◌, codes, decimal, not, if◌then◌else◌}
+use Rattle.std.specs.Prelude.{ℕ, ◌==◌, ◌&&◌, List, [], ◌∷◌, ◌++◌, codes, decimal, not, if◌then◌else◌}
 use Rattle.std.specs.List.{flat_map}
 use Rattle.std.specs.Str.{bytes_eq}
 use Rattle.mencius_draw.specs.declared.facts.Note.TheVariants.{Executed}
 use Rattle.mencius_draw.specs.declared.facts.Fact.{Fact}
 use Rattle.mencius_draw.specs.declared.facts.Fact.TheVariants.{Closing, Outcome, Unheard}
 use Rattle.mencius_draw.specs.Layout.{Outline}
-use Rattle.mencius_draw.specs.Places.{lane_of, y_of}
+use Rattle.mencius_draw.specs.Places.{moved_below}
 use Rattle.mencius_draw.specs.Words.{fixed, number, plain, plain_word, rest, word}
 
 -- a server's command behind a space, and nothing for no-op or another server's
@@ -45,8 +45,8 @@ list_text (b ∷ bs) = b ∷ bs
 -- the foot of a server, with the line of how far it is, its history and what it did not hear
 abbrev pub foot_at : ℕ → ℕ → List ℕ → ℕ → List ℕ → List ℕ → List ℕ
 foot_at servers levels line server history unheard =
-    fixed (codes "<g class='foot' transform='translate(") ++ decimal (lane_of servers server) ++ fixed (codes " ") ++ decimal (y_of levels + 4)
-    ++ fixed (codes ")'><rect class='card' x='-96' width='192' height='92' rx='8'/><text x='-86' y='20'>front ")
+    fixed (codes "<g class='foot' ") ++ moved_below servers server levels 4
+    ++ fixed (codes "><rect class='card' x='-96' width='192' height='92' rx='8'/><text x='-86' y='20'>front ")
     ++ plain_word 3 line ++ fixed (codes ", executed ") ++ plain_word 5 line
     ++ fixed (codes "</text><text x='-86' y='39'>history") ++ list_text history
     ++ fixed (codes "</text><text x='-86' y='58'>") ++ plain (rest 8 line)

@@ -8,7 +8,7 @@ use Rattle.mencius_draw.specs.declared.facts.Fact.{Fact}
 use Rattle.mencius_draw.specs.declared.facts.Fact.TheVariants.{Event}
 use Rattle.mencius_draw.specs.Layout.{Outline}
 use Rattle.mencius_draw.specs.Places.{lane_of, y_of}
-use Rattle.mencius_draw.specs.Words.{fixed}
+use Rattle.mencius_draw.specs.Words.{between, fixed}
 
 abbrev pub scheme_text : Scheme → List ℕ
 scheme_text Both = codes "svg{color-scheme:light dark}\n"
@@ -22,13 +22,13 @@ colours Dark = DARK_COLOURS.now
 
 abbrev pub size_text : ℕ → ℕ → List ℕ
 size_text width levels =
-    fixed (codes "width='") ++ decimal width ++ fixed (codes "' height='") ++ decimal (y_of levels + 250)
+    between (codes "width='") width (codes "' height='") ++ decimal (y_of levels + 250)
 
 abbrev pub svg_text : ℕ → ℕ → ℕ → List ℕ
 svg_text servers width levels =
-    fixed (codes "<svg xmlns='http://www.w3.org/2000/svg' ") ++ size_text width levels ++ fixed (codes "' viewBox='0 0 ")
-    ++ decimal width ++ fixed (codes " ") ++ decimal (y_of levels + 250) ++ fixed (codes "' role='img'>\n<title>Space-time diagram of a schedule; servers: ")
-    ++ decimal servers ++ fixed (codes "</title>\n")
+    fixed (codes "<svg xmlns='http://www.w3.org/2000/svg' ") ++ size_text width levels
+    ++ between (codes "' viewBox='0 0 ") width (codes " ") ++ decimal (y_of levels + 250)
+    ++ between (codes "' role='img'>\n<title>Space-time diagram of a schedule; servers: ") servers (codes "</title>\n")
 
 -- all that comes before the first rule
 abbrev pub head : Scheme → ℕ → ℕ → ℕ → List ℕ
@@ -38,8 +38,7 @@ head scheme servers width levels =
 
 abbrev pub rule_at : ℕ → ℕ → List ℕ
 rule_at width level =
-    codes "<path class='rule' d='M0 " ++ decimal (y_of level - 12) ++ codes "H" ++ decimal width
-    ++ codes "'/>\n"
+    between (codes "<path class='rule' d='M0 ") (y_of level - 12) (codes "H") ++ decimal width ++ fixed (codes "'/>\n")
 
 abbrev pub fact_rule : ℕ → ℕ → Fact → List ℕ
 fact_rule width level (Event place act server is_refused) = rule_at width level
@@ -51,12 +50,12 @@ rule_text width x = if x.spot.is_shown then fact_rule width x.spot.level x.fact 
 
 abbrev pub lane_text : ℕ → ℕ → ℕ → List ℕ
 lane_text servers levels server =
-    fixed (codes "<g class='lane' transform='translate(") ++ decimal (lane_of servers server)
-    ++ fixed (codes " 0)'><path class='line' d='M0 56V") ++ decimal (y_of levels + 0) ++ fixed (codes "'/><rect class='t")
-    ++ decimal server ++ fixed (codes " s") ++ decimal server
-    ++ fixed (codes "' x='-62' y='14' width='124' height='44' rx='9'/><text class='name f") ++ decimal server
-    ++ fixed (codes "' y='33'>server ") ++ decimal server ++ fixed (codes "</text><text class='owns' y='49'>owns ") ++ decimal server
-    ++ fixed (codes ", ") ++ decimal (server + servers) ++ fixed (codes ", ..</text></g>\n")
+    between (codes "<g class='lane' transform='translate(") (lane_of servers server) (codes " 0)'><path class='line' d='M0 56V")
+    ++ decimal (y_of levels + 0)
+    ++ between (codes "'/><rect class='t") server (codes " s") ++ decimal server
+    ++ between (codes "' x='-62' y='14' width='124' height='44' rx='9'/><text class='name f") server (codes "' y='33'>server ")
+    ++ decimal server ++ between (codes "</text><text class='owns' y='49'>owns ") server (codes ", ")
+    ++ decimal (server + servers) ++ fixed (codes ", ..</text></g>\n")
 
 -- a lane for each server
 abbrev pub lanes : ℕ → ℕ → List ℕ

@@ -14,7 +14,7 @@ use Rattle.mencius_draw.specs.Labels.{note_class, note_label, sent_label}
 use Rattle.mencius_draw.specs.Layout.{Outline}
 use Rattle.mencius_draw.specs.Places.{lane_of, moved_to, y_of}
 use Rattle.mencius_draw.specs.Ways.{fate_of, heard_by, is_near, owner_of, way_of}
-use Rattle.mencius_draw.specs.Words.{fixed, plain, rest}
+use Rattle.mencius_draw.specs.Words.{between, fixed, plain, rest}
 
 -- ---- events
 
@@ -36,8 +36,8 @@ origin is_near sent = if is_near then [] else from_event sent
 -- which message was heard or lost
 abbrev pub message_cause : ℕ → SentMessage → Bool → Spot → List ℕ
 message_cause servers sent is_lost spot =
-    fixed (codes "<text class='cause f") ++ decimal (owner_of servers sent.inst) ++ fixed (codes "' x='-24' y='4'>")
-    ++ fate_of is_lost ++ fixed (codes " ") ++ decimal sent.number ++ fixed (codes " ") ++ kind_name sent.kind
+    between (codes "<text class='cause f") (owner_of servers sent.inst) (codes "' x='-24' y='4'>")
+    ++ fate_of is_lost ++ between (codes " ") sent.number (codes " ") ++ kind_name sent.kind
     ++ origin (is_near sent.spot spot) sent.spot ++ fixed (codes "</text>")
 
 abbrev pub act_words : Act → List ℕ
@@ -81,9 +81,10 @@ edge_at level = fixed (codes "transform='translate(0 ") ++ decimal (y_of level +
 -- an event: its place and its text at the left edge, and its mark on the lane of its server
 abbrev pub event_text : ℕ → List SentMessage → Outline → Act → Bool → List ℕ
 event_text servers sents x act is_refused =
-    fixed (codes "<g id='e") ++ decimal x.spot.place ++ fixed (codes "' class='event ") ++ act_name act ++ fixed (codes "' data-e='")
-    ++ decimal x.spot.place ++ fixed (codes "'><g ") ++ edge_at x.spot.level ++ fixed (codes "><text class='place' x='44' y='4'>")
-    ++ decimal x.spot.place ++ fixed (codes "</text><text class='what' x='54' y='4'>") ++ plain (rest 2 x.line)
+    between (codes "<g id='e") x.spot.place (codes "' class='event ") ++ act_name act
+    ++ between (codes "' data-e='") x.spot.place (codes "'><g ") ++ edge_at x.spot.level
+    ++ between (codes "><text class='place' x='44' y='4'>") x.spot.place (codes "</text><text class='what' x='54' y='4'>")
+    ++ plain (rest 2 x.line)
     ++ fixed (codes "</text></g><g ") ++ moved_to servers x.spot.server x.spot.level ++ fixed (codes ">")
     ++ cause_text servers sents x.fact act x.spot ++ mark_text act is_refused ++ fixed (codes "</g></g>\n")
 
@@ -110,23 +111,22 @@ abbrev pub greatest_reach : ℕ → List Outline → ℕ
 greatest_reach servers [] = 0
 greatest_reach servers (x ∷ xs) = max (reach_of servers x) (greatest_reach servers xs)
 
--- a box, and in it the label
+-- a box, up to the class of the label in it
 abbrev pub label_box : List ℕ → List ℕ
 label_box label =
-    codes "' x='24' y='-10' width='" ++ decimal (box_width label) ++ codes "' height='20' rx='4'/><text class='says "
+    between (codes "' x='24' y='-10' width='") (box_width label) (codes "' height='20' rx='4'/><text class='says ")
 
-abbrev pub label_text : List ℕ → List ℕ
-label_text label = codes "' x='31' y='4'>" ++ label ++ codes "</text>"
-
--- tinted, with a border, in the colour of an owner
+-- a label in a box that is tinted, with a border, in the colour of an owner
 abbrev pub tinted_box : ℕ → List ℕ → List ℕ
 tinted_box owner label =
-    codes "<rect class='t" ++ decimal owner ++ codes " s" ++ decimal owner ++ label_box label
-    ++ codes "f" ++ decimal owner ++ label_text label
+    between (codes "<rect class='t") owner (codes " s") ++ decimal owner ++ label_box label
+    ++ between (codes "f") owner (codes "' x='31' y='4'>") ++ label ++ fixed (codes "</text>")
 
--- filled with it
+-- in a box that is filled with it
 abbrev pub filled_box : ℕ → List ℕ → List ℕ
-filled_box owner label = codes "<rect class='f" ++ decimal owner ++ label_box label ++ codes "on" ++ label_text label
+filled_box owner label =
+    fixed (codes "<rect class='f") ++ decimal owner ++ label_box label ++ fixed (codes "on' x='31' y='4'>") ++ label
+    ++ fixed (codes "</text>")
 
 -- from a lane to a box, beside a mark from its right edge on
 abbrev pub tick_of : Spot → List ℕ
@@ -139,9 +139,9 @@ sent_box servers sent line = tinted_box (owner_of servers sent.inst) (sent_label
 -- a message that was sent
 abbrev pub sent_text : ℕ → Outline → SentMessage → List ℕ
 sent_text servers x sent =
-    fixed (codes "<g id='m") ++ decimal sent.number ++ fixed (codes "' class='sent ") ++ kind_name sent.kind ++ fixed (codes "' data-e='")
-    ++ decimal x.spot.place ++ fixed (codes "' ") ++ moved_to servers x.spot.server x.spot.level
-    ++ fixed (codes "><path class='tick s") ++ decimal (owner_of servers sent.inst) ++ fixed (codes "' d='")
+    between (codes "<g id='m") sent.number (codes "' class='sent ") ++ kind_name sent.kind
+    ++ between (codes "' data-e='") x.spot.place (codes "' ") ++ moved_to servers x.spot.server x.spot.level
+    ++ between (codes "><path class='tick s") (owner_of servers sent.inst) (codes "' d='")
     ++ tick_of x.spot ++ fixed (codes "'/>")
     ++ sent_box servers sent x.line
     ++ fixed (codes "</g>\n")
@@ -149,7 +149,7 @@ sent_text servers x sent =
 -- a filled path that stands on the mark of an event
 abbrev pub over_at : ℕ → ℕ → Spot → List ℕ → List ℕ
 over_at servers inst spot path =
-    fixed (codes "<path class='f") ++ decimal (owner_of servers inst) ++ fixed (codes "' ")
+    between (codes "<path class='f") (owner_of servers inst) (codes "' ")
     ++ moved_to servers spot.server spot.top ++ path
 
 -- diamond: learned; square: executed
@@ -170,7 +170,7 @@ note_words servers _ label = bare_words label
 -- any other outcome
 abbrev pub note_text : ℕ → Outline → Note → List ℕ
 note_text servers x note =
-    fixed (codes "<g class='") ++ note_class note ++ fixed (codes "' data-e='") ++ decimal x.spot.place ++ fixed (codes "'>")
+    fixed (codes "<g class='") ++ note_class note ++ between (codes "' data-e='") x.spot.place (codes "'>")
     ++ over_text servers note x.spot ++ fixed (codes "<g ") ++ moved_to servers x.spot.server x.spot.level
     ++ fixed (codes ">")
     ++ note_words servers note (note_label note x.line) ++ fixed (codes "</g></g>\n")

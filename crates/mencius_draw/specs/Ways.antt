@@ -1,5 +1,5 @@
 -- Arrows: how messages came to servers, or were lost on their way.
-use Rattle.std.specs.Prelude.{ℕ, ◌+◌, ◌-◌, ◌*◌, ◌%◌, ◌==◌, ◌&&◌, List, [], ◌∷◌, ◌++◌, Bool, true, false, Option, Some, None, codes, decimal, max, nat_le, nat_lt, slice_get, if◌then◌else◌}
+use Rattle.std.specs.Prelude.{ℕ, ◌+◌, ◌-◌, ◌*◌, ◌%◌, ◌==◌, ◌&&◌, List, [], ◌++◌, Bool, true, false, Option, Some, None, codes, decimal, max, nat_le, nat_lt, slice_get, if◌then◌else◌}
 use Rattle.mencius_draw.specs.declared.facts.Act.TheVariants.{Deliver, Lose}
 use Rattle.mencius_draw.specs.declared.facts.Kind.{Kind}
 use Rattle.mencius_draw.specs.declared.facts.Kind.TheVariants.{Suggest, Skip, Accepted, Prepare, Promise, Propose, Learn}
@@ -11,7 +11,7 @@ use Rattle.mencius_draw.specs.declared.ways.Way.{Way}
 use Rattle.mencius_draw.specs.Facts.{kind_name}
 use Rattle.mencius_draw.specs.Layout.{Outline}
 use Rattle.mencius_draw.specs.Places.{lane_of, y_of}
-use Rattle.mencius_draw.specs.Words.{fixed}
+use Rattle.mencius_draw.specs.Words.{between, fixed}
 
 -- the server in whose colour an instance is drawn: its owner
 abbrev pub owner_of : ℕ → ℕ → ℕ
@@ -50,9 +50,9 @@ point_of Promise = codes "open"
 point_of Propose = codes "full"
 point_of Learn = codes "full"
 
--- a place, as paths have it
-abbrev pub point : ℕ → ℕ → List ℕ
-point x y = decimal x ++ 32 ∷ decimal y
+-- a command of a path, or the next point of one: its letter or a space, and the place to which it goes
+unfoldable pub command : List ℕ → ℕ → ℕ → List ℕ
+command letter x y = between letter x (codes " ") ++ decimal y
 
 -- so far beside a lane, on the side where the sender's lane is, and left of it where it is the same
 abbrev pub beside : ℕ → ℕ → ℕ → ℕ
@@ -60,19 +60,19 @@ beside from to by = if nat_lt to from then to + by else to - by
 
 -- from a lane to just before the mark on another one
 abbrev pub straight_path : ℕ → ℕ → ℕ → ℕ → List ℕ
-straight_path from start to end = codes "M" ++ point from start ++ codes "L" ++ point (beside from to 10) (end - 3)
+straight_path from start to end = command (codes "M") from start ++ command (codes "L") (beside from to 10) (end - 3)
 
 -- from a lane back to it, further out by the place of the event
 abbrev pub loop_path : ℕ → ℕ → ℕ → ℕ → List ℕ
 loop_path lane start end place =
     let side = lane - (place % 8 * 9 + 20) in
-    codes "M" ++ point lane start ++ codes "C" ++ point side (start + 10) ++ codes " " ++ point side (end - 14)
-    ++ codes " " ++ point (lane - 10) (end - 3)
+    command (codes "M") lane start ++ command (codes "C") side (start + 10) ++ command (codes " ") side (end - 14)
+    ++ command (codes " ") (lane - 10) (end - 3)
 
 -- the end of an arrow alone, from the side where the sender's lane is
 abbrev pub stub_path : ℕ → ℕ → ℕ → List ℕ
 stub_path from to end =
-    codes "M" ++ point (beside from to 30) (end - 12) ++ codes "L" ++ point (beside from to 9) (end - 4)
+    command (codes "M") (beside from to 30) (end - 12) ++ command (codes "L") (beside from to 9) (end - 4)
 
 -- from the lane of the sender to that of the server, and from the level where it was sent to that of the event
 abbrev pub way_path : ℕ → Sent → ℕ → Spot → List ℕ
@@ -97,15 +97,15 @@ way_end servers sent false = heard_end servers sent.kind sent.inst
 
 abbrev pub way_title : Sent → Way → List ℕ
 way_title sent way =
-    fixed (codes "><title>message ") ++ decimal sent.number ++ fixed (codes ": ") ++ kind_name sent.kind
-    ++ fixed (codes " from ") ++ decimal sent.from ++ fixed (codes " to ") ++ decimal way.server
+    between (codes "><title>message ") sent.number (codes ": ") ++ kind_name sent.kind
+    ++ between (codes " from ") sent.from (codes " to ") ++ decimal way.server
     ++ fixed (codes ", ") ++ fate_of way.is_lost ++ fixed (codes "</title></path>\n")
 
 abbrev pub arrow_text : ℕ → Sent → Way → Spot → List ℕ
 arrow_text servers sent way spot =
     fixed (codes "<path class='way ") ++ fate_of way.is_lost ++ fixed (codes " ") ++ kind_name sent.kind
-    ++ fixed (codes " s") ++ decimal (owner_of servers sent.inst) ++ fixed (codes "' data-e='") ++ decimal spot.place
-    ++ fixed (codes "' data-m='") ++ decimal sent.number ++ fixed (codes "' d='")
+    ++ between (codes " s") (owner_of servers sent.inst) (codes "' data-e='") ++ decimal spot.place
+    ++ between (codes "' data-m='") sent.number (codes "' d='")
     ++ way_path servers sent way.server spot ++ way_end servers sent way.is_lost
     ++ way_title sent way
 

@@ -1,5 +1,5 @@
 -- The words of a line of a trace: one space stands between each and the next.
-use Rattle.std.specs.Prelude.{ℕ, zero, suc, ◌+◌, ◌-◌, ◌*◌, ◌^◌, ◌==◌, ◌&&◌, ◌||◌, List, [], ◌∷◌, Bool, Option, Some, None, nat_le, min, map, take, drop, if◌then◌else◌}
+use Rattle.std.specs.Prelude.{ℕ, zero, suc, ◌+◌, ◌-◌, ◌*◌, ◌^◌, ◌==◌, ◌&&◌, ◌||◌, List, [], ◌∷◌, ◌++◌, Bool, Option, Some, None, decimal, nat_le, min, map, take, drop, if◌then◌else◌}
 use Rattle.std.specs.List.{position}
 
 abbrev pub cut_behind : List ℕ → Option ℕ → List ℕ
@@ -61,3 +61,7 @@ plain_word place line = plain (word place line)
 -- a text that is always the same
 unfoldable pub fixed : List ℕ → List ℕ
 fixed text = text
+
+-- a number between two such texts
+unfoldable pub between : List ℕ → ℕ → List ℕ → List ℕ
+between before number after = fixed before ++ decimal number ++ fixed after

@@ -6,7 +6,7 @@ ghost use Rattle.mencius_draw.specs.Facts.{act_of, event_of, fact_of, kind_name,
 use crate::words::{is, number, word};
 
 /// What a message is.
-#[derive(Clone, Copy, Debug, PartialEq, Eq, Drop)]
+#[derive(Clone, Copy, Drop)]
 pub(crate) enum Kind {
     Suggest,
     Skip,
@@ -35,7 +35,7 @@ impl Kind {
 }
 
 /// What an event is; of a delivery and a loss the number of the message, of a suspicion the suspected server.
-#[derive(Clone, Copy, Debug, PartialEq, Eq, Drop)]
+#[derive(Clone, Copy, Drop)]
 pub(crate) enum Act {
     Submit,
     Deliver(u32),
@@ -46,7 +46,7 @@ pub(crate) enum Act {
 }
 
 /// What is written beside the mark of an event.
-#[derive(Clone, Copy, Debug, PartialEq, Eq, Drop)]
+#[derive(Clone, Copy, Drop)]
 pub(crate) enum Note {
     Refused,
     Ignored,
@@ -57,7 +57,7 @@ pub(crate) enum Note {
 }
 
 /// What a line says.
-#[derive(Clone, Copy, Debug, PartialEq, Eq, Drop)]
+#[derive(Clone, Copy, Drop)]
 pub(crate) enum Fact {
     Event {
         place: u32,

@@ -6,7 +6,7 @@ ghost use Rattle.mencius_draw.specs.Feet.{executed_by, foot_at, foot_text, histo
 
 use crate::facts::{Fact, Note};
 use crate::layout::Shape;
-use crate::places::{push_lane_of, push_y_below};
+use crate::places::push_moved_below;
 use crate::words::{is, number, push_fixed, push_plain, push_rest, push_word, word};
 use std::alloc::{AllocError, Global};
 
@@ -105,13 +105,11 @@ fn push_foot_at(
         ≡ string_bytes text.old ++ foot_at servers levels line.now server (history_text server (map outline shapes.now))
         (unheard_text server (map outline shapes.now))) }
 {
-    push_fixed(text, "<g class='foot' transform='translate(")?;
-    push_lane_of(text, servers, server)?;
-    push_fixed(text, " ")?;
-    push_y_below(text, levels, 4)?;
+    push_fixed(text, "<g class='foot' ")?;
+    push_moved_below(text, servers, server, levels, 4)?;
     push_fixed(
         text,
-        ")'><rect class='card' x='-96' width='192' height='92' rx='8'/><text x='-86' y='20'>front ",
+        "><rect class='card' x='-96' width='192' height='92' rx='8'/><text x='-86' y='20'>front ",
     )?;
     push_word(text, line, 3)?;
     push_fixed(text, ", executed ")?;

@@ -8,8 +8,8 @@ use crate::colours::{COLOURS, DARK_COLOURS, DEFINITIONS, KEY, RULES};
 use crate::facts::Fact;
 use crate::layout::Shape;
 use crate::options::Scheme;
-use crate::places::{push_lane_of, push_y_below, y_of};
-use crate::words::{push_fixed, push_number};
+use crate::places::{lane_of, push_y_below, y_of};
+use crate::words::{push_between, push_fixed, push_number};
 use std::alloc::AllocError;
 
 fn scheme_of(scheme: Scheme) -> &'static str
@@ -47,9 +47,7 @@ fn push_colours(text: &mut String, scheme: Scheme) -> Result<(), AllocError>
 fn push_size(text: &mut String, width: usize, levels: usize) -> Result<(), AllocError>
     ensures { OnOk result (string_bytes text.new ≡ string_bytes text.old ++ size_text width levels) }
 {
-    push_fixed(text, "width='")?;
-    push_number(text, width)?;
-    push_fixed(text, "' height='")?;
+    push_between(text, "width='", width, "' height='")?;
     push_y_below(text, levels, 250)
 }
 
@@ -59,16 +57,14 @@ fn push_svg(text: &mut String, servers: u32, width: usize, levels: usize) -> Res
 {
     push_fixed(text, "<svg xmlns='http://www.w3.org/2000/svg' ")?;
     push_size(text, width, levels)?;
-    push_fixed(text, "' viewBox='0 0 ")?;
-    push_number(text, width)?;
-    push_fixed(text, " ")?;
+    push_between(text, "' viewBox='0 0 ", width, " ")?;
     push_y_below(text, levels, 250)?;
-    push_fixed(
+    push_between(
         text,
         "' role='img'>\n<title>Space-time diagram of a schedule; servers: ",
-    )?;
-    push_number(text, servers as usize)?;
-    push_fixed(text, "</title>\n")
+        servers as usize,
+        "</title>\n",
+    )
 }
 
 /// Adds all that comes before the first rule.
@@ -98,7 +94,9 @@ fn push_rule_at(text: &mut String, width: usize, level: usize) -> Result<(), All
     ensures { OnOk result (string_bytes text.new ≡ string_bytes text.old ++ rule_at width level) }
 {
     let y = y_of(level) - 12;
-    writeln!(text, "<path class='rule' d='M0 {y}H{width}'/>")
+    push_between(text, "<path class='rule' d='M0 ", y, "H")?;
+    push_number(text, width)?;
+    push_fixed(text, "'/>\n")
 }
 
 /// Adds the rule above an event that is drawn, and nothing for any other line.
@@ -123,24 +121,24 @@ fn push_lane(text: &mut String, servers: u32, levels: usize, server: u32) -> Res
         ≡ string_bytes text.old ++ lane_text servers levels server) }
 {
     let name = server as usize;
-    push_fixed(text, "<g class='lane' transform='translate(")?;
-    push_lane_of(text, servers, server)?;
-    push_fixed(text, " 0)'><path class='line' d='M0 56V")?;
+    let lane = lane_of(servers, server) as usize;
+    push_between(
+        text,
+        "<g class='lane' transform='translate(",
+        lane,
+        " 0)'><path class='line' d='M0 56V",
+    )?;
     push_y_below(text, levels, 0)?;
-    push_fixed(text, "'/><rect class='t")?;
+    push_between(text, "'/><rect class='t", name, " s")?;
     push_number(text, name)?;
-    push_fixed(text, " s")?;
-    push_number(text, name)?;
-    push_fixed(
+    push_between(
         text,
         "' x='-62' y='14' width='124' height='44' rx='9'/><text class='name f",
+        name,
+        "' y='33'>server ",
     )?;
     push_number(text, name)?;
-    push_fixed(text, "' y='33'>server ")?;
-    push_number(text, name)?;
-    push_fixed(text, "</text><text class='owns' y='49'>owns ")?;
-    push_number(text, name)?;
-    push_fixed(text, ", ")?;
+    push_between(text, "</text><text class='owns' y='49'>owns ", name, ", ")?;
     push_number(text, name + servers as usize)?;
     push_fixed(text, ", ..</text></g>\n")
 }

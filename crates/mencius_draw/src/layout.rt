@@ -10,7 +10,7 @@ use crate::options::Options;
 use std::alloc::{AllocError, Global};
 
 /// Where a line of a trace is drawn, and what comes behind it. Levels are counted downwards, from 0.
-#[derive(Clone, Copy, Debug, PartialEq, Eq, Drop)]
+#[derive(Clone, Copy, Drop)]
 pub(crate) struct Spot {
     /// The event to which the line belongs: its place and its server.
     pub(crate) place: u32,
@@ -36,7 +36,7 @@ pub(crate) struct Shape<'a> {
 }
 
 /// A message that was sent.
-#[derive(Clone, Copy, Debug, PartialEq, Eq, Drop)]
+#[derive(Clone, Copy, Drop)]
 pub(crate) struct Sent {
     pub(crate) number: u32,
     pub(crate) kind: Kind,

@@ -11,8 +11,8 @@ use crate::facts::{Act, Fact, Note};
 use crate::labels::{note_class, note_label, sent_label};
 use crate::layout::{Sent, Shape, Spot};
 use crate::places::{lane_of, push_moved_to, push_y_below};
-use crate::ways::{heard_by, is_near, owner_of, push_fate, push_kind, push_owner, way_of};
-use crate::words::{push_fixed, push_number, push_rest};
+use crate::ways::{heard_by, is_near, owner_of, push_fate, push_kind, push_owner_between, way_of};
+use crate::words::{push_between, push_fixed, push_number, push_rest};
 use std::alloc::{AllocError, Global};
 
 fn act_name(act: Act) -> &'static str
@@ -64,13 +64,15 @@ fn push_message(
     ensures { OnOk result (string_bytes text.new
         ≡ string_bytes text.old ++ message_cause servers sent.now is_lost spot) }
 {
-    push_fixed(text, "<text class='cause f")?;
-    push_owner(text, servers, sent.inst)?;
-    push_fixed(text, "' x='-24' y='4'>")?;
+    push_owner_between(
+        text,
+        "<text class='cause f",
+        servers,
+        sent.inst,
+        "' x='-24' y='4'>",
+    )?;
     push_fate(text, is_lost)?;
-    push_fixed(text, " ")?;
-    push_number(text, sent.number as usize)?;
-    push_fixed(text, " ")?;
+    push_between(text, " ", sent.number as usize, " ")?;
     push_kind(text, sent.kind)?;
     push_origin(text, sent.spot, spot)?;
     push_fixed(text, "</text>")
@@ -159,17 +161,16 @@ fn push_event(
         ≡ string_bytes text.old ++ event_text servers sents.now (outline shape.now) act is_refused) }
 {
     let place = shape.spot.place as usize;
-    push_fixed(text, "<g id='e")?;
-    push_number(text, place)?;
-    push_fixed(text, "' class='event ")?;
+    push_between(text, "<g id='e", place, "' class='event ")?;
     push_act_name(text, act)?;
-    push_fixed(text, "' data-e='")?;
-    push_number(text, place)?;
-    push_fixed(text, "'><g ")?;
+    push_between(text, "' data-e='", place, "'><g ")?;
     push_edge(text, shape.spot.level)?;
-    push_fixed(text, "><text class='place' x='44' y='4'>")?;
-    push_number(text, place)?;
-    push_fixed(text, "</text><text class='what' x='54' y='4'>")?;
+    push_between(
+        text,
+        "><text class='place' x='44' y='4'>",
+        place,
+        "</text><text class='what' x='54' y='4'>",
+    )?;
     push_rest(text, shape.line, 2)?;
     push_fixed(text, "</text></g><g ")?;
     push_moved_to(text, servers, shape.spot.server, shape.spot.level)?;
@@ -219,10 +220,11 @@ pub(crate) fn reach_of(alloc: Global, servers: u32, shape: &Shape) -> Result<usi
 fn push_label_box(text: &mut String, label: &str) -> Result<(), AllocError>
     ensures { OnOk result (string_bytes text.new ≡ string_bytes text.old ++ label_box label.now) }
 {
-    let width = box_width(label);
-    write!(
+    push_between(
         text,
-        "' x='24' y='-10' width='{width}' height='20' rx='4'/><text class='says "
+        "' x='24' y='-10' width='",
+        box_width(label),
+        "' height='20' rx='4'/><text class='says ",
     )
 }
 
@@ -230,18 +232,24 @@ fn push_tinted_box(text: &mut String, owner: u32, label: &str) -> Result<(), All
     ensures { OnOk result (string_bytes text.new
         ≡ string_bytes text.old ++ tinted_box owner label.now) }
 {
-    write!(text, "<rect class='t{owner} s{owner}")?;
+    push_between(text, "<rect class='t", owner as usize, " s")?;
+    push_number(text, owner as usize)?;
     push_label_box(text, label)?;
-    write!(text, "f{owner}' x='31' y='4'>{label}</text>")
+    push_between(text, "f", owner as usize, "' x='31' y='4'>")?;
+    text.push_str(label)?;
+    push_fixed(text, "</text>")
 }
 
 fn push_filled_box(text: &mut String, owner: u32, label: &str) -> Result<(), AllocError>
     ensures { OnOk result (string_bytes text.new
         ≡ string_bytes text.old ++ filled_box owner label.now) }
 {
-    write!(text, "<rect class='f{owner}")?;
+    push_fixed(text, "<rect class='f")?;
+    push_number(text, owner as usize)?;
     push_label_box(text, label)?;
-    write!(text, "on' x='31' y='4'>{label}</text>")
+    push_fixed(text, "on' x='31' y='4'>")?;
+    text.push_str(label)?;
+    push_fixed(text, "</text>")
 }
 
 // From a lane to a box; beside a mark from its right edge on.
@@ -285,17 +293,11 @@ fn push_sent(
     ensures { OnOk result (string_bytes text.new
         ≡ string_bytes text.old ++ sent_text servers (outline shape.now) sent.now) }
 {
-    push_fixed(text, "<g id='m")?;
-    push_number(text, sent.number as usize)?;
-    push_fixed(text, "' class='sent ")?;
+    push_between(text, "<g id='m", sent.number as usize, "' class='sent ")?;
     push_kind(text, sent.kind)?;
-    push_fixed(text, "' data-e='")?;
-    push_number(text, shape.spot.place as usize)?;
-    push_fixed(text, "' ")?;
+    push_between(text, "' data-e='", shape.spot.place as usize, "' ")?;
     push_moved_to(text, servers, shape.spot.server, shape.spot.level)?;
-    push_fixed(text, "><path class='tick s")?;
-    push_owner(text, servers, sent.inst)?;
-    push_fixed(text, "' d='")?;
+    push_owner_between(text, "><path class='tick s", servers, sent.inst, "' d='")?;
     push_tick(text, shape.spot)?;
     push_fixed(text, "'/>")?;
     push_sent_box(alloc, text, servers, sent, shape.line)?;
@@ -313,9 +315,7 @@ fn push_over_at(
     ensures { OnOk result (string_bytes text.new
         ≡ string_bytes text.old ++ over_at servers inst spot (fixed path.now)) }
 {
-    push_fixed(text, "<path class='f")?;
-    push_owner(text, servers, inst)?;
-    push_fixed(text, "' ")?;
+    push_owner_between(text, "<path class='f", servers, inst, "' ")?;
     push_moved_to(text, servers, spot.server, spot.top)?;
     push_fixed(text, path)
 }
@@ -381,9 +381,7 @@ fn push_note(
 {
     push_fixed(text, "<g class='")?;
     push_class(text, note)?;
-    push_fixed(text, "' data-e='")?;
-    push_number(text, shape.spot.place as usize)?;
-    push_fixed(text, "'>")?;
+    push_between(text, "' data-e='", shape.spot.place as usize, "'>")?;
     push_over(text, servers, note, shape.spot)?;
     push_fixed(text, "<g ")?;
     push_moved_to(text, servers, shape.spot.server, shape.spot.level)?;

@@ -1,10 +1,10 @@
 //! Where levels and lanes are, in the picture's units.
 
 ghost use Rattle.std.specs.Prelude.{◌≡◌, ◌++◌, ◌+◌, ◌<◌, ◌≤◌, OnOk, decimal, string_bytes};
-ghost use Rattle.mencius_draw.specs.Places.{lane_of, moved_to, width_of, y_of};
+ghost use Rattle.mencius_draw.specs.Places.{lane_of, moved_below, moved_to, width_of, y_of};
 
 use crate::options::MOST_LEVELS;
-use crate::words::{push_fixed, push_number};
+use crate::words::{push_between, push_fixed, push_number};
 use std::alloc::AllocError;
 
 /// Where the middle of a level is.
@@ -38,20 +38,30 @@ pub(crate) fn width_of(servers: u32, reach: usize) -> usize
     (reach + 16).max(lanes).max(860)
 }
 
-/// Adds where the lane of a server is.
-pub(crate) fn push_lane_of(text: &mut String, servers: u32, server: u32) -> Result<(), AllocError>
-    ensures { OnOk result (string_bytes text.new
-        ≡ string_bytes text.old ++ decimal (lane_of servers server)) }
-{
-    push_number(text, lane_of(servers, server) as usize)
-}
-
 /// Adds where a level is, so far below it.
 pub(crate) fn push_y_below(text: &mut String, level: usize, by: usize) -> Result<(), AllocError>
     requires { by < 1000 }
     ensures { OnOk result (string_bytes text.new ≡ string_bytes text.old ++ decimal (y_of level + by)) }
 {
     push_number(text, y_of(level) + by)
+}
+
+/// Adds that something stands on the lane of a server, so far below a level.
+pub(crate) fn push_moved_below(
+    text: &mut String,
+    servers: u32,
+    server: u32,
+    level: usize,
+    by: usize,
+) -> Result<(), AllocError>
+    requires { by < 1000 }
+    ensures { OnOk result (string_bytes text.new
+        ≡ string_bytes text.old ++ moved_below servers server level by) }
+{
+    let lane = lane_of(servers, server) as usize;
+    push_between(text, "transform='translate(", lane, " ")?;
+    push_y_below(text, level, by)?;
+    push_fixed(text, ")'")
 }
 
 /// Adds that something stands on the lane of a server, at a level.
@@ -64,9 +74,5 @@ pub(crate) fn push_moved_to(
     ensures { OnOk result (string_bytes text.new
         ≡ string_bytes text.old ++ moved_to servers server level) }
 {
-    push_fixed(text, "transform='translate(")?;
-    push_lane_of(text, servers, server)?;
-    push_fixed(text, " ")?;
-    push_y_below(text, level, 0)?;
-    push_fixed(text, ")'")
+    push_moved_below(text, servers, server, level, 0)
 }

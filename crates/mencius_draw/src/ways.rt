@@ -3,12 +3,13 @@
 ghost use Rattle.std.specs.Prelude.{◌≡◌, ◌++◌, ◌<◌, OnOk, decimal, string_bytes};
 ghost use Rattle.mencius_draw.specs.Facts.{kind_name};
 ghost use Rattle.mencius_draw.specs.Layout.{outline};
-ghost use Rattle.mencius_draw.specs.Ways.{arrow_text, beside, fate_of, heard_by, heard_end, is_near, longest_way, loop_path, owner_of, point_of, straight_path, stub_path, way_end, way_of, way_path, way_text, way_title};
+ghost use Rattle.mencius_draw.specs.Ways.{arrow_text, beside, command, fate_of, heard_by, heard_end, is_near, longest_way, loop_path, owner_of, point_of, straight_path, stub_path, way_end, way_of, way_path, way_text, way_title};
+ghost use Rattle.mencius_draw.specs.Words.{between};
 
 use crate::facts::{Act, Fact, Kind};
 use crate::layout::{Sent, Shape, Spot};
 use crate::places::{lane_of, y_of};
-use crate::words::{push_fixed, push_number};
+use crate::words::{push_between, push_fixed, push_number};
 use std::alloc::AllocError;
 
 /// The server in whose colour an instance is drawn: its owner.
@@ -19,7 +20,7 @@ pub(crate) fn owner_of(servers: u32, inst: u32) -> u32
 }
 
 /// An event by which a message came to a server, or was lost for it.
-#[derive(Clone, Copy, Debug, PartialEq, Eq, Drop)]
+#[derive(Clone, Copy, Drop)]
 pub(crate) struct Way {
     pub(crate) message: u32,
     pub(crate) is_lost: bool,
@@ -91,6 +92,20 @@ pub(crate) fn push_owner(text: &mut String, servers: u32, inst: u32) -> Result<(
     push_number(text, owner_of(servers, inst) as usize)
 }
 
+/// Adds the server in whose colour an instance is drawn, between two texts that are always the same.
+pub(crate) fn push_owner_between(
+    text: &mut String,
+    before: &str,
+    servers: u32,
+    inst: u32,
+    after: &str,
+) -> Result<(), AllocError>
+    ensures { OnOk result (string_bytes text.new
+        ≡ string_bytes text.old ++ between before.now (owner_of servers inst) after.now) }
+{
+    push_between(text, before, owner_of(servers, inst) as usize, after)
+}
+
 /// Adds what became of a message.
 pub(crate) fn push_fate(text: &mut String, is_lost: bool) -> Result<(), AllocError>
     ensures { OnOk result (string_bytes text.new ≡ string_bytes text.old ++ fate_of is_lost) }
@@ -121,6 +136,15 @@ fn beside(from: u32, to: u32, by: u32) -> u32
     }
 }
 
+// A command of a path, or the next point of one: its letter or a space, and the place to which it goes.
+fn push_command(text: &mut String, letter: &str, x: u32, y: usize) -> Result<(), AllocError>
+    ensures { OnOk result (string_bytes text.new
+        ≡ string_bytes text.old ++ command letter.now x y) }
+{
+    push_between(text, letter, x as usize, " ")?;
+    push_number(text, y)
+}
+
 // From a lane to just before the mark on another one.
 fn push_straight(
     text: &mut String,
@@ -135,7 +159,8 @@ fn push_straight(
 {
     let near = beside(from, to, 10);
     let before = end.saturating_sub(3);
-    write!(text, "M{from} {start}L{near} {before}")
+    push_command(text, "M", from, start)?;
+    push_command(text, "L", near, before)
 }
 
 // From a lane back to it, further out by the place of the event, so that loops keep apart.
@@ -155,10 +180,10 @@ fn push_loop(
     let below = start + 10;
     let above = end.saturating_sub(14);
     let before = end.saturating_sub(3);
-    write!(
-        text,
-        "M{lane} {start}C{side} {below} {side} {above} {near} {before}"
-    )
+    push_command(text, "M", lane, start)?;
+    push_command(text, "C", side, below)?;
+    push_command(text, " ", side, above)?;
+    push_command(text, " ", near, before)
 }
 
 // The end of an arrow alone, from the side where the sender's lane is.
@@ -170,7 +195,8 @@ fn push_stub(text: &mut String, from: u32, to: u32, end: usize) -> Result<(), Al
     let near = beside(from, to, 9);
     let above = end.saturating_sub(12);
     let before = end.saturating_sub(4);
-    write!(text, "M{far} {above}L{near} {before}")
+    push_command(text, "M", far, above)?;
+    push_command(text, "L", near, before)
 }
 
 fn push_path(
@@ -229,13 +255,9 @@ fn push_way_title(text: &mut String, sent: &Sent, way: Way) -> Result<(), AllocE
     ensures { OnOk result (string_bytes text.new
         ≡ string_bytes text.old ++ way_title sent.now way) }
 {
-    push_fixed(text, "><title>message ")?;
-    push_number(text, sent.number as usize)?;
-    push_fixed(text, ": ")?;
+    push_between(text, "><title>message ", sent.number as usize, ": ")?;
     push_kind(text, sent.kind)?;
-    push_fixed(text, " from ")?;
-    push_number(text, sent.from as usize)?;
-    push_fixed(text, " to ")?;
+    push_between(text, " from ", sent.from as usize, " to ")?;
     push_number(text, way.server as usize)?;
     push_fixed(text, ", ")?;
     push_fate(text, way.is_lost)?;
@@ -256,13 +278,9 @@ fn push_arrow(
     push_fate(text, way.is_lost)?;
     push_fixed(text, " ")?;
     push_kind(text, sent.kind)?;
-    push_fixed(text, " s")?;
-    push_owner(text, servers, sent.inst)?;
-    push_fixed(text, "' data-e='")?;
+    push_owner_between(text, " s", servers, sent.inst, "' data-e='")?;
     push_number(text, spot.place as usize)?;
-    push_fixed(text, "' data-m='")?;
-    push_number(text, sent.number as usize)?;
-    push_fixed(text, "' d='")?;
+    push_between(text, "' data-m='", sent.number as usize, "' d='")?;
     push_path(text, servers, sent, way.server, spot)?;
     push_end(text, servers, sent, way.is_lost)?;
     push_way_title(text, sent, way)

@@ -3,7 +3,7 @@
 ghost use Rattle.std.specs.Prelude.{◌≡◌, ◌++◌, ◌==◌, ◌<◌, OnOk, decimal, string_bytes};
 ghost use Rattle.std.specs.List.{position};
 ghost use Rattle.std.specs.Str.{bytes_eq};
-ghost use Rattle.mencius_draw.specs.Words.{behind, first_word, fixed, is_plain, number, plain, plain_byte, plain_word, rest, word};
+ghost use Rattle.mencius_draw.specs.Words.{behind, between, first_word, fixed, is_plain, number, plain, plain_byte, plain_word, rest, word};
 
 use std::alloc::AllocError;
 
@@ -138,4 +138,19 @@ pub(crate) fn push_number(text: &mut String, number: usize) -> Result<(), AllocE
     ensures { OnOk result (string_bytes text.new ≡ string_bytes text.old ++ decimal number) }
 {
     write!(text, "{number}")
+}
+
+/// Adds a number between two texts that are always the same.
+pub(crate) fn push_between(
+    text: &mut String,
+    before: &str,
+    number: usize,
+    after: &str,
+) -> Result<(), AllocError>
+    ensures { OnOk result (string_bytes text.new
+        ≡ string_bytes text.old ++ between before.now number after.now) }
+{
+    push_fixed(text, before)?;
+    push_number(text, number)?;
+    push_fixed(text, after)
 }

@@ -5,12 +5,8 @@ use Rattle.mencius_draw.proofs.frame.push_svg.Goals as goal
 pub returns : goal.returns
 returns c =
     let old = string_bytes c.args.text.now in
-    last_part c.push_fixed-5.result old _ _ _ _ (then old _ _ _ _ (then old _ _ _ _ (then old _ _ _ _ (then old _ _ _ _ (then old _ _ _ _ (then old _ _ _ _ (then old _ _ _ _ (c.in_ok-push_fixed.ensures)
+    last_part c.push_between-2.result old _ _ _ _ (then old _ _ _ _ (then old _ _ _ _ (then old _ _ _ _ (c.in_ok-push_fixed.ensures)
     c.in_ok-push_size.ensures)
-    c.in_ok-push_fixed-2.ensures)
-    c.in_ok-push_number.ensures)
-    c.in_ok-push_fixed-3.ensures)
+    c.in_ok-push_between.ensures)
     c.in_ok-push_y_below.ensures)
-    c.in_ok-push_fixed-4.ensures)
-    c.in_ok-push_number-2.ensures)
-    c.push_fixed-5.ensures
+    c.push_between-2.ensures

@@ -9,8 +9,8 @@ use Rattle.mencius_draw.proofs.layout.end_of.Goals as goal
 pub loop-after-init : goal.loop-after-init
 loop-after-init c = first_passed c.args.options.now (lines_of c.args.trace.now) c.start-pen.result c.start-pen.ensures
 
-pub spot_after-pen-requires-clause-free : goal.spot_after-pen-requires-clause-free
-spot_after-pen-requires-clause-free c =
+pub spot_after-pen-requires : goal.spot_after-pen-requires
+spot_after-pen-requires c =
     let few : length c.args.trace.now < 2 ^ 63 =
     omega (arith, c.as_bytes.type_inv.1, ap length c.as_bytes.ensures.value) in
     let turn = YieldsList-turn (YieldsList-at c.into_iter-after-iterator.ensures.into_iter_gives
@@ -18,20 +18,9 @@ spot_after-pen-requires-clause-free c =
     (c.split-after-items.ensures.rest ∙ c.as_bytes.ensures.value) c.split-after-items.ensures.done
     c.split-after-items.ensures.closure (λ x r q k. search (rules, tests))))
     c.loop-after.yielded _ c.loop-after.yielded_by _ c.next.new.self c.in-Some.after c.in-Some.is c.next.ensures.steps in
-    (is_room c.args.trace.now (length c.loop-after.yielded) c.loop-after.pen few (omega (arith, turn.0))
-    c.loop-after.invariant.below).free
-
-pub spot_after-pen-requires-clause-next : goal.spot_after-pen-requires-clause-next
-spot_after-pen-requires-clause-next c =
-    let few : length c.args.trace.now < 2 ^ 63 =
-    omega (arith, c.as_bytes.type_inv.1, ap length c.as_bytes.ensures.value) in
-    let turn = YieldsList-turn (YieldsList-at c.into_iter-after-iterator.ensures.into_iter_gives
-    (YieldsList-from_slice_split _ (λ (b : ℕ). b == 10) c.args.trace.now
-    (c.split-after-items.ensures.rest ∙ c.as_bytes.ensures.value) c.split-after-items.ensures.done
-    c.split-after-items.ensures.closure (λ x r q k. search (rules, tests))))
-    c.loop-after.yielded _ c.loop-after.yielded_by _ c.next.new.self c.in-Some.after c.in-Some.is c.next.ensures.steps in
-    (is_room c.args.trace.now (length c.loop-after.yielded) c.loop-after.pen few (omega (arith, turn.0))
-    c.loop-after.invariant.below).next
+    let room = is_room c.args.trace.now (length c.loop-after.yielded) c.loop-after.pen few (omega (arith, turn.0))
+    c.loop-after.invariant.below in
+    record { free = room.free; next = room.next }
 
 pub loop-after-preserved : goal.loop-after-preserved
 loop-after-preserved c =
@@ -46,8 +35,8 @@ loop-after-preserved c =
     (c.spot_after-pen.ensures ∙ ap (spot_after c.args.options.now c.loop-after.pen) c.fact_of.ensures)
     c.loop-after.invariant
 
-pub spot_after-requires-clause-free : goal.spot_after-requires-clause-free
-spot_after-requires-clause-free c =
+pub spot_after-requires : goal.spot_after-requires
+spot_after-requires c =
     let few : length c.args.trace.now < 2 ^ 63 =
     omega (arith, c.as_bytes.type_inv.1, ap length c.as_bytes.ensures.value) in
     let turn = YieldsList-end (YieldsList-at c.into_iter-after-iterator.ensures.into_iter_gives
@@ -55,20 +44,9 @@ spot_after-requires-clause-free c =
     (c.split-after-items.ensures.rest ∙ c.as_bytes.ensures.value) c.split-after-items.ensures.done
     c.split-after-items.ensures.closure (λ x r q k. search (rules, tests))))
     c.loop-after.yielded _ c.loop-after.yielded_by _ _ c.in-None.is c.next.ensures.steps in
-    (is_room c.args.trace.now (length c.loop-after.yielded) c.loop-after.pen few (omega (arith, turn.1))
-    c.loop-after.invariant.below).free
-
-pub spot_after-requires-clause-next : goal.spot_after-requires-clause-next
-spot_after-requires-clause-next c =
-    let few : length c.args.trace.now < 2 ^ 63 =
-    omega (arith, c.as_bytes.type_inv.1, ap length c.as_bytes.ensures.value) in
-    let turn = YieldsList-end (YieldsList-at c.into_iter-after-iterator.ensures.into_iter_gives
-    (YieldsList-from_slice_split _ (λ (b : ℕ). b == 10) c.args.trace.now
-    (c.split-after-items.ensures.rest ∙ c.as_bytes.ensures.value) c.split-after-items.ensures.done
-    c.split-after-items.ensures.closure (λ x r q k. search (rules, tests))))
-    c.loop-after.yielded _ c.loop-after.yielded_by _ _ c.in-None.is c.next.ensures.steps in
-    (is_room c.args.trace.now (length c.loop-after.yielded) c.loop-after.pen few (omega (arith, turn.1))
-    c.loop-after.invariant.below).next
+    let room = is_room c.args.trace.now (length c.loop-after.yielded) c.loop-after.pen few (omega (arith, turn.1))
+    c.loop-after.invariant.below in
+    record { free = room.free; next = room.next }
 
 pub returns : goal.returns
 returns c =

@@ -13,8 +13,8 @@ loop-after-init c = (
       c.start-pen.ensures c.new-shapes.ensures.items,
 )
 
-pub push_line-requires-clause-free : goal.push_line-requires-clause-free
-push_line-requires-clause-free c =
+pub push_line-requires : goal.push_line-requires
+push_line-requires c =
     let few : length c.args.trace.now < 2 ^ 63 =
     omega (arith, c.as_bytes.type_inv.1, ap length c.as_bytes.ensures.value) in
     let turn = YieldsList-turn (YieldsList-at c.into_iter-after-iterator.ensures.into_iter_gives
@@ -22,20 +22,9 @@ push_line-requires-clause-free c =
     (c.split-after-items.ensures.rest ∙ c.as_bytes.ensures.value) c.split-after-items.ensures.done
     c.split-after-items.ensures.closure (λ x r q k. search (rules, tests))))
     c.loop-after.yielded _ c.loop-after.yielded_by _ c.next.new.self c.in-Some.after c.in-Some.is c.next.ensures.steps in
-    (is_room c.args.trace.now (length c.loop-after.yielded) c.loop-after.pen few (omega (arith, turn.0))
-    c.loop-after.invariant.0.below).free
-
-pub push_line-requires-clause-next : goal.push_line-requires-clause-next
-push_line-requires-clause-next c =
-    let few : length c.args.trace.now < 2 ^ 63 =
-    omega (arith, c.as_bytes.type_inv.1, ap length c.as_bytes.ensures.value) in
-    let turn = YieldsList-turn (YieldsList-at c.into_iter-after-iterator.ensures.into_iter_gives
-    (YieldsList-from_slice_split _ (λ (b : ℕ). b == 10) c.args.trace.now
-    (c.split-after-items.ensures.rest ∙ c.as_bytes.ensures.value) c.split-after-items.ensures.done
-    c.split-after-items.ensures.closure (λ x r q k. search (rules, tests))))
-    c.loop-after.yielded _ c.loop-after.yielded_by _ c.next.new.self c.in-Some.after c.in-Some.is c.next.ensures.steps in
-    (is_room c.args.trace.now (length c.loop-after.yielded) c.loop-after.pen few (omega (arith, turn.0))
-    c.loop-after.invariant.0.below).next
+    let room = is_room c.args.trace.now (length c.loop-after.yielded) c.loop-after.pen few (omega (arith, turn.0))
+    c.loop-after.invariant.0.below in
+    record { free = room.free; next = room.next }
 
 pub loop-after-preserved : goal.loop-after-preserved
 loop-after-preserved c =
@@ -53,8 +42,8 @@ loop-after-preserved c =
           c.in_ok-pen.ensures.shapes c.loop-after.invariant.1,
     )
 
-pub push_line-requires-2-clause-free : goal.push_line-requires-2-clause-free
-push_line-requires-2-clause-free c =
+pub push_line-requires-2 : goal.push_line-requires-2
+push_line-requires-2 c =
     let few : length c.args.trace.now < 2 ^ 63 =
     omega (arith, c.as_bytes.type_inv.1, ap length c.as_bytes.ensures.value) in
     let turn = YieldsList-end (YieldsList-at c.into_iter-after-iterator.ensures.into_iter_gives
@@ -62,20 +51,9 @@ push_line-requires-2-clause-free c =
     (c.split-after-items.ensures.rest ∙ c.as_bytes.ensures.value) c.split-after-items.ensures.done
     c.split-after-items.ensures.closure (λ x r q k. search (rules, tests))))
     c.loop-after.yielded _ c.loop-after.yielded_by _ _ c.in-None.is c.next.ensures.steps in
-    (is_room c.args.trace.now (length c.loop-after.yielded) c.loop-after.pen few (omega (arith, turn.1))
-    c.loop-after.invariant.0.below).free
-
-pub push_line-requires-2-clause-next : goal.push_line-requires-2-clause-next
-push_line-requires-2-clause-next c =
-    let few : length c.args.trace.now < 2 ^ 63 =
-    omega (arith, c.as_bytes.type_inv.1, ap length c.as_bytes.ensures.value) in
-    let turn = YieldsList-end (YieldsList-at c.into_iter-after-iterator.ensures.into_iter_gives
-    (YieldsList-from_slice_split _ (λ (b : ℕ). b == 10) c.args.trace.now
-    (c.split-after-items.ensures.rest ∙ c.as_bytes.ensures.value) c.split-after-items.ensures.done
-    c.split-after-items.ensures.closure (λ x r q k. search (rules, tests))))
-    c.loop-after.yielded _ c.loop-after.yielded_by _ _ c.in-None.is c.next.ensures.steps in
-    (is_room c.args.trace.now (length c.loop-after.yielded) c.loop-after.pen few (omega (arith, turn.1))
-    c.loop-after.invariant.0.below).next
+    let room = is_room c.args.trace.now (length c.loop-after.yielded) c.loop-after.pen few (omega (arith, turn.1))
+    c.loop-after.invariant.0.below in
+    record { free = room.free; next = room.next }
 
 pub returns : goal.returns
 returns c =

@@ -5,21 +5,15 @@ use Rattle.mencius_draw.proofs.marks.push_event.Goals as goal
 pub returns : goal.returns
 returns c =
     let old = string_bytes c.args.text.now in
-    last_part c.push_fixed-9.result old _ _ _ _ (then old _ _ _ _ (then old _ _ _ _ (then old _ _ _ _ (then old _ _ _ _ (then old _ _ _ _ (then old _ _ _ _ (then old _ _ _ _ (then old _ _ _ _ (then old _ _ _ _ (then old _ _ _ _ (then old _ _ _ _ (then old _ _ _ _ (then old _ _ _ _ (then old _ _ _ _ (then old _ _ _ _ (then old _ _ _ _ (c.in_ok-push_fixed.ensures)
-    c.in_ok-push_number.ensures)
-    c.in_ok-push_fixed-2.ensures)
+    last_part c.push_fixed-3.result old _ _ _ _ (then old _ _ _ _ (then old _ _ _ _ (then old _ _ _ _ (then old _ _ _ _ (then old _ _ _ _ (then old _ _ _ _ (then old _ _ _ _ (then old _ _ _ _ (then old _ _ _ _ (then old _ _ _ _ (c.in_ok-push_between.ensures)
     c.in_ok-push_act_name.ensures)
-    c.in_ok-push_fixed-3.ensures)
-    c.in_ok-push_number-2.ensures)
-    c.in_ok-push_fixed-4.ensures)
+    c.in_ok-push_between-2.ensures)
     c.in_ok-push_edge.ensures)
-    c.in_ok-push_fixed-5.ensures)
-    c.in_ok-push_number-3.ensures)
-    c.in_ok-push_fixed-6.ensures)
+    c.in_ok-push_between-3.ensures)
     c.in_ok-push_rest.ensures)
-    c.in_ok-push_fixed-7.ensures)
+    c.in_ok-push_fixed.ensures)
     c.in_ok-push_moved_to.ensures)
-    c.in_ok-push_fixed-8.ensures)
+    c.in_ok-push_fixed-2.ensures)
     c.in_ok-push_cause.ensures)
     c.in_ok-push_mark.ensures)
-    c.push_fixed-9.ensures
+    c.push_fixed-3.ensures

@@ -5,13 +5,9 @@ use Rattle.mencius_draw.proofs.marks.push_message.Goals as goal
 pub returns : goal.returns
 returns c =
     let old = string_bytes c.args.text.now in
-    last_part c.push_fixed-5.result old _ _ _ _ (then old _ _ _ _ (then old _ _ _ _ (then old _ _ _ _ (then old _ _ _ _ (then old _ _ _ _ (then old _ _ _ _ (then old _ _ _ _ (then old _ _ _ _ (c.in_ok-push_fixed.ensures)
-    c.in_ok-push_owner.ensures)
-    c.in_ok-push_fixed-2.ensures)
+    last_part c.push_fixed.result old _ _ _ _ (then old _ _ _ _ (then old _ _ _ _ (then old _ _ _ _ (then old _ _ _ _ (c.in_ok-push_owner_between.ensures)
     c.in_ok-push_fate.ensures)
-    c.in_ok-push_fixed-3.ensures)
-    c.in_ok-push_number.ensures)
-    c.in_ok-push_fixed-4.ensures)
+    c.in_ok-push_between.ensures)
     c.in_ok-push_kind.ensures)
     c.in_ok-push_origin.ensures)
-    c.push_fixed-5.ensures
+    c.push_fixed.ensures

@@ -5,14 +5,10 @@ use Rattle.mencius_draw.proofs.ways.push_way_title.Goals as goal
 pub returns : goal.returns
 returns c =
     let old = string_bytes c.args.text.now in
-    last_part c.push_fixed-6.result old _ _ _ _ (then old _ _ _ _ (then old _ _ _ _ (then old _ _ _ _ (then old _ _ _ _ (then old _ _ _ _ (then old _ _ _ _ (then old _ _ _ _ (then old _ _ _ _ (then old _ _ _ _ (c.in_ok-push_fixed.ensures)
-    c.in_ok-push_number.ensures)
-    c.in_ok-push_fixed-2.ensures)
+    last_part c.push_fixed-2.result old _ _ _ _ (then old _ _ _ _ (then old _ _ _ _ (then old _ _ _ _ (then old _ _ _ _ (then old _ _ _ _ (c.in_ok-push_between.ensures)
     c.in_ok-push_kind.ensures)
-    c.in_ok-push_fixed-3.ensures)
-    c.in_ok-push_number-2.ensures)
-    c.in_ok-push_fixed-4.ensures)
-    c.in_ok-push_number-3.ensures)
-    c.in_ok-push_fixed-5.ensures)
+    c.in_ok-push_between-2.ensures)
+    c.in_ok-push_number.ensures)
+    c.in_ok-push_fixed.ensures)
     c.in_ok-push_fate.ensures)
-    c.push_fixed-6.ensures
+    c.push_fixed-2.ensures
