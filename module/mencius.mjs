@@ -7,7 +7,8 @@
 import { readFileSync, readSync, realpathSync, writeSync } from 'node:fs';
 import { fileURLToPath } from 'node:url';
 
-const MOST = 16_777_217; // one byte more than the longest scenario, which is as much as the program reads
+const MOST = 16_777_217; // one byte more than the longest scenario, which is as much as the program reads of one
+const MOST_OF_A_LOG = 2 ** 31; // a log has no greatest length, so no verdict is given on the front of a longer one
 const bytes = readFileSync(process.env.MENCIUS_MODULE || fileURLToPath(new URL('mencius.wasm', import.meta.url)));
 let exports;
 
@@ -49,10 +50,11 @@ function call(name, inputs, printedRoom, saidRoom) {
   return { status, asked: asked !== 0, lengths: [printed, said], texts };
 }
 
-// What an export answers to these bytes, the last of which are a scenario or a log.
-function ask(name, inputs) {
+// What an export answers to these bytes, the last of which are a scenario or a log. The text of a scenario mostly takes
+// at most eight times its bytes; a verdict is one line.
+function ask(name, inputs, times = 8) {
   try {
-    let { status, asked, lengths, texts } = call(name, inputs, 65_536 + 8 * inputs.at(-1).length, 4_096);
+    let { status, asked, lengths, texts } = call(name, inputs, 65_536 + times * inputs.at(-1).length, 4_096);
     if (!texts) ({ texts } = call(name, inputs, ...lengths));
     return { status, asked, ...texts };
   } catch (e) {
@@ -66,19 +68,22 @@ function ask(name, inputs) {
 // The program, called with these arguments and this input: its status, its texts, and whether it read the input.
 // An argument is a string or its bytes.
 export function mencius(args, input = new Uint8Array(0)) {
-  return ask('mencius_call', [Buffer.concat(args.flatMap(word => [Buffer.from(word), Buffer.alloc(1)])), input]);
+  const words = Buffer.concat(args.flatMap(word => [Buffer.from(word), Buffer.alloc(1)]));
+  return ask('mencius_call', [words, input], isJudge(args) ? 0 : 8);
 }
+
+const isJudge = args => args.length > 0 && Buffer.from(args[0]).equals(Buffer.from('judge'));
 
 // What each server knows after this scenario of `replay`, as docs/EMBEDDING.md tells ("What servers know").
 export function state(input) {
   return ask('mencius_state', [input]);
 }
 
-// Standard input to its end or to the greatest length, and whether reading failed.
-function readInput() {
+// Standard input to its end or to so many bytes, and whether reading failed.
+function readInput(most) {
   const parts = [];
-  for (let length = 0; length < MOST;) {
-    const part = Buffer.allocUnsafe(Math.min(65_536, MOST - length));
+  for (let length = 0; length < most;) {
+    const part = Buffer.allocUnsafe(Math.min(65_536, most - length));
     let count;
     try {
       count = readSync(0, part);
@@ -119,17 +124,18 @@ function readArguments() {
   }
 }
 
-// The program's own words and status where reading or writing fails, which are the host's here.
-function failed(line) {
+// The program's own words and status where reading, writing or memory fails, which are the host's here.
+function failed(line, status = 4) {
   write(2, Buffer.from(`mencius: fault ${line}\n`));
-  return 4;
+  return status;
 }
 
 function main(args) {
   let answer = mencius(args);
   if (answer.asked) {
-    const [input, hasFailed] = readInput();
+    const [input, hasFailed] = readInput(isJudge(args) ? MOST_OF_A_LOG : MOST);
     if (hasFailed) return failed('24 ReadFailed');
+    if (input.length === MOST_OF_A_LOG) return failed('26 NoMemory', 5);
     answer = mencius(args, input);
   }
   if (!write(1, answer.printed)) return failed('25 WriteFailed');
