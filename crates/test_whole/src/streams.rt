@@ -2,11 +2,14 @@
 
 use crate::courses::cluster_after;
 use mencius_app::{
-    AppFault, Finding, Open, RunFinding, Sink, Source, Std, check, replay, report, run, trace,
+    AppFault, Finding, Open, RunFinding, Sink, Source, Std, check, draw, judge, replay, report,
+    run, trace,
 };
+use mencius_draw::{Options, Scheme, picture};
 use std::alloc::Global;
 use std::io;
 use std::io::{ErrorKind, Read, Write};
+use std::panic::Expect;
 use std::process::Abort;
 use std::sync::Wait;
 use std::test::Fail;
@@ -90,6 +93,8 @@ enum Call {
     Replay,
     Trace,
     Check,
+    Judge,
+    Draw,
     Run,
     // Of the cluster that `SCENARIO` makes. It reads nothing.
     Report,
@@ -107,17 +112,28 @@ const NO_EVENTS: &str = "{\"version\":1,\"servers\":2,\"events\":[]}";
 const NO_TURNS: &str = "{\"version\":1,\"servers\":1,\"workers\":1,\"seed\":1,\"turns\":0,\
     \"loss\":0,\"commands\":[[]]}";
 
+// The trace of `NO_EVENTS`.
+const TRACE: &str = "servers 2\n\
+    server 0 front 0 executed 0 next 0 waiting -\n\
+    server 1 front 1 executed 0 next 0 waiting -\n";
+
+// All that is drawn of it.
+const WHOLE: Options = Options {
+    first: 0,
+    last: 0,
+    scheme: Scheme::Light,
+};
+
+const LOG: &str = "submit 1.0 set a x\nexecute 0 1.0\nreply 1.0 none\n";
+
+const VERDICT: &str = "ok servers 1 commands 1 executed 1 replies 1 open 0 lookups 0\n";
+
 // The calls that read, with what is read, and what is written then.
-const READS: [(Call, &str, &str); 4] = [
+const READS: [(Call, &str, &str); 5] = [
     (Call::Replay, SCENARIO, REPORT),
-    (
-        Call::Trace,
-        NO_EVENTS,
-        "servers 2\n\
-        server 0 front 0 executed 0 next 0 waiting -\n\
-        server 1 front 1 executed 0 next 0 waiting -\n",
-    ),
+    (Call::Trace, NO_EVENTS, TRACE),
     (Call::Check, SCENARIO, "ok servers 1 events 4\n"),
+    (Call::Judge, LOG, VERDICT),
     (
         Call::Run,
         NO_TURNS,
@@ -140,6 +156,13 @@ fn found_in<R: Abort>(rt: &R, ran: Result<(), RunFinding>) -> Result<(), Finding
     }
 }
 
+// What a judgement found, of a log that keeps all promises.
+fn judged_in<R: Abort>(rt: &R, judged: Result<bool, Finding>) -> Result<(), Finding> {
+    let all_kept = judged?;
+    assert!(rt; all_kept);
+    Ok(())
+}
+
 // Makes a call; a run is asked for its journal and looks `a` up.
 fn make<R: Abort + Threads + Wait + Sync>(
     rt: &R,
@@ -152,6 +175,8 @@ fn make<R: Abort + Threads + Wait + Sync>(
         Call::Replay => replay(alloc, source, sink),
         Call::Trace => trace(alloc, source, sink),
         Call::Check => check(alloc, source, sink),
+        Call::Judge => judged_in(rt, judge(alloc, source, sink)),
+        Call::Draw => draw(alloc, source, sink, &WHOLE),
         Call::Run => found_in(
             rt,
             run(rt, alloc, source, sink, &Open, true, false, Some("a")),
@@ -193,21 +218,27 @@ fn writer<'a>(
     })
 }
 
+// A call whose reader fails at each of its calls in turn writes nothing.
+fn assert_reads<R: Abort + Threads + Wait + Sync>(rt: &R, alloc: Global, call: Call, input: &str) {
+    // Three bytes a call, and one call more that finds the end.
+    let calls = input.len().div_ceil(3) + 1;
+    for at in 0..calls {
+        let mut source = reader(input, 3, 0, Some(at));
+        let mut taken = Vec::new(alloc);
+        let mut sink = writer(&mut taken, 100, 0, Trouble::None, 0);
+        let answer = make(rt, alloc, call, &mut source, &mut sink);
+        assert_eq!(rt; answer, Err(AppFault::ReadFailed), "{call:?} at {at}");
+        assert_eq!(rt; source.failures(), 1);
+        assert!(rt; taken.is_empty());
+    }
+}
+
 #[test]
 fn reader_fails_at_each_call(rt: HostRuntime) -> Result<(), Fail> {
     for (call, input, _text) in READS {
-        // Three bytes a call, and one call more that finds the end.
-        let calls = input.len().div_ceil(3) + 1;
-        for at in 0..calls {
-            let mut source = reader(input, 3, 0, Some(at));
-            let mut taken = Vec::new(rt.alloc());
-            let mut sink = writer(&mut taken, 100, 0, Trouble::None, 0);
-            let answer = make(&rt, rt.alloc(), call, &mut source, &mut sink);
-            assert_eq!(rt; answer, Err(AppFault::ReadFailed), "{call:?} at {at}");
-            assert_eq!(rt; source.failures(), 1);
-            assert!(rt; taken.is_empty());
-        }
+        assert_reads(&rt, rt.alloc(), call, input);
     }
+    assert_reads(&rt, rt.alloc(), Call::Draw, NO_EVENTS);
     Ok(())
 }
 
@@ -258,17 +289,27 @@ fn assert_stops<R: Abort + Threads + Wait + Sync>(
     row: (Call, &str, &str),
     trouble: Trouble,
 ) {
-    let (call, input, text) = row;
-    let text = text.as_bytes();
-    for at in 0..text.len() {
-        let mut source = reader(input, 100, 0, None);
-        let mut taken = Vec::new(alloc);
-        let mut sink = writer(&mut taken, 1, 0, trouble, at);
-        let answer = make(rt, alloc, call, &mut source, &mut sink);
-        assert_eq!(rt; answer, Err(AppFault::WriteFailed), "{call:?} at {at}");
-        assert_eq!(rt; sink.failures(), 1);
-        assert!(rt; taken.as_slice() == &text[..at], "{call:?} at {at}");
+    for at in 0..row.2.len() {
+        assert_stops_at(rt, alloc, row, trouble, at);
     }
+}
+
+fn assert_stops_at<R: Abort + Threads + Wait + Sync>(
+    rt: &R,
+    alloc: Global,
+    row: (Call, &str, &str),
+    trouble: Trouble,
+    at: usize,
+) {
+    let (call, input, text) = row;
+    let mut source = reader(input, 100, 0, None);
+    let mut taken = Vec::new(alloc);
+    let mut sink = writer(&mut taken, 1, 0, trouble, at);
+    let answer = make(rt, alloc, call, &mut source, &mut sink);
+    assert_eq!(rt; answer, Err(AppFault::WriteFailed), "{call:?} at {at}");
+    assert_eq!(rt; sink.failures(), 1);
+    let written = text.as_bytes().get(..at);
+    assert!(rt; written == Some(taken.as_slice()), "{call:?} at {at}");
 }
 
 #[test]
@@ -278,6 +319,23 @@ fn writer_in_trouble_at_each_call(rt: HostRuntime) -> Result<(), Fail> {
             assert_stops(&rt, rt.alloc(), row, trouble);
         }
         assert_stops(&rt, rt.alloc(), REPORTED, trouble);
+    }
+    Ok(())
+}
+
+// A picture is long, so its writer is in trouble at some of its bytes alone.
+#[test]
+fn picture_with_troubles(rt: HostRuntime) -> Result<(), Fail> {
+    let alloc = rt.alloc();
+    let text = picture(alloc, TRACE, &WHOLE)?.expect(&rt, "few levels");
+    let row = (Call::Draw, NO_EVENTS, text.as_str());
+    assert_answers(&rt, alloc, row, (1000, 1000), Ok(()));
+    assert_answers(&rt, alloc, row, (1001, 0), Err(AppFault::ReadFailed));
+    assert_answers(&rt, alloc, row, (0, 1001), Err(AppFault::WriteFailed));
+    for trouble in [Trouble::Error, Trouble::TakesNothing] {
+        assert_stops_at(&rt, alloc, row, trouble, 0);
+        assert_stops_at(&rt, alloc, row, trouble, text.len() / 2);
+        assert_stops_at(&rt, alloc, row, trouble, text.len().saturating_sub(1));
     }
     Ok(())
 }
