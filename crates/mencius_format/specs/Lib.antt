@@ -8,3 +8,4 @@ pub mod Cas
 pub mod Texts
 pub mod Sayable
 pub mod Laws
+pub mod Parts

@@ -1,3 +1,8 @@
+//! What the words of an event and of a command are about.
+
+ghost use Rattle.std.specs.Prelude.{◌≡◌};
+ghost use Rattle.mencius_format.specs.Parts.{part_name};
+
 /// A word behind the first one of an event, or behind the operation of a command.
 #[derive(Clone, Copy, Debug)]
 pub enum Part {
@@ -19,7 +24,9 @@ pub enum Part {
 
 impl Part {
     /// What a person calls the word.
-    pub fn name(self) -> &'static str {
+    pub fn name(self) -> &'static str
+        ensures { result.now ≡ part_name self }
+    {
         match self {
             Part::Server => "the server",
             Part::Suspected => "the suspected server",
