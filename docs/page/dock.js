@@ -93,8 +93,6 @@ function actions({ schedule, trace }, server) {
       ...others.map(other => button(`suspect ${server} ${other}`, String(other), `suspect ${other}`))));
 }
 
-const COMMAND = 'ID, then set KEY TEXT, get KEY, del KEY or cas KEY OLD NEW';
-
 function askForm(schedule, server) {
   const said = `command for server ${server}: ${COMMAND}`;
   return el('form', { class: 'ask', 'data-server': server },

@@ -24,7 +24,9 @@ function saidOf(schedule) {
   return Object.entries(membersOf(schedule)).filter(([name, value]) => value !== MEMBERS[name].unsaid);
 }
 
-// Version 2 exactly where an operation of version 2 stands in it, as in the journal of a run.
+// The operations: what a client may ask for, and the version, which is 2 exactly where an operation of version 2 stands
+// in a schedule, as in the journal of a run.
+const COMMAND = 'ID, then set KEY TEXT, get KEY, del KEY or cas KEY OLD NEW';
 const versionOf = events => events.some(event => /^submit \d+ [\d.]+ cas /.test(event)) ? 2 : 1;
 
 function asScenario(schedule) {
