@@ -25,9 +25,9 @@ PARTS = {
     "the command ID": (("ID",), "1.0"),
     "the key": (("KEY",), "k"),
     "the text": (("TEXT",), "x"),
-    "the old text": (("OLD",), "x"),
-    "the new text": (("NEW",), "x"),
 }
+# A text with a name of its own. Pages write that name: OLD is the old text.
+NAMED_TEXT = "the ([a-z]+) text"
 LETTERS = "that is no ASCII letter, digit, `_`, `-` or `.`"
 
 
@@ -195,9 +195,17 @@ def forms_behind(program, task, version, words):
         return [form for word in choices(program, task, version, words)
                 for form in forms_behind(program, task, version, (*words, word))]
     missing = re.fullmatch("(.*?) is missing(: an empty one has a space before it)?", said)
-    if not missing or missing.group(1) not in PARTS:
+    if not missing or not is_part(missing.group(1)):
         fail(f"{sample(words)!r} lacks something that is not known here: {said}")
     return forms_behind(program, task, version, (*words, missing.group(1)))
+
+
+def is_part(name):
+    """Whether a part has this name. That of a text with a name of its own is noted when it is met."""
+    named = re.fullmatch(NAMED_TEXT, name)
+    if named:
+        PARTS[name] = ((named.group(1).upper(),), PARTS["the text"][1])
+    return name in PARTS
 
 
 def choices(program, task, version, words):
