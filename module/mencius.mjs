@@ -1,7 +1,7 @@
 #!/usr/bin/env node
 // The program `mencius` by node: the proved code, as the WebAssembly module beside this file.
 //
-//     node mencius.mjs replay|trace|check|run [OPTIONS] < SCENARIO      as mencius does
+//     node mencius.mjs replay|trace|draw|check|judge|run [OPTIONS] < INPUT      as mencius does
 //
 // A run has no threads: its workers take their turns one after the other.
 import { readFileSync, readSync, realpathSync, writeSync } from 'node:fs';
