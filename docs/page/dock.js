@@ -94,12 +94,13 @@ function actions({ schedule, trace }, server) {
 }
 
 function askForm(schedule, server) {
-  const said = `command for server ${server}: ${COMMAND}`;
+  const { command } = DATA.operations;
+  const said = `command for server ${server}: ${command}`;
   return el('form', { class: 'ask', 'data-server': server },
     el('input', { value: commandFor(schedule, server), 'aria-label': said, spellcheck: 'false' }),
     el('button', {}, 'submit'),
     el('button', { type: 'button', 'data-do': 'ask -1', 'aria-label': 'no command' }, '×'),
-    el('small', {}, COMMAND));
+    el('small', {}, command));
 }
 
 function askButton(server) {

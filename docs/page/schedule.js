@@ -24,10 +24,12 @@ function saidOf(schedule) {
   return Object.entries(membersOf(schedule)).filter(([name, value]) => value !== MEMBERS[name].unsaid);
 }
 
-// The operations: what a client may ask for, and the version, which is 2 exactly where an operation of version 2 stands
-// in a schedule, as in the journal of a run.
-const COMMAND = 'ID, then set KEY TEXT, get KEY, del KEY or cas KEY OLD NEW';
-const versionOf = events => events.some(event => /^submit \d+ [\d.]+ cas /.test(event)) ? 2 : 1;
+// The least version that has all operations of the events, as in the journal of a run.
+function versionOf(events) {
+  const { versions } = DATA.operations;
+  const needed = event => versions[/^submit \d+ [\d.]+ (\w+) /.exec(event)?.[1]] ?? 1;
+  return events.reduce((least, event) => Math.max(least, needed(event)), 1);
+}
 
 function asScenario(schedule) {
   const { events } = schedule;
