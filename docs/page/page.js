@@ -3,6 +3,8 @@
 
 const $ = id => document.getElementById(id);
 const DATA = JSON.parse($('data').textContent);
+// What the servers have in common.
+const COMMON = Object.keys(DATA.members).filter(name => name !== 'servers');
 for (const [name, scenario] of Object.entries(DATA.examples)) DATA.examples[name] = scheduleOf(scenario);
 for (const step of DATA.lessons) step.schedule = scheduleOf(step.schedule);
 const TABS = ['lesson', 'editor', 'judge', 'texts'];
@@ -195,7 +197,7 @@ function showBar() {
   const atStart = cursor === 0, atEnd = cursor === length;
   const off = { undo: !past.length, redo: !future.length, first: atStart, back: atStart, next: atEnd, last: atEnd };
   for (const [id, isOff] of Object.entries(off)) $(id).disabled = isOff;
-  for (const name of Object.keys(MEMBERS)) $(name).value = schedule[name];
+  for (const name of Object.keys(DATA.members)) $(name).value = schedule[name];
   const shown = asScenario(schedule);
   $('example').value = Object.keys(DATA.examples).find(name => asScenario(DATA.examples[name]) === shown) ?? '';
 }

@@ -1,14 +1,6 @@
 'use strict';
-// A schedule has the fields of MEMBERS, which say what cluster it is of, and `events`, which are texts. It is never
+// A schedule has the fields of DATA.members, which say what cluster it is of, and `events`, which are texts. It is never
 // changed: a new one takes its place.
-
-// The fields of the members: the letter of each in a link, and of those that a scenario may leave out what they are
-// then, and what they mean.
-const MEMBERS = {
-  servers: { letter: 'n' },
-  beta: { letter: 'b', unsaid: 0, meaning: 'how far past its own front a suspicion looks' },
-};
-const COMMON = Object.keys(MEMBERS).filter(name => name !== 'servers');
 
 // The schedule that a scenario is, and one of no events with its members.
 const scheduleOf = scenario => ({ ...membersOf(scenario), events: scenario.events });
@@ -16,12 +8,12 @@ const emptyOf = scenario => scheduleOf({ ...scenario, events: [] });
 
 // The members of a scenario or of a schedule.
 function membersOf(scenario) {
-  return Object.fromEntries(Object.entries(MEMBERS).map(([name, { unsaid }]) => [name, scenario[name] ?? unsaid]));
+  return Object.fromEntries(Object.entries(DATA.members).map(([name, { unsaid }]) => [name, scenario[name] ?? unsaid]));
 }
 
 // The fields of the members that have to be said: [name, value] of each.
 function saidOf(schedule) {
-  return Object.entries(membersOf(schedule)).filter(([name, value]) => value !== MEMBERS[name].unsaid);
+  return Object.entries(membersOf(schedule)).filter(([name, value]) => value !== DATA.members[name].unsaid);
 }
 
 // The least version that has all operations of the events, as in the journal of a run.
@@ -95,7 +87,7 @@ const LONGEST_LINK = 60_000;
 
 function asLink(schedule, cursor, step) {
   const texts = schedule.events.map(event => encodeURIComponent(event).replaceAll('%20', '+')).join(';');
-  const members = saidOf(schedule).map(([name, value]) => `${MEMBERS[name].letter}=${value}&`).join('');
+  const members = saidOf(schedule).map(([name, value]) => `${DATA.members[name].letter}=${value}&`).join('');
   const link = `#${members}at=${cursor}${step ? `&step=${step}` : ''}&e=${texts}`;
   return link.length > LONGEST_LINK ? null : link;
 }
@@ -105,7 +97,7 @@ function readLink(hash) {
   const fields = /^#((?:[a-z]=\d+&)+)at=(\d+)(?:&step=(\d+))?&e=(.*)$/.exec(hash);
   if (!fields) return null;
   const said = new Map(fields[1].split('&').slice(0, -1).map(part => [part[0], Number(part.slice(2))]));
-  const named = Object.entries(MEMBERS).map(([name, { letter }]) => [name, said.get(letter)]);
+  const named = Object.entries(DATA.members).map(([name, { letter }]) => [name, said.get(letter)]);
   const members = membersOf(Object.fromEntries(named));
   const [cursor, step] = fields.slice(2, 4).map(digits => Number(digits || 0));
   const events = fields[4] === '' ? [] : fields[4].split(';').map(readPart);

@@ -70,7 +70,7 @@ function showSide() {
 // A field that the servers have in common. The events stay, if the program takes the number.
 function wireCommon(name) {
   const input = el('input', { id: name, type: 'number', min: 0 });
-  $('common').append(el('label', { title: MEMBERS[name].meaning }, `${name} `, input));
+  $('common').append(el('label', { title: DATA.members[name].meaning }, `${name} `, input));
   input.onchange = () => {
     if (!open({ ...page.schedule, [name]: Number(input.value) }, page.cursor)) showBar();
     else if (page.schedule.events.length > 0) {
