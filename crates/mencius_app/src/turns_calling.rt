@@ -44,6 +44,9 @@ pub fn perform_in_turns<R: Source, W: Sink, E: Sink>(
         ⊎ HasFailed (E.failed errors.old) (E.failed errors.new)) }
     ensures quiet { result ≢ Ending.BadCommandLine → errors.new ≡ errors.old }
 
+    // Where it is help or the version that is asked for, nothing is read either.
+    ensures unread { faults (line_of (bytes_of arguments.now)) ≢ [] → source.new ≡ source.old }
+
     // Which fault, and when; and how much was asked of reader and writer, whatever the answer.
     ensures fault { IfSome (fault_in result)
         (IsCause (IsFaultFor (bytes_of arguments.now) (R.remaining source.old))

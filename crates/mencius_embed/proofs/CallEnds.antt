@@ -41,6 +41,7 @@ module _ (arguments args : List Text) (input before out err_0 err_1 err : List �
       → (ending ≡ BadCommandLine → (text : List ℕ) × IsComplaint args text
       × WritesFront (Some err_0) (Some err_1) text × (Appends (Some err_0) (Some err_1) text ⊎ HasFailed e_0 e_1))
       → (ending ≢ BadCommandLine → err_1 ≡ err_0)
+      → (faults (line_of args) ≢ [] → is_asked ≡ false)
       → IfSome (fault_in ending) (IsCause (IsFaultFor args (Some input)) (IsAskedFor args (Some input)) 0 0 w_0 w_1
       (Some before) (Some out))
       → ending ≢ BoardFailed
@@ -48,7 +49,7 @@ module _ (arguments args : List Text) (input before out err_0 err_1 err : List �
       → TellsOf (asked (line_of args)) (Some input) ending
       → Appends (Some err_1) (Some err) (lines_of_ending ending) ⊎ HasFailed e_1 e_2
       → IsEndOf arguments input ending out err is_asked
-  call_ended done refused not_text misused complaint quiet fault no_board explained words lines =
+  call_ended done refused not_text misused complaint quiet unread fault no_board explained words lines =
       let last = written e_1 e_2 e_last lines in
       let w_is : w_1 ≡ 0 = omega (arith, w_still) in
       record {
@@ -66,6 +67,7 @@ module _ (arguments args : List Text) (input before out err_0 err_1 err : List �
               subst (λ a. IsComplaint a err) args_is
                   (subst (λ said. IsComplaint args said) (sym (said_of told.0 first end)) told.1),
             );
+        unread = λ other. unread (λ none. other (ap (λ a. faults (line_of a)) (sym args_is) ∙ none));
         fault = at
             (λ a o. IfSome (fault_in ending) (IsCause (IsFaultFor a (Some input)) (IsAskedFor a (Some input)) 0 0 0 0
             (Some o) (Some out)))

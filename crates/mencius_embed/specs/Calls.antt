@@ -34,6 +34,8 @@ pub record IsEndOf (arguments : List Text) (input : List ℕ) (ending : Ending) 
   pub not_text : are_texts arguments ≡ false → ending ≡ BadCommandLine
   pub misused : ending ≡ BadCommandLine
       → IsMistaken arguments × (is_asked ≡ false) × (printed ≡ []) × IsComplaint arguments said
+  -- nor was anything read for help or the version
+  pub unread : faults (line_of arguments) ≢ [] → is_asked ≡ false
   -- which fault, and when: neither reading nor writing fails
   pub fault : IfSome (fault_in ending) (IsCause (IsFaultFor arguments (Some input)) (IsAskedFor arguments (Some input))
       0 0 0 0 (Some []) (Some printed))

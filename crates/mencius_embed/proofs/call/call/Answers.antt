@@ -19,6 +19,7 @@ returns c =
           c.if-errors-gt0-2.false performed.ensures.done performed.ensures.refused performed.ensures.not_text
           (λ e. let is = performed.ensures.misused e in
           (is.0, ap (λ source. source.is_asked) is.1, ap (λ sink. sink.bytes.items) is.2)) performed.ensures.complaint
-          (λ other. ap (λ errors. errors.bytes.items) (performed.ensures.quiet other)) performed.ensures.fault
+          (λ other. ap (λ errors. errors.bytes.items) (performed.ensures.quiet other))
+          (λ other. ap (λ source. source.is_asked) (performed.ensures.unread other)) performed.ensures.fault
           performed.ensures.no_board performed.ensures.explained performed.ensures.words c.end-status.ensures.lines,
     )
