@@ -5,8 +5,8 @@
 //! `checks/memory` refuses this program each of its growths of memory in turn. What it prints, the report and what was
 //! found last, is the same then as if none had been refused.
 //!
-//! Or the scenario is one of a run with two workers. Then these run, and one line is printed: the name of their fault,
-//! or `Ok`, and how many turns each of them began.
+//! Or the scenario is one of a run with two workers. Then these run, by `run_workers` where beta is 0 and else by
+//! `run_plan`, and one line is printed: the name of their fault, or `Ok`, and how many turns each of them began.
 //!
 //! It ends with status 0, and then standard error has the name of the call that was made again, if one was; with 6 where
 //! memory ran out in anything else; or with 9 where something changed, which standard error names.
