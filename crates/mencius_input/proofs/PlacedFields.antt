@@ -14,7 +14,7 @@ use Rattle.mencius_ends.specs.declared.fault.AppFault.TheVariants.{BadLimit, Bad
 use Rattle.mencius_format.specs.Grammar.{command_of, command_within, event_of, event_within, newest_version}
 use Rattle.mencius_format.specs.Judged.{judged}
 use Rattle.mencius_input.specs.declared.field.Field.{Field}
-use Rattle.mencius_input.specs.declared.field.Field.TheVariants.{Version, Servers, Beta, Workers, Seed, Turns, Loss, Events, Commands}
+use Rattle.mencius_input.specs.declared.field.Field.TheVariants.{Version, Servers}
 use Rattle.mencius_input.specs.declared.kind.Kind.{Kind}
 use Rattle.mencius_input.specs.declared.kind.Kind.TheVariants.{Replay, Run}
 use Rattle.mencius_input.specs.FieldsOf.{default_of, field_name, field_within, fields, list_field}
@@ -22,6 +22,7 @@ use Rattle.mencius_input.specs.Places.{commands_place, count_place, course_place
 use Rattle.mencius_input.specs.Plan.{commands_of}
 use Rattle.mencius_input.specs.Scenario.{all_of, events_of, number_in, number_of, said_by, schedule_of, whole_in}
 use Rattle.mencius_input.proofs.ScenarioFields.{schedule_bound}
+use Rattle.mencius_input.proofs.SharedFields.{default_fits}
 use Rattle.mencius_input.proofs.PlacedNames.{none_both, none_found, none_mapped, not_given}
 
 -- ---- the fields of an object in which there is no place
@@ -97,19 +98,6 @@ module _ (kind : Kind) (ms : Members) (h : HasNone kind BadShape ms) where
           → is_some (get_member (field_name (list_field kind)) ms) ≡ true
       by_kind Replay e = turned _ e
       by_kind Run e = turned _ e
-
--- what a field is that is not there is within the limits
-default_fits : (field : Field) (n : ℕ) → default_of field ≡ Some n → field_within field n ≡ true
-unfolding field_within
-default_fits Beta n is = sym (ap (λ o. field_within Beta (unwrap_or o n)) is)
-default_fits Version n is = absurd cc
-default_fits Servers n is = absurd cc
-default_fits Workers n is = absurd cc
-default_fits Seed n is = absurd cc
-default_fits Turns n is = absurd cc
-default_fits Loss n is = absurd cc
-default_fits Events n is = absurd cc
-default_fits Commands n is = absurd cc
 
 module _ (kind : Kind) (ms : Members) (h : HasNone kind BadLimit ms) where
   pub number_fits : (field : Field) → field_named kind (field_name field) ≡ Some field → (n : ℕ)

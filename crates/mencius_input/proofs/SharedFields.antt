@@ -1,6 +1,6 @@
 -- The fields of both kinds of scenario, and what they say.
 use Rattle.std.proofs.Common.{◌≡◌, ℕ, ◌&&◌, List, ◌∷◌, Bool, true, false, cond, Option, Some, None, option_map, option_and_then, Result, Ok, Err, inl, inr, refl, sym, ap, ◌∙◌}
-use Rattle.std.specs.Prelude.{if◌then◌else◌}
+use Rattle.std.specs.Prelude.{if◌then◌else◌, unwrap_or}
 use Rattle.std.proofs.Math.Bool.{and-true, and-false}
 use Rattle.serde_json.specs.Data.{Data, Members, object}
 use Rattle.serde_json.specs.Find.{as_object}
@@ -8,12 +8,13 @@ use Rattle.mencius_base.specs.Members.{Membership}
 use Rattle.mencius_ends.specs.declared.fault.AppFault.{AppFault}
 use Rattle.mencius_ends.specs.declared.fault.AppFault.TheVariants.{BadLimit}
 use Rattle.mencius_format.specs.Judged.{FailsBy, judged}
-use Rattle.mencius_input.specs.declared.field.Field.TheVariants.{Version, Servers, Beta}
+use Rattle.mencius_input.specs.declared.field.Field.{Field}
+use Rattle.mencius_input.specs.declared.field.Field.TheVariants.{Version, Servers, Beta, Workers, Seed, Turns, Loss, Events, Commands}
 use Rattle.mencius_input.specs.declared.kind.Kind.{Kind}
 use Rattle.mencius_input.specs.declared.scenario.Scenario.{Scenario}
 use Rattle.mencius_input.specs.declared.scenario.Shared.{Shared}
 use Rattle.mencius_input.specs.FieldValues.{IsForeign, IsUnread, fitted, said_of, shared_in, shared_within, with_course}
-use Rattle.mencius_input.specs.FieldsOf.{names}
+use Rattle.mencius_input.specs.FieldsOf.{default_of, field_within, names}
 use Rattle.mencius_input.specs.Scenario.{has_only, members_of, number_of, or_not_json, read_there, scenario_of, scenario_within}
 
 -- ---- the limits
@@ -36,6 +37,19 @@ fitted_judged {X} shared test fits same (Some x) = by_test (test x) (same x)
         ap (λ bit. cond bit (Ok (with_course shared x)) (Err BadLimit)) (sym (and-true (shared_within shared)) ∙ e)
     by_test false e =
         ap (λ bit. cond bit (Ok (with_course shared x)) (Err BadLimit)) (sym (and-false (shared_within shared)) ∙ e)
+
+-- what a field is that is not there is within the limits
+pub default_fits : (field : Field) (n : ℕ) → default_of field ≡ Some n → field_within field n ≡ true
+unfolding field_within
+default_fits Beta n is = sym (ap (λ o. field_within Beta (unwrap_or o n)) is)
+default_fits Version n is = absurd cc
+default_fits Servers n is = absurd cc
+default_fits Workers n is = absurd cc
+default_fits Seed n is = absurd cc
+default_fits Turns n is = absurd cc
+default_fits Loss n is = absurd cc
+default_fits Events n is = absurd cc
+default_fits Commands n is = absurd cc
 
 -- ---- what an object says, by its fields
 
