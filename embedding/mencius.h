@@ -25,7 +25,10 @@ struct mencius_answer {
 };
 
 /* `words` are the arguments behind the program's name, each with a zero byte behind it: "replay\0--strict\0" is 16
- * bytes. `input` is standard input. No pointer may be null, not even for no bytes, and no two rooms may overlap.
+ * bytes. `input` is standard input. A length is how many bytes stand behind its pointer, and a room how many may be
+ * written there; neither is more than PTRDIFF_MAX. No pointer may be null, not even for no bytes. What is written to, both
+ * rooms and the answer, may overlap nothing else that is handed in. What is read, the words and the input, may be anything
+ * and of any length, and must not change before the call returns.
  *
  * `printed` gets what goes to standard output, and `said` what goes to standard error, each where it has room for the
  * whole of it; else it stays as it is. Then call again with as much room as the answer says: the same call gives the
