@@ -4,11 +4,12 @@
 //     node mencius.mjs replay|trace|draw|check|judge|run [OPTIONS] < INPUT      as mencius does
 //
 // A run has no threads: its workers take their turns one after the other.
-import { readFileSync, readSync, realpathSync, writeSync } from 'node:fs';
+import { fstatSync, readFileSync, readSync, realpathSync, writeSync } from 'node:fs';
 import { fileURLToPath } from 'node:url';
 
 const MOST = 16_777_217; // one byte more than the longest scenario, which is as much as the program reads of one
 const MOST_OF_A_LOG = 2 ** 31; // a log has no greatest length, so no verdict is given on the front of a longer one
+const MOST_OF_A_LINE = 1_024; // of a log
 const bytes = readFileSync(process.env.MENCIUS_MODULE || fileURLToPath(new URL('mencius.wasm', import.meta.url)));
 let exports;
 
@@ -99,6 +100,38 @@ function readInput(most) {
   return [Buffer.concat(parts), false];
 }
 
+// Whether standard input may still grow while it is read.
+function isOpen() {
+  const input = fstatSync(0);
+  return !input.isFile() && !input.isDirectory();
+}
+
+// Judges a log while it comes: what is there of it in whole lines, and this again and again, with a pause in between as
+// long as the last time took. A broken promise or a bad line among these is the verdict on the whole, whatever comes.
+function judgeAsItComes(args) {
+  let log = Buffer.allocUnsafe(65_536), length = 0, pause = 0, timer;
+  return new Promise(resolve => {
+    const look = isWhole => {
+      timer = undefined;
+      const lines = log.subarray(0, length).lastIndexOf(10) + 1;
+      // A line that is too long need not have an end.
+      const end = isWhole || length - lines > MOST_OF_A_LINE ? length : lines;
+      const begin = performance.now();
+      const answer = mencius(args, log.subarray(0, end));
+      pause = performance.now() - begin;
+      if (isWhole || answer.status !== 0) resolve(tell(answer));
+    };
+    process.stdin.on('data', part => {
+      if (length + part.length >= MOST_OF_A_LOG) return resolve(failed('26 NoMemory', 5));
+      if (length + part.length > log.length) log = Buffer.concat([log], 2 * (length + part.length));
+      length += part.copy(log, length);
+      timer ??= setTimeout(look, pause, false);
+    });
+    process.stdin.on('end', () => look(true));
+    process.stdin.on('error', () => resolve(failed('24 ReadFailed')));
+  });
+}
+
 // Whether all bytes could be written.
 function write(stream, bytes) {
   for (let at = 0; at < bytes.length;) {
@@ -130,17 +163,23 @@ function failed(line, status = 4) {
   return status;
 }
 
-function main(args) {
-  let answer = mencius(args);
-  if (answer.asked) {
-    const [input, hasFailed] = readInput(isJudge(args) ? MOST_OF_A_LOG : MOST);
-    if (hasFailed) return failed('24 ReadFailed');
-    if (input.length === MOST_OF_A_LOG) return failed('26 NoMemory', 5);
-    answer = mencius(args, input);
-  }
+// Prints and says what a call answered, and answers its status.
+function tell(answer) {
   if (!write(1, answer.printed)) return failed('25 WriteFailed');
   write(2, answer.said);
   return answer.status;
+}
+
+async function main(args) {
+  let answer = mencius(args);
+  if (answer.asked) {
+    if (isJudge(args) && isOpen()) return judgeAsItComes(args);
+    const [input, hasFailed] = readInput(isJudge(args) ? MOST_OF_A_LOG : MOST);
+    if (hasFailed) return failed('24 ReadFailed' + (isJudge(args) ? '' : '\nthe scenario could not be read to its end'));
+    if (input.length === MOST_OF_A_LOG) return failed('26 NoMemory', 5);
+    answer = mencius(args, input);
+  }
+  return tell(answer);
 }
 
 // Whether this file was started, and not imported: the first word may be anything where `node -e` imports it.
@@ -152,4 +191,5 @@ function isProgram() {
   }
 }
 
-if (isProgram()) process.exitCode = main(readArguments());
+// A log that is judged need not have ended.
+if (isProgram()) main(readArguments()).then(status => process.exit(status));
