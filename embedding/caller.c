@@ -27,7 +27,7 @@ static uint8_t *grow(uint8_t *old, size_t room) {
     return grown;
 }
 
-/* The room is doubled in effect: the second call has as much as the first one asked for. */
+/* The second call has as much room as the first one asked for. */
 static void call(struct texts *t) {
     size_t printed = 65536, said = 4096;
     t->printed = grow(NULL, printed);
@@ -45,7 +45,8 @@ static void *repeat(void *wanted) {
     for (int i = 0; i < 100; i++) {
         call(&t);
         if (t.answer.status != first->answer.status || t.answer.printed != first->answer.printed ||
-            memcmp(t.printed, first->printed, t.answer.printed)) {
+            memcmp(t.printed, first->printed, t.answer.printed) || t.answer.said != first->answer.said ||
+            memcmp(t.said, first->said, t.answer.said)) {
             fputs("caller: another answer\n", stderr);
             exit(6);
         }

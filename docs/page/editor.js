@@ -106,6 +106,13 @@ function judgeLog(core) {
   mark(area, answer.status === 0 ? null : placeOfMistake(area.value, isBroken ? `line ${words[1]}` : said));
   showVerdict('judgement', said, answer.status !== 0);
   $('in-words').textContent = answer.status === 0 ? keptInWords(words) : isBroken ? brokenInWords(words)
+    : badLineInWords(said);
+}
+
+// Of a log that was not judged to its end: what a mistake in it means, where it is one in a line.
+function badLineInWords(said) {
+  if (!said.startsWith('line ')) return '';
+  return said.endsWith('ends in it') ? 'The last line has no end, so nothing is said of the store: put a line break behind it.'
     : 'This line is no observation, so nothing is said of the store.';
 }
 
@@ -114,8 +121,9 @@ function brokenInWords([, line, promise, ...words]) {
 }
 
 function keptInWords(w) {
-  const open = w[10] === '0' ? '' : ` Of the replies ${w[10]} stand in no history yet, and are not judged.`;
-  const replies = `${w[8]} ${w[8] === '1' ? 'reply' : 'replies'}`;
+  const repliesOf = number => `${number} ${number === 1 ? 'reply' : 'replies'}`;
+  const open = w[10] === '0' ? '' : ` Whether ${repliesOf(+w[10])} to commands of no history`
+    + ` ${w[10] === '1' ? 'is' : 'are'} right was not judged.`;
   return `All eight promises are kept: ${count(+w[2], 'server')} executed ${w[6]} of ${count(+w[4], 'command')},`
-    + ` ${replies} and ${count(+w[12], 'look-up')} are right.${open}`;
+    + ` ${repliesOf(w[8] - w[10])} and ${count(+w[12], 'look-up')} are right.${open}`;
 }
