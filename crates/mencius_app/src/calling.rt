@@ -105,13 +105,13 @@ pub fn perform<R: Source, W: Sink, E: Sink, T: Threads + Wait + Sync>(
             Ok(ending) => ending,
             Err(options) => perform_run(rt, alloc, &options, source, sink),
         },
-        Err(error) => tell(alloc, arguments, &error, sink, errors),
+        Err(error) => answer_command_line(alloc, arguments, &error, sink, errors),
     }
 }
 
 /// Writes what the command line has to say: a text that was asked for to `sink`, and what is wrong to
 /// `errors`.
-pub(crate) fn tell<W: Sink, E: Sink>(
+pub(crate) fn answer_command_line<W: Sink, E: Sink>(
     alloc: Global,
     arguments: &[Vec<u8>],
     error: &Error,

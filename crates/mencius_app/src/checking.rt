@@ -143,13 +143,13 @@ fn run_line(alloc: Global, scenario: &Scenario<Plan>) -> Result<String, AllocErr
         line,
         "ok servers {servers} workers {workers} turns {turns} commands"
     )?;
-    push_counts(&mut line, scenario.course.commands())?;
+    push_list_counts(&mut line, scenario.course.commands())?;
     line.push('\n')?;
     Ok(line)
 }
 
 // How many commands each list has.
-fn push_counts(line: &mut String, lists: &[Vec<Command>]) -> Result<(), AllocError>
+fn push_list_counts(line: &mut String, lists: &[Vec<Command>]) -> Result<(), AllocError>
     ensures { OnOk result (string_bytes line.new
         ≡ string_bytes line.old ++ flat_map count_text (map (λ l. l.items) lists.now)) }
 {

@@ -45,8 +45,8 @@ pub fn end<E: Sink>(ending: Ending, errors: &mut E) -> u8
         Ending::Done => 0,
         Ending::Refused => 1,
         Ending::BadCommandLine => 2,
-        Ending::Failed(fault) => tell(errors, fault, ""),
-        Ending::Explained { fault, words } => tell(errors, fault, words.as_str()),
+        Ending::Failed(fault) => write_fault(errors, fault, ""),
+        Ending::Explained { fault, words } => write_fault(errors, fault, words.as_str()),
         Ending::BoardFailed => {
             // Nobody is left to tell where standard error fails.
             let _ = write_all(errors, line_of_board().as_bytes());
@@ -68,7 +68,7 @@ pub fn exit_status(fault: AppFault) -> u8
 }
 
 // Writes the line of a fault and the words for it, and answers its exit status.
-fn tell<E: Sink>(errors: &mut E, fault: AppFault, words: &str) -> u8
+fn write_fault<E: Sink>(errors: &mut E, fault: AppFault, words: &str) -> u8
     ensures status { result ≡ status_of fault }
     ensures lines { Appends (E.contents errors.old) (E.contents errors.new)
         (fault_line fault ++ words.now) ⊎ HasFailed (E.failed errors.old) (E.failed errors.new) }

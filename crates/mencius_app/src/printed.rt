@@ -38,12 +38,12 @@ pub(crate) fn push_report(text: &mut String, cluster: &Cluster) -> Result<(), Al
     ensures { OnOk result (string_bytes text.new
         ≡ string_bytes text.old ++ report_text cluster.now.members (trace_of cluster.now)) }
 {
-    push_counts(text, cluster)?;
+    push_cluster_counts(text, cluster)?;
     push_servers(text, cluster)?;
     push_replies(text, cluster)
 }
 
-fn push_counts(text: &mut String, cluster: &Cluster) -> Result<(), AllocError>
+fn push_cluster_counts(text: &mut String, cluster: &Cluster) -> Result<(), AllocError>
     ensures { OnOk result (string_bytes text.new
         ≡ string_bytes text.old ++ counts_line cluster.now.members (trace_of cluster.now)) }
 {

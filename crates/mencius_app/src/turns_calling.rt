@@ -7,7 +7,7 @@ ghost use Rattle.mencius_ends.specs.Ends.{HasFailed, WritesFront};
 ghost use Rattle.mencius_app.specs.Calls.{AsksAs, AsksLittle, IsCause};
 ghost use Rattle.mencius_app.specs.Ending.{Did, DidTask, IsAskedFor, IsComplaint, IsFaultFor, IsInputFaultOf, IsMistaken, IsTextOf, TellsOf, asked_with, fault_in, is_explained};
 
-use crate::calling::{NOT_TEXT, RunOptions, ending_of, perform_alone, tell};
+use crate::calling::{NOT_TEXT, RunOptions, answer_command_line, ending_of, perform_alone};
 use crate::ending::Ending;
 use crate::turns::run_in_turns;
 use mencius_command_line::{are_texts, read_arguments};
@@ -71,7 +71,7 @@ pub fn perform_in_turns<R: Source, W: Sink, E: Sink>(
             Ok(ending) => ending,
             Err(options) => perform_run_in_turns(alloc, &options, source, sink),
         },
-        Err(error) => tell(alloc, arguments, &error, sink, errors),
+        Err(error) => answer_command_line(alloc, arguments, &error, sink, errors),
     }
 }
 

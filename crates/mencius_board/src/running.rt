@@ -149,7 +149,7 @@ fn first_fault(ways: &[Way], turns: u32) -> Result<(), BoardFault>
 }
 
 // All turns of one worker, up to its first fault.
-fn work<'p, J: Job, R: Wait, G: Gate>(
+fn take_turns<'p, J: Job, R: Wait, G: Gate>(
     rt: &R,
     alloc: Global,
     run: &Mutex<Run<'p, J>>,
@@ -169,7 +169,7 @@ fn work<'p, J: Job, R: Wait, G: Gate>(
 }
 
 // Starts the workers in a scope, whose end waits for them.
-fn start_all<'s, 'p, J: Job + Send, E, R: Threads + Wait + Sync + 's, G: Gate + Sync + 's>(
+fn start_threads<'s, 'p, J: Job + Send, E, R: Threads + Wait + Sync + 's, G: Gate + Sync + 's>(
     scope: &Scope<'s, E>,
     rt: &'s R,
     alloc: Global,
@@ -181,7 +181,7 @@ fn start_all<'s, 'p, J: Job + Send, E, R: Threads + Wait + Sync + 's, G: Gate + 
 {
     let turns = plan.turns();
     for worker in 0..plan.workers() {
-        let child = scope.spawn(move || work(rt, alloc, run, gate, worker, turns));
+        let child = scope.spawn(move || take_turns(rt, alloc, run, gate, worker, turns));
         if child.is_err() {
             lend(rt, run, |run| run.refuse(worker));
         }
@@ -203,7 +203,7 @@ fn run_threads<'p, J: Job + Send, R: Threads + Wait + Sync, G: Gate + Sync>(
         rt,
         |scope|
             requires { plan.now ≡ J.plan }
-        { start_all(scope, rt, alloc, run, plan, gate) },
+        { start_threads(scope, rt, alloc, run, plan, gate) },
     );
 }
 

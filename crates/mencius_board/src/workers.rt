@@ -213,7 +213,7 @@ fn gather<'p, R: Threads>(
 }
 
 // Starts the workers in a scope, and joins them.
-fn start_all<'s, E, R: Threads + Wait + Sync + 's, G: Gate + Sync + 's>(
+fn start_and_join<'s, E, R: Threads + Wait + Sync + 's, G: Gate + Sync + 's>(
     scope: &Scope<'s, E>,
     rt: &'s R,
     alloc: Global,
@@ -280,7 +280,7 @@ pub fn run_workers<'p, R: Threads + Wait + Sync, G: Gate + Sync>(
         |scope| -> Result<Vec<Ended>, NoMemory>
             ensures { IfOk result (λ x. (vec_len x ≡ plan.entry.now.workers)
                 × HaveEnded x.items plan.entry.now plan.entry.now.workers) }
-        { start_all(scope, rt, alloc, board, plan, gate) },
+        { start_and_join(scope, rt, alloc, board, plan, gate) },
     )?;
     settle(plan, ends, choosers)
 }

@@ -9,7 +9,7 @@ use Rattle.mencius_draw.specs.declared.facts.Fact.{Fact}
 use Rattle.mencius_draw.specs.declared.facts.Fact.TheVariants.{Event, Sent, Outcome, Closing, Unheard, Other}
 use Rattle.mencius_draw.specs.declared.layout.Spot.{Spot}
 use Rattle.mencius_draw.specs.declared.layout.Shape.{Shape}
-use Rattle.mencius_draw.specs.declared.layout.Sent.{Sent as SentMessage}
+use Rattle.mencius_draw.specs.declared.layout.SentMessage.{SentMessage}
 use Rattle.mencius_draw.specs.declared.options.Options.{Options}
 use Rattle.mencius_draw.specs.Words.{number, word}
 use Rattle.mencius_draw.specs.Facts.{fact_of, note_of}

@@ -53,14 +53,14 @@ event_at place is_refused (Some (act, server)) = Event place act server is_refus
 abbrev pub event_of : List ℕ → List ℕ → Fact
 event_of line next = event_at (number (word 1 line)) (bytes_eq (word 0 next) (codes "refused")) (act_of line)
 
-abbrev pub sent_as : ℕ → ℕ → ℕ → Option Kind → Fact
-sent_as number from inst None = Other
-sent_as number from inst (Some kind) = Sent number kind from inst
+abbrev pub sent_fact : ℕ → ℕ → ℕ → Option Kind → Fact
+sent_fact number from inst None = Other
+sent_fact number from inst (Some kind) = Sent number kind from inst
 
 -- a message's number, sender and instance, of a Skip the first one
 abbrev pub sent_of : List ℕ → Fact
 sent_of line =
-    sent_as (number (word 1 line)) (number (word 4 line)) (number (word 8 line)) (kind_of (word 2 line))
+    sent_fact (number (word 1 line)) (number (word 4 line)) (number (word 8 line)) (kind_of (word 2 line))
 
 unfoldable pub note_of : List ℕ → ℕ → Option Note
 note_of name inst =

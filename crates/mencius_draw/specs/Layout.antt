@@ -6,7 +6,7 @@ use Rattle.mencius_draw.specs.declared.facts.Fact.TheVariants.{Event, Sent, Outc
 use Rattle.mencius_draw.specs.declared.facts.Note.TheVariants.{Executed}
 use Rattle.mencius_draw.specs.declared.layout.Spot.{Spot}
 use Rattle.mencius_draw.specs.declared.layout.Shape.{Shape}
-use Rattle.mencius_draw.specs.declared.layout.Sent.{Sent as SentMessage}
+use Rattle.mencius_draw.specs.declared.layout.SentMessage.{SentMessage}
 use Rattle.mencius_draw.specs.declared.options.Options.{Options}
 use Rattle.mencius_draw.specs.Facts.{fact_of}
 

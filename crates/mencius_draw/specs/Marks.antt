@@ -7,7 +7,7 @@ use Rattle.mencius_draw.specs.declared.facts.Note.TheVariants.{Learned, Executed
 use Rattle.mencius_draw.specs.declared.facts.Fact.{Fact}
 use Rattle.mencius_draw.specs.declared.facts.Fact.TheVariants.{Event, Sent, Outcome}
 use Rattle.mencius_draw.specs.declared.layout.Spot.{Spot}
-use Rattle.mencius_draw.specs.declared.layout.Sent.{Sent as SentMessage}
+use Rattle.mencius_draw.specs.declared.layout.SentMessage.{SentMessage}
 use Rattle.mencius_draw.specs.declared.ways.Way.{Way}
 use Rattle.mencius_draw.specs.Facts.{kind_name}
 use Rattle.mencius_draw.specs.Labels.{note_class, note_label, sent_label}

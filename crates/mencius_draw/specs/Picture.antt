@@ -4,7 +4,7 @@ use Rattle.std.specs.Global.{Global}
 use Rattle.std.specs.List.{flat_map}
 use Rattle.mencius_draw.specs.declared.options.Options.{Options}
 use Rattle.mencius_draw.specs.declared.options.TooLarge.{TooLarge}
-use Rattle.mencius_draw.specs.declared.layout.Sent.{Sent}
+use Rattle.mencius_draw.specs.declared.layout.SentMessage.{SentMessage}
 use Rattle.mencius_draw.specs.declared.options.Scheme.{Scheme}
 use Rattle.mencius_draw.specs.Feet.{foot_text}
 use Rattle.mencius_draw.specs.Frame.{head, key_text, lanes, rule_text}
@@ -23,7 +23,7 @@ abbrev pub levels_of : Options → List (List ℕ) → ℕ
 levels_of o lines = (end_of o start lines).next
 
 -- the texts of the shapes, one after the other: rules and lanes lie under arrows, and arrows under labels
-abbrev pub painted : Scheme → ℕ → ℕ → List Sent → List Outline → List ℕ
+abbrev pub painted : Scheme → ℕ → ℕ → List SentMessage → List Outline → List ℕ
 painted scheme servers levels sents xs =
     let width = width_of servers (greatest_reach servers xs) in
     head scheme servers width levels ++ flat_map (rule_text width) xs ++ lanes servers levels

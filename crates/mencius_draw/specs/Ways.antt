@@ -6,7 +6,7 @@ use Rattle.mencius_draw.specs.declared.facts.Kind.TheVariants.{Suggest, Skip, Ac
 use Rattle.mencius_draw.specs.declared.facts.Fact.{Fact}
 use Rattle.mencius_draw.specs.declared.facts.Fact.TheVariants.{Event}
 use Rattle.mencius_draw.specs.declared.layout.Spot.{Spot}
-use Rattle.mencius_draw.specs.declared.layout.Sent.{Sent}
+use Rattle.mencius_draw.specs.declared.layout.SentMessage.{SentMessage}
 use Rattle.mencius_draw.specs.declared.ways.Way.{Way}
 use Rattle.mencius_draw.specs.Facts.{kind_name}
 use Rattle.mencius_draw.specs.Layout.{Outline}
@@ -26,7 +26,7 @@ way_of (Event place (Lose message) server false) =
 way_of _ = None
 
 -- its message: messages are numbered in the order in which they were sent
-abbrev pub heard_by : List Sent → Way → Option Sent
+abbrev pub heard_by : List SentMessage → Way → Option SentMessage
 heard_by sents way = slice_get sents way.message
 
 -- how many events an arrow may pass, back to its own lane and to another one
@@ -75,7 +75,7 @@ stub_path from to end =
     command (codes "M") (beside from to 30) (end - 12) ++ command (codes "L") (beside from to 9) (end - 4)
 
 -- from the lane of the sender to that of the server, and from the level where it was sent to that of the event
-abbrev pub way_path : ℕ → Sent → ℕ → Spot → List ℕ
+abbrev pub way_path : ℕ → SentMessage → ℕ → Spot → List ℕ
 way_path servers sent server spot =
     let from = lane_of servers sent.from in
     let to = lane_of servers server in
@@ -91,17 +91,17 @@ heard_end servers kind inst =
     fixed (codes "' marker-end='url(#") ++ point_of kind ++ decimal (owner_of servers inst) ++ fixed (codes ")'")
 
 -- which a lost message has not
-abbrev pub way_end : ℕ → Sent → Bool → List ℕ
+abbrev pub way_end : ℕ → SentMessage → Bool → List ℕ
 way_end servers sent true = fixed (codes "'")
 way_end servers sent false = heard_end servers sent.kind sent.inst
 
-abbrev pub way_title : Sent → Way → List ℕ
+abbrev pub way_title : SentMessage → Way → List ℕ
 way_title sent way =
     between (codes "><title>message ") sent.number (codes ": ") ++ kind_name sent.kind
     ++ between (codes " from ") sent.from (codes " to ") ++ decimal way.server
     ++ fixed (codes ", ") ++ fate_of way.is_lost ++ fixed (codes "</title></path>\n")
 
-abbrev pub arrow_text : ℕ → Sent → Way → Spot → List ℕ
+abbrev pub arrow_text : ℕ → SentMessage → Way → Spot → List ℕ
 arrow_text servers sent way spot =
     fixed (codes "<path class='way ") ++ fate_of way.is_lost ++ fixed (codes " ") ++ kind_name sent.kind
     ++ between (codes " s") (owner_of servers sent.inst) (codes "' data-e='") ++ decimal spot.place
@@ -109,14 +109,14 @@ arrow_text servers sent way spot =
     ++ way_path servers sent way.server spot ++ way_end servers sent way.is_lost
     ++ way_title sent way
 
-abbrev pub way_of_sent : ℕ → Way → Spot → Option Sent → List ℕ
+abbrev pub way_of_sent : ℕ → Way → Spot → Option SentMessage → List ℕ
 way_of_sent servers way spot None = []
 way_of_sent servers way spot (Some sent) = arrow_text servers sent way spot
 
-abbrev pub way_by : ℕ → List Sent → Spot → Option Way → List ℕ
+abbrev pub way_by : ℕ → List SentMessage → Spot → Option Way → List ℕ
 way_by servers sents spot None = []
 way_by servers sents spot (Some way) = way_of_sent servers way spot (heard_by sents way)
 
 -- the arrow of a delivery or a loss, where its event is drawn
-abbrev pub way_text : ℕ → List Sent → Outline → List ℕ
+abbrev pub way_text : ℕ → List SentMessage → Outline → List ℕ
 way_text servers sents x = if x.spot.is_shown then way_by servers sents x.spot (way_of x.fact) else []

@@ -11,7 +11,7 @@ ghost use Rattle.mencius_draw.specs.Ways.{way_text};
 
 use crate::feet::push_foot;
 use crate::frame::{push_head, push_key, push_lanes, push_rule};
-use crate::layout::{Sent, Shape, end_of, first_line, sents_of, shapes_of};
+use crate::layout::{SentMessage, Shape, end_of, first_line, sents_of, shapes_of};
 use crate::marks::{push_shape, reach_of};
 use crate::options::{MOST_LEVELS, Options, TooLarge};
 use crate::places::width_of;
@@ -44,7 +44,7 @@ fn push_rules(text: &mut String, width: usize, shapes: &[Shape]) -> Result<(), A
 fn push_ways(
     text: &mut String,
     servers: u32,
-    sents: &[Sent],
+    sents: &[SentMessage],
     shapes: &[Shape],
 ) -> Result<(), AllocError>
     ensures { OnOk result (string_bytes text.new ≡ string_bytes text.old
@@ -60,7 +60,7 @@ fn push_shapes(
     alloc: Global,
     text: &mut String,
     servers: u32,
-    sents: &[Sent],
+    sents: &[SentMessage],
     shapes: &[Shape],
 ) -> Result<(), AllocError>
     ensures { OnOk result (string_bytes text.new ≡ string_bytes text.old

@@ -37,7 +37,7 @@ pub(crate) struct Shape<'a> {
 
 /// A message that was sent.
 #[derive(Clone, Copy, Drop)]
-pub(crate) struct Sent {
+pub(crate) struct SentMessage {
     pub(crate) number: u32,
     pub(crate) kind: Kind,
     pub(crate) from: u32,
@@ -195,7 +195,7 @@ pub(crate) fn shapes_of<'a>(
     Ok(shapes)
 }
 
-fn sent_here(shape: &Shape) -> Option<Sent>
+fn sent_here(shape: &Shape) -> Option<SentMessage>
     ensures { result ≡ sent_here (outline shape.now) }
 {
     match shape.fact {
@@ -204,7 +204,7 @@ fn sent_here(shape: &Shape) -> Option<Sent>
             kind,
             from,
             inst,
-        } => Some(Sent {
+        } => Some(SentMessage {
             number,
             kind,
             from,
@@ -215,7 +215,7 @@ fn sent_here(shape: &Shape) -> Option<Sent>
     }
 }
 
-fn push_sent_here(sents: &mut Vec<Sent>, shape: &Shape) -> Result<(), AllocError>
+fn push_sent_here(sents: &mut Vec<SentMessage>, shape: &Shape) -> Result<(), AllocError>
     ensures { OnOk result (sents.new.items
         ≡ sents.old.items ++ cons_option (sent_here (outline shape.now)) []) }
 {
@@ -226,7 +226,7 @@ fn push_sent_here(sents: &mut Vec<Sent>, shape: &Shape) -> Result<(), AllocError
 }
 
 /// The messages that were sent, by rising number.
-pub(crate) fn sents_of(alloc: Global, shapes: &[Shape]) -> Result<Vec<Sent>, AllocError>
+pub(crate) fn sents_of(alloc: Global, shapes: &[Shape]) -> Result<Vec<SentMessage>, AllocError>
     ensures { IfOk result (λ sents. sents.items ≡ sents_of (map outline shapes.now)) }
 {
     let mut sents = Vec::new(alloc);

@@ -9,7 +9,7 @@ ghost use Rattle.mencius_draw.specs.Marks.{act_cause, act_name, act_words, box_w
 
 use crate::facts::{Act, Fact, Note};
 use crate::labels::{note_class, note_label, sent_label};
-use crate::layout::{Sent, Shape, Spot};
+use crate::layout::{SentMessage, Shape, Spot};
 use crate::places::{lane_of, push_moved_to, push_y_below};
 use crate::ways::{heard_by, is_near, owner_of, push_fate, push_kind, push_owner_between, way_of};
 use crate::words::{push_between, push_fixed, push_number, push_rest};
@@ -57,7 +57,7 @@ fn push_origin(text: &mut String, sent: Spot, heard: Spot) -> Result<(), AllocEr
 fn push_message(
     text: &mut String,
     servers: u32,
-    sent: &Sent,
+    sent: &SentMessage,
     is_lost: bool,
     spot: Spot,
 ) -> Result<(), AllocError>
@@ -102,7 +102,7 @@ fn push_act(text: &mut String, act: Act) -> Result<(), AllocError>
 fn push_cause(
     text: &mut String,
     servers: u32,
-    sents: &[Sent],
+    sents: &[SentMessage],
     fact: Fact,
     act: Act,
     spot: Spot,
@@ -152,7 +152,7 @@ fn push_edge(text: &mut String, level: usize) -> Result<(), AllocError>
 fn push_event(
     text: &mut String,
     servers: u32,
-    sents: &[Sent],
+    sents: &[SentMessage],
     shape: &Shape,
     act: Act,
     is_refused: bool,
@@ -273,7 +273,7 @@ fn push_sent_box(
     alloc: Global,
     text: &mut String,
     servers: u32,
-    sent: &Sent,
+    sent: &SentMessage,
     line: &[u8],
 ) -> Result<(), AllocError>
     ensures { OnOk result (string_bytes text.new
@@ -288,7 +288,7 @@ fn push_sent(
     text: &mut String,
     servers: u32,
     shape: &Shape,
-    sent: &Sent,
+    sent: &SentMessage,
 ) -> Result<(), AllocError>
     ensures { OnOk result (string_bytes text.new
         ≡ string_bytes text.old ++ sent_text servers (outline shape.now) sent.now) }
@@ -395,7 +395,7 @@ pub(crate) fn push_shape(
     alloc: Global,
     text: &mut String,
     servers: u32,
-    sents: &[Sent],
+    sents: &[SentMessage],
     shape: &Shape,
 ) -> Result<(), AllocError>
     ensures { OnOk result (string_bytes text.new
@@ -416,7 +416,7 @@ pub(crate) fn push_shape(
             from,
             inst,
         } => {
-            let sent = Sent {
+            let sent = SentMessage {
                 number,
                 kind,
                 from,

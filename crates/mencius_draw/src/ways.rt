@@ -7,7 +7,7 @@ ghost use Rattle.mencius_draw.specs.Ways.{arrow_text, beside, command, fate_of, 
 ghost use Rattle.mencius_draw.specs.Words.{between};
 
 use crate::facts::{Act, Fact, Kind};
-use crate::layout::{Sent, Shape, Spot};
+use crate::layout::{SentMessage, Shape, Spot};
 use crate::places::{lane_of, y_of};
 use crate::words::{push_between, push_fixed, push_number};
 use std::alloc::AllocError;
@@ -57,7 +57,7 @@ pub(crate) fn way_of(fact: Fact) -> Option<Way>
 }
 
 /// The message of a delivery or a loss, where it was sent.
-pub(crate) fn heard_by(sents: &[Sent], way: Way) -> Option<Sent>
+pub(crate) fn heard_by(sents: &[SentMessage], way: Way) -> Option<SentMessage>
     ensures { result ≡ heard_by sents.now way }
 {
     sents.get(way.message as usize).copied()
@@ -202,7 +202,7 @@ fn push_stub(text: &mut String, from: u32, to: u32, end: usize) -> Result<(), Al
 fn push_path(
     text: &mut String,
     servers: u32,
-    sent: &Sent,
+    sent: &SentMessage,
     server: u32,
     spot: Spot,
 ) -> Result<(), AllocError>
@@ -240,7 +240,12 @@ fn push_heard_end(text: &mut String, servers: u32, kind: Kind, inst: u32) -> Res
 }
 
 // The point, which a lost message has not.
-fn push_end(text: &mut String, servers: u32, sent: &Sent, is_lost: bool) -> Result<(), AllocError>
+fn push_end(
+    text: &mut String,
+    servers: u32,
+    sent: &SentMessage,
+    is_lost: bool,
+) -> Result<(), AllocError>
     ensures { OnOk result (string_bytes text.new
         ≡ string_bytes text.old ++ way_end servers sent.now is_lost) }
 {
@@ -251,7 +256,7 @@ fn push_end(text: &mut String, servers: u32, sent: &Sent, is_lost: bool) -> Resu
     }
 }
 
-fn push_way_title(text: &mut String, sent: &Sent, way: Way) -> Result<(), AllocError>
+fn push_way_title(text: &mut String, sent: &SentMessage, way: Way) -> Result<(), AllocError>
     ensures { OnOk result (string_bytes text.new
         ≡ string_bytes text.old ++ way_title sent.now way) }
 {
@@ -267,7 +272,7 @@ fn push_way_title(text: &mut String, sent: &Sent, way: Way) -> Result<(), AllocE
 fn push_arrow(
     text: &mut String,
     servers: u32,
-    sent: &Sent,
+    sent: &SentMessage,
     way: Way,
     spot: Spot,
 ) -> Result<(), AllocError>
@@ -290,7 +295,7 @@ fn push_arrow(
 pub(crate) fn push_way(
     text: &mut String,
     servers: u32,
-    sents: &[Sent],
+    sents: &[SentMessage],
     shape: &Shape,
 ) -> Result<(), AllocError>
     ensures { OnOk result (string_bytes text.new

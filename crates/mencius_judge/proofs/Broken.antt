@@ -11,7 +11,7 @@ use Rattle.mencius_judge.specs.declared.judge.Execution.{Execution}
 use Rattle.mencius_judge.specs.declared.observation.Observation.TheVariants.{Submit, Execute, Reply}
 use Rattle.mencius_judge.specs.Log.{Log, command_of, has, history, with_reply, with_reply_before, reply_of}
 use Rattle.mencius_judge.specs.Promises.{AreOneCommand, AreOneReply, AreRightReplies, StandBehindReplies}
-use Rattle.mencius_judge.specs.Tables.{AreExecutions, AreHistories, AreSettled, Executions, key_of, number_count}
+use Rattle.mencius_judge.specs.Tables.{AreExecutions, AreHistories, AreSettled, Executions, identity_key, number_count}
 use Rattle.mencius_judge.specs.Violations.{IsAnswerAt}
 use Rattle.mencius_judge.proofs.Identities.{has_place, place_has}
 use Rattle.mencius_judge.proofs.HistorySteps.{whole_get}
@@ -48,7 +48,7 @@ too_early w p id x order grown before absent h =
 -- where a command stands in the longest history, and is answered there
 pub answer_at : (w : Log) (id : CommandId) (c : Command) (order : List CommandId) (counts : List ℕ) (executions : Executions)
     (x : Execution) → AreHistories w order counts → AreExecutions w order executions → id.number < number_count
-    → command_of w id ≡ Some c → get nat_cmp executions (key_of id) ≡ Some x → IsAnswerAt w id x.place x.reply
+    → command_of w id ≡ Some c → get nat_cmp executions (identity_key id) ≡ Some x → IsAnswerAt w id x.place x.reply
 answer_at w id c order counts executions x histories h small command found =
     let inside : has order id ≡ true = sym (h.all id small) ∙ ap is_some found in
     let parts = split_at order id inside in
@@ -100,7 +100,7 @@ module _ (w : Log) (order : List CommandId) (executions : Executions)
 
   -- one that does not
   pub unsettled_before : (settled behind : ℕ) (y : CommandId) → settled < behind → slice_get (with_reply w) settled ≡ Some y
-      → get nat_cmp executions (key_of y) ≡ None
+      → get nat_cmp executions (identity_key y) ≡ None
       → (has (take behind (with_reply w)) y ≡ true) × (has order y ≡ false)
   unsettled_before settled behind y less there none = (
     place_has (take behind (with_reply w)) y settled (taken (with_reply w) behind settled y less there),

@@ -11,7 +11,7 @@ use Rattle.mencius_judge.specs.declared.observation.Observation.TheVariants.{Sub
 use Rattle.mencius_judge.specs.Counts.{AreCounts, command_count, is_some_length}
 use Rattle.mencius_judge.specs.Judged.{IsAt}
 use Rattle.mencius_judge.specs.Log.{Log, command_of, has, history, with_reply}
-use Rattle.mencius_judge.specs.Tables.{is_open, key_of, number_count}
+use Rattle.mencius_judge.specs.Tables.{is_open, identity_key, number_count}
 use Rattle.mencius_judge.proofs.Leads.{size_is}
 
 -- ---- commands

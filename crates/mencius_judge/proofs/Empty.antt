@@ -11,7 +11,7 @@ use Rattle.mencius_judge.specs.declared.judge.Submission.{Submission}
 use Rattle.mencius_judge.specs.Promises.{AreOneCommand, AreOneReply}
 use Rattle.mencius_judge.specs.declared.observation.Observation.TheVariants.{Reply, Submit}
 use Rattle.mencius_judge.specs.Log.{has}
-use Rattle.mencius_judge.specs.Tables.{AreExecutions, AreFloors, floor_of, AreHistories, AreReplies, AreSettled, AreSubmissions, Executions, IsOrder, Replies, key_of}
+use Rattle.mencius_judge.specs.Tables.{AreExecutions, AreFloors, floor_of, AreHistories, AreReplies, AreSettled, AreSubmissions, Executions, IsOrder, Replies, identity_key}
 use Rattle.mencius_judge.proofs.Logs.{contains_none}
 
 pub no_entry : {X : Type 0} (m : BTreeMap ℕ X) (key : ℕ) → IsEmpty m → get nat_cmp m key ≡ None
@@ -25,9 +25,9 @@ no_replies id x y first second = absurd (contains_none (Reply id x) first)
 
 pub no_submissions : (rows : BTreeMap ℕ Submission) → IsEmpty rows → AreSubmissions [] rows
 no_submissions rows e = record {
-  found = λ id small. ap (option_map (λ (s : Submission). s.command)) (no_entry rows (key_of id) e);
+  found = λ id small. ap (option_map (λ (s : Submission). s.command)) (no_entry rows (identity_key id) e);
   before = λ id s small there.
-      let none : get nat_cmp rows (key_of id) ≡ None = no_entry rows (key_of id) e in absurd (cc);
+      let none : get nat_cmp rows (identity_key id) ≡ None = no_entry rows (identity_key id) e in absurd (cc);
 }
 
 zeros : (n p : ℕ) → get_or {A = ℕ} (replicate n 0) p 0 ≡ 0
@@ -60,7 +60,7 @@ no_order order e = record {
 
 pub no_table : (replies : Replies) (ids : List CommandId) → IsEmpty replies → ids ≡ [] → AreReplies [] replies ids
 no_table replies ids e f = record {
-  first = λ id small. no_entry replies (key_of id) e;
+  first = λ id small. no_entry replies (identity_key id) e;
   order = f;
   small = λ n id there. absurd (cc);
 }
@@ -68,9 +68,9 @@ no_table replies ids e f = record {
 pub no_executions : (order : List CommandId) (executions : Executions) → order ≡ [] → IsEmpty executions
     → AreExecutions [] order executions
 no_executions order executions e f = record {
-  all = λ id small. ap is_some (no_entry executions (key_of id) f) ∙ ap (λ ids. has ids id) (sym e);
+  all = λ id small. ap is_some (no_entry executions (identity_key id) f) ∙ ap (λ ids. has ids id) (sym e);
   right = λ id x front back c small there splits is.
-      let none : get nat_cmp executions (key_of id) ≡ None = no_entry executions (key_of id) f in absurd (cc);
+      let none : get nat_cmp executions (identity_key id) ≡ None = no_entry executions (identity_key id) f in absurd (cc);
 }
 
 pub none_settled : (ids : List CommandId) (executions : Executions) → AreSettled ids executions 0

@@ -14,7 +14,7 @@ use Rattle.mencius_judge.specs.declared.observation.Observation.TheVariants.{Exe
 use Rattle.mencius_judge.specs.Judged.{IsAt}
 use Rattle.mencius_judge.specs.Log.{Log, command_of, commands_of, has, history, with_reply, with_reply_before}
 use Rattle.mencius_judge.specs.Promises.{StandBehindReplies, StandOnce}
-use Rattle.mencius_judge.specs.Tables.{AreExecutions, AreHistories, AreSettled, Executions, IsNoOther, IsOrder, key_of, number_count}
+use Rattle.mencius_judge.specs.Tables.{AreExecutions, AreHistories, AreSettled, Executions, IsNoOther, IsOrder, identity_key, number_count}
 use Rattle.mencius_judge.specs.Timelines.{AreTimelines}
 use Rattle.mencius_judge.specs.Violations.{IsAnswerAt}
 use Rattle.mencius_judge.proofs.Answered.{no_other}
@@ -39,7 +39,7 @@ size_is j w p h =
     ∙ omega (arith, h.histories.within p)
 
 module _ (j : Judge) (w : Log) (h : IsAt j w) (p : ℕ) (id : CommandId) (row : Submission) (small : id.number < number_count)
-    (there : get nat_cmp j.submissions (key_of id) ≡ Some row) (known : p < length j.histories.counts.items)
+    (there : get nat_cmp j.submissions (identity_key id) ≡ Some row) (known : p < length j.histories.counts.items)
     (ahead : length j.histories.order.items ≤ get_or j.histories.counts.items p 0) where
   abbrev pub order : List CommandId
   order = j.histories.order.items
@@ -64,7 +64,7 @@ module _ (j : Judge) (w : Log) (h : IsAt j w) (p : ℕ) (id : CommandId) (row : 
       all [] = refl
       all (x ∷ xs) = ap (λ ys. x ∷ ys) (all xs)
 
-  pub lead_twice : is_some (get nat_cmp j.executions (key_of id)) ≡ true
+  pub lead_twice : is_some (get nat_cmp j.executions (identity_key id)) ≡ true
       → (has (history w p) id ≡ true) × (StandOnce (Execute p id ∷ w) → ⊥)
   lead_twice e = (
     ap (λ ids. has ids id) whole ∙ sym (h.executions.all id small) ∙ e,
@@ -72,7 +72,7 @@ module _ (j : Judge) (w : Log) (h : IsAt j w) (p : ℕ) (id : CommandId) (row : 
   )
 
   pub lead_early : (settled : ℕ) (behind : CommandId) → settled < row.replies_before
-      → slice_get j.with_reply.items settled ≡ Some behind → get nat_cmp j.executions (key_of behind) ≡ None
+      → slice_get j.with_reply.items settled ≡ Some behind → get nat_cmp j.executions (identity_key behind) ≡ None
       → (has (with_reply_before w id) behind ≡ true) × (has (history w p) behind ≡ false)
       × (StandBehindReplies (Execute p id ∷ w) → ⊥)
   lead_early settled behind less listed none =
@@ -98,7 +98,7 @@ module _ (j : Judge) (w : Log) (h : IsAt j w) (p : ℕ) (id : CommandId) (row : 
   }
 
   module _ (answer : Option (List ℕ)) (answered : answer ≡ out (commands_of w order) row.command)
-      (absent : is_some (get nat_cmp j.executions (key_of id)) ≡ false) (none : IsNoOther j.replies (key_of id) answer)
+      (absent : is_some (get nat_cmp j.executions (identity_key id)) ≡ false) (none : IsNoOther j.replies (identity_key id) answer)
       (settled : ℕ) (facts : AreSettled j.with_reply.items j.executions settled)
       (behind : settled < row.replies_before → length j.with_reply.items ≤ settled) where
     pub new_one : has order id ≡ false
@@ -129,7 +129,7 @@ module _ (j : Judge) (w : Log) (h : IsAt j w) (p : ℕ) (id : CommandId) (row : 
         (leads w order counts h.histories p known id last)
 
     pub lead_executions : (new : Executions) (x : Execution) → x.reply ≡ answer → x.place ≡ length order
-        → Updates nat_cmp j.executions new (key_of id) (Some x)
+        → Updates nat_cmp j.executions new (identity_key id) (Some x)
         → AreExecutions (Execute p id ∷ w) (order ++ id ∷ []) new
     lead_executions new x reply place updates =
         executions_lead w p id row.command order j.executions new x h.executions small new_one command (reply ∙ answered)

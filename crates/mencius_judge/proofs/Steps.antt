@@ -15,7 +15,7 @@ use Rattle.mencius_judge.specs.declared.judge.Submission.{Submission}
 use Rattle.mencius_judge.specs.declared.observation.Observation.TheVariants.{Submit, Execute, Reply}
 use Rattle.mencius_judge.specs.Log.{Log, command_of, commands_of, has, with_reply, reply_of}
 use Rattle.mencius_judge.specs.Promises.{AreOneCommand, AreOneReply, WereSubmitted}
-use Rattle.mencius_judge.specs.Tables.{AreExecutions, AreHistories, AreReplies, AreSettled, AreSubmissions, Executions, IsOrder, Replies, key_of, number_count}
+use Rattle.mencius_judge.specs.Tables.{AreExecutions, AreHistories, AreReplies, AreSettled, AreSubmissions, Executions, IsOrder, Replies, identity_key, number_count}
 use Rattle.mencius_judge.proofs.Identities.{get_here, get_there, has-append, id_cases, place_has, same_id, other_id}
 use Rattle.mencius_judge.proofs.HistorySteps.{end_of}
 use Rattle.mencius_judge.proofs.Logs.{contains_cons, kept_before, kept_command, new_before, new_command, other_command}
@@ -114,11 +114,11 @@ with_reply_again w x text e = ap (λ d. cond d (with_reply w) (with_reply w ++ x
 
 module _ (w : Log) (rows : BTreeMap ℕ Submission) (h : AreSubmissions w rows) where
   -- what a look-up says
-  pub row_found : (id : CommandId) (s : Submission) → id.number < number_count → get nat_cmp rows (key_of id) ≡ Some s
+  pub row_found : (id : CommandId) (s : Submission) → id.number < number_count → get nat_cmp rows (identity_key id) ≡ Some s
       → command_of w id ≡ Some s.command
   row_found id s small e = sym (h.found id small) ∙ ap (option_map (λ (s : Submission). s.command)) e
 
-  pub row_missing : (id : CommandId) → id.number < number_count → get nat_cmp rows (key_of id) ≡ None
+  pub row_missing : (id : CommandId) → id.number < number_count → get nat_cmp rows (identity_key id) ≡ None
       → command_of w id ≡ None
   row_missing id small e = sym (h.found id small) ∙ ap (option_map (λ (s : Submission). s.command)) e
 
@@ -139,11 +139,11 @@ module _ (w : Log) (rows : BTreeMap ℕ Submission) (h : AreSubmissions w rows) 
           (λ (ne : c.id ≢ id). other_command w c id ne) (id_cases c.id id)
 
   pub submissions_new : (c : Command) (new : BTreeMap ℕ Submission) (s : Submission) → c.id.number < number_count
-      → command_of w c.id ≡ None → Updates nat_cmp rows new (key_of c.id) (Some s) → s.command ≡ c
+      → command_of w c.id ≡ None → Updates nat_cmp rows new (identity_key c.id) (Some s) → s.command ≡ c
       → s.replies_before ≡ length (with_reply w) → AreSubmissions (Submit c ∷ w) new
   submissions_new c new s small none updates command count = record {
     found = λ id less. ⊎_elim
-        (λ (eq : c.id ≡ id). subst (λ (a : CommandId). option_map (λ (s : Submission). s.command) (get nat_cmp new (key_of a))
+        (λ (eq : c.id ≡ id). subst (λ (a : CommandId). option_map (λ (s : Submission). s.command) (get nat_cmp new (identity_key a))
         ≡ command_of (Submit c ∷ w) a) eq
         (ap (option_map (λ (s : Submission). s.command)) (get_here rows new c.id s updates)
         ∙ ap Some command ∙ sym (new_command w c none)))
@@ -155,14 +155,14 @@ module _ (w : Log) (rows : BTreeMap ℕ Submission) (h : AreSubmissions w rows) 
         (λ (eq : c.id ≡ id).
         let same : s ≡ t =
         (let both : Some s ≡ Some t =
-        sym (get_here rows new c.id s updates) ∙ ap (λ (a : CommandId). get nat_cmp new (key_of a)) eq ∙ there in cc) in
+        sym (get_here rows new c.id s updates) ∙ ap (λ (a : CommandId). get nat_cmp new (identity_key a)) eq ∙ there in cc) in
         let size : t.replies_before ≡ length (with_reply w) = ap (λ (u : Submission). u.replies_before) (sym same) ∙ count in (
           omega (arith, size),
           new_before w c id (ap (command_of w) (sym eq) ∙ none)
               ∙ sym (take_all t.replies_before (with_reply w) (omega (arith, size))),
         ))
         (λ (ne : c.id ≢ id).
-        let old : get nat_cmp rows (key_of id) ≡ Some t =
+        let old : get nat_cmp rows (identity_key id) ≡ Some t =
         sym (get_there rows new c.id id s updates small less ne) ∙ there in
         let r = h.before id t less old in
         (r.0, kept_before w c id (ap is_some (row_found id t less old)) ∙ r.1))
@@ -208,11 +208,11 @@ pub table_execute : (w : Log) (p : ℕ) (x : CommandId) (replies : Replies) (ids
 table_execute w p x replies ids h = record { first = h.first; order = h.order; small = h.small }
 
 pub table_reply : (w : Log) (x : CommandId) (text : Option (List ℕ)) (replies new : Replies) (ids : List CommandId)
-    → AreReplies w replies ids → x.number < number_count → Updates nat_cmp replies new (key_of x) (Some text)
+    → AreReplies w replies ids → x.number < number_count → Updates nat_cmp replies new (identity_key x) (Some text)
     → reply_of w x ≡ None → AreReplies (Reply x text ∷ w) new (ids ++ x ∷ [])
 table_reply w x text replies new ids h small updates none = record {
   first = λ id less. ⊎_elim
-      (λ (eq : x ≡ id). subst (λ (a : CommandId). get nat_cmp new (key_of a) ≡ reply_of (Reply x text ∷ w) a) eq
+      (λ (eq : x ≡ id). subst (λ (a : CommandId). get nat_cmp new (identity_key a) ≡ reply_of (Reply x text ∷ w) a) eq
       (get_here replies new x text updates ∙ sym here))
       (λ (ne : x ≢ id). get_there replies new x id text updates small less ne
       ∙ h.first id less ∙ sym (reply_elsewhere w x text id ne (reply_of w id)))
@@ -275,10 +275,10 @@ executions_reply w x text order executions h = record { all = h.all; right = h.r
 pub executions_lead : (w : Log) (p : ℕ) (x : CommandId) (c : Command) (order : List CommandId) (executions new : Executions)
     (execution : Execution) → AreExecutions w order executions → x.number < number_count → has order x ≡ false
     → command_of w x ≡ Some c → execution.reply ≡ out (commands_of w order) c → execution.place ≡ length order
-    → Updates nat_cmp executions new (key_of x) (Some execution) → AreExecutions (Execute p x ∷ w) (order ++ x ∷ []) new
+    → Updates nat_cmp executions new (identity_key x) (Some execution) → AreExecutions (Execute p x ∷ w) (order ++ x ∷ []) new
 executions_lead w p x c order executions new execution h small absent command reply place updates = record {
   all = λ id less. ⊎_elim
-      (λ (eq : x ≡ id). subst (λ (a : CommandId). is_some (get nat_cmp new (key_of a)) ≡ has (order ++ x ∷ []) a) eq
+      (λ (eq : x ≡ id). subst (λ (a : CommandId). is_some (get nat_cmp new (identity_key a)) ≡ has (order ++ x ∷ []) a) eq
       (ap is_some (get_here executions new x execution updates)
       ∙ sym (place_has (order ++ x ∷ []) x (length order) (end_of order x))))
       (λ (ne : x ≢ id). ap is_some (get_there executions new x id execution updates small less ne) ∙ h.all id less
@@ -289,7 +289,7 @@ executions_lead w p x c order executions new execution h small absent command re
         | inl at ↦
             let found : Some execution ≡ Some y =
             sym (get_here executions new x execution updates)
-            ∙ ap (λ (a : CommandId). get nat_cmp new (key_of a)) (sym at.1) ∙ there in
+            ∙ ap (λ (a : CommandId). get nat_cmp new (identity_key a)) (sym at.1) ∙ there in
             let one : execution ≡ y = cc in
             let commands : Some c ≡ Some d = sym command ∙ ap (command_of w) (sym at.1) ∙ is in
             let same : c ≡ d = cc in (
@@ -315,11 +315,11 @@ executions_lead w p x c order executions new execution h small absent command re
         at (y ∷ ys) = at ys
 
 pub settled_lead : (ids : List CommandId) (executions new : Executions) (count : ℕ) (x : CommandId) (execution : Execution)
-    → AreSettled ids executions count → Updates nat_cmp executions new (key_of x) (Some execution)
+    → AreSettled ids executions count → Updates nat_cmp executions new (identity_key x) (Some execution)
     → AreSettled ids new count
 settled_lead ids executions new count x execution h updates = record {
   within = h.within;
-  each = λ n id less there. kept (key_of id) (h.each n id less there);
+  each = λ n id less there. kept (identity_key id) (h.each n id less there);
 }
   where
     kept : (key : ℕ) → is_some (get nat_cmp executions key) ≡ true → is_some (get nat_cmp new key) ≡ true

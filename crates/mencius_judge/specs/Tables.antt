@@ -18,8 +18,8 @@ abbrev pub number_count : ℕ
 number_count = 2 ^ 32
 
 -- an identity as one number
-abbrev pub key_of : CommandId → ℕ
-key_of id = id.client * number_count + id.number
+abbrev pub identity_key : CommandId → ℕ
+identity_key id = id.client * number_count + id.number
 
 -- what a command would be at the next place of a server that has executed so many of these
 abbrev pub IsNext : List CommandId → ℕ → CommandId → Next → Type 0
@@ -50,8 +50,8 @@ pub record IsOrder (w : Log) (order : List CommandId) : Type 0 where
 -- the submitted commands, by identity, and how many replies there were before each
 pub record AreSubmissions (w : Log) (rows : BTreeMap ℕ Submission) : Type 0 where
   pub found : (id : CommandId) → id.number < number_count
-      → option_map (λ (s : Submission). s.command) (get nat_cmp rows (key_of id)) ≡ command_of w id
-  pub before : (id : CommandId) (s : Submission) → id.number < number_count → get nat_cmp rows (key_of id) ≡ Some s
+      → option_map (λ (s : Submission). s.command) (get nat_cmp rows (identity_key id)) ≡ command_of w id
+  pub before : (id : CommandId) (s : Submission) → id.number < number_count → get nat_cmp rows (identity_key id) ≡ Some s
       → (s.replies_before ≤ length (with_reply w)) × (with_reply_before w id ≡ take s.replies_before (with_reply w))
 
 abbrev pub Replies : Type 0
@@ -62,31 +62,31 @@ Executions = BTreeMap ℕ Execution
 
 -- the first replies, by identity, and the commands that had one
 pub record AreReplies (w : Log) (replies : Replies) (ids : List CommandId) : Type 0 where
-  pub first : (id : CommandId) → id.number < number_count → get nat_cmp replies (key_of id) ≡ reply_of w id
+  pub first : (id : CommandId) → id.number < number_count → get nat_cmp replies (identity_key id) ≡ reply_of w id
   pub order : ids ≡ with_reply w
   pub small : (n : ℕ) (id : CommandId) → slice_get (with_reply w) n ≡ Some id → id.number < number_count
 
 -- where the commands of the longest history stand, and what a map answers there, by identity
 pub record AreExecutions (w : Log) (order : List CommandId) (executions : Executions) : Type 0 where
-  pub all : (id : CommandId) → id.number < number_count → is_some (get nat_cmp executions (key_of id)) ≡ has order id
+  pub all : (id : CommandId) → id.number < number_count → is_some (get nat_cmp executions (identity_key id)) ≡ has order id
   pub right : (id : CommandId) (x : Execution) (front back : List CommandId) (c : Command)
-      → id.number < number_count → get nat_cmp executions (key_of id) ≡ Some x → order ≡ front ++ id ∷ back
+      → id.number < number_count → get nat_cmp executions (identity_key id) ≡ Some x → order ≡ front ++ id ∷ back
       → command_of w id ≡ Some c → (x.reply ≡ out (commands_of w front) c) × (x.place ≡ length front)
 
 -- so many commands with a reply, from the first on, are of the longest history
 pub record AreSettled (ids : List CommandId) (executions : Executions) (count : ℕ) : Type 0 where
   pub within : count ≤ length ids
   pub each : (n : ℕ) (id : CommandId) → n < count → slice_get ids n ≡ Some id
-      → is_some (get nat_cmp executions (key_of id)) ≡ true
+      → is_some (get nat_cmp executions (identity_key id)) ≡ true
 
 -- the command at this place of those with a reply is of the longest history
 abbrev pub IsSettledAt : List CommandId → Executions → ℕ → Type 0
 IsSettledAt ids executions n =
-    (id : CommandId) × (slice_get ids n ≡ Some id) × (is_some (get nat_cmp executions (key_of id)) ≡ true)
+    (id : CommandId) × (slice_get ids n ≡ Some id) × (is_some (get nat_cmp executions (identity_key id)) ≡ true)
 
 -- the command is not of the longest history
 abbrev pub is_open : Executions → CommandId → Bool
-is_open executions id = not (is_some (get nat_cmp executions (key_of id)))
+is_open executions id = not (is_some (get nat_cmp executions (identity_key id)))
 
 -- a map has no other text than this at a number
 abbrev pub IsNoOther : Replies → ℕ → Option (List ℕ) → Type 0

@@ -7,7 +7,7 @@ ghost use Rattle.mencius_base.specs.declared.command.CommandId.{CommandId};
 ghost use Rattle.mencius_judge.specs.Log.{Log};
 ghost use Rattle.mencius_judge.specs.Promises.{Keeps};
 ghost use Rattle.mencius_judge.specs.declared.histories.Next.TheVariants.{Differs, Leads};
-ghost use Rattle.mencius_judge.specs.Tables.{AreSettled, IsNext, IsNoOther, IsNoOtherExecution, IsSettledAt, floor_of, is_open, key_of};
+ghost use Rattle.mencius_judge.specs.Tables.{AreSettled, IsNext, IsNoOther, IsNoOtherExecution, IsSettledAt, floor_of, is_open, identity_key};
 
 use crate::counts::{Counts, one_more};
 use crate::histories::{Histories, Next};
@@ -24,8 +24,8 @@ use std::collections::BTreeMap;
 const NUMBER_COUNT: u64 = 1 << 32;
 
 // An identity as one number.
-fn key_of(id: CommandId) -> u64
-    ensures { result ≡ key_of id }
+fn identity_key(id: CommandId) -> u64
+    ensures { result ≡ identity_key id }
 {
     u64::from(id.client) * NUMBER_COUNT + u64::from(id.number)
 }
@@ -149,7 +149,7 @@ impl Judge {
             → IsJudged w (Submit command.now) x self.new) }
     {
         let id = command.id();
-        let key = key_of(id);
+        let key = identity_key(id);
         if let Some(found) = self.submissions.get(&key) {
             if is_same_op(found.command.op(), command.op()) {
                 return Ok(None);
@@ -183,7 +183,7 @@ impl Judge {
             (Differs expected)
             → Breaks w (Execute server id) result }
     {
-        if self.submissions.get(&key_of(id)).is_none() {
+        if self.submissions.get(&identity_key(id)).is_none() {
             return Violation::Submitted { id };
         }
         Violation::SameOrder {
@@ -200,7 +200,7 @@ impl Judge {
             → IsNext self.old.histories.order.items (get_or self.old.histories.counts.items server 0) id Leads
             → IsJudged w (Execute server id) x self.new) }
     {
-        let key = key_of(id);
+        let key = identity_key(id);
         let place = self.histories.count(server);
         let Some(row) = self.submissions.get(&key) else {
             return Ok(Some(Violation::Submitted { id }));
@@ -238,7 +238,7 @@ impl Judge {
         ensures { IfOk result (λ x. (w : Log) → IsAt self.old w
             → IsJudged w (Reply id text.now) x self.new) }
     {
-        let key = key_of(id);
+        let key = identity_key(id);
         if self.submissions.get(&key).is_none() {
             return Ok(Some(Violation::Submitted { id }));
         }
@@ -372,7 +372,7 @@ fn count_settled(
     ensures settled { AreSettled with_reply.now executions.now start
         → AreSettled with_reply.now executions.now result }
     ensures all { (id : CommandId) → slice_get with_reply.now result ≡ Some id
-        → get nat_cmp executions.now (key_of id) ≡ None }
+        → get nat_cmp executions.now (identity_key id) ≡ None }
 {
     for place in start..with_reply.len() {
         if !is_settled(executions, with_reply, place) {
@@ -387,7 +387,7 @@ fn is_settled(executions: &BTreeMap<u64, Execution>, with_reply: &[CommandId], p
     ensures { IsTrue result ↔ IsSettledAt with_reply.now executions.now place }
 {
     match with_reply.get(place) {
-        Some(id) => executions.contains_key(&key_of(*id)),
+        Some(id) => executions.contains_key(&identity_key(*id)),
         None => false,
     }
 }
@@ -398,7 +398,7 @@ fn open_count(executions: &BTreeMap<u64, Execution>, with_reply: &[CommandId]) -
 {
     with_reply
         .iter()
-        .filter(|id| !executions.contains_key(&key_of(**id)))
+        .filter(|id| !executions.contains_key(&identity_key(**id)))
         .count()
 }
 

@@ -296,12 +296,12 @@ fn push_sent_lines(text: &mut String, cluster: &Cluster, first: u32) -> Result<(
         (length (sent (trace_of cluster.now)) - first)) }
 {
     for number in first..cluster.messages() {
-        push_message(text, cluster, number)?;
+        push_sent_line(text, cluster, number)?;
     }
     Ok(())
 }
 
-fn push_message(text: &mut String, cluster: &Cluster, number: u32) -> Result<(), AllocError>
+fn push_sent_line(text: &mut String, cluster: &Cluster, number: u32) -> Result<(), AllocError>
     ensures { OnOk result (string_bytes text.new ≡ string_bytes text.old
         ++ of_message (sent_line (trace_of cluster.now)) number
         (slice_get (sent (trace_of cluster.now)) number)) }

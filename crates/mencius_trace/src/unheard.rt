@@ -68,12 +68,12 @@ fn push_all(text: &mut String, cluster: &Cluster, settled: &Marks) -> Result<(),
         ++ unheard_text cluster.now.members (trace_of cluster.now)) }
 {
     for number in 0..cluster.messages() {
-        push_message(text, cluster, settled, number)?;
+        push_unheard_lines(text, cluster, settled, number)?;
     }
     Ok(())
 }
 
-fn push_message(
+fn push_unheard_lines(
     text: &mut String,
     cluster: &Cluster,
     settled: &Marks,

@@ -9,17 +9,17 @@ use Rattle.mencius_app.proofs.calling.perform.Goals as goal
 
 pub returns-in-Err-clause-misused : goal.returns-in-Err-clause-misused
 returns-in-Err-clause-misused g c = λ ended.
-    let told = c.tell.ensures.misused ended in
+    let told = c.answer_command_line.ensures.misused ended in
     elim c.in-Err.ensures.faults [
       | inl memory ↦ absurd (told.0 memory)
       | inr among ↦ (inr (kind_of c.in-Err.error, among, told.1), refl, told.2)
     ]
 
 pub returns-in-Err-clause-words : goal.returns-in-Err-clause-words
-returns-in-Err-clause-words g c = unexplained _ _ _ c.tell.ensures.plain
+returns-in-Err-clause-words g c = unexplained _ _ _ c.answer_command_line.ensures.plain
 
 pub returns-in-Err-clause-asked : goal.returns-in-Err-clause-asked
-returns-in-Err-clause-asked g c = asks_as _ _ _ _ _ c.tell.ensures.tried
+returns-in-Err-clause-asked g c = asks_as _ _ _ _ _ c.answer_command_line.ensures.tried
 
 pub returns-then-not-are_texts-clause-not_text : goal.returns-then-not-are_texts-clause-not_text
 returns-then-not-are_texts-clause-not_text g c e = refl

@@ -4,7 +4,7 @@ use Rattle.std.specs.BTreeMap.{get}
 use Rattle.std.specs.Ordering.{nat_cmp}
 use Rattle.mencius_base.specs.declared.command.CommandId.{CommandId}
 use Rattle.mencius_judge.specs.declared.judge.Execution.{Execution}
-use Rattle.mencius_judge.specs.Tables.{key_of}
+use Rattle.mencius_judge.specs.Tables.{identity_key}
 use Rattle.mencius_judge.proofs.judge.count_settled.Goals as goal
 
 none_of : (o : Option Execution) → (is_some o ≡ true → ⊥) → o ≡ None
@@ -26,14 +26,14 @@ loop-place-preserved c known =
           (λ (e : c.loop-place.place ≡ n).
           let both : Some here.0 ≡ Some id = sym here.1 ∙ ap (slice_get c.args.with_reply.now) e ∙ there in
           let same : here.0 ≡ id = cc in
-          ap (λ (x : CommandId). is_some (get nat_cmp c.args.executions.now (key_of x))) (sym same) ∙ here.2)
+          ap (λ (x : CommandId). is_some (get nat_cmp c.args.executions.now (identity_key x))) (sym same) ∙ here.2)
           (λ (ne : c.loop-place.place ≡ n → ⊥). facts.each n id (omega (arith, ne, less)) there)
           (cases_eq c.loop-place.place n);
     }
 
 pub returns-then-not-is_settled-clause-all : goal.returns-then-not-is_settled-clause-all
 returns-then-not-is_settled-clause-all c id there =
-    none_of (get nat_cmp c.args.executions.now (key_of id)) (λ e.
+    none_of (get nat_cmp c.args.executions.now (identity_key id)) (λ e.
     let yes : c.is_settled.result ≡ true = c.is_settled.ensures.1 (id, there, e) in
     let no : c.is_settled.result ≡ false = c.if-not-is_settled.true in
     (cc))

@@ -3,7 +3,7 @@ use Rattle.std.proofs.lemmas.Option.{slice_get-get_or}
 use Rattle.std.specs.BTreeMap.{get}
 use Rattle.std.specs.Ordering.{nat_cmp}
 use Rattle.mencius_base.specs.declared.command.CommandId.{CommandId}
-use Rattle.mencius_judge.specs.Tables.{key_of}
+use Rattle.mencius_judge.specs.Tables.{identity_key}
 use Rattle.mencius_judge.proofs.judge.is_settled.Goals as goal
 
 within : (ids : List CommandId) (n : ℕ) (id : CommandId) → slice_get ids n ≡ Some id → n < length ids
@@ -18,13 +18,13 @@ returns-in-Some c =
     let id : CommandId = c.in-Some.id.now in
     let got = c.in-Some.ensures.lookup in
     let there : slice_get ids n ≡ Some id = slice_get-get_or ids n id got.3.0 ∙ ap Some (sym got.1) in
-    let is : c.contains_key.result ≡ is_some (get nat_cmp c.args.executions.now (key_of id)) =
-    c.contains_key.ensures ∙ ap (λ k. is_some (get nat_cmp c.args.executions.now k)) c.key_of.ensures in (
+    let is : c.contains_key.result ≡ is_some (get nat_cmp c.args.executions.now (identity_key id)) =
+    c.contains_key.ensures ∙ ap (λ k. is_some (get nat_cmp c.args.executions.now k)) c.identity_key.ensures in (
       (λ t. (id, there, sym is ∙ t)),
       (λ s.
           let both : Some id ≡ Some s.0 = sym there ∙ s.1 in
           let same : id ≡ s.0 = cc in
-          is ∙ ap (λ (x : CommandId). is_some (get nat_cmp c.args.executions.now (key_of x))) same ∙ s.2),
+          is ∙ ap (λ (x : CommandId). is_some (get nat_cmp c.args.executions.now (identity_key x))) same ∙ s.2),
     )
 
 pub returns-in-None : goal.returns-in-None

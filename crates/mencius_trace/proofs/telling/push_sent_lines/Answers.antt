@@ -8,7 +8,7 @@ loop-number-init c = messages_start (trace_of c.args.cluster.now) c.args.first _
 pub loop-number-preserved : goal.loop-number-preserved
 loop-number-preserved c =
     messages_further (trace_of c.args.cluster.now) c.args.first _ c.loop-number.number _ _ _ c.loop-number.auto.number
-    c.loop-number-test.true c.loop-number.invariant c.in_ok-push_message.ensures
+    c.loop-number-test.true c.loop-number.invariant c.in_ok-push_sent_line.ensures
 
 pub returns : goal.returns
 returns c =

@@ -12,7 +12,7 @@ pub loop-number-preserved : goal.loop-number-preserved
 loop-number-preserved c =
     let w = trace_of c.args.cluster.now in
     texts_further (λ (k : ℕ). of_message (unheard_lines c.args.cluster.now.members w) k (slice_get (sent w) k))
-    c.loop-number.number _ _ _ c.loop-number.invariant c.in_ok-push_message.ensures
+    c.loop-number.number _ _ _ c.loop-number.invariant c.in_ok-push_unheard_lines.ensures
 
 pub returns : goal.returns
 returns c =

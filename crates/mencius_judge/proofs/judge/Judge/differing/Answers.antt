@@ -17,7 +17,7 @@ returns-then-is_none c w h at =
     let small : id.number < number_count = omega arith in
     let none : command_of w id ≡ None =
     row_absent w j.submissions id h.submissions small
-    (ap (λ key. is_some (get nat_cmp j.submissions key)) (sym c.key_of.ensures)
+    (ap (λ key. is_some (get nat_cmp j.submissions key)) (sym c.identity_key.ensures)
     ∙ ap is_some (sym c.get.ensures.value) ∙ copied_some c.get.result ∙ c.if-is_none.ensures) in
     ((inl (p, refl), none), not_submitted w p id none)
 

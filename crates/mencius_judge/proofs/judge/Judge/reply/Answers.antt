@@ -3,7 +3,7 @@ use Rattle.std.specs.List.{Contains}
 use Rattle.std.specs.BTreeMap.{Updates, get}
 use Rattle.std.specs.Ordering.{nat_cmp}
 use Rattle.mencius_judge.specs.Log.{command_of, reply_of}
-use Rattle.mencius_judge.specs.Tables.{AreReplies, AreSettled, IsNoOther, IsNoOtherExecution, key_of, number_count}
+use Rattle.mencius_judge.specs.Tables.{AreReplies, AreSettled, IsNoOther, IsNoOtherExecution, identity_key, number_count}
 use Rattle.mencius_judge.specs.Violations.{IsAnswerAt}
 use Rattle.mencius_judge.specs.declared.observation.Observation.TheVariants.{Reply}
 use Rattle.mencius_judge.proofs.Answered.{no_other, no_other_answer, row_absent, row_there}
@@ -24,8 +24,8 @@ returns-then-is_none c w h =
     let j = c.args.self.now in
     let id = c.args.id in
     let small : id.number < number_count = omega arith in
-    let there : is_some (get nat_cmp j.submissions (key_of id)) ≡ false =
-    ap (λ key. is_some (get nat_cmp j.submissions key)) (sym c.key_of-key.ensures)
+    let there : is_some (get nat_cmp j.submissions (identity_key id)) ≡ false =
+    ap (λ key. is_some (get nat_cmp j.submissions key)) (sym c.identity_key-key.ensures)
     ∙ ap is_some (sym c.get.ensures.value) ∙ copied_some c.get.result ∙ c.if-is_none.ensures in
     let none : command_of w id ≡ None = row_absent w j.submissions id h.submissions small there in
     ((inr (c.args.text.now, refl), none), not_submitted_reply w id c.args.text.now none)
@@ -37,7 +37,7 @@ returns-in-Some c w h =
     let text = c.args.text.now in
     let small : id.number < number_count = omega arith in
     let first : reply_of w id ≡ Some c.in-Some.expected.now =
-    sym (h.replies.first id small) ∙ ap (get nat_cmp j.replies) (sym c.key_of-key.ensures) ∙ c.in-Some.ensures.0 in
+    sym (h.replies.first id small) ∙ ap (get nat_cmp j.replies) (sym c.identity_key-key.ensures) ∙ c.in-Some.ensures.0 in
     let other : c.in-Some.expected.now ≢ text = c.in-Some.ensures.1 in (
       (
         ap (λ x. Reply id x) (sym c.in_ok-found.ensures),
@@ -54,12 +54,12 @@ returns-in-Some-other_execution c w h =
     let text = c.args.text.now in
     let x = c.in-Some-other_execution.execution.now in
     let small : id.number < number_count = omega arith in
-    let there : is_some (get nat_cmp j.submissions (key_of id)) ≡ true =
-    ap (λ key. is_some (get nat_cmp j.submissions key)) (sym c.key_of-key.ensures)
+    let there : is_some (get nat_cmp j.submissions (identity_key id)) ≡ true =
+    ap (λ key. is_some (get nat_cmp j.submissions key)) (sym c.identity_key-key.ensures)
     ∙ ap is_some (sym c.get.ensures.value) ∙ copied_some c.get.result ∙ c.if-is_none.ensures in
     let command = known (command_of w id) (row_there w j.submissions id h.submissions small there) in
-    let listed : get nat_cmp j.executions (key_of id) ≡ Some x =
-    ap (get nat_cmp j.executions) (sym c.key_of-key.ensures) ∙ c.in-Some-other_execution.ensures.0 in
+    let listed : get nat_cmp j.executions (identity_key id) ≡ Some x =
+    ap (get nat_cmp j.executions) (sym c.identity_key-key.ensures) ∙ c.in-Some-other_execution.ensures.0 in
     let at : IsAnswerAt (Reply id text ∷ w) id x.place x.reply =
     answer_after w id text id x.place x.reply
     (answer_at w id command.0 j.histories.order.items j.histories.counts.items j.executions x h.histories h.executions small
@@ -78,16 +78,16 @@ returns-then-is_some c w h =
     let id = c.args.id in
     let text = c.args.text.now in
     let small : id.number < number_count = omega arith in
-    let there : is_some (get nat_cmp j.submissions (key_of id)) ≡ true =
-    ap (λ key. is_some (get nat_cmp j.submissions key)) (sym c.key_of-key.ensures)
+    let there : is_some (get nat_cmp j.submissions (identity_key id)) ≡ true =
+    ap (λ key. is_some (get nat_cmp j.submissions key)) (sym c.identity_key-key.ensures)
     ∙ ap is_some (sym c.get.ensures.value) ∙ copied_some c.get.result ∙ c.if-is_none.ensures in
-    let given : IsNoOther j.replies (key_of id) text =
-    subst (λ key. IsNoOther j.replies key text) c.key_of-key.ensures c.in_default.ensures in
-    let answered : IsNoOtherExecution j.executions (key_of id) text =
-    subst (λ key. IsNoOtherExecution j.executions key text) c.key_of-key.ensures c.in_default-other_execution.ensures in
+    let given : IsNoOther j.replies (identity_key id) text =
+    subst (λ key. IsNoOther j.replies key text) c.identity_key-key.ensures c.in_default.ensures in
+    let answered : IsNoOtherExecution j.executions (identity_key id) text =
+    subst (λ key. IsNoOtherExecution j.executions key text) c.identity_key-key.ensures c.in_default-other_execution.ensures in
     let had : is_some (reply_of w id) ≡ true =
     ap is_some (sym (h.replies.first id small))
-    ∙ ap (λ key. is_some (get nat_cmp j.replies key)) (sym c.key_of-key.ensures)
+    ∙ ap (λ key. is_some (get nat_cmp j.replies key)) (sym c.identity_key-key.ensures)
     ∙ ap is_some (sym c.get-2.ensures.value) ∙ copied_some c.get-2.result ∙ sym c.is_some.ensures ∙ c.if-is_some.true in
     record {
       one_command = one_reply w id text h.one_command;
@@ -117,20 +117,20 @@ returns c w h =
     let text = c.args.text.now in
     let found = c.in_ok-found.found in
     let small : id.number < number_count = omega arith in
-    let there : is_some (get nat_cmp j.submissions (key_of id)) ≡ true =
-    ap (λ key. is_some (get nat_cmp j.submissions key)) (sym c.key_of-key.ensures)
+    let there : is_some (get nat_cmp j.submissions (identity_key id)) ≡ true =
+    ap (λ key. is_some (get nat_cmp j.submissions key)) (sym c.identity_key-key.ensures)
     ∙ ap is_some (sym c.get.ensures.value) ∙ copied_some c.get.result ∙ c.if-is_none.ensures in
-    let given : IsNoOther j.replies (key_of id) text =
-    subst (λ key. IsNoOther j.replies key text) c.key_of-key.ensures c.in_default.ensures in
-    let answered : IsNoOtherExecution j.executions (key_of id) text =
-    subst (λ key. IsNoOtherExecution j.executions key text) c.key_of-key.ensures c.in_default-other_execution.ensures in
+    let given : IsNoOther j.replies (identity_key id) text =
+    subst (λ key. IsNoOther j.replies key text) c.identity_key-key.ensures c.in_default.ensures in
+    let answered : IsNoOtherExecution j.executions (identity_key id) text =
+    subst (λ key. IsNoOtherExecution j.executions key text) c.identity_key-key.ensures c.in_default-other_execution.ensures in
     let none : reply_of w id ≡ None =
     none_of (reply_of w id) (ap is_some (sym (h.replies.first id small))
-    ∙ ap (λ key. is_some (get nat_cmp j.replies key)) (sym c.key_of-key.ensures)
+    ∙ ap (λ key. is_some (get nat_cmp j.replies key)) (sym c.identity_key-key.ensures)
     ∙ ap is_some (sym c.get-2.ensures.value) ∙ copied_some c.get-2.result ∙ sym c.is_some.ensures ∙ c.if-is_some.false) in
-    let updates : Updates nat_cmp j.replies c.put.new.map (key_of id) (Some text) =
-    subst (λ x. Updates nat_cmp j.replies c.put.new.map (key_of id) (Some x)) c.in_ok-found.ensures
-    (subst (λ key. Updates nat_cmp j.replies c.put.new.map key (Some found)) c.key_of-key.ensures c.in_ok-put.ensures) in
+    let updates : Updates nat_cmp j.replies c.put.new.map (identity_key id) (Some text) =
+    subst (λ x. Updates nat_cmp j.replies c.put.new.map (identity_key id) (Some x)) c.in_ok-found.ensures
+    (subst (λ key. Updates nat_cmp j.replies c.put.new.map key (Some found)) c.identity_key-key.ensures c.in_ok-put.ensures) in
     let grown : c.push.new.self.items ≡ j.with_reply.items ++ id ∷ [] = c.in_ok-push.ensures.items in
     record {
       one_command = one_reply w id text h.one_command;

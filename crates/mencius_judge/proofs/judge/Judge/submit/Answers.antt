@@ -4,7 +4,7 @@ use Rattle.std.specs.Ordering.{nat_cmp}
 use Rattle.mencius_base.specs.declared.command.Command.{Command}
 use Rattle.mencius_judge.specs.declared.judge.Submission.{Submission}
 use Rattle.mencius_judge.specs.Log.{command_of, with_reply}
-use Rattle.mencius_judge.specs.Tables.{key_of, number_count}
+use Rattle.mencius_judge.specs.Tables.{identity_key, number_count}
 use Rattle.mencius_judge.proofs.Broken.{two_commands}
 use Rattle.mencius_judge.proofs.Counted.{count_again, count_new}
 use Rattle.mencius_judge.proofs.Floors.{floors_submit}
@@ -17,7 +17,7 @@ pub returns-then-is_same_op : goal.returns-then-is_same_op
 returns-then-is_same_op c w h =
     let j = c.args.self.now in
     let x : Command = c.args.command.now in
-    let key : c.key_of-key.result ≡ key_of x.id = c.key_of-key.ensures ∙ ap key_of c.id-id.ensures in
+    let key : c.identity_key-key.result ≡ identity_key x.id = c.identity_key-key.ensures ∙ ap identity_key c.id-id.ensures in
     let small : x.id.number < number_count = subst (λ id. id.number < number_count) c.id-id.ensures (omega arith) in
     let d : Command = c.in-Some.found.now.command in
     let found : command_of w x.id ≡ Some d =
@@ -45,7 +45,7 @@ pub returns-in-Some : goal.returns-in-Some
 returns-in-Some c w h =
     let j = c.args.self.now in
     let x : Command = c.args.command.now in
-    let key : c.key_of-key.result ≡ key_of x.id = c.key_of-key.ensures ∙ ap key_of c.id-id.ensures in
+    let key : c.identity_key-key.result ≡ identity_key x.id = c.identity_key-key.ensures ∙ ap identity_key c.id-id.ensures in
     let small : x.id.number < number_count = subst (λ id. id.number < number_count) c.id-id.ensures (omega arith) in
     let d : Command = c.in-Some.found.now.command in
     let found : command_of w x.id ≡ Some d =
@@ -68,13 +68,13 @@ pub returns : goal.returns
 returns c w h =
     let j = c.args.self.now in
     let x : Command = c.args.command.now in
-    let key : c.key_of-key.result ≡ key_of x.id = c.key_of-key.ensures ∙ ap key_of c.id-id.ensures in
+    let key : c.identity_key-key.result ≡ identity_key x.id = c.identity_key-key.ensures ∙ ap identity_key c.id-id.ensures in
     let small : x.id.number < number_count = subst (λ id. id.number < number_count) c.id-id.ensures (omega arith) in
     let none : command_of w x.id ≡ None =
     row_missing w j.submissions h.submissions x.id small
     (ap (get nat_cmp j.submissions) (sym key) ∙ sym c.in_default.ensures.value) in
     let row : Submission = c.in_ok-row.row in
-    let updates : Updates nat_cmp j.submissions c.put.new.map (key_of x.id) (Some row) =
+    let updates : Updates nat_cmp j.submissions c.put.new.map (identity_key x.id) (Some row) =
     subst (λ number. Updates nat_cmp j.submissions c.put.new.map number (Some row)) key c.in_ok-put.ensures in
     let size : length j.with_reply.items ≡ length (with_reply w) = ap length h.replies.order in
     record {

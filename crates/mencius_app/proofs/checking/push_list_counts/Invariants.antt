@@ -1,7 +1,7 @@
 use Rattle.std.proofs.Common.{◌≡◌, ◌++◌, map, string_bytes, take}
 use Rattle.std.specs.List.{flat_map}
 use Rattle.mencius_app.specs.Check.{count_text}
-use Rattle.mencius_app.proofs.checking.push_counts.Given as goal
+use Rattle.mencius_app.proofs.checking.push_list_counts.Given as goal
 
 abbrev pub invariant-loop-list : goal.invariant-loop-list
 invariant-loop-list l =
