@@ -1,92 +1,52 @@
-//! Worked schedules, as tables of events and the messages sent.
+//! Single servers: what an event makes them send and learn, by the messages that were sent before it.
 
 ghost use Rattle.std.specs.Prelude.{◌<◌};
 
 mod ahead;
+mod schedules;
 
-use mencius_base::{Ballot, Members, Message, Outbox, Refusal, Value, Vote};
+use mencius_base::{Ballot, Entry, Members, Message, Outbox, Refusal, Value};
 use mencius_server::Server;
 use std::alloc::Global;
 use std::process::Abort;
 use std::test::Fail;
 
-#[derive(Clone, Copy)]
-enum Event {
-    Submit(u32),
-    // The message of this number, in order of sending.
-    Deliver(u32),
-    Suspect(u32),
-    Retry,
+fn submit(server: u8, ticket: u32) -> Entry {
+    Entry::Submit { server, ticket }
 }
 
-// An event in a scenario's words, but that a submission names its ticket; the messages that are sent then, and how
-// many instances are learned.
-type Row = (&'static str, [Option<Message>; 2], u32);
-
-// The number at a place among an event's words.
-fn number_at(rt: &impl Abort, words: &str, place: usize) -> u32 {
-    let word = words.split(' ').nth(place).unwrap_or("");
-    match word.parse::<u32>() {
-        Ok(number) => number,
-        Err(_) => panic!(rt; "no number at {place} of {words}"),
-    }
-}
-
-// The number of the server at which an event happens. A delivery names its message first.
-fn place_of(rt: &impl Abort, words: &str) -> u32 {
-    if words.starts_with("deliver ") {
-        number_at(rt, words, 2)
-    } else {
-        number_at(rt, words, 1)
-    }
-}
-
-// The event that words say, apart from its server.
-fn event_of(rt: &impl Abort, words: &str) -> Event {
-    if words.starts_with("retry ") {
-        return Event::Retry;
-    }
-    if words.starts_with("deliver ") {
-        return Event::Deliver(number_at(rt, words, 1));
-    }
-    let number = number_at(rt, words, 2);
-    if words.starts_with("submit ") {
-        Event::Submit(number)
-    } else {
-        Event::Suspect(number)
-    }
+fn suspect(server: u8, suspected: u8) -> Entry {
+    Entry::Suspect { server, suspected }
 }
 
 // What happens at a server, over the messages that were sent so far.
 fn happen(
     rt: &impl Abort,
     server: &mut Server,
-    event: Event,
+    event: Entry,
     out: &mut Outbox,
 ) -> Result<u32, Refusal> {
     match event {
-        Event::Submit(ticket) => {
+        Entry::Submit { ticket, .. } => {
             server.submit(ticket, out)?;
             Ok(0)
         }
-        Event::Deliver(number) => {
-            assert!(rt;
-                (number as usize) < out.messages().len(),
-                "message {number} was sent"
-            );
-            let message = out.messages()[number as usize];
+        Entry::Deliver { message, .. } => {
+            let number = message as usize;
+            assert!(rt; number < out.messages().len(), "message {message} was sent");
+            let message = out.messages()[number];
             hear(rt, server, &message, out)
         }
-        Event::Suspect(suspected) => {
-            let count = server.members().count();
-            assert!(rt; suspected < u32::from(count));
-            server.suspect(suspected as u8, out)?;
+        Entry::Suspect { suspected, .. } => {
+            assert!(rt; suspected < server.members().count());
+            server.suspect(suspected, out)?;
             Ok(0)
         }
-        Event::Retry => {
+        Entry::Retry { .. } => {
             server.retry(out)?;
             Ok(0)
         }
+        Entry::Lose { .. } | Entry::Execute { .. } => panic!(rt; "no server's call: {event:?}"),
     }
 }
 
@@ -122,29 +82,6 @@ fn prepare(from: u8, inst: u32, ballot: Ballot) -> Option<Message> {
     Some(Message::Prepare { from, inst, ballot })
 }
 
-fn promise(from: u8, to: u8, ballot: Ballot, vote: Option<Vote>) -> Option<Message> {
-    Some(Message::Promise {
-        from,
-        to,
-        inst: 0,
-        ballot,
-        vote,
-    })
-}
-
-fn propose(from: u8, ballot: Ballot, value: Value) -> Option<Message> {
-    Some(Message::Propose {
-        from,
-        inst: 0,
-        ballot,
-        value,
-    })
-}
-
-fn learn(from: u8, inst: u32, value: Value) -> Option<Message> {
-    Some(Message::Learn { from, inst, value })
-}
-
 // One of three servers.
 fn new_server(alloc: Global, id: u8) -> Result<Server, Fail>
     requires { id < 3 }
@@ -153,44 +90,11 @@ fn new_server(alloc: Global, id: u8) -> Result<Server, Fail>
     Ok(Server::new(alloc, members, id)?)
 }
 
-fn new_servers(alloc: Global) -> Result<Vec<Server>, Fail> {
-    let mut servers = Vec::with_capacity(alloc, 3)?;
-    for id in 0..3u8 {
-        servers.push(new_server(alloc, id)?)?;
-    }
-    Ok(servers)
-}
-
-// Three servers, through the rows, and their fronts at the end.
-fn follow(rt: &impl Abort, alloc: Global, rows: &[Row], fronts: [u32; 3]) -> Result<(), Fail> {
-    let mut out = Outbox::new(alloc, 100);
-    let mut servers = new_servers(alloc)?;
-    for row in rows {
-        take_row(rt, servers.as_mut_slice(), row, &mut out);
-    }
-    for (server, front) in servers.iter().zip(fronts) {
-        assert_eq!(rt; server.front(), front);
-    }
-    Ok(())
-}
-
-// What a row says happens, and sends and teaches what it says.
-fn take_row(rt: &impl Abort, servers: &mut [Server], row: &Row, out: &mut Outbox) {
-    let (words, sends, learns) = row;
-    let before = out.len() as usize;
-    let event = event_of(rt, *words);
-    let Some(server) = servers.get_mut(place_of(rt, *words) as usize) else {
-        panic!(rt; "no server of {words}");
-    };
-    assert_happens(rt, server, event, out, Ok(*learns));
-    assert_sent(rt, out, before, sends);
-}
-
 // An event is answered so: with how many instances are learned, or with why it is refused.
 fn assert_happens(
     rt: &impl Abort,
     server: &mut Server,
-    event: Event,
+    event: Entry,
     out: &mut Outbox,
     answer: Result<u32, Refusal>,
 ) {
@@ -220,129 +124,6 @@ fn assert_sent(rt: &impl Abort, out: &Outbox, before: usize, sends: &[Option<Mes
         }
     }
     assert_eq!(rt; messages.len(), count);
-}
-
-#[test]
-fn skip_before_a_suggestion(rt: HostRuntime) -> Result<(), Fail> {
-    let owner = Ballot::OWNER;
-    let rows: [Row; 7] = [
-        ("submit 2 0", [suggest(2, 2, 0), None], 0),
-        ("deliver 0 0", [skip(0, 0, 3), accepted(0, 2, 2, owner)], 0),
-        ("deliver 0 1", [skip(1, 1, 4), accepted(1, 2, 2, owner)], 0),
-        ("deliver 1 2", [None, None], 1),
-        ("deliver 3 2", [None, None], 1),
-        ("deliver 2 2", [None, None], 0),
-        ("deliver 4 2", [learn(2, 2, Value::Ticket(0)), None], 1),
-    ];
-    follow(&rt, rt.alloc(), &rows, [3, 4, 5])?;
-    Ok(())
-}
-
-#[test]
-fn wrong_suspicion_keeps_the_command(rt: HostRuntime) -> Result<(), Fail> {
-    let owner = Ballot::OWNER;
-    let members = Members::new(3).ok_or("three")?;
-    let four = Ballot::new(members, 1, 1).ok_or("ballot 4")?;
-    let vote = Vote {
-        ballot: owner,
-        value: Value::Ticket(0),
-    };
-    let rows: [Row; 12] = [
-        ("submit 0 0", [suggest(0, 0, 0), None], 0),
-        ("deliver 0 2", [accepted(2, 0, 0, owner), None], 0),
-        ("suspect 1 0", [prepare(1, 0, four), None], 0),
-        ("deliver 2 1", [promise(1, 1, four, None), None], 0),
-        ("deliver 2 2", [promise(2, 1, four, Some(vote)), None], 0),
-        ("deliver 3 1", [None, None], 0),
-        ("deliver 4 1", [propose(1, four, Value::Ticket(0)), None], 0),
-        ("deliver 5 1", [accepted(1, 1, 0, four), None], 0),
-        ("deliver 5 2", [accepted(2, 1, 0, four), None], 0),
-        ("deliver 6 1", [None, None], 0),
-        ("deliver 7 1", [learn(1, 0, Value::Ticket(0)), None], 1),
-        ("deliver 8 0", [None, None], 1),
-    ];
-    follow(&rt, rt.alloc(), &rows, [3, 1, 2])?;
-    Ok(())
-}
-
-fn late_suggestion_rows(four: Ballot) -> [Row; 21] {
-    [
-        ("suspect 1 0", [prepare(1, 0, four), None], 0),
-        ("deliver 0 1", [promise(1, 1, four, None), None], 0),
-        ("deliver 0 2", [promise(2, 1, four, None), None], 0),
-        ("deliver 1 1", [None, None], 0),
-        ("deliver 2 1", [propose(1, four, Value::Noop), None], 0),
-        ("deliver 3 1", [accepted(1, 1, 0, four), None], 0),
-        ("deliver 3 2", [accepted(2, 1, 0, four), None], 0),
-        ("deliver 4 1", [None, None], 0),
-        ("deliver 5 1", [learn(1, 0, Value::Noop), None], 1),
-        ("submit 0 0", [suggest(0, 0, 0), None], 0),
-        ("deliver 7 1", [None, None], 0),
-        ("deliver 7 2", [None, None], 0),
-        ("deliver 6 0", [None, None], 1),
-        ("retry 0", [suggest(0, 3, 0), None], 0),
-        ("deliver 8 0", [accepted(0, 0, 3, Ballot::OWNER), None], 0),
-        (
-            "deliver 8 1",
-            [skip(1, 1, 4), accepted(1, 0, 3, Ballot::OWNER)],
-            0,
-        ),
-        (
-            "deliver 8 2",
-            [skip(2, 2, 5), accepted(2, 0, 3, Ballot::OWNER)],
-            0,
-        ),
-        ("deliver 10 0", [None, None], 1),
-        ("deliver 12 0", [None, None], 1),
-        ("deliver 9 0", [None, None], 0),
-        ("deliver 11 0", [learn(0, 3, Value::Ticket(0)), None], 1),
-    ]
-}
-
-// late_suggestion_where_noop_is_decided, and from its end late_suggestion_decided_further_on
-#[test]
-fn late_suggestion(rt: HostRuntime) -> Result<(), Fail> {
-    let members = Members::new(3).ok_or("three")?;
-    let four = Ballot::new(members, 1, 1).ok_or("ballot 4")?;
-    let rows = late_suggestion_rows(four);
-    follow(&rt, rt.alloc(), &rows, [6, 4, 5])?;
-    Ok(())
-}
-
-fn duelling_rows(four: Ballot, five: Ballot) -> [Row; 17] {
-    let vote = Vote {
-        ballot: four,
-        value: Value::Noop,
-    };
-    [
-        ("suspect 1 0", [prepare(1, 0, four), None], 0),
-        ("suspect 2 0", [prepare(2, 0, five), None], 0),
-        ("deliver 0 1", [promise(1, 1, four, None), None], 0),
-        ("deliver 0 0", [promise(0, 1, four, None), None], 0),
-        ("deliver 2 1", [None, None], 0),
-        ("deliver 3 1", [propose(1, four, Value::Noop), None], 0),
-        ("deliver 1 0", [promise(0, 2, five, None), None], 0),
-        ("deliver 4 0", [None, None], 0),
-        ("deliver 4 1", [accepted(1, 1, 0, four), None], 0),
-        ("deliver 1 1", [promise(1, 2, five, Some(vote)), None], 0),
-        ("deliver 5 2", [None, None], 0),
-        ("deliver 7 2", [propose(2, five, Value::Noop), None], 0),
-        ("deliver 8 0", [accepted(0, 2, 0, five), None], 0),
-        ("deliver 8 1", [accepted(1, 2, 0, five), None], 0),
-        ("deliver 9 2", [None, None], 0),
-        ("deliver 10 2", [learn(2, 0, Value::Noop), None], 1),
-        ("deliver 11 1", [None, None], 1),
-    ]
-}
-
-#[test]
-fn duelling_revokers(rt: HostRuntime) -> Result<(), Fail> {
-    let members = Members::new(3).ok_or("three")?;
-    let four = Ballot::new(members, 1, 1).ok_or("ballot 4")?;
-    let five = Ballot::new(members, 1, 2).ok_or("ballot 5")?;
-    let rows = duelling_rows(four, five);
-    follow(&rt, rt.alloc(), &rows, [0, 1, 2])?;
-    Ok(())
 }
 
 // There is no room for both messages that a suggestion calls for, so none is sent.
@@ -375,13 +156,12 @@ fn suggestion_heard_with_little_room(rt: HostRuntime) -> Result<(), Fail> {
 }
 
 // The limit of a fresh outbox, an event, the answer, and the ballot that is prepared then.
-type Call = (u32, &'static str, Result<u32, Refusal>, Option<Ballot>);
+type Call = (u32, Entry, Result<u32, Refusal>, Option<Ballot>);
 
 fn take_call(rt: &impl Abort, alloc: Global, server: &mut Server, call: &Call) {
-    let (limit, words, answer, prepared) = call;
+    let (limit, event, answer, prepared) = call;
     let mut out = Outbox::new(alloc, *limit);
-    let event = event_of(rt, *words);
-    assert_happens(rt, server, event, &mut out, *answer);
+    assert_happens(rt, server, *event, &mut out, *answer);
     match *prepared {
         Some(ballot) => assert_prepared(rt, &out, ballot),
         None => assert!(rt; answer.is_ok() || out.is_empty()),
@@ -411,14 +191,14 @@ fn suspicions(rt: HostRuntime) -> Result<(), Fail> {
     let four = Ballot::new(members, 1, 1).ok_or("ballot 4")?;
     let seven = Ballot::new(members, 2, 1).ok_or("ballot 7")?;
     let calls: [Call; 8] = [
-        (0, "suspect 1 1", Err(Refusal::SelfSuspect), None),
-        (0, "suspect 1 2", Err(Refusal::NothingToRevoke), None),
-        (1, "submit 1 0", Ok(0), None),
-        (1, "submit 1 1", Ok(0), None),
-        (1, "submit 1 2", Ok(0), None),
-        (4, "suspect 1 0", Ok(0), Some(four)),
-        (3, "suspect 1 0", Err(Refusal::MessagesFull), None),
-        (4, "suspect 1 0", Ok(0), Some(seven)),
+        (0, suspect(1, 1), Err(Refusal::SelfSuspect), None),
+        (0, suspect(1, 2), Err(Refusal::NothingToRevoke), None),
+        (1, submit(1, 0), Ok(0), None),
+        (1, submit(1, 1), Ok(0), None),
+        (1, submit(1, 2), Ok(0), None),
+        (4, suspect(1, 0), Ok(0), Some(four)),
+        (3, suspect(1, 0), Err(Refusal::MessagesFull), None),
+        (4, suspect(1, 0), Ok(0), Some(seven)),
     ];
     let mut one = new_server(rt.alloc(), 1)?;
     for call in &calls {
@@ -441,13 +221,17 @@ fn lose(rt: &impl Abort, server: &mut Server, inst: u32, out: &mut Outbox, waiti
 
 // A ticket is suggested again, and then another waits, or none.
 fn retry(rt: &impl Abort, server: &mut Server, out: &mut Outbox, waiting: Option<u32>) {
-    assert_happens(rt, server, Event::Retry, out, Ok(0));
+    let event = Entry::Retry {
+        server: server.id(),
+    };
+    assert_happens(rt, server, event, out, Ok(0));
     assert_eq!(rt; server.waiting(), waiting);
 }
 
 fn submit_three(rt: &impl Abort, server: &mut Server, out: &mut Outbox, tickets: [u32; 3]) {
     for ticket in tickets {
-        assert_happens(rt, server, Event::Submit(ticket), out, Ok(0));
+        let event = submit(server.id(), ticket);
+        assert_happens(rt, server, event, out, Ok(0));
     }
 }
 
@@ -457,7 +241,7 @@ fn tickets_wait_by_instance(rt: HostRuntime) -> Result<(), Fail> {
     let mut out = Outbox::new(rt.alloc(), 5);
     submit_three(&rt, &mut zero, &mut out, [7, 8, 9]);
     let none = Err(Refusal::NothingWaiting);
-    assert_happens(&rt, &mut zero, Event::Retry, &mut out, none);
+    assert_happens(&rt, &mut zero, Entry::Retry { server: 0 }, &mut out, none);
     lose(&rt, &mut zero, 6, &mut out, Some(9));
     lose(&rt, &mut zero, 3, &mut out, Some(8));
     assert_eq!(rt; zero.learned(3), Some(Value::Noop));
@@ -518,10 +302,10 @@ fn a_refused_suspicion_keeps_nothing(rt: HostRuntime) -> Result<(), Fail> {
     submit_three(&rt, &mut one, &mut out, [0, 1, 2]);
     assert_eq!(rt; one.kept(), (3, 0));
     let full = Err(Refusal::MessagesFull);
-    assert_happens(&rt, &mut one, Event::Suspect(0), &mut out, full);
+    assert_happens(&rt, &mut one, suspect(1, 0), &mut out, full);
     assert_eq!(rt; one.kept(), (3, 0));
     let mut wide = Outbox::new(rt.alloc(), 4);
-    assert_happens(&rt, &mut one, Event::Suspect(0), &mut wide, Ok(0));
+    assert_happens(&rt, &mut one, suspect(1, 0), &mut wide, Ok(0));
     assert_eq!(rt; one.kept(), (7, 0));
     Ok(())
 }

@@ -1,6 +1,6 @@
 //! Suspicions that look ahead of the own front.
 
-use super::{Event, assert_happens, assert_learns, prepare, take_skip};
+use super::{assert_happens, assert_learns, prepare, submit, suspect, take_skip};
 use mencius_base::{Ballot, Members, Message, Outbox, Refusal, Value};
 use mencius_server::Server;
 use std::alloc::Global;
@@ -32,7 +32,7 @@ fn assert_reaches(rt: &impl Abort, alloc: Global, server: &mut Server, insts: &[
         Ok(0)
     };
     let mut out = Outbox::new(alloc, 100);
-    assert_happens(rt, server, Event::Suspect(0), &mut out, answer);
+    assert_happens(rt, server, suspect(1, 0), &mut out, answer);
     let mut sent = out.messages().iter();
     for wanted in insts {
         match sent.next() {
@@ -75,7 +75,8 @@ fn suspicions_look_ahead(rt: HostRuntime) -> Result<(), Fail> {
 fn move_on(rt: &impl Abort, alloc: Global, server: &mut Server, tickets: &[u32], learned: &[u32]) {
     let mut out = Outbox::new(alloc, 100);
     for ticket in tickets {
-        assert_happens(rt, server, Event::Submit(*ticket), &mut out, Ok(0));
+        let event = submit(server.id(), *ticket);
+        assert_happens(rt, server, event, &mut out, Ok(0));
     }
     for inst in learned {
         learn_noop(rt, alloc, server, *inst);
@@ -107,9 +108,9 @@ fn suspicions_end_at_the_last_instance(rt: HostRuntime) -> Result<(), Fail> {
     let mut one = new_server_with_beta(alloc, 4095)?;
     let mut little = Outbox::new(alloc, 1365);
     let full = Err(Refusal::MessagesFull);
-    assert_happens(&rt, &mut one, Event::Suspect(0), &mut little, full);
+    assert_happens(&rt, &mut one, suspect(1, 0), &mut little, full);
     let mut out = Outbox::new(alloc, 1366);
-    assert_happens(&rt, &mut one, Event::Suspect(0), &mut out, Ok(0));
+    assert_happens(&rt, &mut one, suspect(1, 0), &mut out, Ok(0));
     let four = Ballot::new(one.members(), 1, 1).ok_or("ballot 4")?;
     assert_eq!(rt; out.len(), 1366);
     assert!(rt; out.messages().last().copied() == prepare(1, 4095, four));
