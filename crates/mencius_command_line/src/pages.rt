@@ -271,7 +271,7 @@ What is printed is one line, at once where a promise is broken, or else at the e
   ok servers N commands C executed E replies R open O lookups L
                             every promise is kept: N servers executed something, C commands
                             were submitted, the longest history has E, and R had a reply, of
-                            which O stand in no history, so that nothing judged their replies
+                            which O stand in no history: those may be right or wrong
   violation LINE OneCommand command ID
                             another command was submitted under this ID before
   violation LINE Submitted command ID

@@ -65,7 +65,7 @@ straight_path from start to end = command (codes "M") from start ++ command (cod
 -- from a lane back to it, further out by the place of the event
 abbrev pub loop_path : ℕ → ℕ → ℕ → ℕ → List ℕ
 loop_path lane start end place =
-    let side = lane - (place % 8 * 9 + 34) in
+    let side = lane - (place % 8 * 9 + 52) in
     command (codes "M") lane start ++ command (codes "C") side (start + 10) ++ command (codes " ") side (end - 14)
     ++ command (codes " ") (lane - 10) (end - 3)
 

@@ -175,7 +175,7 @@ fn push_loop(
     ensures { OnOk result (string_bytes text.new
         ≡ string_bytes text.old ++ loop_path lane start end place) }
 {
-    let side = lane.saturating_sub(place % 8 * 9 + 34);
+    let side = lane.saturating_sub(place % 8 * 9 + 52);
     let near = lane.saturating_sub(10);
     let below = start + 10;
     let above = end.saturating_sub(14);
