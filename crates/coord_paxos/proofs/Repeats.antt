@@ -6,7 +6,7 @@ use Rattle.mencius_base.specs.declared.message.Value.{Value}
 use Rattle.mencius_base.specs.declared.message.Vote.{Vote}
 use Rattle.coord_paxos.specs.Slot.{acceptance_answer, after_acceptance, after_promise, learning, promise_answer, proposing, to_learn, to_propose, with_acceptance, with_promise}
 use Rattle.coord_paxos.specs.SlotState.{SlotState}
-use Rattle.mencius_model.proofs.Reports.{higher_vote_twice}
+use Rattle.mencius_model.proofs.trace.Reports.{higher_vote_twice}
 
 -- ---- promises
 

@@ -19,12 +19,12 @@ use Rattle.coord_paxos.specs.Slot.{acceptance_answer, after_accept, after_accept
 use Rattle.coord_paxos.specs.Reached.{if_own, slot_at}
 use Rattle.coord_paxos.specs.Laws.{counts, touches}
 use Rattle.mencius_base.specs.declared.message.Answer.TheVariants.{Promise as Promised, Silent}
-use Rattle.mencius_model.proofs.NumberLists.{count_by-map, map-below_constant, map-below_same}
-use Rattle.mencius_model.proofs.OneMoreLine.{earlier-none, greater-none, max-zero, greatest_quiet, oldest_quiet, vote_of_same}
-use Rattle.mencius_model.proofs.Reports.{Stands-heard, any_again, higher_vote-stands}
-use Rattle.mencius_model.proofs.QuietLines.{IsQuiet, IsUncounted, quiet_heard, quiet_learn}
+use Rattle.mencius_model.proofs.trace.NumberLists.{count_by-map, map-below_constant, map-below_same}
+use Rattle.mencius_model.proofs.trace.OneMoreLine.{earlier-none, greater-none, max-zero, greatest_quiet, oldest_quiet, vote_of_same}
+use Rattle.mencius_model.proofs.trace.Reports.{Stands-heard, any_again, higher_vote-stands}
+use Rattle.mencius_model.proofs.trace.QuietLines.{IsQuiet, IsUncounted, quiet_heard, quiet_learn}
 use Rattle.coord_paxos.proofs.SlotTrace.{same_slot, slot_at-accepted, slot_at-heard, slot_at-heard_acceptance, slot_at-heard_promise, slot_at-learned, slot_at-learning, slot_at-promised, slot_at-proposed, slot_at-proposing, slot_at-quiet, slot_at-unsaid, slot_hearing}
-use Rattle.mencius_model.proofs.Tallies.{heard_more, or-true, votes_more}
+use Rattle.mencius_model.proofs.trace.Tallies.{heard_more, or-true, votes_more}
 
 -- ---- nothing
 

@@ -10,14 +10,14 @@ use Rattle.mencius_base.specs.declared.message.Vote.{Vote}
 use Rattle.mencius_base.specs.Members.{Membership, below, owner}
 use Rattle.mencius_model.specs.Trace.{Line, Heard, Sent, Learned, Trace, earlier, heard, sent}
 use Rattle.mencius_model.specs.Instance.{promised_by, promised, proposed_by, proposed, accepted_by, accepted, greater, vote_at, vote_of, learned_by, learned, tried_by, trying, reported, promisers, accepters, is_promise, is_acceptance, highest_vote, vote_reported, IsVoted}
-use Rattle.mencius_model.proofs.OneMoreLine.{max-zero, earlier-none, greater-none, greatest_quiet, oldest_quiet, oldest_stays, vote_of_same, accepted_small, greater_above}
+use Rattle.mencius_model.proofs.trace.OneMoreLine.{max-zero, earlier-none, greater-none, greatest_quiet, oldest_quiet, oldest_stays, vote_of_same, accepted_small, greater_above}
 use Rattle.std.proofs.lemmas.Bool.{eq-eqb, lt-ltb}
 use Rattle.std.specs.Prelude.{slice_get}
 use Rattle.coord_paxos.specs.Slot.{with_acceptance, with_promise}
-use Rattle.mencius_model.proofs.Tallies.{heard_more, or-true, tally_quiet, tally_more, votes_quiet, votes_more}
+use Rattle.mencius_model.proofs.trace.Tallies.{heard_more, or-true, tally_quiet, tally_more, votes_quiet, votes_more}
 use Rattle.coord_paxos.specs.SlotState.{SlotState}
 use Rattle.coord_paxos.specs.Reached.{if_own, slot_at}
-use Rattle.mencius_model.proofs.QuietLines.{IsQuiet, quiet_heard, IsUncounted}
+use Rattle.mencius_model.proofs.trace.QuietLines.{IsQuiet, quiet_heard, IsUncounted}
 
 -- two slots with the same parts
 same_parts : (m n : Membership) (a b : ℕ) (o d : Option Vote) (e f : Option Value) (g h : ℕ) (x y : Option Vote)

@@ -9,7 +9,7 @@ use Rattle.mencius_board.specs.Marks.{MarkState, VersionState, mark_of}
 use Rattle.mencius_board.specs.Shown.{book_of}
 use Rattle.mencius_board.specs.Pending.{AreHanded, added}
 use Rattle.mencius_board.specs.Boards.{IsSound, IsSteady, longest}
-use Rattle.mencius_model.proofs.Prefixes.{prefix_empty, prefix_trans, prefix_length, take_begins}
+use Rattle.mencius_model.proofs.trace.Prefixes.{prefix_empty, prefix_trans, prefix_length, take_begins}
 
 -- the first commands of a list are the first of each of which it is a prefix
 handed_grows : (shown : List Command) (os : List Operation) (n : ℕ) (xs ys : List Command) → IsPrefix xs ys

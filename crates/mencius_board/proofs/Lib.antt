@@ -1,12 +1,6 @@
-pub mod LogEnds
-pub mod LogExchange
-pub mod LogSteps
 pub mod ShownEntries
 pub mod LongestCopy
 pub mod SteppedBoard
 pub mod BoardInvariant
-pub mod WorkerTurns
-pub mod JoinedWorkers
-pub mod WorkerEnds
-pub mod ListSteps
-pub mod RunSteps
+pub mod logs
+pub mod runs

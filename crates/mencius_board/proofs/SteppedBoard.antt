@@ -9,7 +9,7 @@ use Rattle.mencius_cluster.specs.declared.cluster.Effect.{Effect}
 use Rattle.mencius_model.specs.Replying.{longest_commands}
 use Rattle.mencius_cluster.specs.State.{ClusterState, IsStepped, trace_of}
 use Rattle.mencius_board.specs.Boards.{IsSteady, longest}
-use Rattle.mencius_model.proofs.Prefixes.{prefix_self}
+use Rattle.mencius_model.proofs.trace.Prefixes.{prefix_self}
 
 -- what a board relies on holds of the cluster that an event leaves
 steady_next : (x y : ClusterState) (e : Event) (f : Effect) → IsSteady x

@@ -11,8 +11,8 @@ use Rattle.mencius_base.specs.Message.{is_for}
 use Rattle.mencius_base.specs.Outbox.{Outgoing, outbox_full}
 use Rattle.mencius_model.specs.Trace.{Trace, events, messages_of, sent}
 use Rattle.mencius_model.specs.Next.{IsReached, early_cause, first_cause, found_by_cluster, found_by_server, lines, refused, with_event}
-use Rattle.mencius_model.proofs.EventLines.{sent-event}
-use Rattle.mencius_model.proofs.Journals.{next-accepted, reached_next}
+use Rattle.mencius_model.proofs.events.EventLines.{sent-event}
+use Rattle.mencius_model.proofs.rights.Journals.{next-accepted, reached_next}
 use Rattle.mencius_server.specs.Laws.{HearIsEvent, LeavesOthers}
 use Rattle.mencius_server.specs.Machine.{after_hearing, sent_on}
 use Rattle.mencius_server.specs.Reached.{IsAt, server_at}

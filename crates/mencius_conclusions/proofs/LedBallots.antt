@@ -8,13 +8,13 @@ use Rattle.mencius_base.specs.declared.message.Value.{Value}
 use Rattle.mencius_base.specs.declared.message.Vote.{Vote}
 use Rattle.mencius_model.specs.Trace.{Sent, Trace, sent}
 use Rattle.mencius_model.specs.Instance.{proposed}
-use Rattle.mencius_model.proofs.AnswersLast.{proposal_in, sent_in}
-use Rattle.mencius_model.proofs.Journals.{reached_grown, some_server_of}
-use Rattle.mencius_model.proofs.LineRights.{IsGrown}
-use Rattle.mencius_model.proofs.Lists.{IsIn, get_in}
-use Rattle.mencius_model.proofs.Paxos.{promise_covers}
-use Rattle.mencius_model.proofs.Senders.{acceptance_asked, prepare_right, promise_asked, propose_ballot}
-use Rattle.mencius_model.proofs.Suggesters.{suggest_owner}
+use Rattle.mencius_model.proofs.trace.AnswersLast.{proposal_in, sent_in}
+use Rattle.mencius_model.proofs.rights.Journals.{reached_grown, some_server_of}
+use Rattle.mencius_model.proofs.rights.LineRights.{IsGrown}
+use Rattle.mencius_model.proofs.trace.Lists.{IsIn, get_in}
+use Rattle.mencius_model.proofs.paxos.Paxos.{promise_covers}
+use Rattle.mencius_model.proofs.reached.Senders.{acceptance_asked, prepare_right, promise_asked, propose_ballot}
+use Rattle.mencius_model.proofs.reached.Suggesters.{suggest_owner}
 use Rattle.mencius_conclusions.specs.Ballots.{IsBallot, IsLed, IsVoteBelow, MessagesLed}
 
 -- a ballot of a round is led by whose number it has, at every instance

@@ -18,7 +18,7 @@ use Rattle.mencius_board.specs.declared.fault.BoardFault.{BoardFault}
 use Rattle.mencius_board.specs.Boards.{BoardState}
 use Rattle.mencius_board.specs.Runs.{Befalls, ComesTo, RunState, TurnOf, Way, first_run, way_after, way_of}
 use Rattle.mencius_board.specs.Turns.{EndsTurn, IsAccepted, IsAfterTurn, IsRefusedBy, IsTurn}
-use Rattle.mencius_board.proofs.RunSteps.{no_seat, one_seat}
+use Rattle.mencius_board.proofs.runs.RunSteps.{no_seat, one_seat}
 use Rattle.mencius_input.specs.declared.scenario.Scenario.{Scenario}
 use Rattle.mencius_app.specs.Input.{Says, plan_input_of}
 use Rattle.mencius_app.specs.Plan.{IsOutcome}

@@ -13,8 +13,8 @@ use Rattle.mencius_app.specs.States.{IsStateOf}
 use Rattle.mencius_app.specs.declared.ending.Ending.{Ending}
 use Rattle.mencius_app.specs.declared.ending.Ending.TheVariants.{Done, Refused, BadCommandLine, BoardFailed}
 use Rattle.mencius_app.specs.declared.finding.Finding.{Finding}
-use Rattle.mencius_app.proofs.EndingCauses.{of_result}
-use Rattle.mencius_app.proofs.FindingWords.{told_of_result}
+use Rattle.mencius_app.proofs.inputs.EndingCauses.{of_result}
+use Rattle.mencius_app.proofs.inputs.FindingWords.{told_of_result}
 use Rattle.mencius_embed.proofs.CallEnds.{written}
 use Rattle.mencius_embed.specs.Calls.{IsEndOfState}
 

@@ -1,14 +1,5 @@
 pub mod JsonTexts
 pub mod Stops
-pub mod NotedItems
-pub mod NamedFields
-pub mod CasItems
-pub mod SharedFields
-pub mod ScenarioFields
-pub mod RunFields
-pub mod StepsAndCommands
-pub mod FaultPlaces
-pub mod NameOrder
-pub mod PlacedNames
-pub mod PlacedFields
-pub mod PlacedFaults
+pub mod lists
+pub mod objects
+pub mod mistakes

@@ -6,18 +6,18 @@ use Rattle.mencius_model.specs.Trace.{Trace}
 use Rattle.mencius_model.specs.Executed.{executed}
 use Rattle.mencius_model.specs.Replying.{longest_at}
 use Rattle.mencius_model.specs.Laws.{IsCourse, DecidedValuesAgree, LearnedIsDecided, HistoriesComparable, ExecutedWasSubmitted, ExecutedOnce, LaterCommandsStandBehind, NoReplyWhereNotSubmitted, ReplyWhereExecuted, PendingWhereNotExecuted, AtMostOneReply, HistoriesGrow, LongestHistoryGrows, LongestCommandsGrow}
-use Rattle.mencius_model.proofs.Lists.{get_in}
-use Rattle.mencius_model.proofs.LineRights.{IsGrown}
-use Rattle.mencius_model.proofs.Journals.{grown_from}
-use Rattle.mencius_model.proofs.RepliesAfterEvents.{history-below}
-use Rattle.mencius_model.proofs.ClusterFacts.{told}
-use Rattle.mencius_model.proofs.Moments.{moment_past}
-use Rattle.mencius_model.proofs.Decisions.{learned_decided}
-use Rattle.mencius_model.proofs.Tickets.{identity_once}
-use Rattle.mencius_model.proofs.Histories as histories
-use Rattle.mencius_model.proofs.GrowingHistories as later
-use Rattle.mencius_model.proofs.LongestGrows as longest
-use Rattle.mencius_model.proofs.ReplyPlaces as replying
+use Rattle.mencius_model.proofs.trace.Lists.{get_in}
+use Rattle.mencius_model.proofs.rights.LineRights.{IsGrown}
+use Rattle.mencius_model.proofs.rights.Journals.{grown_from}
+use Rattle.mencius_model.proofs.replies.RepliesAfterEvents.{history-below}
+use Rattle.mencius_model.proofs.reached.ClusterFacts.{told}
+use Rattle.mencius_model.proofs.histories.Moments.{moment_past}
+use Rattle.mencius_model.proofs.paxos.Decisions.{learned_decided}
+use Rattle.mencius_model.proofs.paxos.Tickets.{identity_once}
+use Rattle.mencius_model.proofs.histories.Histories as histories
+use Rattle.mencius_model.proofs.histories.GrowingHistories as later
+use Rattle.mencius_model.proofs.histories.LongestGrows as longest
+use Rattle.mencius_model.proofs.replies.ReplyPlaces as replying
 
 -- in what a journal makes each line had its right to come
 pub course_grown : (m : Membership) (journal : List Event) (end : Trace) → IsCourse m journal end → IsGrown m end

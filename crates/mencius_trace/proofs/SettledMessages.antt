@@ -12,8 +12,8 @@ use Rattle.mencius_base.specs.declared.refusal.Refusal.{Refusal}
 use Rattle.mencius_cluster.specs.State.{entries_from, entries_of, entry_of}
 use Rattle.mencius_model.specs.Trace.{Line, Sent, Learned, Trace}
 use Rattle.mencius_model.specs.Next.{causes, head, lines, next, replay, replay_from, replay_on, submits, with_event}
-use Rattle.mencius_model.proofs.EventLines.{IsAnswer, answers, unchanged_after}
-use Rattle.mencius_model.proofs.EventRights.{NoneHolds, next_is}
+use Rattle.mencius_model.proofs.events.EventLines.{IsAnswer, answers, unchanged_after}
+use Rattle.mencius_model.proofs.rights.EventRights.{NoneHolds, next_is}
 use Rattle.mencius_trace.specs.Closing.{settles}
 use Rattle.mencius_trace.specs.Settled.{IsOfServer, entry_settles}
 

@@ -11,8 +11,8 @@ use Rattle.mencius_base.specs.declared.message.Value.TheVariants.{Noop}
 use Rattle.mencius_model.specs.Trace.{Learned, Trace}
 use Rattle.mencius_model.specs.Instance.{learned}
 use Rattle.mencius_model.specs.Next.{is_given_up, on_skip}
-use Rattle.mencius_model.proofs.Lists.{eqb_swap}
-use Rattle.mencius_model.proofs.NumberLists.{filter-below_more, filter-below_none, filter-below_zero, instances-below}
+use Rattle.mencius_model.proofs.trace.Lists.{eqb_swap}
+use Rattle.mencius_model.proofs.trace.NumberLists.{filter-below_more, filter-below_none, filter-below_zero, instances-below}
 use Rattle.mencius_trace.specs.Facts.{learned_line}
 use Rattle.mencius_trace.specs.Told.{learned_in, learned_lines}
 

@@ -8,7 +8,7 @@ use Rattle.mencius_base.specs.Limits.{instance_count}
 use Rattle.mencius_base.specs.Members.{below}
 use Rattle.mencius_model.specs.Trace.{Trace}
 use Rattle.mencius_model.specs.Server.{waiting, waiting_at}
-use Rattle.mencius_model.proofs.NumberLists.{below-more, instances-below}
+use Rattle.mencius_model.proofs.trace.NumberLists.{below-more, instances-below}
 use Rattle.mencius_trace.specs.Closing.{ticket_in}
 use Rattle.mencius_trace.specs.Words.{spaced_ticket, tickets_text}
 

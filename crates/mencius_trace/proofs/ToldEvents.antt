@@ -9,7 +9,7 @@ use Rattle.mencius_cluster.specs.declared.cluster.Effect.{Effect}
 use Rattle.mencius_model.specs.Trace.{Trace, sent}
 use Rattle.mencius_model.specs.Server.{front}
 use Rattle.mencius_model.specs.Next.{IsReached, learnings, lines, with_event, server_of}
-use Rattle.mencius_model.proofs.EventRights.{next_is}
+use Rattle.mencius_model.proofs.rights.EventRights.{next_is}
 use Rattle.mencius_trace.specs.declared.before.Before.{Before}
 use Rattle.mencius_trace.specs.Told.{execution, front_lines, is_silent, learned_lines, notices, place_of, sent_lines, told}
 use Rattle.mencius_trace.specs.Before.{IsBefore, heard_in, is_awaited}

@@ -18,11 +18,11 @@ use Rattle.mencius_model.specs.Instance.{learned, promised, vote}
 use Rattle.mencius_model.specs.Server.{done, free_instance, front, covered_by, waiting}
 use Rattle.mencius_model.specs.Rules.{answer_lines, decision_due, decision_lines, learning_lines, proposal_lines, suggestion}
 use Rattle.mencius_model.specs.Next.{IsReached, again, causes, decision_at, delivery, is_given_up, learnings, lines, preparation, with_event, server_of}
-use Rattle.mencius_model.proofs.AnswersLast.{same_two, sent_in}
-use Rattle.mencius_model.proofs.EventLines.{sent-event}
-use Rattle.mencius_model.proofs.EventRights.{NoneHolds}
-use Rattle.mencius_model.proofs.Lists.{get_in}
-use Rattle.mencius_model.proofs.MessageLimits.{IsSmall, sent_small}
+use Rattle.mencius_model.proofs.trace.AnswersLast.{same_two, sent_in}
+use Rattle.mencius_model.proofs.events.EventLines.{sent-event}
+use Rattle.mencius_model.proofs.rights.EventRights.{NoneHolds}
+use Rattle.mencius_model.proofs.trace.Lists.{get_in}
+use Rattle.mencius_model.proofs.reached.MessageLimits.{IsSmall, sent_small}
 use Rattle.mencius_trace.specs.declared.hearing.Hearing.{Hearing}
 use Rattle.mencius_trace.specs.Told.{execution, execution_of, hearing, is_silent, learned_in, learned_lines, notice, notice_of, notices, place_of, sent_lines}
 use Rattle.mencius_trace.specs.Before.{executing, given_up, heard_in, is_awaited}

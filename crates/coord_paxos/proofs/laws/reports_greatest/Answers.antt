@@ -5,7 +5,7 @@ use Rattle.mencius_base.specs.declared.message.Vote.{Vote}
 use Rattle.mencius_model.specs.Trace.{Trace, heard}
 use Rattle.mencius_model.specs.Instance.{reported, vote_reported}
 use Rattle.mencius_model.specs.Laws.{HearsReport}
-use Rattle.mencius_model.proofs.Reports.{Stands, Stands-heard, highest_vote-heard}
+use Rattle.mencius_model.proofs.trace.Reports.{Stands, Stands-heard, highest_vote-heard}
 use Rattle.coord_paxos.proofs.laws.reports_greatest.Goals as goal
 
 -- the vote reported stands against each that was heard

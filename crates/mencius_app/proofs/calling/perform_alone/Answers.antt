@@ -2,9 +2,9 @@ use Rattle.std.proofs.Common.{◌≡◌, Some, arith, false, refl, true}
 use Rattle.std.proofs.lemmas.Result.{IfErr-weaker}
 use Rattle.mencius_command_line.specs.CommandLine.{asked_check, asked_draw, asked_replay, asked_trace}
 use Rattle.mencius_app.specs.Ending.{tells_of_refusals}
-use Rattle.mencius_app.proofs.EndingCauses.{as_text, done_not_board, found_not_board, of_finding, of_result, text_of_replay}
-use Rattle.mencius_app.proofs.LogFaults.{judged_done, judged_never_bad, judged_not_board, of_judgement, text_of_judgement, told_of_judgement}
-use Rattle.mencius_app.proofs.FindingWords.{told_of_finding, told_of_result}
+use Rattle.mencius_app.proofs.inputs.EndingCauses.{as_text, done_not_board, found_not_board, of_finding, of_result, text_of_replay}
+use Rattle.mencius_app.proofs.inputs.LogFaults.{judged_done, judged_never_bad, judged_not_board, of_judgement, text_of_judgement, told_of_judgement}
+use Rattle.mencius_app.proofs.inputs.FindingWords.{told_of_finding, told_of_result}
 use Rattle.mencius_app.proofs.calling.perform_alone.Goals as goal
 
 pub returns-in-Err-clause-fault : goal.returns-in-Err-clause-fault

@@ -1,8 +1,8 @@
 use Rattle.std.proofs.lemmas.Result.{IfErr-weaker}
 use Rattle.mencius_app.specs.Ending.{asked_with}
-use Rattle.mencius_app.proofs.EndingCauses.{as_text, board_of_run, of_run, text_of_run}
-use Rattle.mencius_app.proofs.FindingWords.{told_of_run}
-use Rattle.mencius_app.proofs.Inputs.{also_found}
+use Rattle.mencius_app.proofs.inputs.EndingCauses.{as_text, board_of_run, of_run, text_of_run}
+use Rattle.mencius_app.proofs.inputs.FindingWords.{told_of_run}
+use Rattle.mencius_app.proofs.inputs.Inputs.{also_found}
 use Rattle.mencius_app.proofs.calling.perform_run.Goals as goal
 
 pub returns-clause-board : goal.returns-clause-board

@@ -1,6 +1,6 @@
 use Rattle.std.proofs.Common.{Err, subst, sym}
 use Rattle.mencius_app.specs.Check.{IsCheckOf}
-use Rattle.mencius_app.proofs.Inputs.{at_finding, unwritable}
+use Rattle.mencius_app.proofs.inputs.Inputs.{at_finding, unwritable}
 use Rattle.mencius_app.proofs.checking.check.Goals as goal
 
 pub returns-in_err-write_all-clause-fault : goal.returns-in_err-write_all-clause-fault

@@ -2,7 +2,7 @@ use Rattle.std.proofs.Common.{◌≡◌, ◌≢◌, ◌⊎◌, Err, inl, inr, ru
 use Rattle.mencius_ends.specs.declared.fault.AppFault.TheVariants.{BadShape, NoMemory}
 use Rattle.mencius_input.specs.declared.kind.Kind.TheVariants.{Replay}
 use Rattle.mencius_app.specs.Check.{checked, checked_replay}
-use Rattle.mencius_app.proofs.CheckedInputs.{AreWordsByFields, other_fault, replay_checked, words_as, words_of_memory}
+use Rattle.mencius_app.proofs.inputs.CheckedInputs.{AreWordsByFields, other_fault, replay_checked, words_as, words_of_memory}
 use Rattle.mencius_app.proofs.checking.line_in.Goals as goal
 
 pub returns-in_ok-replay_line-in-Ok-clause-line : goal.returns-in_ok-replay_line-in-Ok-clause-line

@@ -1,5 +1,5 @@
 use Rattle.mencius_app.specs.Check.{checked_run}
-use Rattle.mencius_app.proofs.CheckedInputs.{run_checked}
+use Rattle.mencius_app.proofs.inputs.CheckedInputs.{run_checked}
 use Rattle.mencius_app.proofs.checking.line_of_run.Goals as goal
 
 pub returns-in_ok-run_line-in-Ok-clause-line : goal.returns-in_ok-run_line-in-Ok-clause-line

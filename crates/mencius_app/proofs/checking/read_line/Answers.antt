@@ -1,5 +1,5 @@
-use Rattle.mencius_app.proofs.CheckedInputs.{fault_read, line_read, words_read}
-use Rattle.mencius_app.proofs.Inputs.{short}
+use Rattle.mencius_app.proofs.inputs.CheckedInputs.{fault_read, line_read, words_read}
+use Rattle.mencius_app.proofs.inputs.Inputs.{short}
 use Rattle.mencius_app.proofs.checking.read_line.Goals as goal
 
 pub returns-clause-line : goal.returns-clause-line

@@ -3,8 +3,8 @@ use Rattle.mencius_trace.specs.Closing.{trace_text}
 use Rattle.mencius_input.specs.declared.kind.Kind.TheVariants.{Replay}
 use Rattle.mencius_app.specs.Drawing.{IsPictureOf, IsToldOfPicture}
 use Rattle.mencius_app.specs.Findings.{IsToldAs}
-use Rattle.mencius_app.proofs.Inputs.{at_err, at_finding, made, unwritable, unwritten}
-use Rattle.mencius_app.proofs.PictureFaults.{found_as, refused_cause, refused_words}
+use Rattle.mencius_app.proofs.inputs.Inputs.{at_err, at_finding, made, unwritable, unwritten}
+use Rattle.mencius_app.proofs.inputs.PictureFaults.{found_as, refused_cause, refused_words}
 use Rattle.mencius_app.proofs.drawing.draw.Goals as goal
 
 pub returns-in_err-scenario-clause-words : goal.returns-in_err-scenario-clause-words

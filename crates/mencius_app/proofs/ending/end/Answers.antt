@@ -1,6 +1,6 @@
 use Rattle.std.proofs.Common.{◌++◌, [], ap, append-nil, string_bytes}
 use Rattle.mencius_app.specs.Ending.{fault_line}
-use Rattle.mencius_app.proofs.JoinedTexts.{same_lines}
+use Rattle.mencius_app.proofs.texts.JoinedTexts.{same_lines}
 use Rattle.mencius_app.proofs.ending.end.Goals as goal
 
 pub returns-in-Failed-clause-lines : goal.returns-in-Failed-clause-lines

@@ -1,4 +1,4 @@
-use Rattle.mencius_app.proofs.LogFaults.{line_of_words}
+use Rattle.mencius_app.proofs.inputs.LogFaults.{line_of_words}
 use Rattle.mencius_app.proofs.judging.finding_of.Goals as goal
 
 pub returns-in-Some-clause-words : goal.returns-in-Some-clause-words

@@ -1,5 +1,5 @@
 use Rattle.std.proofs.Common.{refl}
-use Rattle.mencius_app.proofs.Inputs.{at_finding, own_fault}
+use Rattle.mencius_app.proofs.inputs.Inputs.{at_finding, own_fault}
 use Rattle.mencius_app.proofs.judging.read_judgement.Goals as goal
 
 pub returns-in_err-line-clause-fault : goal.returns-in_err-line-clause-fault

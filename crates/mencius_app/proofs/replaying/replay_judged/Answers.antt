@@ -1,4 +1,4 @@
-use Rattle.mencius_app.proofs.Inputs.{at_err, unwritten}
+use Rattle.mencius_app.proofs.inputs.Inputs.{at_err, unwritten}
 use Rattle.mencius_app.proofs.replaying.replay_judged.Goals as goal
 
 pub returns-in_err-text-clause-fault : goal.returns-in_err-text-clause-fault

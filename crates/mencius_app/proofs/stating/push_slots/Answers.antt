@@ -2,7 +2,7 @@ use Rattle.std.proofs.Common.{◌≡◌, ◌++◌, arith, string_bytes, subst}
 use Rattle.mencius_app.specs.States.{slot_lines}
 use Rattle.mencius_base.specs.Limits.{instance_count}
 use Rattle.mencius_cluster.specs.State.{trace_of}
-use Rattle.mencius_app.proofs.SlotLines.{no_slots, slots_further}
+use Rattle.mencius_app.proofs.texts.SlotLines.{no_slots, slots_further}
 use Rattle.mencius_app.proofs.stating.push_slots.Goals as goal
 
 pub loop-inst-init : goal.loop-inst-init

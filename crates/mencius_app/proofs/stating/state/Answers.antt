@@ -1,6 +1,6 @@
 use Rattle.std.proofs.Common.{Err, string_bytes, subst, sym}
 use Rattle.mencius_app.specs.States.{IsStateOf, state_text}
-use Rattle.mencius_app.proofs.Inputs.{at_finding, made, unwritable}
+use Rattle.mencius_app.proofs.inputs.Inputs.{at_finding, made, unwritable}
 use Rattle.mencius_app.proofs.stating.state.Goals as goal
 
 pub returns-in_err-write_all-clause-fault : goal.returns-in_err-write_all-clause-fault

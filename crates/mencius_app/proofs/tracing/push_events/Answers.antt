@@ -1,4 +1,4 @@
-use Rattle.mencius_app.proofs.TraceTexts.{none_told, one_told}
+use Rattle.mencius_app.proofs.texts.TraceTexts.{none_told, one_told}
 use Rattle.mencius_app.proofs.tracing.push_events.Goals as goal
 
 pub loop-event-init : goal.loop-event-init

@@ -1,5 +1,5 @@
 use Rattle.std.proofs.Common.{string_bytes}
-use Rattle.mencius_app.proofs.TraceTexts.{IsTraced}
+use Rattle.mencius_app.proofs.texts.TraceTexts.{IsTraced}
 use Rattle.mencius_app.proofs.tracing.push_events.Given as goal
 
 abbrev pub invariant-loop-event : goal.invariant-loop-event

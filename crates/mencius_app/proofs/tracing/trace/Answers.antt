@@ -1,7 +1,7 @@
 use Rattle.std.proofs.Common.{Err, string_bytes, subst, sym}
 use Rattle.mencius_trace.specs.Closing.{trace_text}
 use Rattle.mencius_app.specs.Trace.{IsTraceOf}
-use Rattle.mencius_app.proofs.Inputs.{at_finding, made, unwritable}
+use Rattle.mencius_app.proofs.inputs.Inputs.{at_finding, made, unwritable}
 use Rattle.mencius_app.proofs.tracing.trace.Goals as goal
 
 pub returns-in_err-write_all-clause-fault : goal.returns-in_err-write_all-clause-fault

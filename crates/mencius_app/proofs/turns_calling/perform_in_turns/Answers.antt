@@ -3,8 +3,8 @@ use Rattle.clap.specs.Words.{kind_of}
 use Rattle.mencius_command_line.specs.CommandLine.{bytes_of}
 use Rattle.mencius_app.specs.Calls.{IsCause}
 use Rattle.mencius_app.specs.Ending.{IsAskedFor, IsFaultFor, fault_in}
-use Rattle.mencius_app.proofs.EndingCauses.{asks_as, of_task}
-use Rattle.mencius_app.proofs.FindingWords.{unexplained}
+use Rattle.mencius_app.proofs.inputs.EndingCauses.{asks_as, of_task}
+use Rattle.mencius_app.proofs.inputs.FindingWords.{unexplained}
 use Rattle.mencius_app.proofs.turns_calling.perform_in_turns.Goals as goal
 
 pub returns-in-Err-clause-misused : goal.returns-in-Err-clause-misused

@@ -1,7 +1,7 @@
 use Rattle.std.proofs.lemmas.Result.{IfErr-weaker}
 use Rattle.mencius_app.specs.Ending.{asked_with}
-use Rattle.mencius_app.proofs.EndingCauses.{as_text, done_not_board, of_result, text_of_run}
-use Rattle.mencius_app.proofs.FindingWords.{told_of_result}
+use Rattle.mencius_app.proofs.inputs.EndingCauses.{as_text, done_not_board, of_result, text_of_run}
+use Rattle.mencius_app.proofs.inputs.FindingWords.{told_of_result}
 use Rattle.mencius_app.proofs.turns_calling.perform_run_in_turns.Goals as goal
 
 pub returns-clause-no_board : goal.returns-clause-no_board

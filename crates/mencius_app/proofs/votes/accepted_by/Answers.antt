@@ -1,7 +1,7 @@
 use Rattle.std.proofs.Common.{◌≤◌, length, sym, arith}
 use Rattle.mencius_cluster.specs.State.{trace_of}
 use Rattle.mencius_model.specs.Trace.{sent}
-use Rattle.mencius_app.proofs.SentAcceptances.{accepted_further, accepted_whole}
+use Rattle.mencius_app.proofs.texts.SentAcceptances.{accepted_further, accepted_whole}
 use Rattle.mencius_app.proofs.votes.accepted_by.Goals as goal
 
 pub loop-number-preserved : goal.loop-number-preserved

@@ -2,7 +2,7 @@ use Rattle.std.proofs.Common.{◌≡◌, ◌<◌, ℕ, None, get_or, take, vec_l
 use Rattle.mencius_base.specs.Limits.{instance_count}
 use Rattle.mencius_cluster.specs.State.{trace_of}
 use Rattle.mencius_model.specs.Trace.{sent}
-use Rattle.mencius_app.proofs.SentAcceptances.{accepted_among}
+use Rattle.mencius_app.proofs.texts.SentAcceptances.{accepted_among}
 use Rattle.mencius_app.proofs.votes.accepted_by.Given as goal
 
 abbrev pub invariant-loop-number : goal.invariant-loop-number

@@ -1,7 +1,7 @@
 use Rattle.std.proofs.Common.{◌≤◌, length, sym, arith}
 use Rattle.mencius_cluster.specs.State.{trace_of}
 use Rattle.mencius_model.specs.Trace.{sent}
-use Rattle.mencius_app.proofs.SentAcceptances.{proposed_here, unsaid_further, unsaid_whole}
+use Rattle.mencius_app.proofs.texts.SentAcceptances.{proposed_here, unsaid_further, unsaid_whole}
 use Rattle.mencius_app.proofs.votes.proposed.Goals as goal
 
 pub returns-in-Some-proposed_by : goal.returns-in-Some-proposed_by

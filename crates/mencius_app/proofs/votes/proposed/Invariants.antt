@@ -1,7 +1,7 @@
 use Rattle.std.proofs.Common.{◌≡◌, None, take}
 use Rattle.mencius_cluster.specs.State.{trace_of}
 use Rattle.mencius_model.specs.Trace.{sent}
-use Rattle.mencius_app.proofs.SentAcceptances.{proposed_among}
+use Rattle.mencius_app.proofs.texts.SentAcceptances.{proposed_among}
 use Rattle.mencius_app.proofs.votes.proposed.Given as goal
 
 abbrev pub invariant-loop-number : goal.invariant-loop-number

@@ -2,7 +2,7 @@ use Rattle.std.proofs.Common.{ap, List, drop}
 use Rattle.mencius_board.specs.declared.version.Operation.{Operation}
 use Rattle.mencius_board.specs.Marks.{MarkState, VersionState}
 use Rattle.mencius_board.proofs.ShownEntries.{pending_then}
-use Rattle.mencius_board.proofs.LogSteps.{stamped_turns}
+use Rattle.mencius_board.proofs.logs.LogSteps.{stamped_turns}
 use Rattle.mencius_board.proofs.shown.publish.Goals as goal
 
 pub publish_as-requires : goal.publish_as-requires

@@ -1,7 +1,7 @@
 use Rattle.std.proofs.Common.{◌≡◌, sym, subst, ap, ◌∙◌}
 use Rattle.mencius_choices.specs.Choices.{ChooserState, chooser_at, drawn}
 use Rattle.mencius_board.specs.Turns.{TakesTurn}
-use Rattle.mencius_board.proofs.WorkerTurns.{turn_plan}
+use Rattle.mencius_board.proofs.runs.WorkerTurns.{turn_plan}
 use Rattle.mencius_board.proofs.workers.go_on.Goals as goal
 
 pub returns : goal.returns

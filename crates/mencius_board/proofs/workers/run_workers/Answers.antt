@@ -1,6 +1,6 @@
 use Rattle.std.specs.Prelude.{◌≡◌, length, vec_len}
 use Rattle.std.proofs.Common.{sym, ◌∙◌}
-use Rattle.mencius_board.proofs.WorkerEnds.{come_to}
+use Rattle.mencius_board.proofs.runs.WorkerEnds.{come_to}
 use Rattle.mencius_board.proofs.workers.run_workers.Goals as goal
 
 pub returns : goal.returns

@@ -1,5 +1,5 @@
 use Rattle.mencius_board.specs.Turns.{TakesTurn}
-use Rattle.mencius_board.proofs.WorkerTurns.{turn_fault}
+use Rattle.mencius_board.proofs.runs.WorkerTurns.{turn_fault}
 use Rattle.mencius_board.proofs.workers.take_turn.Goals as goal
 
 pub returns : goal.returns

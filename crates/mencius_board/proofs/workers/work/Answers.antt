@@ -1,7 +1,7 @@
 use Rattle.std.proofs.Common.{◌≡◌, ap, sym, ◌∙◌}
 use Rattle.mencius_choices.specs.Choices.{ChooserState, chooser_at, drawn, first_chooser}
 use Rattle.mencius_choices.proofs.DrawnWords.{first_is, turn_more}
-use Rattle.mencius_board.proofs.WorkerTurns.{one_more}
+use Rattle.mencius_board.proofs.runs.WorkerTurns.{one_more}
 use Rattle.mencius_board.proofs.workers.work.Goals as goal
 
 pub loop-turn-init : goal.loop-turn-init

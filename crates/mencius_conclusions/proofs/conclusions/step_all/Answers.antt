@@ -1,7 +1,7 @@
 use denote.Enum.Bare.{same_false}
 use Rattle.std.proofs.Common.{sym}
 use Rattle.mencius_base.specs.contracts.refusal.Refusal.{the_type}
-use Rattle.mencius_cluster.proofs.EventLists.{accepted_further, refused_further}
+use Rattle.mencius_cluster.proofs.events.EventLists.{accepted_further, refused_further}
 use Rattle.mencius_conclusions.proofs.conclusions.step_all.Goals as goal
 
 pub loop-event-preserved-in-Ok : goal.loop-event-preserved-in-Ok

@@ -1,6 +1,6 @@
 use Rattle.std.proofs.Common.{List}
 use Rattle.mencius_model.specs.Outcomes.{Outcome}
-use Rattle.mencius_cluster.proofs.EventLists.{IsReplayed}
+use Rattle.mencius_cluster.proofs.events.EventLists.{IsReplayed}
 use Rattle.mencius_conclusions.proofs.conclusions.step_all.Given as goal
 
 -- the cluster took the events so far, with some outcome each

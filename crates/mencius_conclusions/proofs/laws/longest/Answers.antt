@@ -1,5 +1,5 @@
 use Rattle.std.proofs.Common.{arith}
-use Rattle.mencius_model.proofs.LongestServer.{longest_is}
+use Rattle.mencius_model.proofs.histories.LongestServer.{longest_is}
 use Rattle.mencius_conclusions.proofs.laws.longest.Goals as goal
 
 pub returns : goal.returns

@@ -4,7 +4,7 @@ use Rattle.mencius_format.specs.Grammar.{command_of, command_within, newest_vers
 use Rattle.mencius_input.specs.Newest.{has_command_cas}
 use Rattle.mencius_input.specs.Noted.{told}
 use Rattle.mencius_input.specs.Scenario.{said_by}
-use Rattle.mencius_input.proofs.NotedItems.{ListSoFar}
+use Rattle.mencius_input.proofs.lists.NotedItems.{ListSoFar}
 use Rattle.mencius_input.proofs.commands.commands_in.Given as goal
 
 abbrev pub invariant-items : goal.invariant-items

@@ -8,7 +8,7 @@ use Rattle.mencius_input.specs.Newest.{any_in, has_command_cas}
 use Rattle.mencius_input.specs.Plan.{commands_of}
 use Rattle.mencius_input.specs.FieldValues.{lists_within}
 use Rattle.mencius_input.proofs.Stops.{stops_at, stops_whole}
-use Rattle.mencius_input.proofs.NotedItems.{list_close, few_further, few_seen, list_start, list_stop, seen_seen, told_seen}
+use Rattle.mencius_input.proofs.lists.NotedItems.{list_close, few_further, few_seen, list_start, list_stop, seen_seen, told_seen}
 use Rattle.mencius_input.proofs.commands.lists_in.Goals as goal
 
 pub items-init : goal.items-init

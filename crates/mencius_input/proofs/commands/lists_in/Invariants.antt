@@ -4,7 +4,7 @@ use Rattle.mencius_input.specs.Newest.{any_in, has_command_cas}
 use Rattle.mencius_input.specs.Noted.{told}
 use Rattle.mencius_input.specs.Plan.{commands_of}
 use Rattle.mencius_input.specs.FieldValues.{lists_within}
-use Rattle.mencius_input.proofs.NotedItems.{ListSoFar}
+use Rattle.mencius_input.proofs.lists.NotedItems.{ListSoFar}
 use Rattle.mencius_input.proofs.commands.lists_in.Given as goal
 
 abbrev pub invariant-items : goal.invariant-items

@@ -2,7 +2,7 @@ use Rattle.std.proofs.Common.{◌≡◌, Some, inr, refl, arith}
 use Rattle.json.specs.Json.{read_key}
 use Rattle.json.proofs.Grammar.{read_key-shorter}
 use Rattle.serde_json.specs.Data.{no_members}
-use Rattle.mencius_input.proofs.NamedFields.{no_fields}
+use Rattle.mencius_input.proofs.objects.NamedFields.{no_fields}
 use Rattle.mencius_json.proofs.NextValues.{members_close, members_further, members_no_name, members_start, members_stop}
 use Rattle.mencius_input.proofs.Stops.{stops_at, stops_whole}
 use Rattle.mencius_input.proofs.fields.next_fields.Goals as goal

@@ -1,5 +1,5 @@
 use Rattle.std.proofs.Common.{rules, sym}
-use Rattle.mencius_input.proofs.NamedFields.{list_set, other_set, whole_set}
+use Rattle.mencius_input.proofs.objects.NamedFields.{list_set, other_set, whole_set}
 use Rattle.mencius_input.proofs.fields.read_field.Goals as goal
 
 pub returns-in_ok-whole-in-Some-clause-ok : goal.returns-in_ok-whole-in-Some-clause-ok

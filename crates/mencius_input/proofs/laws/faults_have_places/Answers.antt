@@ -1,4 +1,4 @@
-use Rattle.mencius_input.proofs.PlacedFaults.{places_there}
+use Rattle.mencius_input.proofs.mistakes.PlacedFaults.{places_there}
 use Rattle.mencius_input.proofs.laws.faults_have_places.Goals as goal
 
 pub returns : goal.returns

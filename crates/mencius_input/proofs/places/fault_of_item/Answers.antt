@@ -3,7 +3,7 @@ use Rattle.serde_json.specs.View.{view}
 use Rattle.mencius_ends.specs.declared.fault.AppFault.TheVariants.{BadShape}
 use Rattle.mencius_format.specs.Grammar.{newest_version}
 use Rattle.mencius_input.specs.Places.{item_fault}
-use Rattle.mencius_input.proofs.FaultPlaces.{item_fault_in}
+use Rattle.mencius_input.proofs.mistakes.FaultPlaces.{item_fault_in}
 use Rattle.mencius_input.proofs.places.fault_of_item.Goals as goal
 
 pub returns-then-is_cas_too_many : goal.returns-then-is_cas_too_many

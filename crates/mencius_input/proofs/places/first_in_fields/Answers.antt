@@ -4,8 +4,8 @@ use Rattle.serde_json.specs.Data.{Data}
 use Rattle.serde_json.specs.View.{view}
 use Rattle.mencius_json.specs.Next.{next_value}
 use Rattle.mencius_input.specs.Places.{names_in, place_state}
-use Rattle.mencius_input.proofs.FaultPlaces.{no_place, place_behind, place_first}
-use Rattle.mencius_input.proofs.NameOrder.{first_named, first_over, names_further, names_over, names_read_on, names_start}
+use Rattle.mencius_input.proofs.mistakes.FaultPlaces.{no_place, place_behind, place_first}
+use Rattle.mencius_input.proofs.objects.NameOrder.{first_named, first_over, names_further, names_over, names_read_on, names_start}
 use Rattle.mencius_input.proofs.places.first_in_fields.Goals as goal
 use Rattle.mencius_input.proofs.places.first_in_fields.Goals.{in-Ok+in-None-1, in-Err-1}
 

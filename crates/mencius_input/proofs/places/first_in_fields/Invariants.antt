@@ -1,7 +1,7 @@
 use Rattle.std.proofs.Common.{◌≡◌, List, ℕ, length, option_map}
 use Rattle.serde_json.specs.View.{view}
 use Rattle.mencius_input.specs.Places.{first_in, list_field_place, names_in, place_state}
-use Rattle.mencius_input.proofs.NameOrder.{AreAhead}
+use Rattle.mencius_input.proofs.objects.NameOrder.{AreAhead}
 use Rattle.mencius_input.proofs.places.first_in_fields.Given as goal
 
 abbrev pub invariant-fields : goal.invariant-fields

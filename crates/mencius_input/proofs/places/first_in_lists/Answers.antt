@@ -1,6 +1,6 @@
 use Rattle.std.proofs.Common.{◌∙◌, arith, rules, sym}
 use Rattle.mencius_input.specs.Places.{list_place}
-use Rattle.mencius_input.proofs.FaultPlaces.{first_none, first_step, place_behind, place_first}
+use Rattle.mencius_input.proofs.mistakes.FaultPlaces.{first_none, first_step, place_behind, place_first}
 use Rattle.mencius_input.proofs.places.first_in_lists.Goals as goal
 
 pub returns-then-is_some : goal.returns-then-is_some

@@ -4,7 +4,7 @@ use Rattle.serde_json.proofs.Views.{items_len-items_view}
 use Rattle.mencius_input.specs.declared.field.Field.TheVariants.{Servers}
 use Rattle.mencius_input.specs.Places.{count_place, first_of, list_place}
 use Rattle.mencius_input.specs.Scenario.{number_of}
-use Rattle.mencius_input.proofs.FaultPlaces.{place_behind}
+use Rattle.mencius_input.proofs.mistakes.FaultPlaces.{place_behind}
 use Rattle.mencius_input.proofs.places.place_in_commands.Goals as goal
 
 pub returns : goal.returns

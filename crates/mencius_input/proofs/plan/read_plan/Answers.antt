@@ -4,8 +4,8 @@ use Rattle.mencius_format.proofs.JudgedParts.{given, passed_on}
 use Rattle.mencius_input.specs.declared.kind.Kind.TheVariants.{Run}
 use Rattle.mencius_input.specs.Scenario.{or_not_json, read_there, scenario_of, scenario_within}
 use Rattle.mencius_input.specs.Plan.{plan_read, plan_within}
-use Rattle.mencius_input.proofs.RunFields.{plan_fields_say}
-use Rattle.mencius_input.proofs.SharedFields.{unread_fails}
+use Rattle.mencius_input.proofs.objects.RunFields.{plan_fields_say}
+use Rattle.mencius_input.proofs.objects.SharedFields.{unread_fails}
 use Rattle.mencius_input.proofs.plan.read_plan.Goals as goal
 
 pub returns-in_err-fields : goal.returns-in_err-fields

@@ -3,8 +3,8 @@ use Rattle.mencius_format.specs.Judged.{judged}
 use Rattle.mencius_format.proofs.JudgedParts.{given, passed_on}
 use Rattle.mencius_input.specs.declared.kind.Kind.TheVariants.{Replay}
 use Rattle.mencius_input.specs.Scenario.{or_not_json, read_there, scenario_of, scenario_within, schedule_of, schedule_within}
-use Rattle.mencius_input.proofs.ScenarioFields.{fields_say}
-use Rattle.mencius_input.proofs.SharedFields.{unread_fails}
+use Rattle.mencius_input.proofs.objects.ScenarioFields.{fields_say}
+use Rattle.mencius_input.proofs.objects.SharedFields.{unread_fails}
 use Rattle.mencius_input.proofs.scenario.read_scenario.Goals as goal
 
 pub returns-in_err-fields : goal.returns-in_err-fields

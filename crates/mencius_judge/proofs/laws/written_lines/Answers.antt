@@ -1,4 +1,4 @@
-use Rattle.mencius_judge.proofs.WrittenLines.{logs_read_back, observations_read_back}
+use Rattle.mencius_judge.proofs.lines.WrittenLines.{logs_read_back, observations_read_back}
 use Rattle.mencius_judge.proofs.laws.written_lines.Goals as goal
 
 pub returns-clause-observations : goal.returns-clause-observations

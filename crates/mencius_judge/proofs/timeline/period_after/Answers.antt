@@ -3,7 +3,7 @@ use Rattle.std.proofs.lemmas.List.Sorted.{IsPartitionPoint-from_clause}
 use Rattle.std.proofs.lemmas.Option.{slice_get-get_or}
 use Rattle.mencius_judge.specs.declared.timeline.Period.{Period}
 use Rattle.mencius_judge.specs.Timelines.{AllBefore, IsFirstPeriod}
-use Rattle.mencius_judge.proofs.Periods.{at_point, ends_by, parted}
+use Rattle.mencius_judge.proofs.keys.Periods.{at_point, ends_by, parted}
 use Rattle.mencius_judge.proofs.timeline.period_after.Goals as goal
 
 past_end : (xs : List Period) (i : ℕ) → length xs ≤ i → slice_get xs i ≡ None

@@ -1,7 +1,7 @@
 use Rattle.std.proofs.Common.{◌≡◌, ◌≢◌, ℕ, List, None, ap, ◌∙◌}
 use Rattle.std.specs.BTreeMap.{get_by_text}
 use Rattle.mencius_judge.specs.Timelines.{items_of}
-use Rattle.mencius_judge.proofs.TextMaps.{on_ok, text_elsewhere}
+use Rattle.mencius_judge.proofs.keys.TextMaps.{on_ok, text_elsewhere}
 use Rattle.mencius_judge.proofs.timeline.push_period.Goals as goal
 
 pub returns-clause-others : goal.returns-clause-others

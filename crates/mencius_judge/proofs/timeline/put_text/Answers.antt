@@ -1,5 +1,5 @@
 use Rattle.std.proofs.Common.{◌≢◌, Some, sym, subst, string_bytes}
-use Rattle.mencius_judge.proofs.TextMaps.{text_elsewhere}
+use Rattle.mencius_judge.proofs.keys.TextMaps.{text_elsewhere}
 use Rattle.mencius_judge.proofs.timeline.put_text.Goals as goal
 
 pub returns-in-Ok-clause-others : goal.returns-in-Ok-clause-others

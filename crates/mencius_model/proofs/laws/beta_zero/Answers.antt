@@ -1,4 +1,4 @@
-use Rattle.mencius_model.proofs.BetaZero.{beta_zero_refuses, beta_zero_sends}
+use Rattle.mencius_model.proofs.reached.BetaZero.{beta_zero_refuses, beta_zero_sends}
 use Rattle.mencius_model.proofs.laws.beta_zero.Goals as goal
 
 pub returns-clause-refuses : goal.returns-clause-refuses

@@ -1,4 +1,4 @@
-use Rattle.mencius_model.proofs.WithinLimits.{counts_within, learned_within, messages_addressed, messages_within}
+use Rattle.mencius_model.proofs.reached.WithinLimits.{counts_within, learned_within, messages_addressed, messages_within}
 use Rattle.mencius_model.proofs.laws.limits.Goals as goal
 
 pub returns-clause-counts : goal.returns-clause-counts

@@ -1,4 +1,4 @@
-use Rattle.mencius_model.proofs.SentOnce.{one_proposal_holds}
+use Rattle.mencius_model.proofs.paxos.SentOnce.{one_proposal_holds}
 use Rattle.mencius_model.proofs.laws.one_proposal.Goals as goal
 
 pub returns : goal.returns

@@ -1,7 +1,7 @@
 use Rattle.std.proofs.Common.{◌≡◌, arith, false, inl, inr, refl, rules, subst, sym, ap, ◌∙◌, min}
 use Rattle.mencius_server.specs.Changes.{IsSaid}
 use Rattle.mencius_server.specs.State.{ServerState}
-use Rattle.mencius_server.proofs.InvariantByCall.{change_kept}
+use Rattle.mencius_server.proofs.invariant.InvariantByCall.{change_kept}
 use Rattle.mencius_server.proofs.Server.change.Goals as goal
 use Rattle.mencius_server.proofs.Server.change.Goals.{in-Some-Noop, in_default, in_default-2}
 use Rattle.mencius_model.specs.Rules.{is_noop}

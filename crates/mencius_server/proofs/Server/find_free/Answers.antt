@@ -1,10 +1,10 @@
 use Rattle.std.proofs.Common.{◌≡◌, ◌<◌, ◌≤◌, ⊎_elim, ap, subst, ◌+◌, arith, false, true, rules, sym}
 use Rattle.std.specs.Prelude.{is_none}
 use Rattle.std.proofs.lemmas.Bool.{cases_lt}
-use Rattle.mencius_model.proofs.NumberLists.{find-instances, find-instances_none}
+use Rattle.mencius_model.proofs.trace.NumberLists.{find-instances, find-instances_none}
 use Rattle.mencius_server.specs.Machine.{is_free_at}
 use Rattle.mencius_server.specs.State.{ServerState, slot}
-use Rattle.mencius_server.proofs.InstanceGaps.{before_unfree, known_unfree, none_more, other_unfree, unowned}
+use Rattle.mencius_server.proofs.instances.InstanceGaps.{before_unfree, known_unfree, none_more, other_unfree, unowned}
 use Rattle.mencius_server.proofs.Server.find_free.Goals as goal
 
 pub returns-then-is_none-clause-place : goal.returns-then-is_none-clause-place

@@ -3,8 +3,8 @@ use Rattle.std.specs.List.{list_any}
 use Rattle.mencius_base.specs.Members.{instances}
 use Rattle.mencius_server.specs.Machine.{is_suggested_past, suggested_at}
 use Rattle.mencius_server.specs.State.{ServerState}
-use Rattle.mencius_server.proofs.InvariantByCall.{seen}
-use Rattle.mencius_server.proofs.ServerInvariant.{said_inside}
+use Rattle.mencius_server.proofs.invariant.InvariantByCall.{seen}
+use Rattle.mencius_server.proofs.invariant.ServerInvariant.{said_inside}
 use Rattle.mencius_server.proofs.Server.is_moved.Goals as goal
 
 pub returns : goal.returns

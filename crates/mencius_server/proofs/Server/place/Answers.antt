@@ -1,7 +1,7 @@
 use Rattle.std.proofs.Common.{◌≡◌, ◌∙◌, ap, arith, subst, sym}
 use Rattle.mencius_server.specs.Machine.{IsFree}
 use Rattle.mencius_server.specs.State.{ServerState}
-use Rattle.mencius_server.proofs.InvariantByCall.{place_kept, seen}
+use Rattle.mencius_server.proofs.invariant.InvariantByCall.{place_kept, seen}
 use Rattle.mencius_server.proofs.Server.place.Goals as goal
 
 pub invariant_of-self-2 : goal.invariant_of-self-2

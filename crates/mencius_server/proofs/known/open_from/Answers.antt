@@ -3,7 +3,7 @@ use Rattle.std.specs.Prelude.{is_none}
 use Rattle.std.proofs.lemmas.Bool.{cases_lt}
 use Rattle.mencius_base.specs.Members.{owner}
 use Rattle.mencius_server.specs.Known.{known_at}
-use Rattle.mencius_server.proofs.LearnedRuns.{past_closed, past_near, past_owned, run_put}
+use Rattle.mencius_server.proofs.suspicions.LearnedRuns.{past_closed, past_near, past_owned, run_put}
 use Rattle.mencius_server.proofs.known.open_from.Goals as goal
 
 pub loop-inst-preserved : goal.loop-inst-preserved

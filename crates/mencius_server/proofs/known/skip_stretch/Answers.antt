@@ -1,7 +1,7 @@
 use Rattle.std.proofs.Common.{◌≡◌, ap, arith, ◌∙◌}
 use Rattle.mencius_server.specs.Ranges.{reach_of}
-use Rattle.mencius_server.proofs.NewRanges.{news_count}
-use Rattle.mencius_server.proofs.RisingRanges.{covers_joined, owned_joined, rising_joined}
+use Rattle.mencius_server.proofs.intervals.NewRanges.{news_count}
+use Rattle.mencius_server.proofs.intervals.RisingRanges.{covers_joined, owned_joined, rising_joined}
 use Rattle.mencius_server.proofs.known.skip_stretch.Goals as goal
 
 pub returns-clause-owned : goal.returns-clause-owned

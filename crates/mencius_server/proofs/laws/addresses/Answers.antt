@@ -1,4 +1,4 @@
-use Rattle.mencius_server.proofs.Addresses.{hear_addresses, retry_addresses, submit_addresses, suspect_addresses}
+use Rattle.mencius_server.proofs.events.Addresses.{hear_addresses, retry_addresses, submit_addresses, suspect_addresses}
 use Rattle.mencius_server.proofs.laws.addresses.Goals as goal
 
 pub returns-clause-submission : goal.returns-clause-submission

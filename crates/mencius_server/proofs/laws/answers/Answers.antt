@@ -1,8 +1,8 @@
 use Rattle.std.proofs.Common.{ap, ◌∙◌}
 use Rattle.coord_paxos.specs.SlotState.{SlotState}
 use Rattle.mencius_server.specs.State.{ServerState, slot}
-use Rattle.mencius_server.proofs.ServerTrace.{slot-server_at}
-use Rattle.mencius_server.proofs.SubmissionEvents.{first_waiting_at}
+use Rattle.mencius_server.proofs.events.ServerTrace.{slot-server_at}
+use Rattle.mencius_server.proofs.events.SubmissionEvents.{first_waiting_at}
 use Rattle.mencius_server.proofs.laws.answers.Goals as goal
 
 pub returns-clause-front : goal.returns-clause-front

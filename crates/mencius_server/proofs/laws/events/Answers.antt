@@ -1,6 +1,6 @@
-use Rattle.mencius_server.proofs.HeardMessages.{hear_is_event, hear_learns}
-use Rattle.mencius_server.proofs.SubmissionEvents.{retry_is_event, submit_is_event}
-use Rattle.mencius_server.proofs.SuspicionEvents.{suspect_is_event}
+use Rattle.mencius_server.proofs.events.HeardMessages.{hear_is_event, hear_learns}
+use Rattle.mencius_server.proofs.events.SubmissionEvents.{retry_is_event, submit_is_event}
+use Rattle.mencius_server.proofs.events.SuspicionEvents.{suspect_is_event}
 use Rattle.mencius_server.proofs.laws.events.Goals as goal
 
 pub returns-clause-submission : goal.returns-clause-submission

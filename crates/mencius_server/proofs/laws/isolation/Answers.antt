@@ -1,4 +1,4 @@
-use Rattle.mencius_server.proofs.Isolation.{execution_leaves_all, leaves_others, loss_leaves_all}
+use Rattle.mencius_server.proofs.events.Isolation.{execution_leaves_all, leaves_others, loss_leaves_all}
 use Rattle.mencius_server.proofs.laws.isolation.Goals as goal
 
 pub returns-clause-others : goal.returns-clause-others

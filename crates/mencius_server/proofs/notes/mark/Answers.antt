@@ -2,7 +2,7 @@ use Rattle.std.proofs.Common.{◌≡◌, ◌<◌, ap, arith, false, length, refl
 use Rattle.mencius_server.specs.Known.{known_slot}
 use Rattle.mencius_server.specs.Machine.{is_ticket}
 use Rattle.mencius_model.specs.Server.{ticket_of}
-use Rattle.mencius_server.proofs.TicketMarks.{marked_more, marked_start}
+use Rattle.mencius_server.proofs.tickets.TicketMarks.{marked_more, marked_start}
 use Rattle.mencius_server.proofs.notes.mark.Goals as goal
 use Rattle.mencius_server.proofs.notes.mark.Goals.{then-is_of, else-is_of}
 

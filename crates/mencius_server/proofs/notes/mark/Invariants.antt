@@ -1,7 +1,7 @@
 use Rattle.std.proofs.Common.{◌≡◌, ◌-◌, vec_len}
 use Rattle.mencius_base.specs.Members.{owner}
 use Rattle.mencius_server.specs.Known.{known_slot}
-use Rattle.mencius_server.proofs.TicketMarks.{IsMarkedUpTo}
+use Rattle.mencius_server.proofs.tickets.TicketMarks.{IsMarkedUpTo}
 use Rattle.mencius_server.proofs.notes.mark.Given as goal
 
 abbrev pub invariant-loop-inst : goal.invariant-loop-inst

@@ -1,7 +1,7 @@
 use Rattle.std.proofs.Common.{◌<◌, ◌≤◌, ◌+◌, ◌-◌, ◌/◌, get_or, length, arith, subst}
 use Rattle.std.proofs.lemmas.List.{get_or_default}
 use Rattle.mencius_server.specs.declared.ranges.Span.{Span}
-use Rattle.mencius_server.proofs.RisingRanges.{rising_stop}
+use Rattle.mencius_server.proofs.intervals.RisingRanges.{rising_stop}
 use Rattle.mencius_server.proofs.ranges.first_past.Goals as goal
 
 pub loop-low-preserved-then-spans-middle : goal.loop-low-preserved-then-spans-middle

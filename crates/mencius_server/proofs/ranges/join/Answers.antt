@@ -2,7 +2,7 @@ use Rattle.std.proofs.Common.{◌≡◌, ℕ, ◌+◌, ◌-◌, ◌<◌, ◌≤�
 use Rattle.std.specs.Prelude.{IsOk, is_ok}
 use Rattle.std.proofs.lemmas.List.{get_or_default}
 use Rattle.mencius_server.specs.declared.ranges.Span.{Span}
-use Rattle.mencius_server.proofs.RisingRanges.{joining_ends, joining_more, joining_start}
+use Rattle.mencius_server.proofs.intervals.RisingRanges.{joining_ends, joining_more, joining_start}
 use Rattle.mencius_server.proofs.ranges.join.Goals as goal
 use Rattle.mencius_server.proofs.ranges.join.Goals.{then-first-eq0, else-first-eq0, then-loop-ranges-test+else-index-union, else-loop-ranges-test}
 

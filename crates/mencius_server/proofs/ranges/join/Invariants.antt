@@ -1,5 +1,5 @@
 use Rattle.std.proofs.Common.{◌<◌, vec_len, vec_capacity}
-use Rattle.mencius_server.proofs.RisingRanges.{IsJoining}
+use Rattle.mencius_server.proofs.intervals.RisingRanges.{IsJoining}
 use Rattle.mencius_server.proofs.ranges.join.Given as goal
 
 abbrev pub invariant-loop-ranges : goal.invariant-loop-ranges

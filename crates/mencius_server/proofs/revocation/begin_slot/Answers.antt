@@ -5,7 +5,7 @@ use Rattle.mencius_base.specs.Members.{ballot_of}
 use Rattle.std.proofs.lemmas.Bool.{le-ltb, leb-false}
 use Rattle.mencius_base.specs.Limits.{greatest_round}
 use Rattle.mencius_server.specs.Machine.{round_after, with_next_phase}
-use Rattle.mencius_server.proofs.FirstPhases.{round_next}
+use Rattle.mencius_server.proofs.suspicions.FirstPhases.{round_next}
 use Rattle.mencius_server.proofs.revocation.begin_slot.Goals.{in-Some, in_default}
 use Rattle.mencius_server.proofs.revocation.begin_slot.Goals as goal
 

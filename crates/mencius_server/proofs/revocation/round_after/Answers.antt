@@ -1,5 +1,5 @@
 use Rattle.std.proofs.Common.{rules}
-use Rattle.mencius_server.proofs.FirstPhases.{rounds_ordered}
+use Rattle.mencius_server.proofs.suspicions.FirstPhases.{rounds_ordered}
 use Rattle.mencius_server.proofs.revocation.round_after.Goals as goal
 
 pub returns-clause-round : goal.returns-clause-round

@@ -3,8 +3,8 @@ use Rattle.std.specs.Prelude.{is_none, vec_len}
 use Rattle.coord_paxos.specs.Fresh.{new_slot}
 use Rattle.mencius_server.specs.Places.{standing}
 use Rattle.mencius_server.specs.Slots.{stand_at}
-use Rattle.mencius_server.proofs.PlaceTable.{none_read, placed_stand, some_read, stand_stand}
-use Rattle.mencius_server.proofs.StretchLoops.{made_no, made_yes}
+use Rattle.mencius_server.proofs.instances.PlaceTable.{none_read, placed_stand, some_read, stand_stand}
+use Rattle.mencius_server.proofs.instances.StretchLoops.{made_no, made_yes}
 use Rattle.mencius_server.proofs.slots.push_at.Goals as goal
 
 pub push_reserved-requires : goal.push_reserved-requires

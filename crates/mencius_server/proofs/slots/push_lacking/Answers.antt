@@ -3,9 +3,9 @@ use Rattle.mencius_base.specs.Limits.{instance_count}
 use Rattle.mencius_base.specs.Members.{owner}
 use Rattle.mencius_server.specs.Places.{standing}
 use Rattle.mencius_server.specs.Slots.{is_lacking}
-use Rattle.mencius_server.proofs.LearnedRuns.{past_above, past_closed, past_owned}
-use Rattle.mencius_server.proofs.PlaceTable.{some_read}
-use Rattle.mencius_server.proofs.StretchLoops.{along_run, filled, filled_room, lacking_covered, lacking_out, leapt, out_past, passed, stands_whole, stood_out, walked_all}
+use Rattle.mencius_server.proofs.suspicions.LearnedRuns.{past_above, past_closed, past_owned}
+use Rattle.mencius_server.proofs.instances.PlaceTable.{some_read}
+use Rattle.mencius_server.proofs.instances.StretchLoops.{along_run, filled, filled_room, lacking_covered, lacking_out, leapt, out_past, passed, stands_whole, stood_out, walked_all}
 use Rattle.mencius_server.proofs.slots.push_lacking.Goals as goal
 
 pub push_at-requires-clause-room : goal.push_at-requires-clause-room

@@ -2,8 +2,8 @@ use Rattle.std.proofs.Common.{◌≡◌, ◌-◌, ◌≤◌, vec_len, vec_capaci
 use Rattle.mencius_base.specs.Members.{owner}
 use Rattle.mencius_server.specs.Places.{IsPlaced, standing}
 use Rattle.mencius_server.specs.Slots.{is_lacking, stand_at, stood_at}
-use Rattle.mencius_server.proofs.FirstPhases.{HasRoomFrom}
-use Rattle.mencius_server.proofs.StretchLoops.{IsWalked}
+use Rattle.mencius_server.proofs.suspicions.FirstPhases.{HasRoomFrom}
+use Rattle.mencius_server.proofs.instances.StretchLoops.{IsWalked}
 use Rattle.mencius_server.proofs.slots.push_lacking.Given as goal
 
 abbrev pub invariant-loop-inst : goal.invariant-loop-inst

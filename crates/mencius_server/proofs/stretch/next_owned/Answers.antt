@@ -1,7 +1,7 @@
 use Rattle.std.proofs.Common.{◌≡◌, ◌+◌, ◌≤◌, ap, arith, refl, ◌∙◌}
 use Rattle.std.proofs.Math.Nat.{add-mod_right}
 use Rattle.mencius_base.specs.Members.{owner}
-use Rattle.mencius_server.proofs.RangeCounts.{apart}
+use Rattle.mencius_server.proofs.intervals.RangeCounts.{apart}
 use Rattle.mencius_server.proofs.stretch.next_owned.Goals as goal
 
 pub returns-clause-owned : goal.returns-clause-owned

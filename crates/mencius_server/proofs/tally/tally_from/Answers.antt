@@ -2,7 +2,7 @@ use Rattle.std.proofs.Common.{refl, sym, subst, ap, arith}
 use Rattle.mencius_server.specs.Known.{known_at}
 use Rattle.mencius_server.specs.Tallies.{IsTallyFrom}
 use Rattle.mencius_server.specs.declared.tally.Tally.{Tally}
-use Rattle.mencius_server.proofs.InstanceTallies.{from_few, from_gap, from_start}
+use Rattle.mencius_server.proofs.tallies.InstanceTallies.{from_few, from_gap, from_start}
 use Rattle.mencius_server.proofs.tally.tally_from.Goals as goal
 
 pub loop-tally-init : goal.loop-tally-init

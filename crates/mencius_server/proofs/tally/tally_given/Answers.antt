@@ -2,7 +2,7 @@ use Rattle.std.proofs.Common.{arith, sym, subst, ◌∙◌}
 use Rattle.mencius_server.specs.Known.{known_at}
 use Rattle.mencius_server.specs.Slots.{given}
 use Rattle.mencius_server.specs.Tallies.{IsTally}
-use Rattle.mencius_server.proofs.SkipTallies.{less_fits, less_none, less_some}
+use Rattle.mencius_server.proofs.tallies.SkipTallies.{less_fits, less_none, less_some}
 use Rattle.mencius_server.proofs.tally.tally_given.Goals as goal
 
 pub returns-then-first-stop : goal.returns-then-first-stop

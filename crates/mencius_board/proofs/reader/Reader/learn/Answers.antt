@@ -1,7 +1,7 @@
 use Rattle.std.specs.Prelude.{length}
 use Rattle.std.proofs.Common.{arith, ap, inl, inr, subst, ⊎_elim}
 use Rattle.mencius_model.specs.Executed.{IsPrefix}
-use Rattle.mencius_model.proofs.Prefixes.{shorter_begins}
+use Rattle.mencius_model.proofs.trace.Prefixes.{shorter_begins}
 use Rattle.mencius_board.specs.Marks.{MarkState}
 use Rattle.mencius_board.proofs.reader.Reader.learn.Goals as goal
 

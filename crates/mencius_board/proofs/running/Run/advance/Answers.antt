@@ -1,7 +1,7 @@
 use Rattle.std.proofs.Common.{◌≡◌, ◌<◌, ◌+◌, ◌∙◌, Ok, Err, ap, subst, sym, ℕ}
 use Rattle.mencius_board.specs.Runs.{way_after}
 use Rattle.mencius_board.specs.Turns.{TakesTurn, is_to_show}
-use Rattle.mencius_board.proofs.RunSteps.{turn_is_run, turned}
+use Rattle.mencius_board.proofs.runs.RunSteps.{turn_is_run, turned}
 use Rattle.mencius_board.proofs.running.Run.advance.Goals as goal
 
 pub invariant_of-self : goal.invariant_of-self

@@ -1,6 +1,6 @@
 use Rattle.std.proofs.Common.{◌∙◌, ap}
 use Rattle.mencius_board.specs.Runs.{first_fault}
-use Rattle.mencius_board.proofs.RunSteps.{ended}
+use Rattle.mencius_board.proofs.runs.RunSteps.{ended}
 use Rattle.mencius_board.proofs.running.Run.into_board.Goals as goal
 
 pub returns : goal.returns

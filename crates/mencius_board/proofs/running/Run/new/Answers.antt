@@ -1,7 +1,7 @@
 use Rattle.std.proofs.Common.{subst}
 use Rattle.mencius_board.specs.Boards.{BoardState}
 use Rattle.mencius_board.specs.Runs.{IsRun}
-use Rattle.mencius_board.proofs.RunSteps.{begun}
+use Rattle.mencius_board.proofs.runs.RunSteps.{begun}
 use Rattle.mencius_board.proofs.running.Run.new.Goals as goal
 
 pub invariant_of-result : goal.invariant_of-result

@@ -3,7 +3,7 @@ use Rattle.std.specs.Prelude.{◌==◌}
 use Rattle.std.specs.Int.{bit_at}
 use Rattle.std.proofs.lemmas.Grind.{get_or_default_zero}
 use Rattle.mencius_cluster.specs.Marks.{MarkTable, mark_in}
-use Rattle.mencius_cluster.proofs.LossMasks.{marked}
+use Rattle.mencius_cluster.proofs.tables.LossMasks.{marked}
 use Rattle.mencius_cluster.proofs.marks.Marks.mark.Goals as goal
 
 pub returns : goal.returns

@@ -6,8 +6,8 @@ use Rattle.mencius_base.specs.Command.{is_same_id}
 use Rattle.mencius_base.specs.declared.command.CommandId.{CommandId}
 use Rattle.mencius_cluster.specs.declared.salt.Identity.{Identity}
 use Rattle.mencius_cluster.specs.Submissions.{SubmissionTable, row_of}
-use Rattle.mencius_cluster.proofs.MapRows.{row_by_identity}
-use Rattle.mencius_cluster.proofs.SubmittedRows.{new_row}
+use Rattle.mencius_cluster.proofs.tables.MapRows.{row_by_identity}
+use Rattle.mencius_cluster.proofs.events.SubmittedRows.{new_row}
 use Rattle.mencius_cluster.proofs.submissions.Submissions.enroll.Goals as goal
 
 pub returns-clause-entries : goal.returns-clause-entries

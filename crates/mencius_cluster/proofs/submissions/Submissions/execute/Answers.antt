@@ -3,8 +3,8 @@ use Rattle.std.proofs.lemmas.Option.{slice_get-map}
 use Rattle.std.proofs.lemmas.Result.{on_err_weaker}
 use Rattle.indexmap.specs.IndexMap.{set_value_at}
 use Rattle.mencius_cluster.specs.Submissions.{Row, SubmissionTable, row_of}
-use Rattle.mencius_cluster.proofs.Executions.{set_value-same}
-use Rattle.mencius_cluster.proofs.MapRows.{both_ok, rows_after}
+use Rattle.mencius_cluster.proofs.events.Executions.{set_value-same}
+use Rattle.mencius_cluster.proofs.tables.MapRows.{both_ok, rows_after}
 use Rattle.mencius_cluster.proofs.submissions.Submissions.execute.Goals as goal
 
 abbrev row_at : (c : goal.After-self-1) → Row

@@ -1,6 +1,6 @@
 use Rattle.std.proofs.Common.{ap, count_by, length, refl, ◌∙◌}
 use Rattle.mencius_judge.specs.Tables.{is_open}
-use Rattle.mencius_judge.proofs.Counted.{counted}
+use Rattle.mencius_judge.proofs.promises.Counted.{counted}
 use Rattle.mencius_judge.proofs.judge.Judge.counts.Goals as goal
 
 pub returns : goal.returns

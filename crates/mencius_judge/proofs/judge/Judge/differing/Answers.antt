@@ -3,10 +3,10 @@ use Rattle.std.specs.BTreeMap.{get}
 use Rattle.std.specs.Ordering.{nat_cmp}
 use Rattle.mencius_judge.specs.Log.{command_of, history}
 use Rattle.mencius_judge.specs.Tables.{number_count}
-use Rattle.mencius_judge.proofs.Answered.{row_absent}
-use Rattle.mencius_judge.proofs.HistorySteps.{differs}
-use Rattle.mencius_judge.proofs.Leads.{copied_some, size_is}
-use Rattle.mencius_judge.proofs.Steps.{not_submitted}
+use Rattle.mencius_judge.proofs.observations.Answered.{row_absent}
+use Rattle.mencius_judge.proofs.observations.HistorySteps.{differs}
+use Rattle.mencius_judge.proofs.observations.Leads.{copied_some, size_is}
+use Rattle.mencius_judge.proofs.observations.Steps.{not_submitted}
 use Rattle.mencius_judge.proofs.judge.Judge.differing.Goals as goal
 
 pub returns-then-is_none : goal.returns-then-is_none

@@ -1,9 +1,9 @@
 use Rattle.std.proofs.Common.{◌<◌, arith, get_or, length}
 use Rattle.std.proofs.lemmas.Option.{slice_get_within}
-use Rattle.mencius_judge.proofs.HistorySteps.{follows}
-use Rattle.mencius_judge.proofs.Floors.{floors_execute}
-use Rattle.mencius_judge.proofs.OrderSteps.{order_follow}
-use Rattle.mencius_judge.proofs.Steps.{executions_execute, one_execute, replies_execute, submissions_execute, table_execute}
+use Rattle.mencius_judge.proofs.observations.HistorySteps.{follows}
+use Rattle.mencius_judge.proofs.promises.Floors.{floors_execute}
+use Rattle.mencius_judge.proofs.observations.OrderSteps.{order_follow}
+use Rattle.mencius_judge.proofs.observations.Steps.{executions_execute, one_execute, replies_execute, submissions_execute, table_execute}
 use Rattle.mencius_judge.proofs.judge.Judge.execute.Goals as goal
 
 pub follow-requires : goal.follow-requires

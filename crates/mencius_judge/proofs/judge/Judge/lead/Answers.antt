@@ -7,11 +7,11 @@ use Rattle.mencius_judge.specs.declared.observation.Observation.TheVariants.{Exe
 use Rattle.mencius_judge.specs.Log.{command_of, commands_of, reply_of}
 use Rattle.mencius_judge.specs.Tables.{AreSettled, IsNoOther, identity_key, number_count}
 use Rattle.mencius_judge.specs.Violations.{IsAnswerAt}
-use Rattle.mencius_judge.proofs.Broken.{wrong_reply}
-use Rattle.mencius_judge.proofs.Floors.{commands-length, floors_execute}
-use Rattle.mencius_judge.proofs.Leads.{copied_some, last, lead_answer, lead_early, lead_executions, lead_histories, lead_order, lead_timelines, lead_twice, size_is, some_is}
-use Rattle.mencius_judge.proofs.Logs.{contains_later, reply_found}
-use Rattle.mencius_judge.proofs.Steps.{not_submitted, one_execute, replies_execute, row_found, row_missing, settled_lead, submissions_execute, table_execute}
+use Rattle.mencius_judge.proofs.promises.Broken.{wrong_reply}
+use Rattle.mencius_judge.proofs.promises.Floors.{commands-length, floors_execute}
+use Rattle.mencius_judge.proofs.observations.Leads.{copied_some, last, lead_answer, lead_early, lead_executions, lead_histories, lead_order, lead_timelines, lead_twice, size_is, some_is}
+use Rattle.mencius_judge.proofs.promises.Logs.{contains_later, reply_found}
+use Rattle.mencius_judge.proofs.observations.Steps.{not_submitted, one_execute, replies_execute, row_found, row_missing, settled_lead, submissions_execute, table_execute}
 use Rattle.mencius_judge.proofs.judge.Judge.lead.Goals as goal
 
 pub returns-in_default : goal.returns-in_default

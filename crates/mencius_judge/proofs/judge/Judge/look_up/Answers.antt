@@ -6,8 +6,8 @@ use Rattle.mencius_judge.specs.Log.{commands_of}
 use Rattle.mencius_judge.specs.Tables.{floor_of}
 use Rattle.mencius_judge.specs.Timelines.{HasNone, IsFirstCount, held_by}
 use Rattle.mencius_judge.specs.Violations.{IsFloor, IsNowhere}
-use Rattle.mencius_judge.proofs.Floors.{commands-length, floors_lookup, nowhere, wrong_lookup}
-use Rattle.mencius_judge.proofs.Quiet.{executions_lookup, histories_lookup, one_lookup, order_lookup, replies_lookup, submissions_lookup, table_lookup}
+use Rattle.mencius_judge.proofs.promises.Floors.{commands-length, floors_lookup, nowhere, wrong_lookup}
+use Rattle.mencius_judge.proofs.observations.Quiet.{executions_lookup, histories_lookup, one_lookup, order_lookup, replies_lookup, submissions_lookup, table_lookup}
 use Rattle.mencius_judge.proofs.judge.Judge.look_up.Goals as goal
 
 pub returns-in_default : goal.returns-in_default

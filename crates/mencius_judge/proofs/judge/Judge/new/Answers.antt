@@ -1,7 +1,7 @@
 use Rattle.std.proofs.Common.{[], refl, subst, sym}
 use Rattle.mencius_judge.specs.Log.{commands_of}
 use Rattle.mencius_judge.specs.Timelines.{AreTimelines}
-use Rattle.mencius_judge.proofs.Empty.{no_commands, no_executions, no_floors, no_histories, no_order, no_replies, no_submissions, no_table, none_settled}
+use Rattle.mencius_judge.proofs.promises.Empty.{no_commands, no_executions, no_floors, no_histories, no_order, no_replies, no_submissions, no_table, none_settled}
 use Rattle.mencius_judge.proofs.judge.Judge.new.Goals as goal
 
 pub returns : goal.returns

@@ -2,7 +2,7 @@ use Rattle.std.proofs.Common.{Option, Result, Ok, Err, IfOk}
 use Rattle.mencius_judge.specs.declared.violation.Violation.{Violation}
 use Rattle.mencius_judge.specs.Judged.{IsAt, IsJudged}
 use Rattle.mencius_judge.specs.Log.{Log}
-use Rattle.mencius_judge.proofs.Kept.{judged_kept}
+use Rattle.mencius_judge.proofs.promises.Kept.{judged_kept}
 use Rattle.mencius_judge.proofs.judge.Judge.observe.Goals as goal
 
 if_ok : {X E : Type 0} (P Q : X → Type 0) (r : Result X E) → ((x : X) → P x → Q x) → IfOk r P → IfOk r Q

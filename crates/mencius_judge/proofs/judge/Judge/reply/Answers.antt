@@ -6,13 +6,13 @@ use Rattle.mencius_judge.specs.Log.{command_of, reply_of}
 use Rattle.mencius_judge.specs.Tables.{AreReplies, AreSettled, IsNoOther, IsNoOtherExecution, identity_key, number_count}
 use Rattle.mencius_judge.specs.Violations.{IsAnswerAt}
 use Rattle.mencius_judge.specs.declared.observation.Observation.TheVariants.{Reply}
-use Rattle.mencius_judge.proofs.Answered.{no_other, no_other_answer, row_absent, row_there}
-use Rattle.mencius_judge.proofs.Broken.{answer_after, answer_at, two_replies, wrong_reply}
-use Rattle.mencius_judge.proofs.Floors.{floors_reply}
-use Rattle.mencius_judge.proofs.Leads.{copied_some}
-use Rattle.mencius_judge.proofs.Logs.{contains_here, known}
-use Rattle.mencius_judge.proofs.OrderSteps.{order_reply}
-use Rattle.mencius_judge.proofs.Steps.{executions_reply, histories_reply, not_submitted_reply, one_reply, replies_reply, settled_reply, submissions_reply, table_again, table_reply}
+use Rattle.mencius_judge.proofs.observations.Answered.{no_other, no_other_answer, row_absent, row_there}
+use Rattle.mencius_judge.proofs.promises.Broken.{answer_after, answer_at, two_replies, wrong_reply}
+use Rattle.mencius_judge.proofs.promises.Floors.{floors_reply}
+use Rattle.mencius_judge.proofs.observations.Leads.{copied_some}
+use Rattle.mencius_judge.proofs.promises.Logs.{contains_here, known}
+use Rattle.mencius_judge.proofs.observations.OrderSteps.{order_reply}
+use Rattle.mencius_judge.proofs.observations.Steps.{executions_reply, histories_reply, not_submitted_reply, one_reply, replies_reply, settled_reply, submissions_reply, table_again, table_reply}
 use Rattle.mencius_judge.proofs.judge.Judge.reply.Goals as goal
 
 none_of : (o : Option (Option (List ℕ))) → is_some o ≡ false → o ≡ None

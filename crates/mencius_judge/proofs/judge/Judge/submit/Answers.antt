@@ -5,12 +5,12 @@ use Rattle.mencius_base.specs.declared.command.Command.{Command}
 use Rattle.mencius_judge.specs.declared.judge.Submission.{Submission}
 use Rattle.mencius_judge.specs.Log.{command_of, with_reply}
 use Rattle.mencius_judge.specs.Tables.{identity_key, number_count}
-use Rattle.mencius_judge.proofs.Broken.{two_commands}
-use Rattle.mencius_judge.proofs.Counted.{count_again, count_new}
-use Rattle.mencius_judge.proofs.Floors.{floors_submit}
-use Rattle.mencius_judge.proofs.OrderSteps.{order_submit}
-use Rattle.mencius_judge.proofs.Submits.{again_one, new_one, timelines_submit}
-use Rattle.mencius_judge.proofs.Steps.{executions_submit, histories_submit, replies_submit, row_found, row_missing, submissions_again, submissions_new, table_submit}
+use Rattle.mencius_judge.proofs.promises.Broken.{two_commands}
+use Rattle.mencius_judge.proofs.promises.Counted.{count_again, count_new}
+use Rattle.mencius_judge.proofs.promises.Floors.{floors_submit}
+use Rattle.mencius_judge.proofs.observations.OrderSteps.{order_submit}
+use Rattle.mencius_judge.proofs.observations.Submits.{again_one, new_one, timelines_submit}
+use Rattle.mencius_judge.proofs.observations.Steps.{executions_submit, histories_submit, replies_submit, row_found, row_missing, submissions_again, submissions_new, table_submit}
 use Rattle.mencius_judge.proofs.judge.Judge.submit.Goals as goal
 
 pub returns-then-is_same_op : goal.returns-then-is_same_op

@@ -4,8 +4,8 @@ use Rattle.std.specs.BTreeMap.{Updates}
 use Rattle.std.specs.Ordering.{nat_cmp}
 use Rattle.mencius_judge.specs.Log.{history}
 use Rattle.mencius_judge.specs.Tables.{floor_of}
-use Rattle.mencius_judge.proofs.Floors.{floors_tell}
-use Rattle.mencius_judge.proofs.Quiet.{executions_tell, histories_tell, one_tell, order_tell, replies_tell, submissions_tell, table_tell}
+use Rattle.mencius_judge.proofs.promises.Floors.{floors_tell}
+use Rattle.mencius_judge.proofs.observations.Quiet.{executions_tell, histories_tell, one_tell, order_tell, replies_tell, submissions_tell, table_tell}
 use Rattle.mencius_judge.proofs.judge.Judge.tell.Goals as goal
 
 pub returns : goal.returns

@@ -1,6 +1,6 @@
 use Rattle.std.proofs.Common.{◌≡◌, ◌≢◌, ◌≤◌, arith, sym, subst, true}
 use Rattle.mencius_judge.specs.Timelines.{IsFirstCount}
-use Rattle.mencius_judge.proofs.Periods.{in_period, in_present, in_none}
+use Rattle.mencius_judge.proofs.keys.Periods.{in_period, in_present, in_none}
 use Rattle.mencius_judge.proofs.timeline.Timeline.first_count.Goals as goal
 use Rattle.mencius_judge.proofs.timeline.Timeline.first_count.Goals.{else-from-to-via-then-from-to+else-is_same_text, else-from-to-via-else-from-to}
 

@@ -1,8 +1,8 @@
 use Rattle.std.proofs.Common.{◌≡◌, ◌≢◌, ◌+◌, ◌≤◌, ℕ, List, Option, Some, None, sym, subst, ◌∙◌}
 use Rattle.std.specs.BTreeMap.{get_by_text}
 use Rattle.mencius_judge.specs.Timelines.{IsTimeline, IsTimelineOf}
-use Rattle.mencius_judge.proofs.Periods.{changed_at, fresh}
-use Rattle.mencius_judge.proofs.TextMaps.{on_ok, text_elsewhere}
+use Rattle.mencius_judge.proofs.keys.Periods.{changed_at, fresh}
+use Rattle.mencius_judge.proofs.keys.TextMaps.{on_ok, text_elsewhere}
 use Rattle.mencius_judge.proofs.timelines.Timelines.change.Goals as goal
 use Rattle.mencius_judge.proofs.timelines.Timelines.change.Goals.{in-Some, in-None}
 

@@ -1,7 +1,7 @@
 use Rattle.std.proofs.Common.{[], sym, subst}
 use Rattle.mencius_judge.specs.Timelines.{IsTimelineOf, held_by}
-use Rattle.mencius_judge.proofs.Changes.{held_none}
-use Rattle.mencius_judge.proofs.TextMaps.{no_text}
+use Rattle.mencius_judge.proofs.keys.Changes.{held_none}
+use Rattle.mencius_judge.proofs.keys.TextMaps.{no_text}
 use Rattle.mencius_judge.proofs.timelines.Timelines.new.Goals as goal
 
 pub returns : goal.returns

@@ -3,8 +3,8 @@ use Rattle.std.specs.List.{count_by}
 use Rattle.mencius_base.specs.Members.{below}
 use Rattle.mencius_server.specs.Machine.{round_after}
 use Rattle.mencius_server.specs.Known.{KnownState, has_slot, is_open_in, known_begun, known_slot, prepares_in}
-use Rattle.mencius_server.proofs.SuspicionBySlots.{open_count, open_sent, stood_has, suspect_is}
-use Rattle.mencius_server.proofs.OpenInstances.{open_same}
+use Rattle.mencius_server.proofs.suspicions.SuspicionBySlots.{open_count, open_sent, stood_has, suspect_is}
+use Rattle.mencius_server.proofs.suspicions.OpenInstances.{open_same}
 use Rattle.mencius_base.specs.Limits.{greatest_round, instance_count}
 use Rattle.mencius_server.proofs.known.Known.begin_all.Goals as goal
 

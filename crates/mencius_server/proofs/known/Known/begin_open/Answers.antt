@@ -1,8 +1,8 @@
 use Rattle.std.proofs.Common.{◌++◌, ap, arith, sym, ◌∙◌}
 use Rattle.mencius_server.specs.Known.{known_at}
 use Rattle.mencius_server.specs.Tallies.{tally_of}
-use Rattle.mencius_server.proofs.SuspicionBySlots.{begun_count, begun_learned, begun_passed, begun_rounds, begun_runs, begun_sent, begun_shows, begun_sound, begun_alike, begun_theirs}
-use Rattle.mencius_server.proofs.InstanceTallies.{alike_same, counts_put, runs_kept, sound_told, tally_alike}
+use Rattle.mencius_server.proofs.suspicions.SuspicionBySlots.{begun_count, begun_learned, begun_passed, begun_rounds, begun_runs, begun_sent, begun_shows, begun_sound, begun_alike, begun_theirs}
+use Rattle.mencius_server.proofs.tallies.InstanceTallies.{alike_same, counts_put, runs_kept, sound_told, tally_alike}
 use Rattle.mencius_server.proofs.known.Known.begin_open.Goals as goal
 
 pub begin_all-is_last-requires-clause-rounds : goal.begin_all-is_last-requires-clause-rounds

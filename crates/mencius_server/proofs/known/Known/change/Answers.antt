@@ -9,8 +9,8 @@ use Rattle.mencius_server.specs.Tallies.{HasCounted, IsKnown, moved, tally_of}
 use Rattle.mencius_server.specs.declared.tally.Tally.{Tally}
 use Rattle.mencius_server.specs.declared.change.Change.{Change}
 use Rattle.mencius_server.specs.declared.ranges.Span.{Span}
-use Rattle.mencius_server.proofs.KnownInstances.{at_here, at_off, changed_learned, known_there, seen_stands, some_there, stood_slot, written_shows, written_sound, written_sound_from}
-use Rattle.mencius_server.proofs.InstanceTallies.{counts_moved, has_counted}
+use Rattle.mencius_server.proofs.instances.KnownInstances.{at_here, at_off, changed_learned, known_there, seen_stands, some_there, stood_slot, written_shows, written_sound, written_sound_from}
+use Rattle.mencius_server.proofs.tallies.InstanceTallies.{counts_moved, has_counted}
 use Rattle.mencius_server.proofs.known.Known.change.Goals as goal
 
 pub at-slot-requires-clause-there : goal.at-slot-requires-clause-there

@@ -1,6 +1,6 @@
 use Rattle.std.proofs.Common.{sym, ◌∙◌, ap}
 use Rattle.mencius_server.specs.Glances.{glance_of}
-use Rattle.mencius_server.proofs.KnownInstances.{seen_none, seen_some}
+use Rattle.mencius_server.proofs.instances.KnownInstances.{seen_none, seen_some}
 use Rattle.mencius_server.proofs.known.Known.glance.Goals as goal
 
 pub returns-in-Some : goal.returns-in-Some

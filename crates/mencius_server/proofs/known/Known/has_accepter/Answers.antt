@@ -1,6 +1,6 @@
 use Rattle.std.proofs.Common.{◌∙◌, ap, false, get_or, sym}
 use Rattle.coord_paxos.specs.SlotState.{SlotState}
-use Rattle.mencius_server.proofs.KnownInstances.{seen_some}
+use Rattle.mencius_server.proofs.instances.KnownInstances.{seen_some}
 use Rattle.mencius_server.proofs.known.Known.has_accepter.Goals as goal
 
 pub returns-then-from-accepts : goal.returns-then-from-accepts

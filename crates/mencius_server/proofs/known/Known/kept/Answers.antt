@@ -1,5 +1,5 @@
 use Rattle.std.proofs.Common.{◌∙◌}
-use Rattle.mencius_server.proofs.KnownInstances.{stand_count}
+use Rattle.mencius_server.proofs.instances.KnownInstances.{stand_count}
 use Rattle.mencius_server.proofs.known.Known.kept.Goals as goal
 
 pub returns : goal.returns

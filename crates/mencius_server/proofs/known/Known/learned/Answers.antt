@@ -1,6 +1,6 @@
 use Rattle.std.proofs.Common.{sym, ◌∙◌, ap}
 use Rattle.coord_paxos.specs.SlotState.{SlotState}
-use Rattle.mencius_server.proofs.KnownInstances.{seen}
+use Rattle.mencius_server.proofs.instances.KnownInstances.{seen}
 use Rattle.mencius_server.proofs.known.Known.learned.Goals as goal
 
 pub returns : goal.returns

@@ -1,5 +1,5 @@
-use Rattle.mencius_server.proofs.KnownInstances.{new_sound}
-use Rattle.mencius_server.proofs.InstanceTallies.{uncounted}
+use Rattle.mencius_server.proofs.instances.KnownInstances.{new_sound}
+use Rattle.mencius_server.proofs.tallies.InstanceTallies.{uncounted}
 use Rattle.mencius_server.proofs.known.Known.new.Goals as goal
 
 pub invariant_of-result : goal.invariant_of-result

@@ -1,7 +1,7 @@
 use Rattle.std.proofs.Common.{◌<◌, ap, arith, refl}
 use Rattle.mencius_server.specs.Known.{KnownState}
-use Rattle.mencius_server.proofs.OpenInstances.{open_before}
-use Rattle.mencius_server.proofs.SuspicionReach.{first_least, first_own}
+use Rattle.mencius_server.proofs.suspicions.OpenInstances.{open_before}
+use Rattle.mencius_server.proofs.suspicions.SuspicionReach.{first_least, first_own}
 use Rattle.mencius_server.proofs.known.Known.open_stretch.Goals as goal
 
 pub returns : goal.returns

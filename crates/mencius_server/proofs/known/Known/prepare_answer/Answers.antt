@@ -1,7 +1,7 @@
 use Rattle.std.proofs.Common.{sym, ◌∙◌, ap}
 use Rattle.coord_paxos.specs.Slot.{prepare_answer}
 use Rattle.coord_paxos.specs.SlotState.{SlotState}
-use Rattle.mencius_server.proofs.KnownInstances.{seen_none, seen_some}
+use Rattle.mencius_server.proofs.instances.KnownInstances.{seen_none, seen_some}
 use Rattle.mencius_server.proofs.known.Known.prepare_answer.Goals as goal
 
 pub returns-in-Some : goal.returns-in-Some

@@ -1,6 +1,6 @@
 use Rattle.std.proofs.Common.{sym, ◌∙◌, ap}
 use Rattle.coord_paxos.specs.SlotState.{SlotState}
-use Rattle.mencius_server.proofs.KnownInstances.{seen_none, seen_some, slotless_quiet}
+use Rattle.mencius_server.proofs.instances.KnownInstances.{seen_none, seen_some, slotless_quiet}
 use Rattle.mencius_server.proofs.known.Known.proposal.Goals as goal
 
 pub returns-in-Some : goal.returns-in-Some

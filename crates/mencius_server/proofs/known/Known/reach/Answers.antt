@@ -3,8 +3,8 @@ use Rattle.std.specs.Prelude.{is_none}
 use Rattle.mencius_base.specs.Limits.{instance_count}
 use Rattle.mencius_base.specs.Members.{owner}
 use Rattle.mencius_server.specs.Known.{KnownState, known_at}
-use Rattle.mencius_server.proofs.InstanceTallies.{runs_kept}
-use Rattle.mencius_server.proofs.SuspicionReach.{first_least, first_own, reach_nowhere, reach_there}
+use Rattle.mencius_server.proofs.tallies.InstanceTallies.{runs_kept}
+use Rattle.mencius_server.proofs.suspicions.SuspicionReach.{first_least, first_own, reach_nowhere, reach_there}
 use Rattle.mencius_server.proofs.known.Known.reach.Goals.{else-first-near, then-first-near}
 use Rattle.mencius_server.proofs.known.Known.reach.Goals as goal
 

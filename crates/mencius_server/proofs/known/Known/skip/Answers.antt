@@ -10,10 +10,10 @@ use Rattle.coord_paxos.specs.SlotState.{SlotState}
 use Rattle.mencius_server.specs.Known.{IsSorted, KnownState, is_given_in, known_at, known_of}
 use Rattle.mencius_server.specs.Slots.{given}
 use Rattle.mencius_server.specs.declared.stretch.Stretch.{Stretch}
-use Rattle.mencius_server.proofs.SkipKnown.{IsAligned, news_is, skip_again, skip_given, skip_is, skip_shows, skip_sorted, skip_sound, skip_stays, skip_theirs}
+use Rattle.mencius_server.proofs.instances.SkipKnown.{IsAligned, news_is, skip_again, skip_given, skip_is, skip_shows, skip_sorted, skip_sound, skip_stays, skip_theirs}
 use Rattle.mencius_server.specs.Tallies.{IsTally, tally_of}
-use Rattle.mencius_server.proofs.InstanceTallies.{alike_same, counts_put, sound_told, tally_alike}
-use Rattle.mencius_server.proofs.NewRanges.{old_news}
+use Rattle.mencius_server.proofs.tallies.InstanceTallies.{alike_same, counts_put, sound_told, tally_alike}
+use Rattle.mencius_server.proofs.intervals.NewRanges.{old_news}
 use Rattle.mencius_base.specs.Limits.{instance_count}
 use Rattle.mencius_server.proofs.known.Known.skip.Goals as goal
 

@@ -1,8 +1,8 @@
 use Rattle.std.proofs.Common.{ℕ, Some, cond, eqb, sym, ◌∙◌, ap}
 use Rattle.mencius_server.specs.Known.{slotless}
 use Rattle.mencius_server.specs.Slots.{stand_at}
-use Rattle.mencius_server.proofs.KnownInstances.{none_there, seen_stands, stood_already, stood_at_same, stood_has, stood_shows, stood_sound}
-use Rattle.mencius_server.proofs.InstanceTallies.{alike_same, counts_kept, unchanged}
+use Rattle.mencius_server.proofs.instances.KnownInstances.{none_there, seen_stands, stood_already, stood_at_same, stood_has, stood_shows, stood_sound}
+use Rattle.mencius_server.proofs.tallies.InstanceTallies.{alike_same, counts_kept, unchanged}
 use Rattle.mencius_server.proofs.known.Known.stand.Goals as goal
 
 pub returns-then-has-clause-ok : goal.returns-then-has-clause-ok

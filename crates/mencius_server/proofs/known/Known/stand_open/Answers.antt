@@ -1,6 +1,6 @@
 use Rattle.std.proofs.Common.{arith, sym}
-use Rattle.mencius_server.proofs.SuspicionBySlots.{lacking_count, lacking_runs, stood_open_known, stood_open_shows, stood_open_sound}
-use Rattle.mencius_server.proofs.InstanceTallies.{alike_same, counts_kept, unchanged}
+use Rattle.mencius_server.proofs.suspicions.SuspicionBySlots.{lacking_count, lacking_runs, stood_open_known, stood_open_shows, stood_open_sound}
+use Rattle.mencius_server.proofs.tallies.InstanceTallies.{alike_same, counts_kept, unchanged}
 use Rattle.mencius_server.proofs.known.Known.stand_open.Goals as goal
 
 pub stand_all-requires-clause-lacking : goal.stand_all-requires-clause-lacking

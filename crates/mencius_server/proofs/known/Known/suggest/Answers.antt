@@ -9,8 +9,8 @@ use Rattle.mencius_server.specs.Slots.{stand_at}
 use Rattle.mencius_server.specs.Tallies.{IsKnown}
 use Rattle.mencius_server.specs.declared.ranges.Span.{Span}
 use Rattle.mencius_server.specs.declared.tally.Tally.{Tally}
-use Rattle.mencius_server.proofs.KnownInstances.{at_here, at_off, known_there, seen_stands, some_there, stood_slot, written_quiet, written_shows}
-use Rattle.mencius_server.proofs.InstanceTallies.{IsAlike, alike_same, counts_kept}
+use Rattle.mencius_server.proofs.instances.KnownInstances.{at_here, at_off, known_there, seen_stands, some_there, stood_slot, written_quiet, written_shows}
+use Rattle.mencius_server.proofs.tallies.InstanceTallies.{IsAlike, alike_same, counts_kept}
 use Rattle.mencius_server.proofs.known.Known.suggest.Goals as goal
 
 pub at-requires-clause-there : goal.at-requires-clause-there

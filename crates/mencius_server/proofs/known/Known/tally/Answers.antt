@@ -6,7 +6,7 @@ use Rattle.mencius_server.specs.Known.{known_at}
 use Rattle.mencius_server.specs.Tallies.{IsKnown, IsTally, IsTallyFrom, no_tally, summed, tally_of}
 use Rattle.mencius_server.specs.declared.ranges.Span.{Span}
 use Rattle.mencius_server.specs.declared.tally.Tally.{Tally}
-use Rattle.mencius_server.proofs.InstanceTallies.{alike_same, counts_put, tally_few, tally_further, tally_none, tally_survey}
+use Rattle.mencius_server.proofs.tallies.InstanceTallies.{alike_same, counts_put, tally_few, tally_further, tally_none, tally_survey}
 use Rattle.mencius_server.proofs.known.Known.tally.Goals as goal
 
 -- the count goes on from what was counted, or from nothing

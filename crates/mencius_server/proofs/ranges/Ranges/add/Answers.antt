@@ -1,6 +1,6 @@
 use Rattle.std.proofs.Common.{◌∙◌, ap, arith, subst, sym}
 use Rattle.mencius_server.specs.Ranges.{IsRising, joined}
-use Rattle.mencius_server.proofs.RisingRanges.{rising_joined}
+use Rattle.mencius_server.proofs.intervals.RisingRanges.{rising_joined}
 use Rattle.mencius_server.proofs.ranges.Ranges.add.Goals as goal
 
 pub invariant_of-self-2 : goal.invariant_of-self-2

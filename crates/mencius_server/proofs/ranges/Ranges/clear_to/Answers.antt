@@ -2,7 +2,7 @@ use Rattle.std.proofs.Common.{◌≡◌, ℕ, ◌<◌, ◌≤◌, true, false, L
 use Rattle.std.proofs.lemmas.Bool.{cases_lt}
 use Rattle.mencius_server.specs.declared.ranges.Span.{Span}
 use Rattle.mencius_server.specs.Ranges.{IsRising, covers}
-use Rattle.mencius_server.proofs.RisingRanges.{covers_in, open_between}
+use Rattle.mencius_server.proofs.intervals.RisingRanges.{covers_in, open_between}
 use Rattle.mencius_server.proofs.ranges.Ranges.clear_to.Goals as goal
 
 clear_at : (xs ys now : List Span) (at i j : ℕ) (d : Span) → ys ≡ xs → xs ≡ now → IsRising 0 xs

@@ -2,7 +2,7 @@ use Rattle.std.proofs.Common.{◌≡◌, ℕ, ◌<◌, ◌≤◌, true, false, L
 use Rattle.std.proofs.lemmas.List.{get_or_default}
 use Rattle.mencius_server.specs.declared.ranges.Span.{Span}
 use Rattle.mencius_server.specs.Ranges.{IsRising, covers}
-use Rattle.mencius_server.proofs.RisingRanges.{covers_in, open_between, open_stop}
+use Rattle.mencius_server.proofs.intervals.RisingRanges.{covers_in, open_between, open_stop}
 use Rattle.mencius_server.proofs.ranges.Ranges.past.Goals as goal
 use Rattle.mencius_server.proofs.ranges.Ranges.past.Goals.{else-at-len-via-then-at-len+else-index-inst, else-at-len-via-else-at-len}
 

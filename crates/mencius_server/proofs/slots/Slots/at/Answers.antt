@@ -1,7 +1,7 @@
 use Rattle.std.proofs.Common.{Some, ◌∙◌, ap, refl, sym}
 use Rattle.std.specs.Prelude.{slice_set}
 use Rattle.mencius_server.specs.Slots.{stand_at}
-use Rattle.mencius_server.proofs.PlaceTable.{lends_place, place_of, stands_there}
+use Rattle.mencius_server.proofs.instances.PlaceTable.{lends_place, place_of, stands_there}
 use Rattle.mencius_server.proofs.slots.Slots.at.Goals as goal
 
 pub index_mut-requires : goal.index_mut-requires

@@ -6,12 +6,12 @@ use Rattle.mencius_base.specs.Limits.{instance_count}
 use Rattle.mencius_base.specs.Members.{owner}
 use Rattle.coord_paxos.specs.SlotState.{SlotState}
 use Rattle.mencius_server.specs.Slots.{begun, is_begun, is_in, is_unlearned, stand_at}
-use Rattle.mencius_server.proofs.FirstPhaseLoop.{step_room, step_sent, step_walked, walked_unlearned}
-use Rattle.mencius_server.proofs.FirstPhases.{begun_each, room_here, room_none, sent_none}
-use Rattle.mencius_server.proofs.InstanceGaps.{room_gap, sent_gap, sent_to}
-use Rattle.mencius_server.proofs.LearnedRuns.{past_above, past_closed, past_near, past_owned, run_put}
-use Rattle.mencius_server.proofs.StretchLoops.{along_run, begun_out, in_here, out_before, out_past, unbegun_between, unbegun_out, unlearned_in, walked_all, walked_start, written_off}
-use Rattle.mencius_server.proofs.SuspicionReach.{clash}
+use Rattle.mencius_server.proofs.suspicions.FirstPhaseLoop.{step_room, step_sent, step_walked, walked_unlearned}
+use Rattle.mencius_server.proofs.suspicions.FirstPhases.{begun_each, room_here, room_none, sent_none}
+use Rattle.mencius_server.proofs.instances.InstanceGaps.{room_gap, sent_gap, sent_to}
+use Rattle.mencius_server.proofs.suspicions.LearnedRuns.{past_above, past_closed, past_near, past_owned, run_put}
+use Rattle.mencius_server.proofs.instances.StretchLoops.{along_run, begun_out, in_here, out_before, out_past, unbegun_between, unbegun_out, unlearned_in, walked_all, walked_start, written_off}
+use Rattle.mencius_server.proofs.suspicions.SuspicionReach.{clash}
 use Rattle.mencius_server.proofs.slots.Slots.begin_all.Goals.{then-is_last, else-is_last, then-loop-end-test+else-not-is_unlearned, else-loop-end-test}
 use Rattle.mencius_server.proofs.slots.Slots.begin_all.Goals as goal
 use Rattle.mencius_server.specs.Machine.{is_spent}

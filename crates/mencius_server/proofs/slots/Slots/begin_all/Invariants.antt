@@ -4,8 +4,8 @@ use Rattle.coord_paxos.specs.SlotState.{SlotState}
 use Rattle.mencius_base.specs.Members.{owner}
 use Rattle.mencius_server.specs.Slots.{PassesRuns, begun_at, is_begun, is_in, is_unlearned, prepare_of, stand_at}
 use Rattle.mencius_server.specs.Runs.{AreRuns}
-use Rattle.mencius_server.proofs.FirstPhases.{HasRoomFrom, IsSentUpTo}
-use Rattle.mencius_server.proofs.StretchLoops.{IsWalked}
+use Rattle.mencius_server.proofs.suspicions.FirstPhases.{HasRoomFrom, IsSentUpTo}
+use Rattle.mencius_server.proofs.instances.StretchLoops.{IsWalked}
 use Rattle.mencius_server.proofs.slots.Slots.begin_all.Given as goal
 use Rattle.mencius_server.specs.Machine.{is_spent}
 

@@ -1,7 +1,7 @@
 use Rattle.std.proofs.Common.{◌≤◌, None, length, ap, arith, sym, ◌∙◌}
 use Rattle.std.proofs.lemmas.List.{get_or_past}
 use Rattle.mencius_server.specs.Slots.{stand_at}
-use Rattle.mencius_server.proofs.PlaceTable.{stands_nowhere}
+use Rattle.mencius_server.proofs.instances.PlaceTable.{stands_nowhere}
 use Rattle.mencius_server.proofs.slots.Slots.end_of.Goals as goal
 
 pub returns-clause-none : goal.returns-clause-none

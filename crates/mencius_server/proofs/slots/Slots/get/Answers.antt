@@ -1,6 +1,6 @@
 use Rattle.std.proofs.Common.{None, get_or, ◌∙◌, ap, sym}
 use Rattle.mencius_server.specs.Slots.{stand_at}
-use Rattle.mencius_server.proofs.PlaceTable.{stands_nowhere, stands_there}
+use Rattle.mencius_server.proofs.instances.PlaceTable.{stands_nowhere, stands_there}
 use Rattle.mencius_server.proofs.slots.Slots.get.Goals as goal
 
 pub returns-in-Some-clause-there : goal.returns-in-Some-clause-there

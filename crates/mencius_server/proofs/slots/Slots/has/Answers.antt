@@ -1,7 +1,7 @@
 use Rattle.std.proofs.Common.{None, get_or, ◌∙◌, ap, sym}
 use Rattle.std.specs.Prelude.{is_some}
 use Rattle.mencius_server.specs.Slots.{stand_at}
-use Rattle.mencius_server.proofs.PlaceTable.{somewhere}
+use Rattle.mencius_server.proofs.instances.PlaceTable.{somewhere}
 use Rattle.mencius_server.proofs.slots.Slots.has.Goals as goal
 
 pub returns : goal.returns

@@ -3,7 +3,7 @@ use Rattle.std.specs.Option.{option_map}
 use Rattle.coord_paxos.specs.Slot.{after_learn}
 use Rattle.mencius_base.specs.declared.message.Value.TheVariants.{Noop}
 use Rattle.mencius_server.specs.Slots.{is_in, stand_at}
-use Rattle.mencius_server.proofs.StretchLoops.{given_in, given_out, given_past, in_here, out_before, out_between, walked_all, walked_more, walked_start, written_here, written_off}
+use Rattle.mencius_server.proofs.instances.StretchLoops.{given_in, given_out, given_past, in_here, out_before, out_between, walked_all, walked_more, walked_start, written_here, written_off}
 use Rattle.mencius_server.proofs.slots.Slots.learn_noops.Goals as goal
 
 pub loop-inst-init : goal.loop-inst-init

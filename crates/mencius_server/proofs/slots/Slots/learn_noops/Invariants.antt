@@ -2,7 +2,7 @@ use Rattle.std.proofs.Common.{◌≡◌, ◌-◌, ◌≤◌}
 use Rattle.std.specs.Option.{option_map}
 use Rattle.mencius_base.specs.Members.{owner}
 use Rattle.mencius_server.specs.Slots.{given, stand_at}
-use Rattle.mencius_server.proofs.StretchLoops.{IsWalked}
+use Rattle.mencius_server.proofs.instances.StretchLoops.{IsWalked}
 use Rattle.mencius_server.proofs.slots.Slots.learn_noops.Given as goal
 
 abbrev pub invariant-loop-inst : goal.invariant-loop-inst

@@ -1,9 +1,9 @@
 use Rattle.std.proofs.Common.{◌∙◌, ap, length, sym}
 use Rattle.std.specs.Prelude.{is_some}
 use Rattle.std.specs.List.{count_by}
-use Rattle.mencius_model.proofs.NumberLists.{length-map-instances}
+use Rattle.mencius_model.proofs.trace.NumberLists.{length-map-instances}
 use Rattle.mencius_server.specs.Places.{standing_at}
-use Rattle.mencius_server.proofs.PlaceTable.{standing_count}
+use Rattle.mencius_server.proofs.instances.PlaceTable.{standing_count}
 use Rattle.mencius_server.proofs.slots.Slots.len.Goals as goal
 
 pub returns-clause-count : goal.returns-clause-count

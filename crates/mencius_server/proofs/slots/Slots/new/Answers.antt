@@ -1,5 +1,5 @@
 use Rattle.std.proofs.Common.{◌≤◌, None, length, get_or, ap, arith}
-use Rattle.mencius_server.proofs.PlaceTable.{stands_nowhere}
+use Rattle.mencius_server.proofs.instances.PlaceTable.{stands_nowhere}
 use Rattle.mencius_base.specs.Limits.{instance_count}
 use Rattle.mencius_server.proofs.slots.Slots.new.Goals as goal
 

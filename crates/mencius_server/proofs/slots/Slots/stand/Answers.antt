@@ -1,5 +1,5 @@
 use Rattle.std.proofs.Common.{Some, cond, eqb, ◌<◌, ◌≤◌, ◌∙◌, [], ◌∷◌, ◌++◌, length, ap, arith}
-use Rattle.mencius_server.proofs.PlaceTable.{placed_stand, stand_stand}
+use Rattle.mencius_server.proofs.instances.PlaceTable.{placed_stand, stand_stand}
 use Rattle.mencius_server.specs.Slots.{stand_at}
 use Rattle.mencius_base.specs.Limits.{instance_count}
 use Rattle.mencius_server.proofs.slots.Slots.stand.Goals as goal

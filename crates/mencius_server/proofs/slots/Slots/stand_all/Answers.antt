@@ -4,10 +4,10 @@ use Rattle.std.proofs.lemmas.Bool.{cases_lt}
 use Rattle.mencius_server.specs.Ranges.{covers}
 use Rattle.mencius_server.specs.Places.{standing}
 use Rattle.mencius_server.specs.Slots.{is_in, is_lacking, stand_at, stood_at}
-use Rattle.mencius_server.proofs.LearnedRuns.{runs_stay}
-use Rattle.mencius_server.proofs.RangeCounts.{count_same}
-use Rattle.mencius_server.proofs.PlaceTable.{placed_wider, stand_wider}
-use Rattle.mencius_server.proofs.StretchLoops.{lacking_out, none_of_all, out_past, stood_none}
+use Rattle.mencius_server.proofs.suspicions.LearnedRuns.{runs_stay}
+use Rattle.mencius_server.proofs.intervals.RangeCounts.{count_same}
+use Rattle.mencius_server.proofs.instances.PlaceTable.{placed_wider, stand_wider}
+use Rattle.mencius_server.proofs.instances.StretchLoops.{lacking_out, none_of_all, out_past, stood_none}
 use Rattle.mencius_base.specs.Limits.{instance_count}
 use Rattle.mencius_server.proofs.slots.Slots.stand_all.Goals as goal
 

@@ -1,10 +1,10 @@
 use Rattle.std.proofs.Common.{◌≡◌, ◌+◌, ◌<◌, ◌≤◌, Bool, cond, ◌∙◌, ap, arith, rules, sym}
 use Rattle.std.specs.List.{count_by}
 use Rattle.mencius_server.specs.Slots.{is_told}
-use Rattle.mencius_model.proofs.NumberLists.{instances-below}
-use Rattle.mencius_server.proofs.InstanceGaps.{count_gap, count_to, one_at_most}
-use Rattle.mencius_server.proofs.SkipLoop.{count_more, count_none}
-use Rattle.mencius_server.proofs.StretchLoops.{in_here, out_before, out_between, told_in, told_out, told_past}
+use Rattle.mencius_model.proofs.trace.NumberLists.{instances-below}
+use Rattle.mencius_server.proofs.instances.InstanceGaps.{count_gap, count_to, one_at_most}
+use Rattle.mencius_server.proofs.instances.SkipLoop.{count_more, count_none}
+use Rattle.mencius_server.proofs.instances.StretchLoops.{in_here, out_before, out_between, told_in, told_out, told_past}
 use Rattle.mencius_base.specs.Limits.{instance_count}
 use Rattle.mencius_server.proofs.slots.Slots.told.Goals as goal
 

@@ -1,7 +1,7 @@
 use Rattle.std.proofs.Common.{◌≡◌, ◌-◌, ◌≤◌}
 use Rattle.mencius_base.specs.Members.{owner}
 use Rattle.mencius_server.specs.Slots.{is_told}
-use Rattle.mencius_server.proofs.SkipLoop.{IsCountUpTo}
+use Rattle.mencius_server.proofs.instances.SkipLoop.{IsCountUpTo}
 use Rattle.mencius_server.proofs.slots.Slots.told.Given as goal
 
 abbrev pub invariant-loop-inst : goal.invariant-loop-inst

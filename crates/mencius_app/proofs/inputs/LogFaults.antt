@@ -1,0 +1,72 @@
+-- Why a judgement of a log ended at a fault, and what is told of it.
+use Rattle.std.proofs.Common.{◌≡◌, ◌≢◌, ◌++◌, ℕ, Bool, true, false, cond, List, Option, Some, None, IfSome, IfOk, IfErr, Result, Ok, Err, String, Global, string_bytes, refl, sym, subst, ◌∙◌}
+use Rattle.std.specs.Prelude.{not}
+use Rattle.std.specs.Io.KnownBytes.{Appends}
+use Rattle.mencius_ends.specs.declared.fault.AppFault.{AppFault}
+use Rattle.mencius_trace.specs.Words.{line_feed}
+use Rattle.mencius_command_line.specs.CommandLine.{asked_judge}
+use Rattle.mencius_app.specs.Ending.{DidTask, IsTextOf, TellsOf, ending_of_judgement, ending_with, fault_in}
+use Rattle.mencius_app.specs.Findings.{IsFoundIn}
+use Rattle.mencius_app.specs.Judging.{IsJudgement, IsJudgementOf, IsToldByLine}
+use Rattle.mencius_app.specs.declared.finding.Finding.{Finding}
+use Rattle.mencius_app.specs.declared.ending.Ending.{Ending}
+use Rattle.mencius_app.specs.declared.ending.Ending.TheVariants.{Done, Refused, BadCommandLine, BoardFailed}
+use Rattle.mencius_app.proofs.inputs.EndingCauses.{found_not_board, of_finding}
+use Rattle.mencius_app.proofs.inputs.FindingWords.{told_of_finding}
+
+pub text_of_judgement : (known : Option (List ℕ)) (text : List ℕ) → IsJudgement known text
+    → IsTextOf asked_judge known text
+text_of_judgement known text h = (not h.0, (h.0, h.1, refl))
+
+-- what holds of the fault of a finding holds of the fault of the ending that it makes
+pub of_judgement : (done : Result Bool Finding) (ending : Ending) (P : AppFault → Type 0)
+    → ending ≡ ending_of_judgement done → IfErr done (λ found. P found.fault) → IfSome (fault_in ending) P
+of_judgement (Ok true) ending P e h = subst (λ d. IfSome (fault_in d) P) (sym e) tt
+of_judgement (Ok false) ending P e h = subst (λ d. IfSome (fault_in d) P) (sym e) tt
+of_judgement (Err found) ending P e h = of_finding found ending P e h
+
+pub told_of_judgement : (known : Option (List ℕ)) (done : Result Bool Finding) (ending : Ending)
+    → ending ≡ ending_of_judgement done → IfErr done (IsFoundIn IsToldByLine known) → TellsOf asked_judge known ending
+told_of_judgement known (Ok true) ending e h = subst (TellsOf asked_judge known) (sym e) tt
+told_of_judgement known (Ok false) ending e h = subst (TellsOf asked_judge known) (sym e) tt
+told_of_judgement known (Err found) ending e h = told_of_finding asked_judge known found ending e h
+
+-- what was written, by the ending
+pub judged_done : (known old new : Option (List ℕ)) (done : Result Bool Finding) (ending : Ending) (told : Bool)
+    → ending ≡ ending_of_judgement done
+    → IfOk done (λ kept. (text : List ℕ) × IsJudgementOf known text kept × Appends old new text)
+    → ending ≡ cond told Refused Done → DidTask asked_judge known old new told
+judged_done known old new (Ok true) ending false e h is = (h.0, (true, h.1, refl), h.2)
+judged_done known old new (Ok false) ending true e h is = (h.0, (false, h.1, refl), h.2)
+judged_done known old new (Ok true) ending true e h is = (let both = sym e ∙ is in absurd (cc))
+judged_done known old new (Ok false) ending false e h is = (let both = sym e ∙ is in absurd (cc))
+judged_done known old new (Err found) ending told e h is = absurd (no_fault found.words told (sym e ∙ is))
+  where
+    no_fault : (words : Option (String Global)) (d : Bool) → ending_with found.fault words ≡ cond d Refused Done → ⊥
+    no_fault None true g = absurd (cc)
+    no_fault None false g = absurd (cc)
+    no_fault (Some line) true g = absurd (cc)
+    no_fault (Some line) false g = absurd (cc)
+
+pub judged_never_bad : (done : Result Bool Finding) (ending : Ending) → ending ≡ ending_of_judgement done
+    → ending ≢ BadCommandLine
+judged_never_bad (Ok true) ending e is = (let both = sym e ∙ is in absurd (cc))
+judged_never_bad (Ok false) ending e is = (let both = sym e ∙ is in absurd (cc))
+judged_never_bad (Err found) ending e is = no_fault found.words (sym e ∙ is)
+  where
+    no_fault : (words : Option (String Global)) → ending_with found.fault words ≡ BadCommandLine → ⊥
+    no_fault None g = absurd (cc)
+    no_fault (Some line) g = absurd (cc)
+
+pub judged_not_board : (done : Result Bool Finding) (ending : Ending) → ending ≡ ending_of_judgement done
+    → ending ≢ BoardFailed
+judged_not_board (Ok true) ending e is = (let both = sym e ∙ is in absurd (cc))
+judged_not_board (Ok false) ending e is = (let both = sym e ∙ is in absurd (cc))
+judged_not_board (Err found) ending e is = found_not_board found ending e is
+
+-- words with a line feed are the line of them
+pub line_of_words : (line : Option (String Global)) (given : Option (String Global)) (words : String Global)
+    → given ≡ Some words → IfSome line (λ s. string_bytes s ≡ string_bytes words ++ line_feed)
+    → IfSome line (λ s. (x : String Global) × (given ≡ Some x) × (string_bytes s ≡ string_bytes x ++ line_feed))
+line_of_words None given words is h = tt
+line_of_words (Some line) given words is h = (words, is, h)

@@ -1,0 +1,5 @@
+-- The steps of a log.
+pub mod LogEnds
+pub mod LogExchange
+pub mod LogSteps
+pub mod ListSteps

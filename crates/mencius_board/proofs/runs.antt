@@ -1,0 +1,5 @@
+-- Workers and their turns.
+pub mod WorkerTurns
+pub mod WorkerEnds
+pub mod JoinedWorkers
+pub mod RunSteps

@@ -1,0 +1,4 @@
+-- An event that is refused.
+pub mod RefusalClauses
+pub mod ServerRefusals
+pub mod FullJournal

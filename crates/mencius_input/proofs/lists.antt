@@ -1,0 +1,4 @@
+-- Lists of texts.
+pub mod CasItems
+pub mod NotedItems
+pub mod StepsAndCommands

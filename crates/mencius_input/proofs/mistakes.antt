@@ -1,0 +1,5 @@
+-- The first place that has a fault.
+pub mod FaultPlaces
+pub mod PlacedNames
+pub mod PlacedFields
+pub mod PlacedFaults

@@ -1,0 +1,129 @@
+-- The fields of a scenario of `run`, and what they say.
+use Rattle.std.proofs.Common.{nat_le, ◌≡◌, ℕ, ◌==◌, arith, ◌&&◌, Bool, true, false, cond, List, [], ◌∷◌, length, Option, Some, None, Ok, Err, refl, ap, sym, ◌∙◌, codes, option_and_then, option_map}
+use Rattle.std.specs.List.{list_all}
+use Rattle.std.proofs.Math.Bool.{and-true, and-false}
+use Rattle.std.proofs.lemmas.Bool.Decides.{nat_tests}
+use Rattle.serde_json.specs.Data.{Data, Items, Members, object}
+use Rattle.serde_json.specs.Find.{as_array, get_member}
+use Rattle.mencius_base.specs.Limits.{most_servers}
+use Rattle.mencius_base.specs.Plan.{PlanState, plan_of}
+use Rattle.mencius_base.specs.Request.{Request}
+use Rattle.mencius_ends.specs.declared.fault.AppFault.TheVariants.{BadLimit}
+use Rattle.mencius_format.specs.Grammar.{command_within}
+use Rattle.mencius_format.specs.Judged.{judged}
+use Rattle.mencius_input.specs.declared.field.Field.TheVariants.{Workers, Seed, Turns, Loss}
+use Rattle.mencius_input.specs.declared.fields.FieldValues as code
+use Rattle.mencius_input.specs.declared.kind.Kind.TheVariants.{Run}
+use Rattle.mencius_input.specs.declared.scenario.Shared.{Shared}
+use Rattle.mencius_input.specs.FieldValues.{AreFieldValues, fitted, fitted_plan, list_kept, list_said, lists_within, plan_fits, plan_said, said_of, shared_in, shared_within}
+use Rattle.mencius_input.specs.FieldsOf.{field_within, names}
+use Rattle.mencius_input.specs.Plan.{commands_of, numbers_within, plan_read, plan_within}
+use Rattle.mencius_input.specs.Scenario.{all_in, all_of, has_only, number_of, scenario_of, scenario_within}
+use Rattle.mencius_input.proofs.lists.CasItems.{lists_said_in}
+use Rattle.mencius_input.proofs.objects.SharedFields.{fitted_judged, members_in, shared_say}
+
+-- ---- what an object says as a plan, by its fields
+
+abbrev pub planned : ℕ → Option ℕ → Option ℕ → Option ℕ → Option ℕ → Option Data → Option PlanState
+planned version ow os ot ol value =
+    option_and_then (λ workers. option_and_then (λ seed. option_and_then (λ turns. option_and_then (λ loss.
+    option_and_then (λ lists. option_and_then (λ commands. Some (plan_of workers seed turns loss commands))
+    (all_of (commands_of version) lists)) (option_and_then as_array value)) ol) ot) os) ow
+
+pub plan_bound : (version : ℕ) (ms : Members) → plan_read version (object ms)
+    ≡ planned version (number_of Workers (object ms)) (number_of Seed (object ms)) (number_of Turns (object ms))
+    (number_of Loss (object ms)) (get_member (codes "commands") ms)
+unfolding plan_read
+plan_bound version ms = refl
+
+-- ---- the limits
+
+-- as they are tested
+abbrev tested : ℕ → PlanState → Bool
+tested servers plan = plan_fits servers plan && list_all (list_all command_within) plan.commands
+
+-- more lists than there may be servers are refused by the limits of both kinds
+too_many : (shared : Shared) (numbers : Bool) (many : ℕ) → nat_le many most_servers ≡ false
+    → (shared_within shared && (numbers && (many == shared.servers))) ≡ false
+unfolding field_within
+too_many shared numbers many e = grind (arith, nat_tests)
+
+by_few : (cluster own few lists : Bool) → (few ≡ false → (cluster && own) ≡ false)
+    → (cluster && ((own && few) && lists)) ≡ (cluster && (own && lists))
+by_few cluster own true lists h = ap (λ bit. cluster && (bit && lists)) (and-true own)
+by_few true true false lists h = let none = h refl in absurd (cc)
+by_few true false false lists h = refl
+by_few false own false lists h = refl
+
+same_limits : (shared : Shared) (plan : PlanState) → (shared_within shared && tested shared.servers plan)
+    ≡ (shared_within shared && plan_within (members_in shared) plan)
+same_limits shared plan =
+    by_few (shared_within shared) (numbers_within plan && (length plan.commands == shared.servers))
+    (nat_le (length plan.commands) most_servers) (list_all (list_all command_within) plan.commands)
+    (too_many shared (numbers_within plan) (length plan.commands))
+
+-- ---- the lists
+
+module _ (servers workers seed turns loss : ℕ) where
+  abbrev of : List (List Request) → PlanState
+  of = plan_of workers seed turns loss
+
+  by_list : (all : List (List Request)) (l few : Bool) → nat_le (length all) most_servers ≡ few
+      → fitted_plan servers of (cond (l && few) (Ok all) (Err BadLimit))
+      ≡ cond (plan_fits servers (of all) && l) (Ok (of all)) (Err BadLimit)
+  by_list all true true e =
+      ap (λ bit. cond bit (Ok (of all)) (Err BadLimit)) (sym (and-true (plan_fits servers (of all))))
+  by_list all true false e =
+      let own = numbers_within (of all) && (length all == servers) in
+      sym (ap (λ bit. cond ((own && bit) && true) (Ok (of all)) (Err BadLimit)) e
+      ∙ ap (λ bit. cond (bit && true) (Ok (of all)) (Err BadLimit)) (and-false own))
+  by_list all false few e =
+      ap (λ bit. cond bit (Ok (of all)) (Err BadLimit)) (sym (and-false (plan_fits servers (of all))))
+
+  with_all : (o : Option (List (List Request)))
+      → fitted_plan servers of (judged lists_within o) ≡ judged (tested servers) (option_map of o)
+  with_all None = refl
+  with_all (Some all) =
+      by_list all (list_all (list_all command_within) all) (nat_le (length all) most_servers) refl
+
+  mapped : (o : Option (List (List Request)))
+      → option_map of o ≡ option_and_then (λ commands. Some (of commands)) o
+  mapped None = refl
+  mapped (Some all) = refl
+
+  pub mapped_items : (version : ℕ) (o : Option Items)
+      → option_map of (option_and_then (all_of (commands_of version)) o)
+      ≡ option_and_then (λ lists. option_and_then (λ commands. Some (of commands)) (all_of (commands_of version) lists)) o
+  mapped_items version None = refl
+  mapped_items version (Some lists) = mapped (all_of (commands_of version) lists)
+
+plan_judged : (shared : Shared) (ow os ot ol : Option ℕ) (value : Option Data)
+    → plan_said shared (ow ∷ os ∷ ot ∷ ol ∷ []) (option_map (list_said Run) value)
+    ≡ judged (tested shared.servers) (planned shared.version ow os ot ol value)
+plan_judged shared None os ot ol value = refl
+plan_judged shared (Some workers) None ot ol value = refl
+plan_judged shared (Some workers) (Some seed) None ol value = refl
+plan_judged shared (Some workers) (Some seed) (Some turns) None value = refl
+plan_judged shared (Some workers) (Some seed) (Some turns) (Some loss) None = refl
+plan_judged shared (Some workers) (Some seed) (Some turns) (Some loss) (Some d) =
+    ap (fitted_plan shared.servers (plan_of workers seed turns loss)) (lists_said_in shared.version lists_within d)
+    ∙ with_all shared.servers workers seed turns loss (all_in (commands_of shared.version) d)
+    ∙ ap (judged (tested shared.servers)) (mapped_items shared.servers workers seed turns loss shared.version (as_array d))
+
+-- the answer
+pub plan_fields_say : (f : code.FieldValues) (ms : Members) → AreFieldValues Run f ms → has_only (names Run) ms ≡ true
+    → said_of (λ shared own. plan_said shared own (option_map list_kept f.list)) (shared_in f.wholes.items)
+    ≡ judged (scenario_within plan_within) (scenario_of Run plan_read (object ms))
+plan_fields_say f ms h only =
+    let ow = number_of Workers (object ms) in
+    let os = number_of Seed (object ms) in
+    let ot = number_of Turns (object ms) in
+    let ol = number_of Loss (object ms) in
+    let value = get_member (codes "commands") ms in
+    ap (λ list. said_of (λ shared own. plan_said shared own list) (shared_in f.wholes.items)) h.list
+    ∙ shared_say Run (λ shared own. plan_said shared own (option_map (list_said Run) value)) plan_within
+    plan_read f.wholes.items (ow ∷ os ∷ ot ∷ ol ∷ []) ms h.wholes only
+    (λ shared. ap (fitted shared) (plan_judged shared ow os ot ol value)
+    ∙ fitted_judged shared (tested shared.servers) plan_within (same_limits shared)
+    (planned shared.version ow os ot ol value)
+    ∙ rw (plan_bound shared.version ms) refl)

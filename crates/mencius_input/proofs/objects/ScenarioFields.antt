@@ -1,0 +1,51 @@
+-- The fields of a scenario of `replay`, and what they say.
+use Rattle.std.proofs.Common.{◌≡◌, ℕ, [], true, codes, Option, Some, None, option_map, option_and_then, refl, ap, ◌∙◌}
+use Rattle.std.specs.List.{list_all}
+use Rattle.serde_json.specs.Data.{Data, Members, object}
+use Rattle.serde_json.specs.Find.{as_array, get, get_member}
+use Rattle.mencius_format.specs.Grammar.{event_within}
+use Rattle.mencius_format.specs.Judged.{judged}
+use Rattle.mencius_input.specs.declared.fields.FieldValues as code
+use Rattle.mencius_input.specs.declared.kind.Kind.TheVariants.{Replay}
+use Rattle.mencius_input.specs.declared.scenario.Shared.{Shared}
+use Rattle.mencius_input.specs.FieldValues.{AreFieldValues, fitted, list_kept, list_said, said_of, schedule_said, shared_in}
+use Rattle.mencius_input.specs.FieldsOf.{names}
+use Rattle.mencius_input.specs.Scenario.{events_of, has_only, schedule_of, schedule_within, within, written_of}
+use Rattle.mencius_input.proofs.lists.CasItems.{events_said_in}
+use Rattle.mencius_input.proofs.objects.SharedFields.{fitted_judged, no_course, shared_say}
+
+-- what an object says as events, by its field
+pub schedule_bound : (version : ℕ) (ms : Members) → schedule_of version (object ms)
+    ≡ option_and_then (events_of version) (option_and_then as_array (get_member (codes "events") ms))
+unfolding schedule_of
+schedule_bound version ms = refl
+
+schedule_judged : (shared : Shared) (o : Option Data) → schedule_said (option_map (list_said Replay) o) shared
+    ≡ judged (list_all event_within) (option_and_then (events_of shared.version) (option_and_then as_array o))
+schedule_judged shared None = refl
+schedule_judged shared (Some d) = events_said_in shared.version (list_all event_within) d
+
+-- the answer
+pub fields_say : (f : code.FieldValues) (ms : Members) → AreFieldValues Replay f ms → has_only (names Replay) ms ≡ true
+    → said_of (λ shared own. schedule_said (option_map list_kept f.list) shared) (shared_in f.wholes.items)
+    ≡ judged within (written_of (object ms))
+fields_say f ms h only =
+    let value = get_member (codes "events") ms in
+    ap (λ list. said_of (λ shared own. schedule_said list shared) (shared_in f.wholes.items)) h.list
+    ∙ shared_say Replay (λ shared own. schedule_said (option_map (list_said Replay) value) shared) schedule_within
+    schedule_of f.wholes.items [] ms h.wholes only
+    (λ shared. ap (fitted shared) (schedule_judged shared value)
+    ∙ fitted_judged shared (list_all event_within) schedule_within (λ events. refl)
+    (option_and_then (events_of shared.version) (option_and_then as_array value))
+    ∙ rw (schedule_bound shared.version ms) refl)
+
+none_before : {X Y Z : Type 0} (o : Option X) (g : X → Option Y) (f : Y → Option Z) → o ≡ None
+    → option_and_then f (option_and_then g o) ≡ None
+none_before None g f e = refl
+none_before (Some x) g f e = absurd (cc)
+
+-- what has no events is no scenario
+pub no_events_said : (d : Data) → get (codes "events") d ≡ None → written_of d ≡ None
+unfolding schedule_of
+no_events_said d none =
+    no_course Replay schedule_of d (λ version. none_before (get (codes "events") d) as_array (events_of version) none)

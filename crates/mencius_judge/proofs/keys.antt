@@ -1,0 +1,4 @@
+-- What keys held.
+pub mod Periods
+pub mod Changes
+pub mod TextMaps

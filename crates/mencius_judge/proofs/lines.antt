@@ -1,0 +1,5 @@
+-- A log that is read.
+pub mod LineWords
+pub mod TakenLines
+pub mod LogEnds
+pub mod WrittenLines

@@ -1,0 +1,8 @@
+-- What a judge makes of an observation.
+pub mod HistorySteps
+pub mod OrderSteps
+pub mod Steps
+pub mod Quiet
+pub mod Submits
+pub mod Leads
+pub mod Answered

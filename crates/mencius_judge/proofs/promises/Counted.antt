@@ -1,0 +1,63 @@
+-- What is counted in a log.
+use Rattle.std.proofs.Common.{◌≡◌, ◌+◌, ◌≤◌, ℕ, zero, suc, Bool, true, false, cond, not, List, [], ◌∷◌, Some, count_by, get_or, is_some, length, slice_get, arith, refl, sym, ap, ◌∙◌}
+use Rattle.std.specs.BTreeMap.{get}
+use Rattle.std.specs.Ordering.{nat_cmp}
+use Rattle.std.proofs.lemmas.List.Sums.{sum_by-cons}
+use Rattle.mencius_base.specs.declared.command.Command.{Command}
+use Rattle.mencius_base.specs.declared.command.CommandId.{CommandId}
+use Rattle.mencius_judge.specs.declared.counts.Counts.{Counts}
+use Rattle.mencius_judge.specs.declared.judge.Judge.{Judge}
+use Rattle.mencius_judge.specs.declared.observation.Observation.TheVariants.{Submit}
+use Rattle.mencius_judge.specs.Counts.{AreCounts, command_count, is_some_length}
+use Rattle.mencius_judge.specs.Judged.{IsAt}
+use Rattle.mencius_judge.specs.Log.{Log, command_of, has, history, with_reply}
+use Rattle.mencius_judge.specs.Tables.{is_open, identity_key, number_count}
+use Rattle.mencius_judge.proofs.observations.Leads.{size_is}
+
+-- ---- commands
+
+pub count_again : (w : Log) (c : Command) (n : ℕ) → is_some (command_of w c.id) ≡ true → n ≡ command_count w
+    → n ≡ command_count (Submit c ∷ w)
+count_again w c n there is = rw there is
+
+pub count_new : (w : Log) (c : Command) (n more : ℕ) → is_some (command_of w c.id) ≡ false → n ≡ command_count w
+    → more ≡ n + 1 → more ≡ command_count (Submit c ∷ w)
+count_new w c n more none is one = rw none (one ∙ ap (λ (m : ℕ). m + 1) is)
+
+-- ---- items that pass a test
+
+same_count : {A : Type 0} (f g : A → Bool) (xs : List A) → ((n : ℕ) (x : A) → slice_get xs n ≡ Some x → f x ≡ g x)
+    → count_by f xs ≡ count_by g xs
+same_count f g [] h = refl
+same_count f g (x ∷ xs) h =
+    sum_by-cons (λ y. cond (f y) 1 0) x xs
+    ∙ ap (λ d. cond d 1 0 + count_by f xs) (h 0 x refl)
+    ∙ ap (λ n. cond (g x) 1 0 + n) (same_count f g xs (λ n y e. h (suc n) y e))
+    ∙ sym (sum_by-cons (λ y. cond (g y) 1 0) x xs)
+
+-- ---- what a judge counts
+
+pub counted : (j : Judge) (w : Log) (c : Counts) → IsAt j w
+    → c.servers ≡ count_by is_some_length j.histories.counts.items → c.commands ≡ j.commands
+    → c.executed ≡ length j.histories.order.items → c.replies ≡ length j.with_reply.items
+    → c.open_replies ≡ count_by (is_open j.executions) j.with_reply.items → c.lookups ≡ j.lookups → AreCounts w c
+counted j w c h servers commands executed replies open_replies lookups =
+    let q = h.histories.some.0 in
+    let order = j.histories.order.items in
+    let longest : order ≡ history w q = h.histories.some.1 in
+    record {
+      lengths = j.histories.counts.items;
+      each = λ p. sym (size_is j w p h);
+      servers = servers;
+      commands = commands ∙ h.commands;
+      longest = q;
+      within = λ p. (let size = size_is j w p h in
+          let most = h.histories.within p in
+          let whole : length order ≡ length (history w q) = ap length longest in omega (arith, size, most, whole));
+      executed = executed ∙ ap length longest;
+      replies = replies ∙ ap length h.replies.order;
+      open_replies = open_replies ∙ ap (count_by (is_open j.executions)) h.replies.order
+          ∙ same_count (is_open j.executions) (λ id. not (has (history w q) id)) (with_reply w) (λ n id there.
+          ap not (h.executions.all id (h.replies.small n id there) ∙ ap (λ (ids : List CommandId). has ids id) longest));
+      lookups = lookups ∙ h.lookups;
+    }

@@ -1,0 +1,5 @@
+-- The laws.
+pub mod Moments
+pub mod RepliesSeen
+pub mod OwnCluster
+pub mod WorkedLogs

@@ -1,0 +1,7 @@
+-- What an event adds.
+pub mod EventLines
+pub mod LineServers
+pub mod TeachesNothing
+pub mod RefusalCauses
+pub mod Outcomes
+pub mod JournalCounts

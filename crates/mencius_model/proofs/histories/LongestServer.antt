@@ -1,0 +1,73 @@
+-- The longest history, and the least server that has it.
+use Rattle.std.proofs.Common.{◌≡◌, ℕ, zero, suc, ◌+◌, ◌-◌, ◌<◌, ◌≤◌, cond, ltb, ltb-true, ltb-false, fold, inl, inr, refl, sym, ap, subst, ◌∙◌, arith, [], ◌∷◌, length}
+use Rattle.std.proofs.lemmas.Bool.{cases_Bool, cases_lt, le-ltb, lt-ltb}
+use Rattle.std.proofs.lemmas.List.Sums.{fold-append}
+use Rattle.mencius_base.specs.Numbers.{ServerId}
+use Rattle.mencius_base.specs.Members.{Membership, below}
+use Rattle.mencius_model.specs.Trace.{Trace}
+use Rattle.mencius_model.proofs.trace.NumberLists.{below-more}
+use Rattle.mencius_model.specs.Replying.{longest_at, longest_below}
+use Rattle.mencius_model.specs.Executed.{executed}
+
+-- p is the first of the n numbers where f is greatest
+pub record IsFurthest (f : ServerId → ℕ) (n : ℕ) (p : ServerId) : Type 0 where
+  pub member : p ≤ n - 1
+  pub longest : (q : ServerId) → q < n → f q ≤ f p
+  pub least : (q : ServerId) → q < p → f q < f p
+
+abbrev pub further : (ServerId → ℕ) → ServerId → ServerId → ServerId
+further f p q = cond (ltb (f p) (f q)) q p
+
+one_further : (f : ℕ → ℕ) (n p : ℕ) → IsFurthest f n p → IsFurthest f (n + 1) (further f p n)
+one_further f n p h =
+    elim (cases_Bool (ltb (f p) (f n))) [
+      | inl e ↦
+          let more = ltb-true (f p) (f n) e in
+          rw e (record {
+            member = omega arith;
+            longest = λ q lt. elim (cases_lt q n) [
+              | inl below ↦ omega (arith, h.longest q below, more)
+              | inr last ↦ let same : q ≡ n = omega arith in subst (λ x. f q ≤ f x) same (omega arith)
+            ];
+            least = λ q lt. omega (arith, h.longest q lt, more);
+          })
+      | inr e ↦
+          let less = ltb-false (f p) (f n) e in
+          rw e (record {
+            member = let so = h.member in omega arith;
+            longest = λ q lt. elim (cases_lt q n) [
+              | inl below ↦ h.longest q below
+              | inr last ↦ let same : n ≡ q = omega arith in subst (λ x. f x ≤ f p) same less
+            ];
+            least = h.least;
+          })
+    ]
+
+furthest : (f : ℕ → ℕ) (n : ℕ) → IsFurthest f n (fold (further f) 0 (below n))
+unfolding below
+furthest f zero =
+    record { member = omega arith; longest = λ q h. absurd (omega arith); least = λ q h. absurd (omega arith) }
+furthest f (suc n) =
+    let next : suc n ≡ n + 1 = omega arith in
+    let more : fold (further f) 0 (below (n + 1)) ≡ further f (fold (further f) 0 (below n)) n =
+    ap (fold (further f) 0) (below-more n) ∙ fold-append (further f) 0 (below n) (n ∷ []) in
+    subst (λ y. IsFurthest f y (fold (further f) 0 (below y))) (sym next)
+    (subst (IsFurthest f (n + 1)) (sym more) (one_further f n (fold (further f) 0 (below n)) (furthest f n)))
+
+-- a further server
+pub longest-more : (w : Trace) (p : ℕ)
+    → fold (longest_below w) 0 (below (p + 1)) ≡ longest_below w (fold (longest_below w) 0 (below p)) p
+longest-more w p = ap (fold (longest_below w) 0) (below-more p) ∙ fold-append (longest_below w) 0 (below p) (p ∷ [])
+
+pub longest-none : (w : Trace) → fold (longest_below w) 0 (below 0) ≡ 0
+unfolding below
+longest-none w = refl
+
+pub longest_is : (m : Membership) (w : Trace) → IsFurthest (λ p. length (executed w p)) m.count (longest_at m w)
+longest_is m w = furthest (λ p. length (executed w p)) m.count
+
+pub is_longer : (w : Trace) (p q : ℕ) → length (executed w p) < length (executed w q) → q ≡ longest_below w p q
+is_longer w p q h = sym (ap (λ a. cond a q p) (lt-ltb (length (executed w p)) (length (executed w q)) h))
+
+pub is_no_longer : (w : Trace) (p q : ℕ) → length (executed w q) ≤ length (executed w p) → p ≡ longest_below w p q
+is_no_longer w p q h = sym (ap (λ a. cond a q p) (le-ltb (length (executed w p)) (length (executed w q)) h))

@@ -1,0 +1,12 @@
+-- What holds of every reached trace.
+pub mod Senders
+pub mod Suggesters
+pub mod FrontOwners
+pub mod BetaZero
+pub mod MessageLimits
+pub mod LearnedLimits
+pub mod Rounds
+pub mod WithinLimits
+pub mod HeardWasSent
+pub mod ServerFacts
+pub mod ClusterFacts

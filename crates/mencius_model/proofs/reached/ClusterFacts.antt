@@ -1,0 +1,27 @@
+-- Facts of reached traces on which the cluster stands.
+use Rattle.std.proofs.Common.{◌≡◌, ℕ, ◌<◌, Some, length}
+use Rattle.mencius_base.specs.declared.message.Value.{Value}
+use Rattle.mencius_base.specs.declared.message.Value.TheVariants.{Ticket}
+use Rattle.mencius_base.specs.Members.{Membership}
+use Rattle.mencius_model.specs.Trace.{Trace, submitted}
+use Rattle.mencius_model.specs.Instance.{learned}
+use Rattle.mencius_model.specs.Server.{done}
+use Rattle.mencius_model.specs.Next.{IsReached}
+use Rattle.mencius_model.proofs.rights.Journals.{reached_grown}
+use Rattle.mencius_model.proofs.paxos.Decisions.{learned_decided}
+use Rattle.mencius_model.proofs.paxos.Tickets.{decided_submitted}
+use Rattle.mencius_model.proofs.histories.Histories.{executed_learned}
+
+-- what was executed was learned, and what was learned was submitted
+pub record IsTold (m : Membership) (w : Trace) : Type 0 where
+  pub executed : (p i : ℕ) → i < done w p → (z : Value) × (learned w p i ≡ Some z)
+  pub ticketed : (p i t : ℕ) → learned w p i ≡ Some (Ticket t) → t < length (submitted w)
+
+-- both hold of every reached trace
+pub told : (m : Membership) (w : Trace) → IsReached m w → IsTold m w
+told m w reached =
+    let grown = reached_grown m w reached in
+    record {
+      executed = executed_learned m w grown;
+      ticketed = λ p i t h. decided_submitted m w grown i t (learned_decided m w grown p i (Ticket t) h);
+    }

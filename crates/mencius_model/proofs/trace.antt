@@ -1,0 +1,9 @@
+-- Lists, lines and answers.
+pub mod Lists
+pub mod Prefixes
+pub mod NumberLists
+pub mod OneMoreLine
+pub mod AnswersLast
+pub mod QuietLines
+pub mod Tallies
+pub mod Reports

@@ -1,0 +1,269 @@
+-- What a server does on a suspicion is what the model says.
+use Rattle.std.proofs.Common.{◌≡◌, ℕ, ◌+◌, ◌<◌, ◌≤◌, Bool, true, false, List, [], ◌∷◌, Option, Some, None, cond, eqb, filter, length, ltb, map, max, refl, sym, ◌∙◌, ap, subst, inl, inr, arith, ◌&&◌, ◌||◌}
+use Rattle.std.specs.Prelude.{is_none}
+use Rattle.std.specs.List.{list_any}
+use Rattle.std.proofs.lemmas.Bool.{cases_Bool, eqb-true}
+use Rattle.std.proofs.lemmas.Nat.{mod-mul-add}
+use Rattle.mencius_base.specs.declared.event.Event.TheVariants.{Suspect}
+use Rattle.mencius_base.specs.declared.refusal.Refusal.TheVariants.{MessagesFull, NothingToRevoke, RoundsFull, SelfSuspect}
+use Rattle.mencius_base.specs.declared.message.Message.{Message}
+use Rattle.mencius_base.specs.declared.message.Message.TheVariants.{Prepare, Propose}
+use Rattle.mencius_base.specs.declared.message.Value.{Value}
+use Rattle.mencius_base.specs.Members.{Membership, ballot_of, below, instances, most_rounds, owner, first_item}
+use Rattle.mencius_base.specs.Outbox.{Outgoing}
+use Rattle.mencius_model.specs.Trace.{Line, Sent, Suspected, Trace, followed_by, heard, messages_of}
+use Rattle.mencius_model.specs.Instance.{accepted, accepted_by, accepters, highest_vote, is_acceptance, is_promise, learned_by, promised_by, promisers, proposed, proposed_by, tried_by, trying, vote_of, vote_reported, IsUntried}
+use Rattle.mencius_model.specs.Server.{front, front_by, is_covered, is_open, covered_by, reach}
+use Rattle.mencius_model.specs.Next.{IsReached, first_cause, found_by_server, next_round, preparation}
+use Rattle.mencius_model.specs.Rules.{is_open_from, reach_from}
+use Rattle.mencius_model.proofs.trace.NumberLists.{any-map, filter-instances_same, find-instances_same, map-filter-instances_same, map-instances_same}
+use Rattle.mencius_model.proofs.trace.OneMoreLine.{greater-none, greatest_quiet, oldest_quiet, vote_of_same}
+use Rattle.mencius_model.proofs.trace.Lists.{IsIn}
+use Rattle.mencius_model.proofs.rights.LineRights.{IsGrown}
+use Rattle.mencius_model.proofs.trace.AnswersLast.{acceptance_in, proposal_in, same}
+use Rattle.mencius_model.proofs.reached.HeardWasSent.{accepters_accepted, promiser}
+use Rattle.mencius_model.proofs.rights.Journals.{reached_grown}
+use Rattle.mencius_model.proofs.reached.Senders.{acceptance_asked, prepare_right, prepare_within, promise_asked, propose_ballot, propose_within}
+use Rattle.coord_paxos.specs.SlotState.{SlotState}
+use Rattle.coord_paxos.specs.Fresh.{new_slot}
+use Rattle.coord_paxos.specs.Slot.{after_begin}
+use Rattle.coord_paxos.specs.Reached.{if_own, slot_at}
+use Rattle.coord_paxos.proofs.SlotTrace.{same_slot}
+use Rattle.coord_paxos.proofs.SlotLaws.{slot_trying, slot_untried}
+use Rattle.mencius_server.specs.State.{ServerState, slot}
+use Rattle.mencius_server.specs.Machine.{after_suspect, is_covered_in, is_round_full, is_covered_at, is_open_at, next_prepare, prepare_for, reach_at, round_after, slot_revoked, suspect_cause, suspect_sent}
+use Rattle.mencius_server.specs.Laws.{SuspectIsEvent}
+use Rattle.mencius_server.specs.Reached.{server_at}
+use Rattle.mencius_server.proofs.suspicions.FirstPhases.{tried_below}
+use Rattle.mencius_server.proofs.events.HeardSkip.{among, is_instance}
+use Rattle.mencius_server.proofs.events.ServerTrace.{slot-server_at}
+use Rattle.mencius_base.specs.Limits.{greatest_round, instance_count}
+
+-- a line that says nothing but which ballot is tried
+record IsTried (p j : ℕ) (l : Line) : Type 0 where
+  promised : promised_by p j l ≡ 0
+  proposed : (b : ℕ) → proposed_by j b l ≡ None
+  accepted : accepted_by p j l ≡ None
+  learned : learned_by p j l ≡ None
+
+trying_same : (m : Membership) (w : Trace) (l : Line) (p j b : ℕ) → IsTried p j l → heard (l ∷ w) p ≡ heard w p
+    → slot_trying m (l ∷ w) p j b ≡ slot_trying m w p j b
+trying_same m w l p j b quiet deaf =
+    let proposals : (c : ℕ) → proposed (l ∷ w) j c ≡ proposed w j c =
+    λ c. oldest_quiet (proposed_by j c) l w (quiet.proposed c) in
+    let acceptance : accepted (l ∷ w) p j ≡ accepted w p j = rw quiet.accepted (greater-none (accepted w p j)) in
+    same_slot _ _ refl
+    (greatest_quiet (promised_by p j) l w quiet.promised)
+    (ap (vote_of (l ∷ w) j) acceptance ∙ vote_of_same (l ∷ w) w j (accepted w p j) proposals)
+    (oldest_quiet (learned_by p j) l w quiet.learned)
+    refl
+    (ap (λ (hs : List Message). highest_vote (map (vote_reported j b) hs)) deaf)
+    (ap (if_own m p j b) (proposals b))
+    (ap (λ (hs : List Message). map (λ (q : ℕ). list_any (is_promise j b q) hs) (below m.count)) deaf)
+    (ap (λ (hs : List Message). map (λ (q : ℕ). list_any (is_acceptance j b q) hs) (below m.count)) deaf)
+
+prepared_same : (m : Membership) (w0 : Trace) (p j b : ℕ) (js : List ℕ) (v : Trace)
+    → slot_trying m (followed_by v (map (preparation m w0 p) js)) p j b ≡ slot_trying m v p j b
+prepared_same m w0 p j b [] v = refl
+prepared_same m w0 p j b (i ∷ js) v =
+    prepared_same m w0 p j b js (preparation m w0 p i ∷ v)
+    ∙ trying_same m v (preparation m w0 p i) p j b
+    (record { promised = refl; proposed = λ c. refl; accepted = refl; learned = refl }) refl
+
+abbrev ballot_for : Membership → Trace → ℕ → ℕ → ℕ
+ballot_for m w p j = ballot_of m (next_round m w p j) p
+
+-- which ballot is tried after the lines
+tried_cond : (p i j b x : ℕ) (f : ℕ → ℕ) (a : Bool) → eqb i j ≡ a
+    → max x (cond (eqb p p && eqb i j) (f i) 0) ≡ cond a (max x (f j)) x
+tried_cond p i j b x f true e = rw (same p, e, eqb-true i j e) refl
+tried_cond p i j b x f false e = rw (same p, e) (omega arith)
+
+max_twice : (b c : ℕ) → max (max b c) c ≡ max b c
+max_twice b c = omega arith
+
+tried_after : (m : Membership) (w0 : Trace) (p j : ℕ) (js : List ℕ) (v : Trace)
+    → trying (followed_by v (map (preparation m w0 p) js)) p j
+    ≡ cond (list_any (λ (i : ℕ). eqb i j) js) (max (trying v p j) (ballot_for m w0 p j)) (trying v p j)
+tried_after m w0 p j [] v = refl
+tried_after m w0 p j (i ∷ js) v =
+    tried_after m w0 p j js (preparation m w0 p i ∷ v)
+    ∙ ap (λ (x : ℕ). cond (list_any (λ (i : ℕ). eqb i j) js) (max x (ballot_for m w0 p j)) x)
+    (tried_cond p i j 0 (trying v p j) (ballot_for m w0 p) (eqb i j) refl)
+    ∙ either (eqb i j) (list_any (λ (i : ℕ). eqb i j) js) (trying v p j) (ballot_for m w0 p j)
+  where
+    either : (a d : Bool) (x y : ℕ)
+        → cond d (max (cond a (max x y) x) y) (cond a (max x y) x) ≡ cond (a || d) (max x y) x
+    either true true x y = max_twice x y
+    either true false x y = refl
+    either false d x y = refl
+
+front_prepared : (m : Membership) (w0 : Trace) (p : ℕ) (js : List ℕ) (v : Trace)
+    → front m (followed_by v (map (preparation m w0 p) js)) p ≡ front m v p
+front_prepared m w0 p [] v = refl
+front_prepared m w0 p (i ∷ js) v =
+    front_prepared m w0 p js (preparation m w0 p i ∷ v)
+    ∙ ap (max p) (greatest_quiet (front_by m p) (preparation m w0 p i) v refl)
+
+sends_prepared : (m : Membership) (w : Trace) (p : ℕ) (js : List ℕ)
+    → map (λ (j : ℕ). Prepare p j (ballot_for m w p j)) js ≡ messages_of (map (preparation m w p) js)
+sends_prepared m w p [] = refl
+sends_prepared m w p (j ∷ js) =
+    ap (λ (ms : List Message). Prepare p j (ballot_for m w p j) ∷ ms) (sends_prepared m w p js)
+
+-- a ballot of p's own, above all that it tried, is in nobody's message
+module _ (m : Membership) (w : Trace) (p j b : ℕ) (g : IsGrown m w) (mine : owner m b ≡ p)
+    (above : trying w p j < b) where
+  unprepared : (to : ℕ) → IsIn (Sent (Prepare to j b)) w → ⊥
+  unprepared to h =
+      let home : to ≡ p = sym (prepare_right m w g to j b h).own ∙ mine in
+      let h' : IsIn (Sent (Prepare p j b)) w = subst (λ (q : ℕ). IsIn (Sent (Prepare q j b)) w) home h in
+      let within : b ≤ trying w p j = prepare_within w p j b h' in
+      omega arith
+
+  unproposed : (q : ℕ) (z : Value) → IsIn (Sent (Propose q j b z)) w → ⊥
+  unproposed q z h =
+      let home : q ≡ p = sym (propose_ballot m w g q j b z h).1 ∙ mine in
+      let h' : IsIn (Sent (Propose p j b z)) w = subst (λ (x : ℕ). IsIn (Sent (Propose x j b z)) w) home h in
+      let within : b ≤ trying w p j = propose_within m w g p j b z h' in
+      omega arith
+
+  no_promiser : (q : ℕ) → promisers w p j b q ≡ false
+  no_promiser q =
+      elim (cases_Bool (promisers w p j b q)) [
+        | inl e ↦ let h =
+            promiser w p j b q e in absurd (unprepared h.to (promise_asked m w g q h.to j b h.vote h.promise))
+        | inr e ↦ e
+      ]
+
+  no_accepter : (q : ℕ) → accepters w p j b q ≡ false
+  no_accepter q =
+      elim (cases_Bool (accepters w p j b q)) [
+        | inl e ↦
+            let h = acceptance_in w j b q (accepters_accepted w p j b q e) in
+            elim (acceptance_asked m w g q h.0 j b h.1) [
+              | inl s ↦ let zero : b ≡ 0 = s.0 in absurd (omega arith)
+              | inr s ↦ absurd (unproposed h.0 s.0 s.1)
+            ]
+        | inr e ↦ e
+      ]
+
+  no_proposal : (o : Option Value) → proposed w j b ≡ o → o ≡ None
+  no_proposal None e = refl
+  no_proposal (Some z) e = let h = proposal_in w j b z (omega arith) e in absurd (unproposed h.0 z h.1)
+
+  untried : IsUntried w p j b
+  untried = record { unpromised = no_promiser; unaccepted = no_accepter; unsaid = no_proposal (proposed w j b) refl }
+
+module _ (m : Membership) (w : Trace) (p q : ℕ) (r : IsReached m w) (member : p < m.count) where
+  abbrev covered : List ℕ
+  covered = covered_by m w p q
+
+  abbrev later : Trace
+  later = followed_by (Suspected p q ∷ w) (map (preparation m w p) covered)
+
+  above : (j : ℕ) → trying w p j < ballot_for m w p j
+  above j = tried_below m p (slot_at m w p j) (omega arith)
+
+  mine : (j : ℕ) → owner m (ballot_for m w p j) ≡ p
+  mine j = mod-mul-add (next_round m w p j) m.count p member
+
+  tried_here : (j : ℕ) → j < instance_count → (a : Bool) → is_covered m w p q j ≡ a
+      → trying later p j ≡ cond a (ballot_for m w p j) (trying w p j)
+  tried_here j small a e =
+      let which : list_any (λ (i : ℕ). eqb i j) covered ≡ a =
+      among (is_covered m w p q) instances j ∙ ap (λ (d : Bool). is_covered m w p q j && d) (is_instance j small)
+      ∙ and-true (is_covered m w p q j) ∙ e in
+      tried_after m w p j covered (Suspected p q ∷ w)
+      ∙ ap (λ (b : ℕ). cond (list_any (λ (i : ℕ). eqb i j) covered) (max b (ballot_for m w p j)) b)
+      (greatest_quiet (tried_by p j) (Suspected p q) w refl)
+      ∙ ap (λ (d : Bool). cond d (max (trying w p j) (ballot_for m w p j)) (trying w p j)) which
+      ∙ ap (λ (b : ℕ). cond a b (trying w p j)) (greater_one (trying w p j) (ballot_for m w p j) (above j))
+    where
+      and-true : (d : Bool) → (d && true) ≡ d
+      and-true true = refl
+      and-true false = refl
+
+      greater_one : (b x : ℕ) → b < x → max b x ≡ x
+      greater_one b x h = omega arith
+
+  slot_same : (j b : ℕ) → slot_trying m later p j b ≡ slot_trying m w p j b
+  slot_same j b =
+      prepared_same m w p j b covered (Suspected p q ∷ w)
+      ∙ trying_same m w (Suspected p q) p j b
+      (record { promised = refl; proposed = λ a. refl; accepted = refl; learned = refl }) refl
+
+  slot_after : (j : ℕ) → j < instance_count → (a : Bool) → is_covered m w p q j ≡ a
+      → slot_at m later p j ≡ cond a (after_begin (slot_at m w p j) (ballot_for m w p j)) (slot_at m w p j)
+  slot_after j small true e =
+      slot_same j (trying later p j) ∙ ap (slot_trying m w p j) (tried_here j small true e)
+      ∙ slot_untried m w p j (ballot_for m w p j)
+      (untried m w p j (ballot_for m w p j) (reached_grown m w r) (mine j) (above j))
+  slot_after j small false e = slot_same j (trying later p j) ∙ ap (slot_trying m w p j) (tried_here j small false e)
+
+  same_state : (xs : List SlotState) → xs ≡ map (slot_at m later p) instances
+      → ◌≡◌ {A = ServerState} (record { members = m; id = p; front = front m w p; slots = xs }) (server_at m later p)
+  same_state xs e =
+      let ahead : front m later p ≡ front m w p =
+      front_prepared m w p covered (Suspected p q ∷ w)
+      ∙ ap (max p) (greatest_quiet (front_by m p) (Suspected p q) w refl) in
+      rw (← ahead, e)
+
+  reach_same : reach_at (server_at m w p) q ≡ reach m w p q
+  reach_same =
+      ap (reach_from m (front m w p))
+      (find-instances_same (is_open_at (server_at m w p) q) (is_open m w p q)
+      (λ j small. ap (λ (s : SlotState). is_open_from m q j s.learned) (slot-server_at m w p j small)))
+
+  pub covered_same : (j : ℕ) → j < instance_count → is_covered_at (server_at m w p) q j ≡ is_covered m w p q j
+  covered_same j small =
+      ap (λ (n : ℕ). is_covered_in m q n j (slot (server_at m w p) j)) reach_same
+      ∙ ap (λ (s : SlotState). is_covered_in m q (reach m w p q) j s) (slot-server_at m w p j small)
+
+  suspect_state : after_suspect (server_at m w p) q ≡ server_at m later p
+  suspect_state =
+      same_state _
+      (map-instances_same _ (slot_at m later p) (new_slot m)
+      (λ j small. ap (λ (n : ℕ). slot_revoked m p q n j (slot (server_at m w p) j)) reach_same
+      ∙ ap (slot_revoked m p q (reach m w p q) j) (slot-server_at m w p j small)
+      ∙ sym (slot_after j small (is_covered m w p q j) refl)))
+
+  suspect_messages : suspect_sent (server_at m w p) q ≡ messages_of (map (preparation m w p) covered)
+  suspect_messages =
+      map-filter-instances_same (prepare_for (server_at m w p)) (λ (j : ℕ). Prepare p j (ballot_for m w p j))
+      (is_covered_at (server_at m w p) q) (is_covered m w p q)
+      (λ j small. ap (next_prepare m p j) (slot-server_at m w p j small))
+      covered_same
+      ∙ sends_prepared m w p covered
+
+same_causes : (a x b' y c' d d' : Bool) → x ≡ b' → y ≡ c' → d ≡ d'
+    → first_cause ((a, SelfSuspect) ∷ (x, NothingToRevoke) ∷ (y, RoundsFull) ∷ (d, MessagesFull) ∷ [])
+    ≡ first_cause ((a, SelfSuspect) ∷ (b', NothingToRevoke) ∷ (c', RoundsFull) ∷ (d', MessagesFull) ∷ [])
+same_causes a x b' y c' d d' e same equal = rw (e, same, equal)
+
+suspect_causes : (m : Membership) (w : Trace) (p q : ℕ) (s : ServerState) (o : Outgoing) → s ≡ server_at m w p
+    → IsReached m w → p < m.count
+    → suspect_cause (server_at m w p) o q ≡ first_cause (found_by_server m w (Suspect p q) (length o.messages) o.limit)
+unfolding most_rounds
+suspect_causes m w p q s o e r member =
+    same_causes (eqb p q) _ _ _ _ _ _
+    (ap (λ (xs : List ℕ). is_none (first_item xs))
+    (filter-instances_same (is_covered_at (server_at m w p) q) (is_covered m w p q) covers))
+    (any-map (is_round_full (server_at m w p)) (filter (is_covered_at (server_at m w p) q) instances)
+    ∙ ap (list_any (λ (a : Bool). a))
+    (map-filter-instances_same (is_round_full (server_at m w p)) (λ (i : ℕ). ltb greatest_round (next_round m w p i))
+    (is_covered_at (server_at m w p) q) (is_covered m w p q)
+    (λ j small. ap (λ (x : SlotState). ltb greatest_round (round_after m x)) (slot-server_at m w p j small)) covers)
+    ∙ sym (any-map (λ (i : ℕ). ltb greatest_round (next_round m w p i)) (covered_by m w p q)))
+    (ap (λ (ms : List Message). ltb o.limit (length o.messages + length ms)) (suspect_messages m w p q r member))
+  where
+    covers : (j : ℕ) → j < instance_count → is_covered_at (server_at m w p) q j ≡ is_covered m w p q j
+    covers j small = covered_same m w p q r member j small
+
+pub suspect_is_event : SuspectIsEvent
+suspect_is_event w s q at member = record {
+  sent = ap (λ (x : ServerState). suspect_sent x q) at.state ∙ suspect_messages s.members w s.id q at.reached member;
+  state = ap (λ (x : ServerState). after_suspect x q) at.state ∙ suspect_state s.members w s.id q at.reached member;
+  refusal = λ o. ap (λ (x : ServerState). suspect_cause x o q) at.state
+      ∙ suspect_causes s.members w s.id q s o at.state at.reached member;
+}

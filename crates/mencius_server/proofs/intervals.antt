@@ -1,0 +1,4 @@
+-- Ranges of skipped instances.
+pub mod RisingRanges
+pub mod RangeCounts
+pub mod NewRanges

@@ -1,0 +1,5 @@
+-- What a server keeps.
+pub mod ServerInvariant
+pub mod InvariantKept
+pub mod InvariantByCall
+pub mod SlotFits

@@ -1,0 +1,177 @@
+-- A loop over the slots that starts first phases at some.
+use Rattle.std.proofs.Common.{◌≡◌, ℕ, zero, suc, ◌+◌, ◌*◌, ◌/◌, ◌<◌, ◌≤◌, Option, Some, Bool, true, false, cond, eqb, List, [], ◌∷◌, ◌++◌, filter, length, map, max, refl, sym, ◌∙◌, ap, subst, arith, append-nil, append_assoc, ⊎_elim}
+use Rattle.std.specs.List.{count_by, list_any}
+use Rattle.std.specs.Prelude.{is_none, ◌&&◌}
+use Rattle.std.proofs.Math.Nat.{div-mul-le_self, div-zero, le-div_iff_mul-le, mul-le-mul_right}
+use Rattle.std.proofs.lemmas.Nat.{div-mul-add}
+use Rattle.std.proofs.lemmas.List.{get_or_past, length-map, map-append}
+use Rattle.std.proofs.lemmas.List.Sums.{length-filter}
+use Rattle.std.proofs.lemmas.Bool.{and_parts, cases_Bool, cases_eq, cases_lt, eqb-true, ltb-false, ne_eqb}
+use Rattle.mencius_base.specs.declared.refusal.Refusal.TheVariants.{NothingToRevoke, RoundsFull}
+use Rattle.mencius_base.specs.Outbox.{Outgoing, outbox_full}
+use Rattle.mencius_base.specs.Members.{first_item, Membership, below, instances, owner}
+use Rattle.mencius_base.specs.declared.message.Message.{Message}
+use Rattle.mencius_model.proofs.trace.NumberLists.{any-filter, any-instances, count_by-below_le, count_by-below_more, filter-below_more, filter-below_zero, get_or-map-instances, length-map-instances}
+use Rattle.coord_paxos.specs.SlotState.{SlotState}
+use Rattle.coord_paxos.specs.Fresh.{new_slot}
+use Rattle.mencius_server.specs.State.{FitsAt, IsServer, ServerState, slot}
+use Rattle.mencius_server.specs.Machine.{after_suspect, ballot_after, is_covered_in, is_round_full, is_covered_at, prepare_for, reach_at, round_after, slot_revoked, suspect_cause, suspect_sent, with_next_phase}
+use Rattle.mencius_server.proofs.invariant.ServerInvariant.{FitsAt-slot, KeepsAt, KeepsAt-fits, KeepsAt-new}
+use Rattle.mencius_server.proofs.invariant.SlotFits.{FitsAt-cond}
+use Rattle.mencius_base.specs.Limits.{greatest_round, instance_count}
+
+-- the messages for the places before i that pass stand after those before
+pub record IsSentUpTo (f : ℕ → Message) (test : ℕ → Bool) (before after : List Message) (i : ℕ) : Type 0 where
+  pub sent : after ≡ before ++ map f (filter test (below i))
+
+pub sent_none : (f : ℕ → Message) (test : ℕ → Bool) (before : List Message) → IsSentUpTo f test before before 0
+sent_none f test before =
+    record { sent = sym (ap (λ (xs : List ℕ). before ++ map f xs) (filter-below_zero test) ∙ append-nil before) }
+
+one_sent : (f : ℕ → Message) (i : ℕ) (a : Bool) → map f (cond a (i ∷ []) []) ≡ cond a (f i ∷ []) []
+one_sent f i true = refl
+one_sent f i false = refl
+
+pub sent_more : (f : ℕ → Message) (test : ℕ → Bool) (before after new all : List Message) (i : ℕ)
+    → new ≡ cond (test i) (f i ∷ []) [] → all ≡ after ++ new
+    → IsSentUpTo f test before after i → IsSentUpTo f test before all (i + 1)
+sent_more f test before after new all i here pushed old = record {
+  sent =
+      pushed ∙ ap (λ (xs : List Message). xs ++ new) old.sent
+      ∙ append_assoc before (map f (filter test (below i))) new
+      ∙ ap (λ (xs : List Message). before ++ (map f (filter test (below i)) ++ xs)) (here ∙ sym (one_sent f i (test i)))
+      ∙ ap (λ (xs : List Message). before ++ xs)
+      (sym (map-append f (filter test (below i)) (cond (test i) (i ∷ []) []))
+      ∙ ap (map f) (sym (filter-below_more test i)));
+}
+
+-- there is room for the places from i on
+pub record HasRoomFrom (test : ℕ → Bool) (n room i : ℕ) : Type 0 where
+  pub enough : count_by test (below n) ≤ room + count_by test (below i)
+
+pub room_none : (test : ℕ → Bool) (n room : ℕ) → count_by test (below n) ≤ room → HasRoomFrom test n room 0
+room_none test n room h = record { enough = omega (arith, h) }
+
+pub room_here : (test : ℕ → Bool) (n room i : ℕ) → i < n → test i ≡ true → HasRoomFrom test n room i → 0 < room
+room_here test n room i within here has =
+    let more : count_by test (below (i + 1)) ≡ count_by test (below i) + 1 =
+    count_by-below_more test i ∙ ap (λ (a : Bool). count_by test (below i) + cond a 1 0) here in
+    let all : count_by test (below (i + 1)) ≤ count_by test (below n) =
+    count_by-below_le test (i + 1) n (omega arith) in
+    omega (arith, more, all, has.enough)
+
+pub room_more : (test : ℕ → Bool) (n room new i : ℕ) → new + cond (test i) 1 0 ≡ room → HasRoomFrom test n room i
+    → HasRoomFrom test n new (i + 1)
+room_more test n room new i used has = record { enough = omega (arith, count_by-below_more test i, used, has.enough) }
+
+-- the new ballot is above the one that was tried
+pub tried_below : (m : Membership) (p : ℕ) (s : SlotState) → 1 ≤ m.count → s.trying < ballot_after m p s
+tried_below m p s some = above s.trying (s.promised / m.count) m.count p some where
+  above : (b promised n p : ℕ) → 1 ≤ n → b < (max (b / n) promised + 1) * n + p
+  above b promised n p some =
+      let d : ℕ = b / n in
+      let grows : (b / n + 1) * n ≤ (max (b / n) promised + 1) * n = mul-le-mul_right n (omega arith) in
+      let whole : b < (b / n + 1) * n = omega arith in
+      omega arith
+
+-- rounds are ordered as ballots are
+pub rounds_ordered : (k a b : ℕ) → a ≤ b → a / k ≤ b / k
+rounds_ordered zero a b less = omega (arith, div-zero a)
+rounds_ordered (suc k) a b less =
+    (le-div_iff_mul-le {k = suc k} {x = a / suc k} {y = b} (omega arith)).1 (omega (arith, less, div-mul-le_self a (suc k)))
+
+-- the round after it is the next one
+pub round_next : (m : Membership) (p : ℕ) (s : SlotState) → p < m.count
+    → round_after m (with_next_phase m p s) ≡ round_after m s + 1
+round_next m p s member =
+    let tried : (round_after m s * m.count + p) / m.count ≡ round_after m s = div-mul-add (round_after m s) m.count p member in
+    ap (λ n. max n (s.promised / m.count) + 1) tried ∙ omega arith
+
+abbrev slots_revoked : ServerState → ℕ → List SlotState
+slots_revoked s q = map (λ (j : ℕ). slot_revoked s.members s.id q (reach_at s q) j (slot s j)) instances
+
+-- a server keeps what it keeps through a suspicion of another
+pub IsServer-suspect : (s : ServerState) (q : ℕ) → (s.id ≡ q → ⊥) → IsServer s → IsServer (after_suspect s q)
+IsServer-suspect s q other kept = record {
+  member = kept.member;
+  near = kept.near;
+  same = λ i. (fits i).same;
+  own = λ i. (fits i).own;
+  unsaid = λ i. (fits i).unsaid;
+}
+  where
+    begun : (i : ℕ) → is_covered_in s.members q (reach_at s q) i (slot s i) ≡ true
+        → FitsAt s s.front i (with_next_phase s.members s.id (slot s i))
+    begun i e =
+        let theirs : owner s.members i ≡ q = eqb-true _ _ (and_parts _ _ (and_parts _ _ e).0).0 in
+        record {
+          stays = λ known. known;
+          said = λ mine. absurd (other (sym mine ∙ theirs));
+          same = kept.same i;
+          own = λ mine. absurd (other (sym mine ∙ theirs));
+          unsaid = λ mine ahead. refl;
+        }
+
+    given : (i : ℕ) → FitsAt s s.front i (slot_revoked s.members s.id q (reach_at s q) i (slot s i))
+    given i = FitsAt-cond s s.front i (is_covered_in s.members q (reach_at s q) i (slot s i)) _ (slot s i) (begun i)
+        (FitsAt-slot s i kept)
+
+    fits : (i : ℕ) → KeepsAt s s.front i (slot (after_suspect s q) i)
+    fits i =
+        ⊎_elim
+        (λ (small : i < instance_count). subst (KeepsAt s s.front i)
+        (sym (get_or-map-instances _ i (new_slot s.members) small)) (KeepsAt-fits s s.front i _ (given i)))
+        (λ (past : instance_count ≤ i).
+        let none : length (slots_revoked s q) ≤ i =
+        rw (length-map-instances (λ (j : ℕ). slot_revoked s.members s.id q (reach_at s q) j (slot s j))) past in
+        subst (KeepsAt s s.front i) (sym (get_or_past (slots_revoked s q) i (new_slot s.members) none))
+        (KeepsAt-new s s.front i))
+        (cases_lt i instance_count)
+
+-- ---- why a suspicion is refused
+
+none_given : (g : ℕ → Bool) (xs : List ℕ) → is_none (first_item (filter g xs)) ≡ eqb (count_by g xs) 0
+none_given g xs = go (filter g xs) ∙ ap (λ (n : ℕ). eqb n 0) (length-filter g xs) where
+  go : (ys : List ℕ) → is_none (first_item ys) ≡ eqb (length ys) 0
+  go [] = refl
+  go (y ∷ ys) = sym (ne_eqb (length (y ∷ ys)) 0 (λ e. absurd (omega arith)))
+
+pub suspect_cause_is : (s : ServerState) (o : Outgoing) (q : ℕ) (a d : Bool) → eqb s.id q ≡ false
+    → eqb (count_by (is_covered_at s q) instances) 0 ≡ a
+    → list_any (is_round_full s) (filter (is_covered_at s q) instances) ≡ d
+    → suspect_cause s o q
+    ≡ cond a (Some NothingToRevoke)
+    (cond d (Some RoundsFull) (outbox_full o (count_by (is_covered_at s q) instances)))
+suspect_cause_is s o q a d other none full =
+    let many : length (suspect_sent s q) ≡ count_by (is_covered_at s q) instances =
+    length-map (filter (is_covered_at s q) instances) (prepare_for s) ∙ length-filter (is_covered_at s q) instances in
+    rw (other, none_given (is_covered_at s q) instances, none, full, many)
+
+pub rounds_small : (s : ServerState) (q : ℕ) → list_any (is_round_full s) (filter (is_covered_at s q) instances) ≡ false
+    → (j : ℕ) → j < instance_count → is_covered_at s q j ≡ true → round_after s.members (slot s j) ≤ greatest_round
+rounds_small s q none j small covered =
+    ⊎_elim
+    (λ (full : is_round_full s j ≡ true).
+    let some : list_any (λ (i : ℕ). is_covered_at s q i && is_round_full s i) instances ≡ true =
+    any-instances (λ (i : ℕ). is_covered_at s q i && is_round_full s i) j small (rw covered full) in
+    let no = sym (any-filter (is_covered_at s q) (is_round_full s) instances) ∙ none in
+    absurd (cc))
+    (λ (room : is_round_full s j ≡ false). ltb-false greatest_round (round_after s.members (slot s j)) room)
+    (cases_Bool (is_round_full s j))
+
+-- what holds of each slot at which a first phase began, where it holds of one more
+pub begun_each : (begins : ℕ → Bool) (now new : ℕ → Option SlotState) (Holds : SlotState → Type 0) (i next : ℕ)
+    → ((j : ℕ) → i + 1 ≤ j → j < next → begins j ≡ false)
+    → ((j : ℕ) → (j ≡ i → ⊥) → new j ≡ now j)
+    → ((j : ℕ) (s : SlotState) → j < i → begins j ≡ true → now j ≡ Some s → Holds s)
+    → ((s : SlotState) → begins i ≡ true → new i ≡ Some s → Holds s)
+    → (j : ℕ) (s : SlotState) → j < next → begins j ≡ true → new j ≡ Some s → Holds s
+begun_each begins now new Holds i next between off before here j s less begun stands =
+    ⊎_elim
+    (λ (low : j < i). before j s low begun (sym (off j (λ e. absurd (omega arith))) ∙ stands))
+    (λ (from : i ≤ j). ⊎_elim
+    (λ (at : j ≡ i). here s (sym (ap begins at) ∙ begun) (sym (ap new at) ∙ stands))
+    (λ (past : j ≡ i → ⊥).
+    let both : true ≡ false = sym begun ∙ between j (omega arith) less in absurd (cc))
+    (cases_eq j i))
+    (cases_lt j i)

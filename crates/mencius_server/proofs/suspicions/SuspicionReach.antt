@@ -1,0 +1,73 @@
+-- How far a suspicion reaches, by the least instance that is not learned.
+use Rattle.std.proofs.Common.{◌≡◌, ℕ, ◌+◌, ◌*◌, ◌<◌, ◌≤◌, Bool, true, false, List, Option, None, Some, min, refl, sym, ◌∙◌, ap, arith, ⊎_elim}
+use Rattle.std.specs.Prelude.{is_none}
+use Rattle.std.specs.List.{find}
+use Rattle.std.proofs.lemmas.Bool.{and_left, and_right, cases_eq, cases_lt, eq-eqb, le-ltb, lt-ltb, ne_eqb}
+use Rattle.std.proofs.Math.Nat.{mod-eq_of_lt, mod-le}
+use Rattle.mencius_base.specs.Limits.{instance_count}
+use Rattle.mencius_base.specs.Members.{Membership, instances, owner}
+use Rattle.mencius_model.specs.Rules.{is_open_from, reach_from}
+use Rattle.mencius_model.proofs.trace.NumberLists.{find-instances, find-instances_found}
+use Rattle.coord_paxos.specs.SlotState.{SlotState}
+use Rattle.mencius_server.specs.Known.{KnownState, is_known_open, known_at, known_of, known_reach, known_slot}
+use Rattle.mencius_server.specs.declared.ranges.Span.{Span}
+use Rattle.mencius_server.proofs.instances.KnownInstances.{seen}
+
+-- a server's first instance has its number
+pub first_own : (m : Membership) (q : ℕ) → q < m.count → owner m q ≡ q
+first_own m q member = mod-eq_of_lt member
+
+pub first_least : (m : Membership) (q j : ℕ) → owner m j ≡ q → q ≤ j
+first_least m q j own = omega (arith, own, mod-le j m.count)
+
+pub clash : (a : Bool) → a ≡ true → a ≡ false → ⊥
+clash true e fails = cc
+clash false e fails = cc
+
+module _ (m : Membership) (slots : List (Option SlotState)) (rs : List (List Span)) (now : KnownState)
+    (shown : known_of m slots rs ≡ now) (q front near first : ℕ)
+    (near_is : near ≡ min (front + m.beta) instance_count) (own : owner m first ≡ q)
+    (below : (j : ℕ) → j < first → owner m j ≡ q → j < instance_count
+    → is_none (known_at m slots rs j).learned ≡ false) where
+  members : now.members ≡ m
+  members = sym (ap (λ (x : KnownState). x.members) shown)
+
+  open_is : (j : ℕ) → j < instance_count
+      → is_known_open now q j ≡ is_open_from m q j (known_at m slots rs j).learned
+  open_is j small =
+      ap (λ n. is_open_from n q j (known_slot now j).learned) members
+      ∙ ap (λ (s : SlotState). is_open_from m q j s.learned) (seen m slots rs now shown j small)
+
+  -- nothing is open before the first
+  closed : (j : ℕ) → j < first → j < instance_count → is_known_open now q j ≡ false
+  closed j less small =
+      open_is j small
+      ∙ ⊎_elim
+      (λ (mine : owner m j ≡ q). and_right _ _ (below j less mine small))
+      (λ (other : owner m j ≡ q → ⊥). and_left _ _ (ne_eqb (owner m j) q other))
+      (cases_eq (owner m j) q)
+
+  pub reach_there : first < near → is_none (known_at m slots rs first).learned ≡ true
+      → front + 2 * m.beta + 1 ≡ known_reach now q front
+  reach_there less unlearned =
+      let small : first < instance_count = omega (arith, near_is) in
+      let opens : is_known_open now q first ≡ true =
+      open_is first small ∙ rw (eq-eqb (owner m first) q own) unlearned in
+      sym (ap (reach_from now.members front)
+      (find-instances (is_known_open now q) first small (λ j l. closed j l (omega arith)) opens)
+      ∙ ap (λ n. reach_from n front (Some first)) members
+      ∙ rw (lt-ltb first (front + m.beta) (omega (arith, near_is))) refl)
+
+  pub reach_nowhere : near ≤ first → 0 ≡ known_reach now q front
+  reach_nowhere past = sym (go (find (is_known_open now q) instances) refl)
+    where
+      go : (o : Option ℕ) → find (is_known_open now q) instances ≡ o → reach_from now.members front o ≡ 0
+      go None e = refl
+      go (Some i) e =
+          let found = find-instances_found (is_known_open now q) i e in
+          ⊎_elim
+          (λ (less : i < first). absurd (clash (is_known_open now q i) found.passes (closed i less found.small)))
+          (λ (from : first ≤ i).
+          ap (λ n. reach_from n front (Some i)) members
+          ∙ rw (le-ltb i (front + m.beta) (omega (arith, near_is, past, from, found.small))) refl)
+          (cases_lt i first)
