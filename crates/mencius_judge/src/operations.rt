@@ -48,7 +48,7 @@ pub fn key_of(op: &Op) -> &str
 }
 
 /// What the key of an operation holds after it, where it held this before.
-#[tactic(auto, using(crate::proofs::Changes::put_there, crate::proofs::Changes::taken_there, crate::proofs::Changes::put_where_held))]
+#[tactic(auto, using(crate::proofs::keys::Changes::put_there, crate::proofs::keys::Changes::taken_there, crate::proofs::keys::Changes::put_where_held))]
 pub fn text_after(held: &Option<Text>, op: &Op) -> Result<Option<Text>, NoMemory>
     ensures { IfOk result (Becomes held.now op.now) }
 {
