@@ -37,8 +37,8 @@ acceptor_text w promised x = codes " promised " ++ decimal promised ++ vote_text
 -- as proposer, at the ballot that is tried
 abbrev pub proposer_text : Trace → Glance → List ℕ
 proposer_text w g =
-    codes " tries " ++ decimal g.trying ++ codes " promises " ++ decimal g.promises ++ codes " proposed "
-    ++ value_or_none w g.proposal ++ codes " acceptances " ++ decimal g.accepts
+    codes " tries " ++ decimal g.trying ++ codes " promises " ++ decimal g.promise_count ++ codes " proposed "
+    ++ value_or_none w g.proposal ++ codes " acceptances " ++ decimal g.acceptance_count
 
 -- as learner
 abbrev pub learner_text : Trace → Option Value → List ℕ

@@ -210,8 +210,8 @@ fn push_proposer(text: &mut String, cluster: &Cluster, glance: &Glance) -> Resul
         ≡ string_bytes text.old ++ proposer_text (trace_of cluster.now) glance.now) }
 {
     let tried = glance.trying.number();
-    let promises = glance.promises;
-    let acceptances = glance.accepts;
+    let promises = glance.promise_count;
+    let acceptances = glance.acceptance_count;
     write!(text, " tries {tried} promises {promises} proposed ")?;
     push_known_value(text, cluster, glance.proposal)?;
     write!(text, " acceptances {acceptances}")

@@ -1,7 +1,7 @@
 pub mod events
 pub mod invariant
 pub mod tickets
-pub mod instances
+pub mod stored
 pub mod intervals
 pub mod suspicions
 pub mod tallies

@@ -1,4 +1,4 @@
--- Ranges of skipped instances.
-pub mod RisingRanges
-pub mod RangeCounts
-pub mod NewRanges
+-- Intervals of skipped instances.
+pub mod RisingIntervals
+pub mod IntervalCounts
+pub mod NewIntervals

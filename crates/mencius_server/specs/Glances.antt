@@ -3,13 +3,13 @@ use Rattle.std.specs.List.{count_by}
 use Rattle.coord_paxos.specs.SlotState.{SlotState}
 use Rattle.mencius_server.specs.declared.glance.Glance.{Glance}
 
--- of the tallies their counts, and not the vote that was reported
+-- of the sets their counts, and not the vote that was reported
 abbrev pub glance_of : SlotState → Glance
 glance_of s = record {
   promised = s.promised;
   learned = s.learned;
   trying = s.trying;
   proposal = s.proposal;
-  promises = count_by (λ a. a) s.promisers;
-  accepts = count_by (λ a. a) s.accepters;
+  promise_count = count_by (λ a. a) s.promisers;
+  acceptance_count = count_by (λ a. a) s.accepters;
 }

@@ -15,7 +15,7 @@ use Rattle.mencius_model.specs.Instance.{learned}
 use Rattle.mencius_model.specs.Next.{IsReached, learnings, lines, next, server_of}
 use Rattle.mencius_model.specs.Server.{front, waiting}
 use Rattle.mencius_server.specs.Machine.{after_hearing, after_retry, after_submit_at, after_suspect, first_waiting, free_at, learned_on, retry_cause, retry_sent, sent_on, submit_cause, submit_sent, suspect_cause, suspect_sent}
-use Rattle.mencius_server.specs.Reached.{IsAt, IsPart, server_at}
+use Rattle.mencius_server.specs.Reached.{IsAt, IsEventPart, server_at}
 use Rattle.mencius_server.specs.State.{ServerState, slot}
 
 -- a server that is at a trace has the front of that trace
@@ -35,7 +35,7 @@ WaitingAnswers = (w : Trace) (s : ServerState) → IsAt w s → first_waiting s 
 abbrev pub SubmitIsEvent : Type 0
 SubmitIsEvent =
     (w : Trace) (s : ServerState) (x : Command) (t : TicketNo) → IsAt w s → t ≡ length (submitted w)
-    → IsPart w (Submit s.id x) s (submit_sent s t (free_at s)) (after_submit_at s t (free_at s))
+    → IsEventPart w (Submit s.id x) s (submit_sent s t (free_at s)) (after_submit_at s t (free_at s))
     (λ o. submit_cause o (free_at s))
 
 -- where a message was sent in the trace, hearing it is the server's part in the delivery
@@ -43,7 +43,7 @@ abbrev pub HearIsEvent : Type 0
 HearIsEvent =
     (w : Trace) (s : ServerState) (k : MessageNo) (x : Message) → IsAt w s → IsTrue (is_for s.members s.id x)
     → slice_get (sent w) k ≡ Some x
-    → IsPart w (Deliver k s.id) s (sent_on s x) (after_hearing s x) (λ o. outbox_full o (length (sent_on s x)))
+    → IsEventPart w (Deliver k s.id) s (sent_on s x) (after_hearing s x) (λ o. outbox_full o (length (sent_on s x)))
 
 -- and so many instances are learned then
 abbrev pub HearLearnsAsEvent : Type 0
@@ -56,13 +56,13 @@ HearLearnsAsEvent =
 abbrev pub SuspectIsEvent : Type 0
 SuspectIsEvent =
     (w : Trace) (s : ServerState) (q : ServerId) → IsAt w s → s.id < s.members.count
-    → IsPart w (Suspect s.id q) s (suspect_sent s q) (after_suspect s q) (λ o. suspect_cause s o q)
+    → IsEventPart w (Suspect s.id q) s (suspect_sent s q) (after_suspect s q) (λ o. suspect_cause s o q)
 
 -- suggesting the first waiting ticket is the server's part in the retry
 abbrev pub RetryIsEvent : Type 0
 RetryIsEvent =
     (w : Trace) (s : ServerState) → IsAt w s
-    → IsPart w (Retry s.id) s (retry_sent s (first_waiting s)) (after_retry s (first_waiting s))
+    → IsEventPart w (Retry s.id) s (retry_sent s (first_waiting s)) (after_retry s (first_waiting s))
     (λ o. retry_cause s o (first_waiting s))
 
 -- `hear` takes the message at every server that it goes to

@@ -1,4 +1,4 @@
--- What becomes of the slots that stand when one of them is lent.
+-- What becomes of the slots that are stored when one of them is lent.
 use Rattle.std.specs.Prelude.{List, Option, Some, slice_set}
 use Rattle.mencius_base.specs.Numbers.{Inst}
 use Rattle.std.specs.Borrow.{Fml, Lends, MutBor}

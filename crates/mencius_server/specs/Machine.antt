@@ -75,17 +75,18 @@ after_learn_at s i x = with_slot s i (after_learn (slot s i) x)
 abbrev pub is_skipped : Membership → ServerId → Inst → Inst → Inst → Bool
 is_skipped m q first stop j = gives_up m j (Skip q first stop)
 
-abbrev pub is_given : Membership → ServerId → Inst → Inst → Inst → SlotState → Bool
-is_given m q first stop j s = is_given_up_from m j (Skip q first stop) s.learned
+abbrev pub is_newly_skipped_slot : Membership → ServerId → Inst → Inst → Inst → SlotState → Bool
+is_newly_skipped_slot m q first stop j s = is_given_up_from m j (Skip q first stop) s.learned
 
-abbrev pub slot_given : Membership → ServerId → Inst → Inst → Inst → SlotState → SlotState
-slot_given m q first stop j s = if is_skipped m q first stop j then after_learn s Noop else s
+abbrev pub slot_after_skip : Membership → ServerId → Inst → Inst → Inst → SlotState → SlotState
+slot_after_skip m q first stop j s = if is_skipped m q first stop j then after_learn s Noop else s
 
-abbrev pub given_count : ServerState → ServerId → Inst → Inst → ℕ
-given_count s q first stop = count_by (λ j. is_given s.members q first stop j (slot s j)) instances
+abbrev pub newly_skipped_count : ServerState → ServerId → Inst → Inst → ℕ
+newly_skipped_count s q first stop = count_by (λ j. is_newly_skipped_slot s.members q first stop j (slot s j)) instances
 
 abbrev pub after_skip : ServerState → ServerId → Inst → Inst → ServerState
-after_skip s q first stop = record s { slots = map (λ j. slot_given s.members q first stop j (slot s j)) instances }
+after_skip s q first stop =
+    record s { slots = map (λ j. slot_after_skip s.members q first stop j (slot s j)) instances }
 
 -- what a message makes a server send
 abbrev pub sent_on : ServerState → Message → List Message
@@ -109,7 +110,7 @@ after_hearing s (Learn from inst value) = after_learn_at s inst value
 -- how many instances a message makes the server learn
 abbrev pub learned_on : ServerState → Message → ℕ
 learned_on s (Accepted from to inst ballot) = learnings (decided_on s from inst ballot)
-learned_on s (Skip from first stop) = given_count s from first stop
+learned_on s (Skip from first stop) = newly_skipped_count s from first stop
 learned_on s (Learn from inst value) = learnings (learning_lines s.id inst value (slot s inst).learned)
 learned_on s _ = 0
 
@@ -207,8 +208,8 @@ abbrev pub with_next_phase : Membership → ServerId → SlotState → SlotState
 with_next_phase m p s = after_begin s (ballot_after m p s)
 
 -- it is started where a suspicion of q covers the instance
-abbrev pub slot_revoked : Membership → ServerId → ServerId → Inst → Inst → SlotState → SlotState
-slot_revoked m p q reach i s = if is_covered_in m q reach i s then with_next_phase m p s else s
+abbrev pub slot_after_suspect : Membership → ServerId → ServerId → Inst → Inst → SlotState → SlotState
+slot_after_suspect m p q reach i s = if is_covered_in m q reach i s then with_next_phase m p s else s
 
 -- an instance of q at which nothing was learned, and the least of them
 abbrev pub is_open_at : ServerState → ServerId → Inst → Bool
@@ -225,36 +226,40 @@ abbrev pub is_covered_at : ServerState → ServerId → Inst → Bool
 is_covered_at s q i = is_covered_in s.members q (reach_at s q) i (slot s i)
 
 -- all that it covers
-abbrev pub covered_at : ServerState → ServerId → List Inst
-covered_at s q = filter (is_covered_at s q) instances
+abbrev pub covered_instances_at : ServerState → ServerId → List Inst
+covered_instances_at s q = filter (is_covered_at s q) instances
 
 abbrev pub prepare_for : ServerState → Inst → Message
 prepare_for s i = next_prepare s.members s.id i (slot s i)
 
 abbrev pub suspect_sent : ServerState → ServerId → List Message
-suspect_sent s q = map (prepare_for s) (covered_at s q)
+suspect_sent s q = map (prepare_for s) (covered_instances_at s q)
 
 abbrev pub after_suspect : ServerState → ServerId → ServerState
-after_suspect s q = record s { slots = map (λ i. slot_revoked s.members s.id q (reach_at s q) i (slot s i)) instances }
+after_suspect s q = record s {
+  slots = map (λ i. slot_after_suspect s.members s.id q (reach_at s q) i (slot s i))
+      instances;
+}
 
 -- no round is left above them
 abbrev pub is_spent : Membership → SlotState → Bool
 is_spent m s = nat_lt greatest_round (round_after m s)
 
-abbrev pub is_round_full : ServerState → Inst → Bool
-is_round_full s i = is_spent s.members (slot s i)
+abbrev pub is_spent_at : ServerState → Inst → Bool
+is_spent_at s i = is_spent s.members (slot s i)
 
 -- why a suspicion of another server is refused, in order: it covers nothing, there is no further round at an instance
 -- that it covers, or so many messages are too many
 abbrev pub revocation_causes : Bool → Bool → Outgoing → ℕ → List (Bool × Refusal)
-revocation_causes is_nothing is_full o count =
+revocation_causes is_nothing is_any_spent o count =
     (is_nothing, NothingToRevoke)
-    ∷ (is_full, RoundsFull)
+    ∷ (is_any_spent, RoundsFull)
     ∷ (is_too_many o.limit (length o.messages) count, MessagesFull) ∷ []
 
 -- and of any server
 abbrev pub suspect_cause : ServerState → Outgoing → ServerId → Option Refusal
 suspect_cause s o q = first_cause (
     (s.id == q, SelfSuspect)
-    ∷ revocation_causes (is_none (first_item (covered_at s q))) (list_any (is_round_full s) (covered_at s q)) o
+    ∷ revocation_causes (is_none (first_item (covered_instances_at s q)))
+    (list_any (is_spent_at s) (covered_instances_at s q)) o
     (length (suspect_sent s q)))

@@ -26,7 +26,7 @@ abbrev pub refusal_of : Trace → Event → ServerState → Outgoing → Option 
 refusal_of w e s o = first_cause (found_by_server s.members w e (length o.messages) o.limit)
 
 -- a server's part in an event: it sends these messages, it is this afterwards, and it refuses the event for this cause
-pub record IsPart (w : Trace) (e : Event) (s : ServerState) (ms : List Message) (after : ServerState)
+pub record IsEventPart (w : Trace) (e : Event) (s : ServerState) (ms : List Message) (after : ServerState)
     (cause : Outgoing → Option Refusal) : Type 0 where
   pub sent : ms ≡ messages_of (lines s.members w e)
   pub state : after ≡ server_at s.members (with_event s.members w e) s.id

@@ -1,4 +1,5 @@
--- What the calls on the slots that stand make of them: a is a stretch, rs are ranges, and ss slots by instance.
+-- What the calls on the slots that are stored make of them: a is an interval, rs are skipped intervals, and ss slots by
+-- instance.
 use Rattle.std.specs.Prelude.{◌≡◌, Bool, true, false, List, [], ◌∷◌, Option, None, Some, if◌then◌else◌, ◌&&◌, is_none, not, slice_index_or, unwrap_or}
 use Rattle.std.specs.Option.{option_map}
 use Rattle.mencius_base.specs.declared.message.Message.{Message}
@@ -6,21 +7,21 @@ use Rattle.mencius_base.specs.Members.{Membership}
 use Rattle.mencius_base.specs.Numbers.{Inst, ServerId}
 use Rattle.coord_paxos.specs.SlotState.{SlotState}
 use Rattle.coord_paxos.specs.Fresh.{new_slot}
-use Rattle.mencius_server.specs.Machine.{is_skipped, next_prepare, slot_given, with_next_phase}
-use Rattle.mencius_server.specs.Ranges.{covers}
-use Rattle.mencius_server.specs.Runs.{AreRuns}
-use Rattle.mencius_server.specs.declared.ranges.Span.{Span}
-use Rattle.mencius_server.specs.declared.stretch.Stretch.{Stretch}
+use Rattle.mencius_server.specs.Machine.{is_skipped, next_prepare, slot_after_skip, with_next_phase}
+use Rattle.mencius_server.specs.Intervals.{is_in_any}
+use Rattle.mencius_server.specs.LearnedIntervals.{AreLearnedIntervals}
+use Rattle.mencius_server.specs.declared.skipped_intervals.Interval.{Interval}
+use Rattle.mencius_server.specs.declared.owned_interval.OwnedInterval.{OwnedInterval}
 
--- the slot that stands at an instance, if one does
-abbrev pub stand_at : List (Option SlotState) → Inst → Option SlotState
-stand_at ss j = slice_index_or ss j None
+-- the slot that is stored at an instance, if one is
+abbrev pub stored_at : List (Option SlotState) → Inst → Option SlotState
+stored_at ss j = slice_index_or ss j None
 
 -- what is known of an instance by a slot alone
-abbrev pub known_by_slot : Membership → List (Option SlotState) → Inst → SlotState
-known_by_slot m ss j = unwrap_or (stand_at ss j) (new_slot m)
+abbrev pub stored_or_new : Membership → List (Option SlotState) → Inst → SlotState
+stored_or_new m ss j = unwrap_or (stored_at ss j) (new_slot m)
 
--- a slot stands that has learned nothing, or one that has learned something
+-- a slot is stored that has learned nothing, or one that has learned something
 abbrev pub is_unlearned : Option SlotState → Bool
 is_unlearned None = false
 is_unlearned (Some s) = is_none s.learned
@@ -29,50 +30,50 @@ abbrev pub is_learned : Option SlotState → Bool
 is_learned None = false
 is_learned (Some s) = not (is_none s.learned)
 
--- the instance is one of a stretch
-abbrev pub is_in : Stretch → Inst → Bool
+-- the instance is one of an interval
+abbrev pub is_in : OwnedInterval → Inst → Bool
 is_in a j = is_skipped a.members a.server a.first a.stop j
 
--- one of a stretch, where no slot stands and which no range has
-abbrev pub is_lacking : Stretch → List Span → List (Option SlotState) → Inst → Bool
-is_lacking a rs ss j = is_in a j && (not (covers rs j) && is_none (stand_at ss j))
+-- one of an interval, where no slot is stored and which no skipped interval has
+abbrev pub is_lacking : OwnedInterval → List Interval → List (Option SlotState) → Inst → Bool
+is_lacking a rs ss j = is_in a j && (not (is_in_any rs j) && is_none (stored_at ss j))
 
 -- a new slot where one was lacking
-abbrev pub stood_at : Stretch → List Span → Inst → Option SlotState → Option SlotState
-stood_at a rs j (Some s) = Some s
-stood_at a rs j None = if is_in a j && not (covers rs j) then Some (new_slot a.members) else None
+abbrev pub new_slot_at : OwnedInterval → List Interval → Inst → Option SlotState → Option SlotState
+new_slot_at a rs j (Some s) = Some s
+new_slot_at a rs j None = if is_in a j && not (is_in_any rs j) then Some (new_slot a.members) else None
 
--- one of a stretch at which a slot stands that has learned nothing
-abbrev pub is_begun : Stretch → List (Option SlotState) → Inst → Bool
-is_begun a ss j = is_in a j && is_unlearned (stand_at ss j)
+-- one of an interval at which a slot is stored that has learned nothing
+abbrev pub is_covered_slot : OwnedInterval → List (Option SlotState) → Inst → Bool
+is_covered_slot a ss j = is_in a j && is_unlearned (stored_at ss j)
 
--- runs that lead over no more than runs did before, but for instances of a stretch at which no slot stands that has
--- learned nothing
-abbrev pub PassesRuns : Stretch → List (Option SlotState) → List Inst → List Inst → Type 0
-PassesRuns a ss old new =
-    (opens : Inst → Bool) → AreRuns a.members opens old
-    → ((j : Inst) → is_in a j ≡ true → is_unlearned (stand_at ss j) ≡ false → opens j ≡ false)
-    → AreRuns a.members opens new
+-- intervals that lead over no more than intervals did before, but for instances of an interval at which no slot is
+-- stored that has learned nothing
+abbrev pub PassesLearnedIntervals : OwnedInterval → List (Option SlotState) → List Inst → List Inst → Type 0
+PassesLearnedIntervals a ss old new =
+    (opens : Inst → Bool) → AreLearnedIntervals a.members opens old
+    → ((j : Inst) → is_in a j ≡ true → is_unlearned (stored_at ss j) ≡ false → opens j ≡ false)
+    → AreLearnedIntervals a.members opens new
 
 -- a first phase is started where nothing was learned
-abbrev pub begun : Membership → ServerId → SlotState → SlotState
-begun m p s = if is_none s.learned then with_next_phase m p s else s
+abbrev pub slot_after_phase : Membership → ServerId → SlotState → SlotState
+slot_after_phase m p s = if is_none s.learned then with_next_phase m p s else s
 
-abbrev pub begun_at : Stretch → ServerId → Inst → Option SlotState → Option SlotState
-begun_at a p j o = if is_in a j && is_unlearned o then option_map (begun a.members p) o else o
+abbrev pub stored_after_phase : OwnedInterval → ServerId → Inst → Option SlotState → Option SlotState
+stored_after_phase a p j o = if is_in a j && is_unlearned o then option_map (slot_after_phase a.members p) o else o
 
 -- the messages of that
 abbrev pub prepare_at : Membership → ServerId → Inst → Option SlotState → List Message
 prepare_at m p j None = []
 prepare_at m p j (Some s) = if is_none s.learned then next_prepare m p j s ∷ [] else []
 
-abbrev pub prepare_of : Stretch → ServerId → List (Option SlotState) → Inst → Message
-prepare_of a p ss j = next_prepare a.members p j (known_by_slot a.members ss j)
+abbrev pub prepare_of : OwnedInterval → ServerId → List (Option SlotState) → Inst → Message
+prepare_of a p ss j = next_prepare a.members p j (stored_or_new a.members ss j)
 
--- no-op is learned at the slots of a stretch
-abbrev pub given : Stretch → Inst → SlotState → SlotState
-given a j s = slot_given a.members a.server a.first a.stop j s
+-- no-op is learned at the slots of an interval
+abbrev pub slot_after_skip_in : OwnedInterval → Inst → SlotState → SlotState
+slot_after_skip_in a j s = slot_after_skip a.members a.server a.first a.stop j s
 
--- one of a stretch at which a value was learned, and which no range has
-abbrev pub is_told : Stretch → List Span → List (Option SlotState) → Inst → Bool
-is_told a rs ss j = is_in a j && (not (covers rs j) && is_learned (stand_at ss j))
+-- one of an interval at which a value was learned, and which no skipped interval has
+abbrev pub is_learned_before : OwnedInterval → List Interval → List (Option SlotState) → Inst → Bool
+is_learned_before a rs ss j = is_in a j && (not (is_in_any rs j) && is_learned (stored_at ss j))

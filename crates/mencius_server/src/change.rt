@@ -1,5 +1,5 @@
 //! Changes of one slot.
-ghost use Rattle.mencius_server.specs.Changes.{IsSaid, changed};
+ghost use Rattle.mencius_server.specs.Changes.{IsSaid, slot_after_change};
 ghost use Rattle.std.specs.Prelude.{◌≡◌};
 
 use coord_paxos::Slot;
@@ -8,13 +8,13 @@ use mencius_base::{Ballot, Value, Vote};
 /// What a message changes in one slot.
 ///
 /// A slot is asked first what it would answer, then room is reserved for the messages, and then it is changed where
-/// it stands.
+/// it is stored.
 #[derive(Clone, Copy, Debug)]
 pub(crate) enum Change {
     Prepare(Ballot),
     Accept(Ballot, Value),
     CountPromise(u8, Ballot, Option<Vote>),
-    CountAccept(u8, Ballot),
+    CountAcceptance(u8, Ballot),
     Learn(Value),
 }
 
@@ -22,7 +22,7 @@ impl Change {
     /// Makes the change at a slot.
     pub(crate) fn make(self, slot: &mut Slot)
         requires { IsSaid slot.old.members self }
-        ensures { slot.new ≡ changed slot.old self }
+        ensures { slot.new ≡ slot_after_change slot.old self }
     {
         match self {
             Change::Prepare(ballot) => {
@@ -34,7 +34,7 @@ impl Change {
             Change::CountPromise(from, ballot, vote) => {
                 slot.add_promise(from, ballot, vote);
             }
-            Change::CountAccept(from, ballot) => {
+            Change::CountAcceptance(from, ballot) => {
                 slot.add_accept(from, ballot);
             }
             Change::Learn(value) => {

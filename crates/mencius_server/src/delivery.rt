@@ -4,7 +4,7 @@ ghost use Rattle.mencius_base.specs.Message.{is_for};
 ghost use Rattle.mencius_base.specs.Outbox.{outbox_full};
 ghost use Rattle.mencius_base.specs.Refusal.{IsRefusedFor};
 ghost use Rattle.mencius_base.specs.declared.message.Message.TheVariants.{Prepare};
-ghost use Rattle.mencius_server.specs.Machine.{IsUndone, accepted_sent, after_accepted, after_hearing, after_learn_at, after_skip, given_count, after_prepare_at, after_promise_at, after_propose, after_suggest, learned_on, decided_on, prepare_sent, promise_sent, propose_sent, sent_on, own_skip, suggest_sent, next_front};
+ghost use Rattle.mencius_server.specs.Machine.{IsUndone, accepted_sent, after_accepted, after_hearing, after_learn_at, after_skip, newly_skipped_count, after_prepare_at, after_promise_at, after_propose, after_suggest, learned_on, decided_on, prepare_sent, promise_sent, propose_sent, sent_on, own_skip, suggest_sent, next_front};
 ghost use Rattle.mencius_model.specs.Next.{learnings};
 ghost use Rattle.mencius_server.specs.State.{slot};
 ghost use Rattle.std.specs.Prelude.{◌≡◌, ◌+◌, ◌<◌, ◌++◌, ◌==◌, length, is_none, OnOk, OnErr, IfOk, if◌then◌else◌, IsTrue, Some};
@@ -21,7 +21,7 @@ impl Server {
     /// - Suggest: where its instance is above the front, the own instances from the front up to it are
     ///   given up by one Skip, and the front moves past it (Rule 2). It is accepted unless another
     ///   ballot was promised there.
-    /// - Skip: no-op is learned at once at each instance of the skipper in the range.
+    /// - Skip: no-op is learned at once at each instance of the skipper in the interval.
     /// - Prepare: a learned value is answered by Learn; else a ballot above the promised one is
     ///   promised, with the vote.
     /// - Promise: once a majority promised the ballot that this server tries, it proposes the value of
@@ -87,10 +87,10 @@ impl Server {
         requires member { from < self.old.members.count }
         requires small { first < instance_count }
         ensures after { OnOk result (self.new ≡ after_skip self.old from first stop) }
-        ensures learned { IfOk result (λ n. n ≡ given_count self.old from first stop) }
+        ensures learned { IfOk result (λ n. n ≡ newly_skipped_count self.old from first stop) }
         ensures err { OnErr result (self.new ≡ self.old) }
     {
-        let learned = self.known.skip(from, first, stop)?;
+        let learned = self.instances.skip(from, first, stop)?;
         if from == self.id {
             self.notes.note_lost(first);
         }
@@ -116,7 +116,7 @@ impl Server {
     {
         let first = self.front;
         let is_ahead = first < inst;
-        let is_accepted = self.known.promised(inst) == Ballot::OWNER;
+        let is_accepted = self.instances.promised(inst) == Ballot::OWNER;
         out.reserve(u32::from(is_ahead) + u32::from(is_accepted))?;
         if is_accepted {
             self.change(inst, Change::Accept(Ballot::OWNER, Value::Ticket(ticket)))?;
@@ -154,7 +154,7 @@ impl Server {
     {
         // The proof reads off the length that the outbox is within its limit.
         let _few = out.len();
-        match self.known.prepare_answer(inst, ballot) {
+        match self.instances.prepare_answer(inst, ballot) {
             Answer::Promise(vote) => {
                 out.reserve(1)?;
                 self.change(inst, Change::Prepare(ballot))?;
@@ -201,12 +201,12 @@ impl Server {
     {
         // The proof reads off the length that the outbox is within its limit.
         let _few = out.len();
-        if ballot != self.known.trying(inst) {
+        if ballot != self.instances.trying(inst) {
             return Ok(0);
         }
         // One copy is asked about, and the other is counted.
         let reported = vote;
-        let value = self.known.promise_answer(inst, from, ballot, vote);
+        let value = self.instances.promise_answer(inst, from, ballot, vote);
         out.reserve(u32::from(value.is_some()))?;
         self.change(inst, Change::CountPromise(from, ballot, reported))?;
         if let Some(value) = value {
@@ -240,7 +240,7 @@ impl Server {
     {
         // The proof reads off the length that the outbox is within its limit.
         let _few = out.len();
-        if ballot < self.known.promised(inst) {
+        if ballot < self.instances.promised(inst) {
             return Ok(0);
         }
         out.reserve(1)?;
@@ -261,7 +261,7 @@ impl Server {
             (λ n. n ≡ (if is_none (slot self.old inst).learned then 1 else 0)) }
         ensures err { OnErr result (self.new ≡ self.old) }
     {
-        if self.known.learned(inst).is_some() {
+        if self.instances.learned(inst).is_some() {
             return Ok(0);
         }
         self.change(inst, Change::Learn(value))?;
@@ -288,16 +288,16 @@ impl Server {
     {
         // The proof reads off the length that the outbox is within its limit.
         let _few = out.len();
-        if ballot != self.known.trying(inst) {
+        if ballot != self.instances.trying(inst) {
             return Ok(0);
         }
-        let value = self.known.accept_answer(inst, from, ballot);
-        if value.is_none() && self.known.has_accepter(inst, from) {
+        let value = self.instances.acceptance_answer(inst, from, ballot);
+        if value.is_none() && self.instances.has_accepter(inst, from) {
             // It was counted before, and decides nothing.
             return Ok(0);
         }
         out.reserve(u32::from(value.is_some()))?;
-        self.change(inst, Change::CountAccept(from, ballot))?;
+        self.change(inst, Change::CountAcceptance(from, ballot))?;
         match value {
             Some(value) => {
                 out.push(Message::Learn {

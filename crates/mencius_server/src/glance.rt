@@ -6,7 +6,7 @@ ghost use Rattle.std.specs.Prelude.{◌≡◌};
 use coord_paxos::Slot;
 use mencius_base::{Ballot, Value};
 
-/// What a server knows of an instance, with counts in place of tallies.
+/// What a server knows of an instance, with counts in place of sets.
 #[derive(Clone, Copy, Debug, PartialEq, Eq)]
 pub struct Glance {
     /// The greatest ballot that was promised or accepted, 0 if there is none.
@@ -18,9 +18,9 @@ pub struct Glance {
     /// What the server proposed at the ballot that it tries.
     pub proposal: Option<Value>,
     /// Of how many servers it heard a promise of that ballot.
-    pub promises: usize,
+    pub promise_count: usize,
     /// Of how many it heard an acceptance at that ballot.
-    pub accepts: usize,
+    pub acceptance_count: usize,
 }
 
 pub(crate) fn glance_at(slot: &Slot) -> Glance
@@ -31,8 +31,8 @@ pub(crate) fn glance_at(slot: &Slot) -> Glance
         learned: slot.learned(),
         trying: slot.trying(),
         proposal: slot.proposal(),
-        promises: count_of(slot.promises()),
-        accepts: count_of(slot.accepts()),
+        promise_count: count_of(slot.promises()),
+        acceptance_count: count_of(slot.accepts()),
     }
 }
 

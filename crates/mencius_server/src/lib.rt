@@ -14,14 +14,14 @@ ghost use Rattle.mencius_base.specs.Limits.{greatest_front, instance_count};
 ghost use Rattle.mencius_base.specs.Members.{owner};
 ghost use Rattle.mencius_base.specs.declared.refusal.Refusal.TheVariants as refusal;
 ghost use Rattle.mencius_server.specs.Reached.{server_at};
-ghost use Rattle.mencius_server.specs.Changes.{IsSaid, changed};
+ghost use Rattle.mencius_server.specs.Changes.{IsSaid, slot_after_change};
 ghost use Rattle.mencius_server.specs.Glances.{glance_of};
 ghost use Rattle.mencius_server.specs.State.{slot, with_slot};
 ghost use Rattle.std.specs.Prelude.{◌≡◌, ◌<◌, ◌≤◌, [], OnOk, OnErr, IfOk, IfErr, ℕ};
 
 use crate::change::Change;
 use crate::glance::glance_at;
-use crate::known::Known;
+use crate::instances::Instances;
 use crate::notes::Notes;
 use coord_paxos::Slot;
 pub use glance::Glance;
@@ -32,14 +32,14 @@ use std::marker::Model;
 mod change;
 mod delivery;
 mod glance;
-mod known;
+mod instances;
 pub mod laws;
+mod learned_intervals;
 mod notes;
-mod ranges;
+mod owned_interval;
 mod revocation;
-mod runs;
+mod skipped_intervals;
 mod slots;
-mod stretch;
 mod suggestion;
 mod tally;
 
@@ -52,22 +52,22 @@ pub struct Server {
     members: Members,
     id: u8,
     front: u32,
-    known: Known,
+    instances: Instances,
     notes: Notes,
 }
 
 impl Model for Server {
-    ghost use Rattle.mencius_server.specs.Kept.{IsKept};
+    ghost use Rattle.mencius_server.specs.Inside.{IsServerInside};
     ghost use Rattle.mencius_server.specs.State.{ServerState};
 
     ghost Value = { ServerState };
 
     ghost view = { λ s.
-        record { members = s.members; id = s.id; front = s.front; slots = s.known.slots } };
+        record { members = s.members; id = s.id; front = s.front; slots = s.instances.slots } };
 
-    ghost invariant = { λ s. IsKept
-        (record { members = s.members; id = s.id; front = s.front; slots = s.known.slots })
-        s.known.members s.notes };
+    ghost invariant = { λ s. IsServerInside
+        (record { members = s.members; id = s.id; front = s.front; slots = s.instances.slots })
+        s.instances.members s.notes };
 }
 
 impl Server {
@@ -81,12 +81,12 @@ impl Server {
     {
         // The proof reads off the count that there are few members.
         let _few = members.count();
-        let known = Known::new(alloc, members)?;
+        let instances = Instances::new(alloc, members)?;
         Ok(Server {
             members,
             id,
             front: id as u32,
-            known,
+            instances,
             notes: Notes::new(alloc),
         })
     }
@@ -124,7 +124,7 @@ impl Server {
         ensures { result ≡ (slot self.now inst).learned }
     {
         if inst < INSTANCES {
-            self.known.learned(inst)
+            self.instances.learned(inst)
         } else {
             None
         }
@@ -135,18 +135,18 @@ impl Server {
         ensures { result ≡ glance_of (slot self.now inst) }
     {
         if inst < INSTANCES {
-            self.known.glance(inst)
+            self.instances.glance(inst)
         } else {
             glance_at(&Slot::new(self.members))
         }
     }
 
-    /// How many slots the server keeps, and how many ranges of instances that it was heard to skip.
+    /// How many slots the server keeps, and how many intervals of instances that it was heard to skip.
     ///
-    /// A slot stands only where something else than a Skip was heard or done, so that neither count
+    /// A slot is stored only where something else than a Skip was heard or done, so that neither count
     /// grows with the number of instances. For tests: nothing that the server says rests on it.
-    pub fn kept(&self) -> (u32, u32) {
-        self.known.kept()
+    pub fn stored_counts(&self) -> (u32, u32) {
+        self.instances.stored_counts()
     }
 
     // The least own instance from a place on.
@@ -159,16 +159,16 @@ impl Server {
         self.members.first_owned(self.id, from)
     }
 
-    // Changes an instance's slot where it stands, and leaves the front.
+    // Changes an instance's slot where it is stored, and leaves the front.
     fn change(&mut self, inst: u32, change: Change) -> Result<(), NoMemory>
         requires small { inst < instance_count }
         requires said { IsSaid self.old.members change }
         ensures ok { OnOk result (self.new
-            ≡ with_slot self.old inst (changed (slot self.old inst) change)) }
+            ≡ with_slot self.old inst (slot_after_change (slot self.old inst) change)) }
         ensures err { OnErr result (self.new ≡ self.old) }
     {
-        self.known.change(inst, change)?;
-        let is_lost = matches!(self.known.learned(inst), Some(Value::Noop));
+        self.instances.change(inst, change)?;
+        let is_lost = matches!(self.instances.learned(inst), Some(Value::Noop));
         if is_lost && self.members.owner(inst) == self.id {
             self.notes.note_lost(inst);
         }

@@ -1,12 +1,12 @@
 //! What a server notes of its own tickets, so that it need not search for them.
 ghost use Rattle.mencius_base.specs.Limits.{instance_count};
-ghost use Rattle.mencius_server.specs.Known.{known_slot};
+ghost use Rattle.mencius_server.specs.Instances.{instance_slot};
 ghost use Rattle.mencius_server.specs.Machine.{is_ticket, suggested_in};
 ghost use Rattle.mencius_server.specs.Notes.{nothing_noted};
 ghost use Rattle.mencius_model.specs.Server.{ticket_of};
 ghost use Rattle.std.specs.Prelude.{◌≡◌, ℕ, ◌<◌, ◌≤◌, ◌⊎◌, ◌||◌, Some, false, length, min, slice_index_or, vec_len, OnErr, OnOk};
 
-use crate::known::Known;
+use crate::instances::Instances;
 use mencius_base::{INSTANCES, Members, NoMemory, Value};
 use std::alloc::Global;
 use std::marker::Model;
@@ -21,19 +21,19 @@ pub(crate) struct Notes {
     // Every ticket that was suggested is below this number.
     next_ticket: u64,
     // For each instance from 0, whether the own ticket there was suggested again further on.
-    moved: Vec<bool>,
+    suggested_again: Vec<bool>,
 }
 
 impl Model for Notes {
-    ghost use Rattle.mencius_server.specs.Notes.{Noted};
+    ghost use Rattle.mencius_server.specs.Notes.{NotesState};
 
-    ghost Value = { Noted };
+    ghost Value = { NotesState };
 
     ghost view = { λ n. record {
       lost_from = n.lost_from;
       free_from = n.free_from;
       next_ticket = n.next_ticket;
-      moved = n.moved.items;
+      suggested_again = n.suggested_again.items;
     } };
 }
 
@@ -46,7 +46,7 @@ impl Notes {
             lost_from: INSTANCES,
             free_from: 0,
             next_ticket: 0,
-            moved: Vec::new(alloc),
+            suggested_again: Vec::new(alloc),
         }
     }
 
@@ -86,116 +86,130 @@ impl Notes {
     }
 
     /// Whether the own ticket of an instance was suggested again further on.
-    pub(crate) fn is_moved(&self, inst: u32) -> bool
-        ensures { result ≡ slice_index_or self.now.moved inst false }
+    pub(crate) fn is_suggested_again(&self, inst: u32) -> bool
+        ensures { result ≡ slice_index_or self.now.suggested_again inst false }
     {
-        (inst as usize) < self.moved.len() && self.moved[inst as usize]
+        (inst as usize) < self.suggested_again.len() && self.suggested_again[inst as usize]
     }
 
     /// Makes room for the marks of a ticket, where it was suggested before.
     pub(crate) fn reserve(&mut self, front: u32, ticket: u32) -> Result<(), NoMemory>
-        requires short { length self.old.moved ≤ front }
+        requires short { length self.old.suggested_again ≤ front }
         ensures lost { self.new.lost_from ≡ self.old.lost_from }
         ensures free { self.new.free_from ≡ self.old.free_from }
         ensures next { self.new.next_ticket ≡ self.old.next_ticket }
         ensures reach { OnOk result (ticket < self.old.next_ticket
-            → min front instance_count ≤ length self.new.moved) }
-        ensures short { length self.new.moved ≤ front }
-        ensures same { (j : ℕ) → slice_index_or self.new.moved j false
-            ≡ slice_index_or self.old.moved j false }
+            → min front instance_count ≤ length self.new.suggested_again) }
+        ensures short { length self.new.suggested_again ≤ front }
+        ensures same { (j : ℕ) → slice_index_or self.new.suggested_again j false
+            ≡ slice_index_or self.old.suggested_again j false }
         ensures err { OnErr result (self.new ≡ self.old) }
     {
         if u64::from(ticket) >= self.next_ticket {
             return Ok(());
         }
-        unmarked_to(&mut self.moved, front.min(INSTANCES) as usize)
+        unmarked_to(&mut self.suggested_again, front.min(INSTANCES) as usize)
     }
 
     /// Notes that a ticket is suggested at an instance from the front on: marks the own instances before the front at
     /// which it was suggested before.
     pub(crate) fn pass_on(
         &mut self,
-        known: &Known,
+        instances: &Instances,
         members: Members,
         id: u8,
         front: u32,
         ticket: u32,
     )
         requires member { id < members.count }
-        requires same { known.now.members ≡ members }
+        requires same { instances.now.members ≡ members }
         requires room { ticket < self.old.next_ticket
-            → min front instance_count ≤ length self.old.moved }
-        requires short { length self.old.moved ≤ front }
+            → min front instance_count ≤ length self.old.suggested_again }
+        requires short { length self.old.suggested_again ≤ front }
         requires tickets { (j t : ℕ) → j < front → j < instance_count
-            → suggested_in members id j (known_slot known.now j) ≡ Some t
+            → suggested_in members id j (instance_slot instances.now j) ≡ Some t
             → t < self.old.next_ticket }
         ensures lost { self.new.lost_from ≡ self.old.lost_from }
         ensures free { self.new.free_from ≡ self.old.free_from }
         ensures above { (self.old.next_ticket ≤ self.new.next_ticket)
             × (ticket < self.new.next_ticket) }
-        ensures short { length self.new.moved ≤ front }
+        ensures short { length self.new.suggested_again ≤ front }
         ensures marked { (j : ℕ) → j < front → j < instance_count
-            → slice_index_or self.new.moved j false
-            ≡ (slice_index_or self.old.moved j false
-            || is_ticket ticket (suggested_in members id j (known_slot known.now j))) }
+            → slice_index_or self.new.suggested_again j false
+            ≡ (slice_index_or self.old.suggested_again j false
+            || is_ticket ticket (suggested_in members id j (instance_slot instances.now j))) }
         ensures rest { (j : ℕ) → min front instance_count ≤ j
-            → slice_index_or self.new.moved j false ≡ slice_index_or self.old.moved j false }
+            → slice_index_or self.new.suggested_again j false ≡ slice_index_or self.old.suggested_again j false }
     {
         if u64::from(ticket) >= self.next_ticket {
             self.next_ticket = u64::from(ticket) + 1;
             return;
         }
         let end = front.min(INSTANCES) as usize;
-        mark(&mut self.moved, known, members, id, end, ticket);
+        mark(
+            &mut self.suggested_again,
+            instances,
+            members,
+            id,
+            end,
+            ticket,
+        );
     }
 }
 
 // Makes places without a mark below a given one.
-fn unmarked_to(moved: &mut Vec<bool>, wanted: usize) -> Result<(), NoMemory>
-    ensures reach { OnOk result (wanted ≤ vec_len moved.new) }
-    ensures few { (vec_len moved.new ≤ wanted) ⊎ (vec_len moved.new ≡ vec_len moved.old) }
-    ensures same { (j : ℕ) → slice_index_or moved.new.items j false
-        ≡ slice_index_or moved.old.items j false }
-    ensures err { OnErr result (moved.new.items ≡ moved.old.items) }
+fn unmarked_to(suggested_again: &mut Vec<bool>, wanted: usize) -> Result<(), NoMemory>
+    ensures reach { OnOk result (wanted ≤ vec_len suggested_again.new) }
+    ensures few { (vec_len suggested_again.new ≤ wanted) ⊎ (vec_len suggested_again.new ≡ vec_len suggested_again.old) }
+    ensures same { (j : ℕ) → slice_index_or suggested_again.new.items j false
+        ≡ slice_index_or suggested_again.old.items j false }
+    ensures err { OnErr result (suggested_again.new.items ≡ suggested_again.old.items) }
 {
-    if moved.len() >= wanted {
+    if suggested_again.len() >= wanted {
         return Ok(());
     }
-    moved.reserve(wanted - moved.len())?;
-    while moved.len() < wanted {
-        moved.push_reserved(false);
+    suggested_again.reserve(wanted - suggested_again.len())?;
+    while suggested_again.len() < wanted {
+        suggested_again.push_reserved(false);
     }
     Ok(())
 }
 
 // Marks the own instances below a place where a ticket was suggested.
-fn mark(moved: &mut Vec<bool>, known: &Known, members: Members, id: u8, end: usize, ticket: u32)
+fn mark(
+    suggested_again: &mut Vec<bool>,
+    instances: &Instances,
+    members: Members,
+    id: u8,
+    end: usize,
+    ticket: u32,
+)
     requires member { id < members.count }
-    requires same { known.now.members ≡ members }
+    requires same { instances.now.members ≡ members }
     requires few { end ≤ instance_count }
-    requires moved { end ≤ vec_len moved.old }
-    ensures len { vec_len moved.new ≡ vec_len moved.old }
-    ensures marked { (j : ℕ) → j < end → slice_index_or moved.new.items j false
-        ≡ (slice_index_or moved.old.items j false
-        || is_ticket ticket (suggested_in members id j (known_slot known.now j))) }
+    requires suggested_again { end ≤ vec_len suggested_again.old }
+    ensures len { vec_len suggested_again.new ≡ vec_len suggested_again.old }
+    ensures marked { (j : ℕ) → j < end → slice_index_or suggested_again.new.items j false
+        ≡ (slice_index_or suggested_again.old.items j false
+        || is_ticket ticket (suggested_in members id j (instance_slot instances.now j))) }
     ensures rest { (j : ℕ) → end ≤ j
-        → slice_index_or moved.new.items j false ≡ slice_index_or moved.old.items j false }
+        → slice_index_or suggested_again.new.items j false ≡ slice_index_or suggested_again.old.items j false }
 {
     let mut inst = members.first_owned(id, 0);
     while (inst as usize) < end {
-        if is_of(known, inst, ticket) {
-            moved[inst as usize] = true;
+        if is_of(instances, inst, ticket) {
+            suggested_again[inst as usize] = true;
         }
         inst = members.first_owned(id, inst + 1);
     }
 }
 
 // The ticket was suggested at the instance.
-fn is_of(known: &Known, inst: u32, ticket: u32) -> bool
+fn is_of(instances: &Instances, inst: u32, ticket: u32) -> bool
     requires { inst < instance_count }
-    ensures { result ≡ is_ticket ticket (ticket_of (known_slot known.now inst).proposal) }
+    ensures { result ≡ is_ticket ticket (ticket_of (instance_slot instances.now inst).proposal) }
 {
-    match known.proposal(inst) {
+    match instances.proposal(inst) {
         Some(Value::Ticket(other)) => other == ticket,
         Some(Value::Noop) => false,
         None => false,

@@ -2,7 +2,7 @@
 ghost use Rattle.mencius_base.specs.Limits.{greatest_round};
 ghost use Rattle.mencius_base.specs.Refusal.{IsRefusedFor};
 ghost use Rattle.mencius_server.specs.Machine.{IsUndone, after_suspect, is_spent, round_after, suspect_cause, suspect_sent};
-ghost use Rattle.mencius_server.specs.Slots.{begun, prepare_at};
+ghost use Rattle.mencius_server.specs.Slots.{prepare_at, slot_after_phase};
 ghost use Rattle.mencius_server.specs.State.{slot};
 ghost use Rattle.std.specs.Prelude.{◌≡◌, false, is_none, is_some, ◌+◌, ◌<◌, ◌≤◌, ◌++◌, ◌==◌, OnOk, OnErr, if◌then◌else◌, Some, true};
 
@@ -12,7 +12,7 @@ use mencius_base::{Ballot, GREATEST_ROUND, Members, Message, Outbox, Refusal};
 
 impl Server {
     /// Revokes what a suspected server left open (Rule 3 of Mao, Junqueira and Marzullo, OSDI 2008,
-    /// section 4; the range is this project's choice).
+    /// section 4; the reach is this project's choice).
     ///
     /// Where the least instance of the suspected server that this server has not learned is below beta
     /// past its front, one Prepare goes to `out`, by rising instance, for each instance of the suspected
@@ -43,10 +43,10 @@ impl Server {
         if self.id == suspected {
             return Err(Refusal::SelfSuspect);
         }
-        let reach = self.known.reach(suspected, self.front);
-        let tally = self.known.tally(suspected, reach);
+        let reach = self.instances.reach(suspected, self.front);
+        let tally = self.instances.tally(suspected, reach);
         tally.reserve(out)?;
-        self.known
+        self.instances
             .begin_all(self.id, suspected, reach, tally.open_count, out)?;
         Ok(())
     }
@@ -75,7 +75,7 @@ pub(crate) fn begin_slot(
     requires rounds { is_none slot.old.learned ≡ true
         → round_after members slot.old ≤ greatest_round }
     requires room { is_none slot.old.learned ≡ true → 0 < out.old.room }
-    ensures after { slot.new ≡ begun members id slot.old }
+    ensures after { slot.new ≡ slot_after_phase members id slot.old }
     ensures sent { out.new.messages
         ≡ out.old.messages ++ prepare_at members id inst (Some slot.old) }
     ensures room { out.new.room + (if is_none slot.old.learned then 1 else 0) ≡ out.old.room }

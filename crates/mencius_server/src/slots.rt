@@ -1,60 +1,60 @@
-//! The slots that stand, by instance.
+//! The slots that are stored, by instance.
 ghost use Rattle.mencius_base.specs.Limits.{greatest_round, instance_count};
 ghost use Rattle.coord_paxos.specs.Fresh.{new_slot};
 ghost use Rattle.coord_paxos.specs.Slot.{after_learn};
 ghost use Rattle.coord_paxos.specs.SlotState.{SlotState};
 ghost use Rattle.mencius_base.specs.Members.{below, instances};
 ghost use Rattle.mencius_base.specs.declared.message.Value.TheVariants.{Noop};
-ghost use Rattle.mencius_server.specs.Known.{slotless};
+ghost use Rattle.mencius_server.specs.Instances.{slot_by_skip};
 ghost use Rattle.mencius_server.specs.Lending.{LendsSlot};
 ghost use Rattle.mencius_server.specs.Machine.{is_spent, round_after};
-ghost use Rattle.mencius_server.specs.Places.{IsPlaced, standing};
-ghost use Rattle.mencius_server.specs.Ranges.{covers};
-ghost use Rattle.mencius_server.specs.Runs.{AreRuns};
-ghost use Rattle.mencius_server.specs.Slots.{PassesRuns, begun, begun_at, given, is_begun, is_lacking, is_learned, is_told, is_unlearned, prepare_at, prepare_of, stand_at, stood_at};
-ghost use Rattle.mencius_server.specs.Stretches.{IsStretch};
+ghost use Rattle.mencius_server.specs.SlotTable.{IsSlotTable, stored_slots};
+ghost use Rattle.mencius_server.specs.Intervals.{is_in_any};
+ghost use Rattle.mencius_server.specs.LearnedIntervals.{AreLearnedIntervals};
+ghost use Rattle.mencius_server.specs.Slots.{PassesLearnedIntervals, is_covered_slot, is_lacking, is_learned, is_learned_before, is_unlearned, new_slot_at, prepare_at, prepare_of, slot_after_phase, slot_after_skip_in, stored_after_phase, stored_at};
+ghost use Rattle.mencius_server.specs.OwnedIntervals.{IsOwnedInterval};
 ghost use Rattle.std.specs.Borrow.{sem};
 ghost use Rattle.std.specs.List.{count_by, filter};
 ghost use Rattle.std.specs.Option.{option_map};
 ghost use Rattle.std.specs.Prelude.{◌≡◌, ℕ, ◌+◌, ◌<◌, ◌≤◌, ◌==◌, ◌++◌, ◌&&◌, not, false, true, is_none, is_some, length, map, slice_index_or, vec_capacity, vec_len, IfNone, IfSome, IsSome, None, OnErr, OnOk, Some, if◌then◌else◌};
 
-use crate::ranges::Ranges;
+use crate::learned_intervals::LearnedIntervals;
+use crate::owned_interval::{OwnedInterval, next_owned};
 use crate::revocation::begin_slot;
-use crate::runs::Runs;
-use crate::stretch::{Stretch, next_owned};
+use crate::skipped_intervals::SkippedIntervals;
 use coord_paxos::Slot;
 use mencius_base::{INSTANCES, Members, NoMemory, Outbox, Value};
 use std::alloc::Global;
 use std::marker::Model;
 
-/// The slots that stand, each at one instance.
+/// The slots that are stored, each at one instance.
 ///
 /// A table has the place of each instance's slot, so that a slot is found without a search and changed where it
-/// stands, and so that room for several slots is reserved before the first of them stands.
+/// is stored, and so that room for several slots is reserved before the first of them is stored.
 #[derive(Drop)]
 pub(crate) struct Slots {
-    // For each instance, as far as any slot stands, the place of its slot.
+    // For each instance, as far as any slot is stored, the place of its slot.
     places: Vec<Option<usize>>,
-    // The slots, in the order in which they came to stand.
+    // The slots, in the order in which they came to be stored.
     slots: Vec<Slot>,
 }
 
 impl Model for Slots {
     ghost use Rattle.std.specs.Prelude.{List, Option, vec_len};
     ghost use Rattle.coord_paxos.specs.SlotState.{SlotState};
-    ghost use Rattle.mencius_server.specs.Places.{IsPlaced, standing};
+    ghost use Rattle.mencius_server.specs.SlotTable.{IsSlotTable, stored_slots};
 
     ghost Value = { List (Option SlotState) };
 
-    ghost view = { λ s. standing s.places.items s.slots.items };
+    ghost view = { λ s. stored_slots s.places.items s.slots.items };
 
-    ghost invariant = { λ s. IsPlaced s.places.items (vec_len s.slots) };
+    ghost invariant = { λ s. IsSlotTable s.places.items (vec_len s.slots) };
 }
 
 impl Slots {
-    /// No slot stands. It takes no memory.
+    /// No slot is stored. It takes no memory.
     pub(crate) fn new(alloc: Global) -> Slots
-        ensures { (j : ℕ) → stand_at result j ≡ None }
+        ensures { (j : ℕ) → stored_at result j ≡ None }
     {
         Slots {
             places: Vec::new(alloc),
@@ -62,7 +62,7 @@ impl Slots {
         }
     }
 
-    /// How many slots stand.
+    /// How many slots are stored.
     pub(crate) fn len(&self) -> usize
         ensures count { result ≡ count_by is_some self.now }
         ensures all { length self.now ≡ instance_count }
@@ -70,11 +70,11 @@ impl Slots {
         self.slots.len()
     }
 
-    /// The slot that stands at an instance, if one does.
+    /// The slot that is stored at an instance, if one is.
     pub(crate) fn get(&self, inst: u32) -> Option<&Slot>
         requires { inst < instance_count }
-        ensures there { IfSome result (λ s. stand_at self.now inst ≡ Some s.now) }
-        ensures none { IfNone result (stand_at self.now inst ≡ None) }
+        ensures there { IfSome result (λ s. stored_at self.now inst ≡ Some s.now) }
+        ensures none { IfNone result (stored_at self.now inst ≡ None) }
     {
         match place_at(&self.places, inst) {
             Some(place) => Some(&self.slots[place]),
@@ -82,36 +82,36 @@ impl Slots {
         }
     }
 
-    /// Whether a slot stands at an instance.
+    /// Whether a slot is stored at an instance.
     pub(crate) fn has(&self, inst: u32) -> bool
         requires { inst < instance_count }
-        ensures { result ≡ is_some (stand_at self.now inst) }
+        ensures { result ≡ is_some (stored_at self.now inst) }
     {
         place_at(&self.places, inst).is_some()
     }
 
-    /// The slot that stands at an instance, to be changed there.
+    /// The slot that is stored at an instance, to be changed there.
     pub(crate) fn at(&mut self, inst: u32) -> &mut Slot
         requires small { inst < instance_count }
-        requires there { IsSome (stand_at self.old inst) }
+        requires there { IsSome (stored_at self.old inst) }
         ensures* lends { sem 𝓛 (LendsSlot self.entry inst result) }
-        ensures value { stand_at self.old inst ≡ Some result.now }
+        ensures value { stored_at self.old inst ≡ Some result.now }
     {
         let place = place_at(&self.places, inst).unwrap_or(0);
         &mut self.slots[place]
     }
 
-    /// Makes a slot stand at an instance where none does. A skipped instance is learned.
-    pub(crate) fn stand(
+    /// Stores a slot at an instance where none is stored. A skipped instance is learned.
+    pub(crate) fn store(
         &mut self,
         members: Members,
         inst: u32,
         is_skipped: bool,
     ) -> Result<(), NoMemory>
         requires small { inst < instance_count }
-        requires none { stand_at self.old inst ≡ None }
-        ensures ok { OnOk result ((j : ℕ) → stand_at self.new j
-            ≡ (if j == inst then Some (slotless members is_skipped) else stand_at self.old j)) }
+        requires none { stored_at self.old inst ≡ None }
+        ensures ok { OnOk result ((j : ℕ) → stored_at self.new j
+            ≡ (if j == inst then Some (slot_by_skip members is_skipped) else stored_at self.old j)) }
         ensures err { OnErr result (self.new ≡ self.old) }
     {
         self.slots.reserve(1)?;
@@ -121,67 +121,77 @@ impl Slots {
         Ok(())
     }
 
-    /// Makes new slots stand at the instances of a stretch that lack one: none stands there, and no range has them.
+    /// Stores new slots at the instances of an interval that lack one: none is stored there, and no skipped interval
+    /// has them.
     ///
     /// There are at most so many of them.
-    pub(crate) fn stand_all(
+    pub(crate) fn store_all(
         &mut self,
-        stretch: Stretch,
-        skipped: &Ranges,
-        runs: &Runs,
+        interval: OwnedInterval,
+        skipped: &SkippedIntervals,
+        learned_intervals: &LearnedIntervals,
         lacking: u32,
     ) -> Result<(), NoMemory>
-        requires stretch { IsStretch stretch }
-        requires small { stretch.stop ≤ instance_count }
-        requires runs { AreRuns stretch.members (is_lacking stretch skipped.now self.old) runs.now }
-        requires lacking { count_by (is_lacking stretch skipped.now self.old) (below stretch.stop)
+        requires interval { IsOwnedInterval interval }
+        requires small { interval.stop ≤ instance_count }
+        requires learned_intervals { AreLearnedIntervals interval.members (is_lacking interval skipped.now self.old)
+            learned_intervals.now }
+        requires lacking { count_by (is_lacking interval skipped.now self.old) (below interval.stop)
             ≤ lacking }
-        ensures ok { OnOk result ((j : ℕ) → stand_at self.new j
-            ≡ stood_at stretch skipped.now j (stand_at self.old j)) }
+        ensures ok { OnOk result ((j : ℕ) → stored_at self.new j
+            ≡ new_slot_at interval skipped.now j (stored_at self.old j)) }
         ensures err { OnErr result (self.new ≡ self.old) }
     {
         if lacking == 0 {
             return Ok(());
         }
         self.slots.reserve(lacking as usize)?;
-        widen(&mut self.places, stretch.stop as usize)?;
-        push_lacking(&mut self.places, &mut self.slots, stretch, skipped, runs);
+        widen(&mut self.places, interval.stop as usize)?;
+        push_lacking(
+            &mut self.places,
+            &mut self.slots,
+            interval,
+            skipped,
+            learned_intervals,
+        );
         Ok(())
     }
 
-    /// Starts a first phase at each slot of a stretch that has learned nothing: whether any is in the last round.
+    /// Starts a first phase at each slot of an interval that has learned nothing: whether any is in the last round.
     ///
     /// There is room for the Prepares.
     pub(crate) fn begin_all(
         &mut self,
-        stretch: Stretch,
+        interval: OwnedInterval,
         id: u8,
-        runs: &mut Runs,
+        learned_intervals: &mut LearnedIntervals,
         out: &mut Outbox,
     ) -> bool
-        requires stretch { IsStretch stretch }
-        requires small { stretch.stop ≤ instance_count }
-        requires id { id < stretch.members.count }
-        requires rounds { (j : ℕ) (s : SlotState) → is_begun stretch self.old j ≡ true
-            → stand_at self.old j ≡ Some s
-            → round_after stretch.members s ≤ greatest_round }
-        requires room { count_by (is_begun stretch self.old) (below stretch.stop) ≤ out.old.room }
-        requires runs { AreRuns stretch.members (is_begun stretch self.old) runs.old }
-        ensures slots { (j : ℕ) → stand_at self.new j
-            ≡ begun_at stretch id j (stand_at self.old j) }
+        requires interval { IsOwnedInterval interval }
+        requires small { interval.stop ≤ instance_count }
+        requires id { id < interval.members.count }
+        requires rounds { (j : ℕ) (s : SlotState) → is_covered_slot interval self.old j ≡ true
+            → stored_at self.old j ≡ Some s
+            → round_after interval.members s ≤ greatest_round }
+        requires room { count_by (is_covered_slot interval self.old) (below interval.stop) ≤ out.old.room }
+        requires learned_intervals { AreLearnedIntervals interval.members (is_covered_slot interval self.old)
+            learned_intervals.old }
+        ensures slots { (j : ℕ) → stored_at self.new j
+            ≡ stored_after_phase interval id j (stored_at self.old j) }
         ensures sent { out.new.messages
             ≡ out.old.messages
-            ++ map (prepare_of stretch id self.old)
-            (filter (is_begun stretch self.old) (below stretch.stop)) }
+            ++ map (prepare_of interval id self.old)
+            (filter (is_covered_slot interval self.old) (below interval.stop)) }
         ensures limit { out.new.limit ≡ out.old.limit }
-        ensures last { result ≡ false → (j : ℕ) (s : SlotState) → is_begun stretch self.old j ≡ true
-            → stand_at self.new j ≡ Some s → is_spent stretch.members s ≡ false }
-        ensures runs { PassesRuns stretch self.old runs.old runs.new }
+        ensures last { result ≡ false → (j : ℕ) (s : SlotState) → is_covered_slot interval self.old j ≡ true
+            → stored_at self.new j ≡ Some s → is_spent interval.members s ≡ false }
+        ensures learned_intervals { PassesLearnedIntervals interval self.old learned_intervals.old
+            learned_intervals.new }
     {
-        let members = stretch.members;
-        let stop = stretch.stop;
+        let members = interval.members;
+        let stop = interval.stop;
         let mut is_last = false;
-        let mut inst = stretch.first;
+        let mut inst = interval.first;
         while inst < stop {
             match self.begin(members, id, inst, out) {
                 Some(is_last_here) => {
@@ -191,9 +201,9 @@ impl Slots {
                 None => {
                     let mut end = inst;
                     while end < stop && !self.is_unlearned(end) {
-                        end = runs.past(end, next_owned(members, end));
+                        end = learned_intervals.past(end, next_owned(members, end));
                     }
-                    runs.put(inst, end);
+                    learned_intervals.put(inst, end);
                     inst = end;
                 }
             }
@@ -201,27 +211,27 @@ impl Slots {
         is_last
     }
 
-    // Starts a first phase at an instance where a slot stands that has learned nothing: whether it is in the last
+    // Starts a first phase at an instance where a slot is stored that has learned nothing: whether it is in the last
     // round. Elsewhere it starts none.
     fn begin(&mut self, members: Members, id: u8, inst: u32, out: &mut Outbox) -> Option<bool>
         requires small { inst < instance_count }
         requires member { id < members.count }
-        requires rounds { (s : SlotState) → stand_at self.old inst ≡ Some s
+        requires rounds { (s : SlotState) → stored_at self.old inst ≡ Some s
             → is_none s.learned ≡ true
             → round_after members s ≤ greatest_round }
-        requires room { is_unlearned (stand_at self.old inst) ≡ true → 0 < out.old.room }
-        ensures slots { (j : ℕ) → stand_at self.new j
+        requires room { is_unlearned (stored_at self.old inst) ≡ true → 0 < out.old.room }
+        ensures slots { (j : ℕ) → stored_at self.new j
             ≡ (if j == inst
-            then option_map (begun members id) (stand_at self.old j)
-            else stand_at self.old j) }
+            then option_map (slot_after_phase members id) (stored_at self.old j)
+            else stored_at self.old j) }
         ensures sent { out.new.messages
-            ≡ out.old.messages ++ prepare_at members id inst (stand_at self.old inst) }
-        ensures room { out.new.room + (if is_unlearned (stand_at self.old inst) then 1 else 0)
+            ≡ out.old.messages ++ prepare_at members id inst (stored_at self.old inst) }
+        ensures room { out.new.room + (if is_unlearned (stored_at self.old inst) then 1 else 0)
             ≡ out.old.room }
         ensures limit { out.new.limit ≡ out.old.limit }
-        ensures begun { is_some result ≡ is_unlearned (stand_at self.old inst) }
+        ensures begun { is_some result ≡ is_unlearned (stored_at self.old inst) }
         ensures last { result ≡ Some false → (s : SlotState)
-            → stand_at self.new inst ≡ Some s → is_spent members s ≡ false }
+            → stored_at self.new inst ≡ Some s → is_spent members s ≡ false }
     {
         if self.has(inst) {
             begin_slot(self.at(inst), members, id, inst, out)
@@ -230,10 +240,10 @@ impl Slots {
         }
     }
 
-    // Whether a slot stands at an instance that has learned nothing.
+    // Whether a slot is stored at an instance that has learned nothing.
     fn is_unlearned(&self, inst: u32) -> bool
         requires { inst < instance_count }
-        ensures { result ≡ is_unlearned (stand_at self.now inst) }
+        ensures { result ≡ is_unlearned (stored_at self.now inst) }
     {
         match self.get(inst) {
             Some(slot) => slot.learned().is_none(),
@@ -241,66 +251,70 @@ impl Slots {
         }
     }
 
-    /// At how many slots of a stretch a value was learned and no range has the instance.
-    pub(crate) fn told(&self, stretch: Stretch, skipped: &Ranges) -> u32
-        requires stretch { IsStretch stretch }
-        ensures { result ≡ count_by (is_told stretch skipped.now self.now) instances }
+    /// At how many slots of an interval a value was learned and no skipped interval has the instance.
+    pub(crate) fn count_learned_before(
+        &self,
+        interval: OwnedInterval,
+        skipped: &SkippedIntervals,
+    ) -> u32
+        requires interval { IsOwnedInterval interval }
+        ensures { result ≡ count_by (is_learned_before interval skipped.now self.now) instances }
     {
-        let members = stretch.members;
-        let stop = self.end_of(stretch.stop);
-        let mut told = 0;
-        let mut inst = stretch.first;
+        let members = interval.members;
+        let stop = self.end_of(interval.stop);
+        let mut count = 0;
+        let mut inst = interval.first;
         while inst < stop {
-            told += u32::from(self.is_told(inst, skipped));
+            count += u32::from(self.is_learned_before(inst, skipped));
             inst = next_owned(members, inst);
         }
-        told
+        count
     }
 
-    // Whether a slot stands at the instance that has learned a value, and no range has the instance.
-    fn is_told(&self, inst: u32, skipped: &Ranges) -> bool
+    // Whether a slot is stored at the instance that has learned a value, and no skipped interval has the instance.
+    fn is_learned_before(&self, inst: u32, skipped: &SkippedIntervals) -> bool
         requires { inst < instance_count }
-        ensures { result ≡ (not (covers skipped.now inst) && is_learned (stand_at self.now inst)) }
+        ensures { result ≡ (not (is_in_any skipped.now inst) && is_learned (stored_at self.now inst)) }
     {
         match self.get(inst) {
-            Some(slot) => slot.learned().is_some() && !skipped.covers(inst),
+            Some(slot) => slot.learned().is_some() && !skipped.has(inst),
             None => false,
         }
     }
 
-    /// Learns no-op at each slot of a stretch.
-    pub(crate) fn learn_noops(&mut self, stretch: Stretch)
-        requires stretch { IsStretch stretch }
+    /// Learns no-op at each slot of an interval.
+    pub(crate) fn learn_noops(&mut self, interval: OwnedInterval)
+        requires interval { IsOwnedInterval interval }
         ensures { (j : ℕ) → j < instance_count
-            → stand_at self.new j ≡ option_map (given stretch j) (stand_at self.old j) }
+            → stored_at self.new j ≡ option_map (slot_after_skip_in interval j) (stored_at self.old j) }
     {
-        let members = stretch.members;
-        let stop = self.end_of(stretch.stop);
-        let mut inst = stretch.first;
+        let members = interval.members;
+        let stop = self.end_of(interval.stop);
+        let mut inst = interval.first;
         while inst < stop {
             self.learn_noop(inst);
             inst = next_owned(members, inst);
         }
     }
 
-    // Learns no-op at a slot, if one stands at the instance.
+    // Learns no-op at a slot, if one is stored at the instance.
     fn learn_noop(&mut self, inst: u32)
         requires { inst < instance_count }
-        ensures { (j : ℕ) → stand_at self.new j
+        ensures { (j : ℕ) → stored_at self.new j
             ≡ (if j == inst
-            then option_map (λ s. after_learn s Noop) (stand_at self.old j)
-            else stand_at self.old j) }
+            then option_map (λ s. after_learn s Noop) (stored_at self.old j)
+            else stored_at self.old j) }
     {
         if self.has(inst) {
             self.at(inst).learn(Value::Noop);
         }
     }
 
-    // The place from which on no slot stands below another place.
+    // The place from which on no slot is stored below another place.
     fn end_of(&self, stop: u32) -> u32
         ensures small { result ≤ instance_count }
         ensures within { result ≤ stop }
-        ensures none { (j : ℕ) → result ≤ j → j < stop → stand_at self.now j ≡ None }
+        ensures none { (j : ℕ) → result ≤ j → j < stop → stored_at self.now j ≡ None }
     {
         let len = self.places.len().min(INSTANCES as usize) as u32;
         len.min(stop)
@@ -309,7 +323,7 @@ impl Slots {
 
 /// A slot where nothing was heard but perhaps a Skip.
 pub(crate) fn blank(members: Members, is_skipped: bool) -> Slot
-    ensures { result ≡ slotless members is_skipped }
+    ensures { result ≡ slot_by_skip members is_skipped }
 {
     if is_skipped {
         Slot::known(members, Value::Noop)
@@ -318,7 +332,7 @@ pub(crate) fn blank(members: Members, is_skipped: bool) -> Slot
     }
 }
 
-// The place of the slot at an instance, if one stands there.
+// The place of the slot at an instance, if one is stored there.
 fn place_at(places: &[Option<usize>], inst: u32) -> Option<usize>
     ensures { result ≡ slice_index_or places.now inst None }
 {
@@ -329,7 +343,7 @@ fn place_at(places: &[Option<usize>], inst: u32) -> Option<usize>
     }
 }
 
-// Lengthens the table to some instances or a few more, at most all. Nothing stands at the new ones.
+// Lengthens the table to some instances or a few more, at most all. None is stored at the new ones.
 fn widen(places: &mut Vec<Option<usize>>, wanted: usize) -> Result<(), NoMemory>
     requires small { wanted ≤ instance_count }
     requires few { vec_len places.old ≤ instance_count }
@@ -351,37 +365,37 @@ fn widen(places: &mut Vec<Option<usize>>, wanted: usize) -> Result<(), NoMemory>
     Ok(())
 }
 
-// Makes new slots stand at the instances of a stretch that lack one, for which there is room.
+// Stores new slots at the instances of an interval that lack one, for which there is room.
 fn push_lacking(
     places: &mut Vec<Option<usize>>,
     slots: &mut Vec<Slot>,
-    stretch: Stretch,
-    skipped: &Ranges,
-    runs: &Runs,
+    interval: OwnedInterval,
+    skipped: &SkippedIntervals,
+    learned_intervals: &LearnedIntervals,
 )
-    requires stretch { IsStretch stretch }
-    requires wide { stretch.stop ≤ vec_len places.old }
-    requires placed { IsPlaced places.old.items (vec_len slots.old) }
+    requires interval { IsOwnedInterval interval }
+    requires wide { interval.stop ≤ vec_len places.old }
+    requires placed { IsSlotTable places.old.items (vec_len slots.old) }
     requires room { vec_len slots.old
-        + count_by (is_lacking stretch skipped.now (standing places.old.items slots.old.items))
-        (below stretch.stop)
+        + count_by (is_lacking interval skipped.now (stored_slots places.old.items slots.old.items))
+        (below interval.stop)
         ≤ vec_capacity slots.old }
-    requires runs { AreRuns stretch.members
-        (is_lacking stretch skipped.now (standing places.old.items slots.old.items)) runs.now }
-    ensures placed { IsPlaced places.new.items (vec_len slots.new) }
-    ensures stand { (j : ℕ) → stand_at (standing places.new.items slots.new.items) j
-        ≡ stood_at stretch skipped.now j (stand_at (standing places.old.items slots.old.items) j) }
+    requires learned_intervals { AreLearnedIntervals interval.members
+        (is_lacking interval skipped.now (stored_slots places.old.items slots.old.items)) learned_intervals.now }
+    ensures placed { IsSlotTable places.new.items (vec_len slots.new) }
+    ensures stored { (j : ℕ) → stored_at (stored_slots places.new.items slots.new.items) j
+        ≡ new_slot_at interval skipped.now j (stored_at (stored_slots places.old.items slots.old.items) j) }
 {
-    let members = stretch.members;
-    let stop = stretch.stop;
-    let mut inst = stretch.first;
+    let members = interval.members;
+    let stop = interval.stop;
+    let mut inst = interval.first;
     while inst < stop {
         let next = next_owned(members, inst);
         // The table needs no search, so it is asked first.
         if places[inst as usize].is_some() {
             inst = next;
-        } else if skipped.covers(inst) {
-            inst = runs.past(inst, next);
+        } else if skipped.has(inst) {
+            inst = learned_intervals.past(inst, next);
         } else {
             push_at(places, slots, members, inst);
             inst = next;
@@ -389,22 +403,22 @@ fn push_lacking(
     }
 }
 
-// Makes a new slot stand at an instance if none does, for which there is room then.
+// Stores a new slot at an instance if none is stored there, for which there is room then.
 fn push_at(places: &mut Vec<Option<usize>>, slots: &mut Vec<Slot>, members: Members, inst: u32)
     requires wide { inst < vec_len places.old }
-    requires placed { IsPlaced places.old.items (vec_len slots.old) }
-    requires room { is_none (stand_at (standing places.old.items slots.old.items) inst) ≡ true
+    requires placed { IsSlotTable places.old.items (vec_len slots.old) }
+    requires room { is_none (stored_at (stored_slots places.old.items slots.old.items) inst) ≡ true
         → vec_len slots.old < vec_capacity slots.old }
-    ensures placed { IsPlaced places.new.items (vec_len slots.new) }
-    ensures stand { (j : ℕ) → stand_at (standing places.new.items slots.new.items) j
-        ≡ (if j == inst && is_none (stand_at (standing places.old.items slots.old.items) inst)
+    ensures placed { IsSlotTable places.new.items (vec_len slots.new) }
+    ensures stored { (j : ℕ) → stored_at (stored_slots places.new.items slots.new.items) j
+        ≡ (if j == inst && is_none (stored_at (stored_slots places.old.items slots.old.items) inst)
         then Some (new_slot members)
-        else stand_at (standing places.old.items slots.old.items) j) }
+        else stored_at (stored_slots places.old.items slots.old.items) j) }
     ensures wide { vec_len places.new ≡ vec_len places.old }
     ensures room { vec_capacity slots.new ≡ vec_capacity slots.old }
     ensures more { vec_len slots.new
         ≡ vec_len slots.old
-        + (if is_none (stand_at (standing places.old.items slots.old.items) inst) then 1 else 0) }
+        + (if is_none (stored_at (stored_slots places.old.items slots.old.items) inst) then 1 else 0) }
 {
     let at = inst as usize;
     let place = slots.len();

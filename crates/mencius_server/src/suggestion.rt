@@ -9,7 +9,7 @@ ghost use Rattle.std.specs.List.{list_any};
 ghost use Rattle.std.specs.Prelude.{◌≡◌, ℕ, ◌||◌, IfNone, None, false, is_none, min, ◌+◌, ◌<◌, ◌++◌, OnOk, OnErr, IfSome, Some};
 
 use crate::Server;
-use crate::known::Known;
+use crate::instances::Instances;
 use mencius_base::{INSTANCES, Members, Message, NoMemory, Outbox, Refusal, Value};
 
 impl Server {
@@ -54,9 +54,9 @@ impl Server {
     {
         let front = self.front;
         self.notes.reserve(front, ticket)?;
-        self.known.suggest(inst, ticket)?;
+        self.instances.suggest(inst, ticket)?;
         self.notes
-            .pass_on(&self.known, self.members, self.id, front, ticket);
+            .pass_on(&self.instances, self.members, self.id, front, ticket);
         self.front = inst + u32::from(self.members.count());
         Ok(())
     }
@@ -136,18 +136,18 @@ impl Server {
             return None;
         };
         let is_lost = matches!(self.learned(inst), Some(Value::Noop));
-        if !is_lost || self.is_moved(inst, ticket) {
+        if !is_lost || self.is_suggested_again(inst, ticket) {
             return None;
         }
         Some(ticket)
     }
 
     // The ticket of an own instance was suggested again further on.
-    fn is_moved(&self, inst: u32, ticket: u32) -> bool
+    fn is_suggested_again(&self, inst: u32, ticket: u32) -> bool
         requires { suggested_at self.now inst ≡ Some ticket }
         ensures { result ≡ list_any (is_suggested_past self.now ticket inst) instances }
     {
-        self.notes.is_moved(inst)
+        self.notes.is_suggested_again(inst)
     }
 
     // The ticket that was suggested at an instance.
@@ -169,7 +169,7 @@ impl Server {
         ensures { result ≡ (slot self.now inst).proposal }
     {
         if inst < INSTANCES {
-            self.known.proposal(inst)
+            self.instances.proposal(inst)
         } else {
             None
         }

@@ -2,19 +2,19 @@
 ghost use Rattle.mencius_base.specs.Limits.{instance_count, most_servers};
 ghost use Rattle.mencius_base.specs.Members.{owner};
 ghost use Rattle.mencius_base.specs.Refusal.{IsRefusedFor};
-ghost use Rattle.mencius_server.specs.Changes.{IsSaid, changed};
-ghost use Rattle.mencius_server.specs.Known.{IsSorted, known_at};
+ghost use Rattle.mencius_server.specs.Changes.{IsSaid, slot_after_change};
+ghost use Rattle.mencius_server.specs.Instances.{IsSorted, instance_slot_in};
 ghost use Rattle.mencius_server.specs.Machine.{is_spent};
-ghost use Rattle.mencius_server.specs.Slots.{given, known_by_slot};
-ghost use Rattle.mencius_server.specs.Tallies.{HasCounted, IsTally, IsTallyFrom, IsTold, lessened, moved, no_tally, summed, tallied, tally_cause, tally_of, untallied};
+ghost use Rattle.mencius_server.specs.Slots.{slot_after_skip_in, stored_or_new};
+ghost use Rattle.mencius_server.specs.Tallies.{HasCounted, IsTally, IsTallyFrom, LearnedWhereSkipped, no_tally, tally_after, tally_cause, tally_difference, tally_of, tally_sum, with_counted, without_counted};
 ghost use Rattle.mencius_server.specs.declared.tally.Tally.{Tally};
 ghost use Rattle.std.specs.Prelude.{◌≡◌, ℕ, ◌+◌, ◌<◌, ◌≤◌, ◌==◌, ◌⊎◌, OnOk, false, if◌then◌else◌, is_none};
 
 use crate::change::Change;
-use crate::ranges::Ranges;
+use crate::owned_interval::{OwnedInterval, next_owned};
 use crate::revocation::round_after;
+use crate::skipped_intervals::SkippedIntervals;
 use crate::slots::Slots;
-use crate::stretch::{Stretch, next_owned};
 use coord_paxos::Slot;
 use mencius_base::{GREATEST_ROUND, MOST_SERVERS, Members, Outbox, Refusal};
 use std::marker::Model;
@@ -27,7 +27,7 @@ pub(crate) struct Tally {
     /// At how many of them nothing was learned.
     pub(crate) open_count: u32,
     /// At how many of these there is no further round.
-    pub(crate) full_count: u32,
+    pub(crate) spent_count: u32,
 }
 
 impl Tally {
@@ -35,20 +35,20 @@ impl Tally {
     pub(crate) const NOTHING: Tally = Tally {
         stop: 0,
         open_count: 0,
-        full_count: 0,
+        spent_count: 0,
     };
 
-    /// With an instance at which a slot stands.
+    /// With an instance at which a slot is stored.
     pub(crate) fn with_slot(self, members: Members, slot: &Slot) -> Tally
         requires few { self.open_count ≤ instance_count }
-        requires fewer { self.full_count ≤ instance_count }
-        ensures { result ≡ tallied members self slot.now }
+        requires fewer { self.spent_count ≤ instance_count }
+        ensures { result ≡ with_counted members self slot.now }
     {
         let is_open = slot.learned().is_none();
         Tally {
             stop: self.stop,
             open_count: self.open_count + u32::from(is_open),
-            full_count: self.full_count + u32::from(is_open && is_last(members, slot)),
+            spent_count: self.spent_count + u32::from(is_open && is_last(members, slot)),
         }
     }
 
@@ -60,53 +60,53 @@ impl Tally {
         Tally {
             stop: self.stop,
             open_count: self.open_count + 1,
-            full_count: self.full_count,
+            spent_count: self.spent_count,
         }
     }
 
-    /// Without an instance that was counted, at which a slot stands.
+    /// Without an instance that was counted, at which a slot is stored.
     pub(crate) fn without_slot(self, members: Members, slot: &Slot) -> Tally
         requires { HasCounted members self slot.now }
-        ensures { result ≡ untallied members self slot.now }
+        ensures { result ≡ without_counted members self slot.now }
     {
         let is_open = slot.learned().is_none();
         Tally {
             stop: self.stop,
             open_count: self.open_count - u32::from(is_open),
-            full_count: self.full_count - u32::from(is_open && is_last(members, slot)),
+            spent_count: self.spent_count - u32::from(is_open && is_last(members, slot)),
         }
     }
 
     /// With what was counted from its end on.
     pub(crate) fn plus(self, further: Tally) -> Tally
         requires few { self.open_count + further.open_count ≤ instance_count }
-        requires fewer { self.full_count + further.full_count ≤ instance_count }
-        ensures { result ≡ summed self further }
+        requires fewer { self.spent_count + further.spent_count ≤ instance_count }
+        ensures { result ≡ tally_sum self further }
     {
         Tally {
             stop: further.stop,
             open_count: self.open_count + further.open_count,
-            full_count: self.full_count + further.full_count,
+            spent_count: self.spent_count + further.spent_count,
         }
     }
 
     /// Without some of what was counted.
     pub(crate) fn without(self, some: Tally) -> Tally
         requires few { some.open_count ≤ self.open_count }
-        requires fewer { some.full_count ≤ self.full_count }
-        ensures { result ≡ lessened self some }
+        requires fewer { some.spent_count ≤ self.spent_count }
+        ensures { result ≡ tally_difference self some }
     {
         Tally {
             stop: self.stop,
             open_count: self.open_count - some.open_count,
-            full_count: self.full_count - some.full_count,
+            spent_count: self.spent_count - some.spent_count,
         }
     }
 
     /// Makes room for the Prepares that a suspicion sends, where it is not to be refused.
     pub(crate) fn reserve(self, out: &mut Outbox) -> Result<(), Refusal>
         ensures refusal { IsRefusedFor (tally_cause self out.old) result }
-        ensures rounds { OnOk result (self.full_count ≡ 0) }
+        ensures rounds { OnOk result (self.spent_count ≡ 0) }
         ensures room { OnOk result (self.open_count ≤ out.new.room) }
         ensures messages { out.new.messages ≡ out.old.messages }
         ensures kept { out.old.room ≤ out.new.room }
@@ -115,7 +115,7 @@ impl Tally {
         if self.open_count == 0 {
             return Err(Refusal::NothingToRevoke);
         }
-        if self.full_count > 0 {
+        if self.spent_count > 0 {
             return Err(Refusal::RoundsFull);
         }
         out.reserve(self.open_count)
@@ -196,10 +196,10 @@ impl Tallies {
         requires said { IsSaid slot.old.members change }
         requires counted { inst < (tally_of self.old (owner members inst)).stop
             → HasCounted members (tally_of self.old (owner members inst)) slot.old }
-        ensures slot { slot.new ≡ changed slot.old change }
+        ensures slot { slot.new ≡ slot_after_change slot.old change }
         ensures counted { (q : ℕ) → tally_of self.new q
             ≡ (if q == owner members inst
-            then moved members inst (tally_of self.old q) slot.old slot.new
+            then tally_after members inst (tally_of self.old q) slot.old slot.new
             else tally_of self.old q) }
     {
         if inst >= self.reach {
@@ -220,50 +220,50 @@ impl Tallies {
 
 // Counts a server's instances between two places.
 //
-// It jumps over the ranges, and goes from one instance to the next where there is none.
+// It jumps over the skipped intervals, and goes from one instance to the next where there is none.
 pub(crate) fn tally_from(
     slots: &Slots,
-    skipped: &Vec<Ranges>,
+    skipped: &Vec<SkippedIntervals>,
     members: Members,
     server: u8,
     first: u32,
     stop: u32,
 ) -> Tally
     requires sorted { IsSorted members skipped.now.items }
-    requires told { IsTold members slots.now skipped.now.items }
+    requires learned_where_skipped { LearnedWhereSkipped members slots.now skipped.now.items }
     requires member { server < members.count }
     requires ahead { first ≤ stop }
     requires small { stop ≤ instance_count }
-    ensures counted { IsTallyFrom members (known_at members slots.now skipped.now.items)
+    ensures counted { IsTallyFrom members (instance_slot_in members slots.now skipped.now.items)
         server first result }
     ensures stop { result.stop ≡ stop }
 {
-    let ranges = &skipped[server as usize];
+    let intervals = &skipped[server as usize];
     let mut tally = Tally {
         stop: first,
         open_count: 0,
-        full_count: 0,
+        spent_count: 0,
     };
     while tally.stop < stop {
-        let past = ranges.past(tally.stop).min(stop);
-        let end = ranges.clear_to(past, stop);
+        let past = intervals.past(tally.stop).min(stop);
+        let end = intervals.clear_to(past, stop);
         tally = tally.plus(tally_slots(slots, members, server, past, end));
     }
     tally
 }
 
-// Counts a server's instances between two places where no range has any.
+// Counts a server's instances between two places where no skipped interval has any.
 fn tally_slots(slots: &Slots, members: Members, server: u8, first: u32, stop: u32) -> Tally
     requires member { server < members.count }
     requires ahead { first ≤ stop }
     requires small { stop ≤ instance_count }
-    ensures counted { IsTallyFrom members (known_by_slot members slots.now) server first result }
+    ensures counted { IsTallyFrom members (stored_or_new members slots.now) server first result }
     ensures stop { result.stop ≡ stop }
 {
     let mut tally = Tally {
         stop,
         open_count: 0,
-        full_count: 0,
+        spent_count: 0,
     };
     let mut inst = members.first_owned(server, first);
     while inst < stop {
@@ -273,12 +273,12 @@ fn tally_slots(slots: &Slots, members: Members, server: u8, first: u32, stop: u3
     tally
 }
 
-// Counts one instance more, which no range has.
+// Counts one instance more, which no skipped interval has.
 fn tally_slot(slots: &Slots, members: Members, inst: u32, tally: Tally) -> Tally
     requires small { inst < instance_count }
     requires few { tally.open_count ≤ instance_count }
-    requires fewer { tally.full_count ≤ instance_count }
-    ensures { result ≡ tallied members tally (known_by_slot members slots.now inst) }
+    requires fewer { tally.spent_count ≤ instance_count }
+    ensures { result ≡ with_counted members tally (stored_or_new members slots.now inst) }
 {
     match slots.get(inst) {
         Some(slot) => tally.with_slot(members, slot),
@@ -286,50 +286,57 @@ fn tally_slot(slots: &Slots, members: Members, inst: u32, tally: Tally) -> Tally
     }
 }
 
-// What was counted of a server's instances, once no-op is learned at those of a stretch.
+// What was counted of a server's instances, once no-op is learned at those of an interval.
 //
 // It counts only those of them that were counted.
-pub(crate) fn tally_given(
+pub(crate) fn tally_after_skip(
     slots: &Slots,
-    skipped: &Vec<Ranges>,
-    stretch: &Stretch,
+    skipped: &Vec<SkippedIntervals>,
+    interval: &OwnedInterval,
     tally: Tally,
 ) -> Tally
-    requires sorted { IsSorted stretch.now.members skipped.now.items }
-    requires told { IsTold stretch.now.members slots.now skipped.now.items }
-    requires member { stretch.now.server < stretch.now.members.count }
-    requires counted { IsTally stretch.now.members
-        (known_at stretch.now.members slots.now skipped.now.items) stretch.now.server tally }
-    ensures { IsTally stretch.now.members
-        (λ j. given stretch.now j (known_at stretch.now.members slots.now skipped.now.items j))
-        stretch.now.server result }
+    requires sorted { IsSorted interval.now.members skipped.now.items }
+    requires learned_where_skipped { LearnedWhereSkipped interval.now.members slots.now skipped.now.items }
+    requires member { interval.now.server < interval.now.members.count }
+    requires counted { IsTally interval.now.members
+        (instance_slot_in interval.now.members slots.now skipped.now.items) interval.now.server tally }
+    ensures { IsTally interval.now.members
+        (λ j. slot_after_skip_in interval.now j (instance_slot_in interval.now.members slots.now skipped.now.items j))
+        interval.now.server result }
 {
-    let first = stretch.first;
-    let stop = stretch.stop.min(tally.stop);
+    let first = interval.first;
+    let stop = interval.stop.min(tally.stop);
     if first >= stop {
         return tally;
     }
-    let given = tally_from(slots, skipped, stretch.members, stretch.server, first, stop);
-    tally.without(given)
+    let newly_skipped = tally_from(
+        slots,
+        skipped,
+        interval.members,
+        interval.server,
+        first,
+        stop,
+    );
+    tally.without(newly_skipped)
 }
 
 // Counts a server's instances anew, if many may have changed.
 pub(crate) fn retally_changed(
     slots: &Slots,
-    skipped: &Vec<Ranges>,
+    skipped: &Vec<SkippedIntervals>,
     members: Members,
     server: u8,
     is_changed: bool,
     tallies: &mut Tallies,
 )
     requires sorted { IsSorted members skipped.now.items }
-    requires told { IsTold members slots.now skipped.now.items }
+    requires learned_where_skipped { LearnedWhereSkipped members slots.now skipped.now.items }
     requires member { server < members.count }
     requires small { (tally_of tallies.old server).stop ≤ instance_count }
     requires quiet { is_changed ≡ false
-        → IsTally members (known_at members slots.now skipped.now.items) server
+        → IsTally members (instance_slot_in members slots.now skipped.now.items) server
         (tally_of tallies.old server) }
-    ensures here { IsTally members (known_at members slots.now skipped.now.items) server
+    ensures here { IsTally members (instance_slot_in members slots.now skipped.now.items) server
         (tally_of tallies.new server) }
     ensures rest { (q : ℕ) → (q ≡ server → ⊥) → tally_of tallies.new q ≡ tally_of tallies.old q }
 {

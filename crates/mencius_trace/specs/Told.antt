@@ -75,9 +75,9 @@ hearing m w p x = hearing_at (glance m w p (place_of x)) x
 -- of how many servers p, which knows this of the instance, heard the promise or the acceptance
 abbrev pub count_line : Membership → ServerId → Glance → Message → List ℕ
 count_line m p g (Promise from to inst ballot vote) =
-    tally_line (codes "promises") p inst ballot g.promises (majority m)
+    tally_line (codes "promises") p inst ballot g.promise_count (majority m)
 count_line m p g (Accepted from to inst ballot) =
-    tally_line (codes "acceptances") p inst ballot g.accepts (majority m)
+    tally_line (codes "acceptances") p inst ballot g.acceptance_count (majority m)
 count_line m p g _ = []
 
 -- why nothing came of a message

@@ -174,7 +174,7 @@ fn push_count_of(
                 server,
                 inst,
                 ballot,
-                glance.promises,
+                glance.promise_count,
                 majority,
             )
         }
@@ -185,7 +185,7 @@ fn push_count_of(
                 server,
                 inst,
                 ballot,
-                glance.accepts,
+                glance.acceptance_count,
                 majority,
             )
         }

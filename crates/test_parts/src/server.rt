@@ -251,26 +251,26 @@ fn tickets_wait_by_instance(rt: HostRuntime) -> Result<(), Fail> {
     Ok(())
 }
 
-// Server 0 skips the instances from one of its own up to another, and one range stands then.
+// Server 0 skips the instances from one of its own up to another, and one interval is stored then.
 fn take_skip(
     rt: &impl Abort,
     server: &mut Server,
     out: &mut Outbox,
-    range: (u32, u32),
+    interval: (u32, u32),
     learns: u32,
 ) {
-    let (first, stop) = range;
+    let (first, stop) = interval;
     let message = Message::Skip {
         from: 0,
         first,
         stop,
     };
     assert_learns(rt, server, &message, out, learns);
-    assert_eq!(rt; server.kept(), (0, 1));
+    assert_eq!(rt; server.stored_counts(), (0, 1));
 }
 
 #[test]
-fn a_long_skip_keeps_one_range(rt: HostRuntime) -> Result<(), Fail> {
+fn a_long_skip_keeps_one_interval(rt: HostRuntime) -> Result<(), Fail> {
     let mut out = Outbox::new(rt.alloc(), 0);
     let mut one = new_server(rt.alloc(), 1)?;
     take_skip(&rt, &mut one, &mut out, (0, 4095), 1365);
@@ -278,7 +278,7 @@ fn a_long_skip_keeps_one_range(rt: HostRuntime) -> Result<(), Fail> {
 }
 
 #[test]
-fn two_skips_keep_one_range_and_a_suggestion_one_slot(rt: HostRuntime) -> Result<(), Fail> {
+fn two_skips_keep_one_interval_and_a_suggestion_one_slot(rt: HostRuntime) -> Result<(), Fail> {
     let mut out = Outbox::new(rt.alloc(), 2);
     let mut one = new_server(rt.alloc(), 1)?;
     take_skip(&rt, &mut one, &mut out, (3, 6), 1);
@@ -289,7 +289,7 @@ fn two_skips_keep_one_range_and_a_suggestion_one_slot(rt: HostRuntime) -> Result
         ticket: 0,
     };
     assert_learns(&rt, &mut one, &late, &mut out, 0);
-    assert_eq!(rt; one.kept(), (1, 1));
+    assert_eq!(rt; one.stored_counts(), (1, 1));
     assert_eq!(rt; one.learned(3), Some(Value::Noop));
     assert_eq!(rt; one.learned(6), None);
     Ok(())
@@ -300,12 +300,12 @@ fn a_refused_suspicion_keeps_nothing(rt: HostRuntime) -> Result<(), Fail> {
     let mut one = new_server(rt.alloc(), 1)?;
     let mut out = Outbox::new(rt.alloc(), 4);
     submit_three(&rt, &mut one, &mut out, [0, 1, 2]);
-    assert_eq!(rt; one.kept(), (3, 0));
+    assert_eq!(rt; one.stored_counts(), (3, 0));
     let full = Err(Refusal::MessagesFull);
     assert_happens(&rt, &mut one, suspect(1, 0), &mut out, full);
-    assert_eq!(rt; one.kept(), (3, 0));
+    assert_eq!(rt; one.stored_counts(), (3, 0));
     let mut wide = Outbox::new(rt.alloc(), 4);
     assert_happens(&rt, &mut one, suspect(1, 0), &mut wide, Ok(0));
-    assert_eq!(rt; one.kept(), (7, 0));
+    assert_eq!(rt; one.stored_counts(), (7, 0));
     Ok(())
 }

@@ -19,7 +19,7 @@ use Rattle.coord_paxos.specs.Reached.{slot_at}
 use Rattle.mencius_model.proofs.trace.QuietLines.{IsUncounted, quiet_learned}
 use Rattle.coord_paxos.proofs.SlotTrace.{slot_at-heard, slot_at-learning, slot_at-quiet}
 use Rattle.mencius_server.specs.State.{ServerState}
-use Rattle.mencius_server.specs.Machine.{is_given, is_skipped, slot_given}
+use Rattle.mencius_server.specs.Machine.{is_newly_skipped_slot, is_skipped, slot_after_skip}
 use Rattle.mencius_server.specs.Reached.{server_at}
 use Rattle.mencius_server.proofs.events.ServerTrace.{Meets, slot-server_at}
 use Rattle.mencius_base.specs.Limits.{instance_count}
@@ -113,18 +113,18 @@ among test [] j = sym (and-false (test j))
 among test (i ∷ xs) j =
     any-cond j i (test i) (filter test xs) ∙ among_cases i j test (test i) (eqb i j) _ _ refl refl (among test xs j)
 
-in_range : (i n j : ℕ) → i ≤ j → j < i + n → list_any (λ (x : ℕ). eqb x j) (range_with_len i n) ≡ true
-in_range i zero j low high = absurd (omega arith)
-in_range i (suc n) j low high =
+in_interval : (i n j : ℕ) → i ≤ j → j < i + n → list_any (λ (x : ℕ). eqb x j) (range_with_len i n) ≡ true
+in_interval i zero j low high = absurd (omega arith)
+in_interval i (suc n) j low high =
     ⊎_elim
     (λ (e : i ≡ j). rw (eq-eqb i j e))
     (λ (ne : i ≡ j → ⊥). let above : i + 1 ≤ j = omega arith in
-    rw (ne_eqb i j ne, in_range (i + 1) n j above (omega arith)))
+    rw (ne_eqb i j ne, in_interval (i + 1) n j above (omega arith)))
     (cases_eq i j)
 
 pub is_instance : (j : ℕ) → j < instance_count → list_any (λ (i : ℕ). eqb i j) instances ≡ true
 unfolding below instances
-is_instance j small = in_range 0 instance_count j (omega arith) small
+is_instance j small = in_interval 0 instance_count j (omega arith) small
 
 counts_from : (p n : ℕ) (test : ℕ → Bool) (xs : List ℕ)
     → fold (λ (total : ℕ) (x : ℕ). total + cond (test x) 1 0) n xs
@@ -165,10 +165,10 @@ unfolding below instances
 count_by-instances_same f g e = counts_same f g 0 0 instance_count e
 
 -- the test of the row, and the slot's
-given_either : (s : SlotState) (a : Bool) (o : Option Value) → s.learned ≡ o
+after_skip_either : (s : SlotState) (a : Bool) (o : Option Value) → s.learned ≡ o
     → cond a (after_learn s Noop) s ≡ cond (a && is_none s.learned) (after_learn s Noop) s
-given_either s false o e = refl
-given_either s true None e =
+after_skip_either s false o e = refl
+after_skip_either s true None e =
     ap (λ (x : Option Value). cond (is_none x) (after_learn s Noop) (after_learn s Noop)) (sym e)
     ∙ ap (λ (d : Bool). cond d (after_learn s Noop) (after_learn s Noop)) refl ∙ known
   where
@@ -176,13 +176,14 @@ given_either s true None e =
         ≡ cond (is_none s.learned) (after_learn s Noop) s
     known = ap (λ (x : Option Value). cond (is_none x) (after_learn s Noop) (after_learn s Noop)) e
         ∙ ap (λ (x : Option Value). cond (is_none x) (after_learn s Noop) s) (sym e)
-given_either s true (Some y) e =
+after_skip_either s true (Some y) e =
     ap (λ (x : Option Value). cond (is_none x) (record s { learned = Some Noop }) s) e
     ∙ ap (λ (x : Option Value). cond (is_none x) (after_learn s Noop) s) (sym e)
 
-given_cond : (m : Membership) (q first stop j : ℕ) (x : SlotState) (o : Option Value) → x.learned ≡ o
-    → slot_given m q first stop j x ≡ cond (is_skipped m q first stop j && is_none x.learned) (after_learn x Noop) x
-given_cond m q first stop j x o e = given_either x (is_skipped m q first stop j) o e
+after_skip_cond : (m : Membership) (q first stop j : ℕ) (x : SlotState) (o : Option Value) → x.learned ≡ o
+    → slot_after_skip m q first stop j x
+    ≡ cond (is_skipped m q first stop j && is_none x.learned) (after_learn x Noop) x
+after_skip_cond m q first stop j x o e = after_skip_either x (is_skipped m q first stop j) o e
 
 pub meets_skip : (m : Membership) (w : Trace) (k p q first stop : ℕ) → slice_get (sent w) k ≡ Some (Skip q first stop)
     → Meets m w k p (Skip q first stop) (on_skip m w p q first stop)
@@ -191,14 +192,14 @@ meets_skip m w k p q first stop e = record {
   learns =
       count_by-instances_same _ (is_given_up m w p q first stop)
       (λ j small.
-      ap (λ (x : SlotState). is_given m q first stop j x) (slot-server_at m w p j small))
+      ap (λ (x : SlotState). is_newly_skipped_slot m q first stop j x) (slot-server_at m w p j small))
       ∙ counts_noops p (is_given_up m w p q first stop) instances;
   state = skipped_state _ (followed_by (Heard k p ∷ w) (on_skip m w p q first stop))
       (front_noops m p (filter (is_given_up m w p q first stop) instances) (Heard k p ∷ w) ∙ omega arith)
       (map-instances_same _ (slot_at m (followed_by (Heard k p ∷ w) (on_skip m w p q first stop)) p) (new_slot m)
       (λ j small.
-      ap (λ (x : SlotState). slot_given m q first stop j x) (slot-server_at m w p j small)
-      ∙ given_cond m q first stop j (slot_at m w p j) (learned w p j) refl
+      ap (λ (x : SlotState). slot_after_skip m q first stop j x) (slot-server_at m w p j small)
+      ∙ after_skip_cond m q first stop j (slot_at m w p j) (learned w p j) refl
       ∙ ap (λ (a : Bool). cond a (after_learn (slot_at m w p j) Noop) (slot_at m w p j))
       (sym (among (is_given_up m w p q first stop) instances j
       ∙ ap (λ (a : Bool). is_given_up m w p q first stop j && a) (is_instance j small)

@@ -9,8 +9,8 @@ use Rattle.coord_paxos.proofs.SlotLaws.{slot_at-empty}
 use Rattle.coord_paxos.specs.Fresh.{new_slot}
 use Rattle.coord_paxos.specs.Reached.{slot_at}
 use Rattle.coord_paxos.specs.SlotState.{SlotState}
-use Rattle.mencius_server.specs.Kept.{IsKept}
-use Rattle.mencius_server.specs.Known.{KnownState, new_known}
+use Rattle.mencius_server.specs.Inside.{IsServerInside}
+use Rattle.mencius_server.specs.Instances.{InstancesState, new_instances}
 use Rattle.mencius_server.specs.Notes.{nothing_noted}
 use Rattle.mencius_server.specs.State.{new_server}
 use Rattle.mencius_server.specs.Reached.{server_at}
@@ -22,15 +22,15 @@ new_slots m = map-below_constant (λ (j : ℕ). new_slot m) instance_count (new_
     ∙ ap (map (λ (j : ℕ). new_slot m)) (sym instances-below)
 
 -- what callers see of a server that knows nothing
-pub new_shown : (m : Membership) (p : ℕ) (s : KnownState) → s ≡ new_known m
+pub new_shown : (m : Membership) (p : ℕ) (s : InstancesState) → s ≡ new_instances m
     → record { members = m; id = p; front = p; slots = s.slots } ≡ new_server m p
 new_shown m p s made =
     ap (λ (xs : List SlotState). record { members = m; id = p; front = p; slots = xs })
-    (ap (λ (x : KnownState). x.slots) made ∙ sym (new_slots m))
+    (ap (λ (x : InstancesState). x.slots) made ∙ sym (new_slots m))
 
-pub IsKept-new : (m : Membership) (p : ℕ) → p < m.count → m.count ≤ most_servers
-    → IsKept (new_server m p) m nothing_noted
-IsKept-new m p member few = record {
+pub IsServerInside-new : (m : Membership) (p : ℕ) → p < m.count → m.count ≤ most_servers
+    → IsServerInside (new_server m p) m nothing_noted
+IsServerInside-new m p member few = record {
   bound = omega arith;
   free = λ j low. absurd (omega arith);
   full = length-replicate instance_count (new_slot m);
@@ -40,7 +40,7 @@ IsKept-new m p member few = record {
   lost = λ j low. new_waits m p j;
   tickets = λ j t small e. absurd (new_unsaid m p j t e);
   short = omega arith;
-  moved = λ j t small e. absurd (new_unsaid m p j t e);
+  suggested_again = λ j t small e. absurd (new_unsaid m p j t e);
 }
 
 pub server_at-empty : (m : Membership) (p : ℕ) → new_server m p ≡ server_at m [] p

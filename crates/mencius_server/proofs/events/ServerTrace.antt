@@ -53,7 +53,7 @@ pub record Meets (m : Membership) (w : Trace) (k p : ℕ) (x : Message) (ls : Li
   pub learns : learned_on (server_at m w p) x ≡ learnings ls
   pub state : after_hearing (server_at m w p) x ≡ server_at m (followed_by (Heard k p ∷ w) ls) p
 
--- an acceptance after a message that is in no tally
+-- an acceptance after a message that is in no set
 accepting : (m : Membership) (w : Trace) (k p q i b : ℕ) (z : Value) (x : Message) → slice_get (sent w) k ≡ Some x
     → ((j c : ℕ) → IsUncounted j c x)
     → promised w p i ≤ b → proposed w i b ≡ Some z

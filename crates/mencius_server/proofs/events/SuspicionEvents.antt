@@ -31,7 +31,7 @@ use Rattle.coord_paxos.specs.Reached.{if_own, slot_at}
 use Rattle.coord_paxos.proofs.SlotTrace.{same_slot}
 use Rattle.coord_paxos.proofs.SlotLaws.{slot_trying, slot_untried}
 use Rattle.mencius_server.specs.State.{ServerState, slot}
-use Rattle.mencius_server.specs.Machine.{after_suspect, is_covered_in, is_round_full, is_covered_at, is_open_at, next_prepare, prepare_for, reach_at, round_after, slot_revoked, suspect_cause, suspect_sent}
+use Rattle.mencius_server.specs.Machine.{after_suspect, is_covered_in, is_spent_at, is_covered_at, is_open_at, next_prepare, prepare_for, reach_at, round_after, slot_after_suspect, suspect_cause, suspect_sent}
 use Rattle.mencius_server.specs.Laws.{SuspectIsEvent}
 use Rattle.mencius_server.specs.Reached.{server_at}
 use Rattle.mencius_server.proofs.suspicions.FirstPhases.{tried_below}
@@ -224,8 +224,8 @@ module _ (m : Membership) (w : Trace) (p q : ℕ) (r : IsReached m w) (member : 
   suspect_state =
       same_state _
       (map-instances_same _ (slot_at m later p) (new_slot m)
-      (λ j small. ap (λ (n : ℕ). slot_revoked m p q n j (slot (server_at m w p) j)) reach_same
-      ∙ ap (slot_revoked m p q (reach m w p q) j) (slot-server_at m w p j small)
+      (λ j small. ap (λ (n : ℕ). slot_after_suspect m p q n j (slot (server_at m w p) j)) reach_same
+      ∙ ap (slot_after_suspect m p q (reach m w p q) j) (slot-server_at m w p j small)
       ∙ sym (slot_after j small (is_covered m w p q j) refl)))
 
   suspect_messages : suspect_sent (server_at m w p) q ≡ messages_of (map (preparation m w p) covered)
@@ -249,9 +249,9 @@ suspect_causes m w p q s o e r member =
     same_causes (eqb p q) _ _ _ _ _ _
     (ap (λ (xs : List ℕ). is_none (first_item xs))
     (filter-instances_same (is_covered_at (server_at m w p) q) (is_covered m w p q) covers))
-    (any-map (is_round_full (server_at m w p)) (filter (is_covered_at (server_at m w p) q) instances)
+    (any-map (is_spent_at (server_at m w p)) (filter (is_covered_at (server_at m w p) q) instances)
     ∙ ap (list_any (λ (a : Bool). a))
-    (map-filter-instances_same (is_round_full (server_at m w p)) (λ (i : ℕ). ltb greatest_round (next_round m w p i))
+    (map-filter-instances_same (is_spent_at (server_at m w p)) (λ (i : ℕ). ltb greatest_round (next_round m w p i))
     (is_covered_at (server_at m w p) q) (is_covered m w p q)
     (λ j small. ap (λ (x : SlotState). ltb greatest_round (round_after m x)) (slot-server_at m w p j small)) covers)
     ∙ sym (any-map (λ (i : ℕ). ltb greatest_round (next_round m w p i)) (covered_by m w p q)))

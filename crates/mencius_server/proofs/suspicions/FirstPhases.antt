@@ -15,7 +15,7 @@ use Rattle.mencius_model.proofs.trace.NumberLists.{any-filter, any-instances, co
 use Rattle.coord_paxos.specs.SlotState.{SlotState}
 use Rattle.coord_paxos.specs.Fresh.{new_slot}
 use Rattle.mencius_server.specs.State.{FitsAt, IsServer, ServerState, slot}
-use Rattle.mencius_server.specs.Machine.{after_suspect, ballot_after, is_covered_in, is_round_full, is_covered_at, prepare_for, reach_at, round_after, slot_revoked, suspect_cause, suspect_sent, with_next_phase}
+use Rattle.mencius_server.specs.Machine.{after_suspect, ballot_after, is_covered_in, is_spent_at, is_covered_at, prepare_for, reach_at, round_after, slot_after_suspect, suspect_cause, suspect_sent, with_next_phase}
 use Rattle.mencius_server.proofs.invariant.ServerInvariant.{FitsAt-slot, KeepsAt, KeepsAt-fits, KeepsAt-new}
 use Rattle.mencius_server.proofs.invariant.SlotFits.{FitsAt-cond}
 use Rattle.mencius_base.specs.Limits.{greatest_round, instance_count}
@@ -87,8 +87,8 @@ round_next m p s member =
     let tried : (round_after m s * m.count + p) / m.count ≡ round_after m s = div-mul-add (round_after m s) m.count p member in
     ap (λ n. max n (s.promised / m.count) + 1) tried ∙ omega arith
 
-abbrev slots_revoked : ServerState → ℕ → List SlotState
-slots_revoked s q = map (λ (j : ℕ). slot_revoked s.members s.id q (reach_at s q) j (slot s j)) instances
+abbrev slots_after_suspect : ServerState → ℕ → List SlotState
+slots_after_suspect s q = map (λ (j : ℕ). slot_after_suspect s.members s.id q (reach_at s q) j (slot s j)) instances
 
 -- a server keeps what it keeps through a suspicion of another
 pub IsServer-suspect : (s : ServerState) (q : ℕ) → (s.id ≡ q → ⊥) → IsServer s → IsServer (after_suspect s q)
@@ -112,7 +112,7 @@ IsServer-suspect s q other kept = record {
           unsaid = λ mine ahead. refl;
         }
 
-    given : (i : ℕ) → FitsAt s s.front i (slot_revoked s.members s.id q (reach_at s q) i (slot s i))
+    given : (i : ℕ) → FitsAt s s.front i (slot_after_suspect s.members s.id q (reach_at s q) i (slot s i))
     given i = FitsAt-cond s s.front i (is_covered_in s.members q (reach_at s q) i (slot s i)) _ (slot s i) (begun i)
         (FitsAt-slot s i kept)
 
@@ -122,9 +122,9 @@ IsServer-suspect s q other kept = record {
         (λ (small : i < instance_count). subst (KeepsAt s s.front i)
         (sym (get_or-map-instances _ i (new_slot s.members) small)) (KeepsAt-fits s s.front i _ (given i)))
         (λ (past : instance_count ≤ i).
-        let none : length (slots_revoked s q) ≤ i =
-        rw (length-map-instances (λ (j : ℕ). slot_revoked s.members s.id q (reach_at s q) j (slot s j))) past in
-        subst (KeepsAt s s.front i) (sym (get_or_past (slots_revoked s q) i (new_slot s.members) none))
+        let none : length (slots_after_suspect s q) ≤ i =
+        rw (length-map-instances (λ (j : ℕ). slot_after_suspect s.members s.id q (reach_at s q) j (slot s j))) past in
+        subst (KeepsAt s s.front i) (sym (get_or_past (slots_after_suspect s q) i (new_slot s.members) none))
         (KeepsAt-new s s.front i))
         (cases_lt i instance_count)
 
@@ -138,7 +138,7 @@ none_given g xs = go (filter g xs) ∙ ap (λ (n : ℕ). eqb n 0) (length-filter
 
 pub suspect_cause_is : (s : ServerState) (o : Outgoing) (q : ℕ) (a d : Bool) → eqb s.id q ≡ false
     → eqb (count_by (is_covered_at s q) instances) 0 ≡ a
-    → list_any (is_round_full s) (filter (is_covered_at s q) instances) ≡ d
+    → list_any (is_spent_at s) (filter (is_covered_at s q) instances) ≡ d
     → suspect_cause s o q
     ≡ cond a (Some NothingToRevoke)
     (cond d (Some RoundsFull) (outbox_full o (count_by (is_covered_at s q) instances)))
@@ -147,30 +147,30 @@ suspect_cause_is s o q a d other none full =
     length-map (filter (is_covered_at s q) instances) (prepare_for s) ∙ length-filter (is_covered_at s q) instances in
     rw (other, none_given (is_covered_at s q) instances, none, full, many)
 
-pub rounds_small : (s : ServerState) (q : ℕ) → list_any (is_round_full s) (filter (is_covered_at s q) instances) ≡ false
+pub rounds_small : (s : ServerState) (q : ℕ) → list_any (is_spent_at s) (filter (is_covered_at s q) instances) ≡ false
     → (j : ℕ) → j < instance_count → is_covered_at s q j ≡ true → round_after s.members (slot s j) ≤ greatest_round
 rounds_small s q none j small covered =
     ⊎_elim
-    (λ (full : is_round_full s j ≡ true).
-    let some : list_any (λ (i : ℕ). is_covered_at s q i && is_round_full s i) instances ≡ true =
-    any-instances (λ (i : ℕ). is_covered_at s q i && is_round_full s i) j small (rw covered full) in
-    let no = sym (any-filter (is_covered_at s q) (is_round_full s) instances) ∙ none in
+    (λ (full : is_spent_at s j ≡ true).
+    let some : list_any (λ (i : ℕ). is_covered_at s q i && is_spent_at s i) instances ≡ true =
+    any-instances (λ (i : ℕ). is_covered_at s q i && is_spent_at s i) j small (rw covered full) in
+    let no = sym (any-filter (is_covered_at s q) (is_spent_at s) instances) ∙ none in
     absurd (cc))
-    (λ (room : is_round_full s j ≡ false). ltb-false greatest_round (round_after s.members (slot s j)) room)
-    (cases_Bool (is_round_full s j))
+    (λ (room : is_spent_at s j ≡ false). ltb-false greatest_round (round_after s.members (slot s j)) room)
+    (cases_Bool (is_spent_at s j))
 
 -- what holds of each slot at which a first phase began, where it holds of one more
-pub begun_each : (begins : ℕ → Bool) (now new : ℕ → Option SlotState) (Holds : SlotState → Type 0) (i next : ℕ)
+pub phase_each : (begins : ℕ → Bool) (now new : ℕ → Option SlotState) (Holds : SlotState → Type 0) (i next : ℕ)
     → ((j : ℕ) → i + 1 ≤ j → j < next → begins j ≡ false)
     → ((j : ℕ) → (j ≡ i → ⊥) → new j ≡ now j)
     → ((j : ℕ) (s : SlotState) → j < i → begins j ≡ true → now j ≡ Some s → Holds s)
     → ((s : SlotState) → begins i ≡ true → new i ≡ Some s → Holds s)
     → (j : ℕ) (s : SlotState) → j < next → begins j ≡ true → new j ≡ Some s → Holds s
-begun_each begins now new Holds i next between off before here j s less begun stands =
+phase_each begins now new Holds i next between off before here j s less begun stored =
     ⊎_elim
-    (λ (low : j < i). before j s low begun (sym (off j (λ e. absurd (omega arith))) ∙ stands))
+    (λ (low : j < i). before j s low begun (sym (off j (λ e. absurd (omega arith))) ∙ stored))
     (λ (from : i ≤ j). ⊎_elim
-    (λ (at : j ≡ i). here s (sym (ap begins at) ∙ begun) (sym (ap new at) ∙ stands))
+    (λ (at : j ≡ i). here s (sym (ap begins at) ∙ begun) (sym (ap new at) ∙ stored))
     (λ (past : j ≡ i → ⊥).
     let both : true ≡ false = sym begun ∙ between j (omega arith) less in absurd (cc))
     (cases_eq j i))

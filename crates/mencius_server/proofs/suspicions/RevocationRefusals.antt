@@ -7,33 +7,33 @@ use Rattle.mencius_base.specs.declared.refusal.Refusal.TheVariants.{NothingToRev
 use Rattle.mencius_base.specs.Members.{Membership, instances}
 use Rattle.mencius_base.specs.Outbox.{Outgoing, outbox_full}
 use Rattle.mencius_server.specs.declared.tally.Tally.{Tally}
-use Rattle.mencius_server.specs.Known.{KnownState, is_open, known_reach, known_slot}
-use Rattle.mencius_server.specs.Machine.{is_round_full, is_covered_at, round_after, suspect_cause}
+use Rattle.mencius_server.specs.Instances.{InstancesState, instance_slot, is_covered_stored, reach_stored}
+use Rattle.mencius_server.specs.Machine.{is_spent_at, is_covered_at, round_after, suspect_cause}
 use Rattle.mencius_server.specs.State.{ServerState}
 use Rattle.mencius_server.specs.Tallies.{IsSurvey, tally_cause}
 use Rattle.mencius_server.proofs.suspicions.FirstPhases.{rounds_small, suspect_cause_is}
-use Rattle.mencius_server.proofs.invariant.InvariantKept.{full_shown, open_count, open_rounds}
+use Rattle.mencius_server.proofs.invariant.InvariantKept.{open_count, open_rounds, spent_shown}
 use Rattle.mencius_base.specs.Limits.{greatest_round, instance_count}
 
-module _ (m : Membership) (p f : ℕ) (x : KnownState) (now : ServerState) (q : ℕ)
+module _ (m : Membership) (p f : ℕ) (x : InstancesState) (now : ServerState) (q : ℕ)
     (shown : record { members = m; id = p; front = f; slots = x.slots } ≡ now) (same : x.members ≡ m)
-    (reach : ℕ) (at : reach ≡ known_reach x q f) (a : Tally) (survey : IsSurvey x q reach a) where
+    (reach : ℕ) (at : reach ≡ reach_stored x q f) (a : Tally) (survey : IsSurvey x q reach a) where
   count_is : a.open_count ≡ count_by (is_covered_at now q) instances
   count_is = survey.open_count ∙ open_count m p f x now q shown same reach at
 
-  full_is : nat_lt 0 a.full_count ≡ list_any (is_round_full now) (filter (is_covered_at now q) instances)
-  full_is = survey.full_count ∙ full_shown m p f x now q shown same reach at
+  spent_is : nat_lt 0 a.spent_count ≡ list_any (is_spent_at now) (filter (is_covered_at now q) instances)
+  spent_is = survey.spent_count ∙ spent_shown m p f x now q shown same reach at
 
   -- the suspicion is refused for what the survey shows
   pub cause_is : (o : Outgoing) → (p ≡ q → ⊥) → suspect_cause now o q ≡ tally_cause a o
   cause_is o other =
-      suspect_cause_is now o q (eqb a.open_count 0) (nat_lt 0 a.full_count)
+      suspect_cause_is now o q (eqb a.open_count 0) (nat_lt 0 a.spent_count)
       (ne_eqb now.id q (λ e. other (ap (λ (s : ServerState). s.id) shown ∙ e)))
-      (ap (λ (n : ℕ). eqb n 0) (sym count_is)) (sym full_is)
+      (ap (λ (n : ℕ). eqb n 0) (sym count_is)) (sym spent_is)
       ∙ ap (λ (n : ℕ). cond (eqb a.open_count 0) (Some NothingToRevoke)
-      (cond (nat_lt 0 a.full_count) (Some RoundsFull) (outbox_full o n)))
+      (cond (nat_lt 0 a.spent_count) (Some RoundsFull) (outbox_full o n)))
       (sym count_is)
 
-  pub rounds_left : a.full_count ≡ 0 → (j : ℕ) → j < instance_count → is_open x q reach j ≡ true
-      → round_after x.members (known_slot x j) ≤ greatest_round
-  rounds_left room = open_rounds m p f x now q shown same reach at (rounds_small now q (sym full_is ∙ ap (nat_lt 0) room))
+  pub rounds_left : a.spent_count ≡ 0 → (j : ℕ) → j < instance_count → is_covered_stored x q reach j ≡ true
+      → round_after x.members (instance_slot x j) ≤ greatest_round
+  rounds_left room = open_rounds m p f x now q shown same reach at (rounds_small now q (sym spent_is ∙ ap (nat_lt 0) room))

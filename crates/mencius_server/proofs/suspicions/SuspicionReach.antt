@@ -9,9 +9,9 @@ use Rattle.mencius_base.specs.Members.{Membership, instances, owner}
 use Rattle.mencius_model.specs.Rules.{is_open_from, reach_from}
 use Rattle.mencius_model.proofs.trace.NumberLists.{find-instances, find-instances_found}
 use Rattle.coord_paxos.specs.SlotState.{SlotState}
-use Rattle.mencius_server.specs.Known.{KnownState, is_known_open, known_at, known_of, known_reach, known_slot}
-use Rattle.mencius_server.specs.declared.ranges.Span.{Span}
-use Rattle.mencius_server.proofs.instances.KnownInstances.{seen}
+use Rattle.mencius_server.specs.Instances.{InstancesState, instance_slot, instance_slot_in, instances_in, is_open_stored, reach_stored}
+use Rattle.mencius_server.specs.declared.skipped_intervals.Interval.{Interval}
+use Rattle.mencius_server.proofs.stored.StoredInstances.{seen}
 
 -- a server's first instance has its number
 pub first_own : (m : Membership) (q : ℕ) → q < m.count → owner m q ≡ q
@@ -24,22 +24,22 @@ pub clash : (a : Bool) → a ≡ true → a ≡ false → ⊥
 clash true e fails = cc
 clash false e fails = cc
 
-module _ (m : Membership) (slots : List (Option SlotState)) (rs : List (List Span)) (now : KnownState)
-    (shown : known_of m slots rs ≡ now) (q front near first : ℕ)
+module _ (m : Membership) (slots : List (Option SlotState)) (rs : List (List Interval)) (now : InstancesState)
+    (shown : instances_in m slots rs ≡ now) (q front near first : ℕ)
     (near_is : near ≡ min (front + m.beta) instance_count) (own : owner m first ≡ q)
     (below : (j : ℕ) → j < first → owner m j ≡ q → j < instance_count
-    → is_none (known_at m slots rs j).learned ≡ false) where
+    → is_none (instance_slot_in m slots rs j).learned ≡ false) where
   members : now.members ≡ m
-  members = sym (ap (λ (x : KnownState). x.members) shown)
+  members = sym (ap (λ (x : InstancesState). x.members) shown)
 
   open_is : (j : ℕ) → j < instance_count
-      → is_known_open now q j ≡ is_open_from m q j (known_at m slots rs j).learned
+      → is_open_stored now q j ≡ is_open_from m q j (instance_slot_in m slots rs j).learned
   open_is j small =
-      ap (λ n. is_open_from n q j (known_slot now j).learned) members
+      ap (λ n. is_open_from n q j (instance_slot now j).learned) members
       ∙ ap (λ (s : SlotState). is_open_from m q j s.learned) (seen m slots rs now shown j small)
 
   -- nothing is open before the first
-  closed : (j : ℕ) → j < first → j < instance_count → is_known_open now q j ≡ false
+  closed : (j : ℕ) → j < first → j < instance_count → is_open_stored now q j ≡ false
   closed j less small =
       open_is j small
       ∙ ⊎_elim
@@ -47,26 +47,26 @@ module _ (m : Membership) (slots : List (Option SlotState)) (rs : List (List Spa
       (λ (other : owner m j ≡ q → ⊥). and_left _ _ (ne_eqb (owner m j) q other))
       (cases_eq (owner m j) q)
 
-  pub reach_there : first < near → is_none (known_at m slots rs first).learned ≡ true
-      → front + 2 * m.beta + 1 ≡ known_reach now q front
+  pub reach_there : first < near → is_none (instance_slot_in m slots rs first).learned ≡ true
+      → front + 2 * m.beta + 1 ≡ reach_stored now q front
   reach_there less unlearned =
       let small : first < instance_count = omega (arith, near_is) in
-      let opens : is_known_open now q first ≡ true =
+      let opens : is_open_stored now q first ≡ true =
       open_is first small ∙ rw (eq-eqb (owner m first) q own) unlearned in
       sym (ap (reach_from now.members front)
-      (find-instances (is_known_open now q) first small (λ j l. closed j l (omega arith)) opens)
+      (find-instances (is_open_stored now q) first small (λ j l. closed j l (omega arith)) opens)
       ∙ ap (λ n. reach_from n front (Some first)) members
       ∙ rw (lt-ltb first (front + m.beta) (omega (arith, near_is))) refl)
 
-  pub reach_nowhere : near ≤ first → 0 ≡ known_reach now q front
-  reach_nowhere past = sym (go (find (is_known_open now q) instances) refl)
+  pub reach_nowhere : near ≤ first → 0 ≡ reach_stored now q front
+  reach_nowhere past = sym (go (find (is_open_stored now q) instances) refl)
     where
-      go : (o : Option ℕ) → find (is_known_open now q) instances ≡ o → reach_from now.members front o ≡ 0
+      go : (o : Option ℕ) → find (is_open_stored now q) instances ≡ o → reach_from now.members front o ≡ 0
       go None e = refl
       go (Some i) e =
-          let found = find-instances_found (is_known_open now q) i e in
+          let found = find-instances_found (is_open_stored now q) i e in
           ⊎_elim
-          (λ (less : i < first). absurd (clash (is_known_open now q i) found.passes (closed i less found.small)))
+          (λ (less : i < first). absurd (clash (is_open_stored now q i) found.passes (closed i less found.small)))
           (λ (from : first ≤ i).
           ap (λ n. reach_from n front (Some i)) members
           ∙ rw (le-ltb i (front + m.beta) (omega (arith, near_is, past, from, found.small))) refl)

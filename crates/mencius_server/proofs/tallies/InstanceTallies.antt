@@ -7,18 +7,18 @@ use Rattle.std.proofs.lemmas.List.{get_or_default}
 use Rattle.mencius_base.specs.Members.{Membership, below, instances, owner}
 use Rattle.mencius_model.proofs.trace.NumberLists.{any-filter, any-instances, any-instances_found, count_by-below_le, count_by-below_more, count_by-below_none, count_by-below_zero, instances-below}
 use Rattle.coord_paxos.specs.SlotState.{SlotState}
-use Rattle.mencius_server.specs.Known.{IsSound, KnownState, is_open, is_passed, is_round_full_at, known_at, known_of, known_slot, slotless}
-use Rattle.mencius_server.specs.Runs.{AreRuns, run_end}
-use Rattle.mencius_server.specs.Ranges.{covers}
-use Rattle.mencius_server.specs.Slots.{known_by_slot, stand_at}
-use Rattle.mencius_server.specs.Tallies.{HasCounted, IsKnown, IsSurvey, IsTally, IsTallyFrom, IsTold, full_one, is_full_of, is_open_of, moved, no_tally, open_one, summed, tally_of, tallied, untallied}
-use Rattle.mencius_server.specs.declared.ranges.Span.{Span}
+use Rattle.mencius_server.specs.Instances.{AreSlotsAndSkips, InstancesState, instance_slot, instance_slot_in, instances_in, is_covered_stored, is_in_skipped, is_spent_stored, slot_by_skip}
+use Rattle.mencius_server.specs.LearnedIntervals.{AreLearnedIntervals, interval_end}
+use Rattle.mencius_server.specs.Intervals.{is_in_any}
+use Rattle.mencius_server.specs.Slots.{stored_at, stored_or_new}
+use Rattle.mencius_server.specs.Tallies.{HasCounted, IsInstancesInside, IsSurvey, IsTally, IsTallyFrom, LearnedWhereSkipped, spent_one, is_spent_of, is_open_of, tally_after, no_tally, open_one, tally_sum, tally_of, with_counted, without_counted}
+use Rattle.mencius_server.specs.declared.skipped_intervals.Interval.{Interval}
 use Rattle.mencius_server.specs.declared.tally.Tally.{Tally}
-use Rattle.mencius_server.proofs.intervals.RangeCounts.{bit, count_same}
-use Rattle.mencius_server.proofs.instances.InstanceGaps.{count_gap, count_to, unrevoked_past}
-use Rattle.mencius_server.proofs.instances.KnownInstances.{seen}
-use Rattle.mencius_server.proofs.suspicions.LearnedRuns.{no_runs, runs_stay}
-use Rattle.mencius_server.proofs.instances.SkipLoop.{IsCountUpTo, count_more}
+use Rattle.mencius_server.proofs.intervals.IntervalCounts.{bit, count_same}
+use Rattle.mencius_server.proofs.stored.InstanceGaps.{count_gap, count_to, unrevoked_past}
+use Rattle.mencius_server.proofs.stored.StoredInstances.{seen}
+use Rattle.mencius_server.proofs.suspicions.IntervalLeaps.{intervals_stay, no_learned_intervals}
+use Rattle.mencius_server.proofs.stored.SkipLoop.{IsCountUpTo, count_more}
 use Rattle.mencius_base.specs.Limits.{instance_count}
 use Rattle.mencius_server.specs.Machine.{is_spent}
 
@@ -101,19 +101,19 @@ own_open : (m : Membership) (f : ℕ → SlotState) (q j : ℕ) → owner m j �
     → is_open_of m f q j ≡ is_none (f j).learned
 own_open m f q j own = ap (λ bit. bit && is_none (f j).learned) (eq-eqb (owner m j) q own)
 
-own_full : (m : Membership) (f : ℕ → SlotState) (q j : ℕ) → owner m j ≡ q
-    → is_full_of m f q j ≡ (is_none (f j).learned && is_spent m (f j))
-own_full m f q j own = ap (λ bit. (bit && is_none (f j).learned) && is_spent m (f j)) (eq-eqb (owner m j) q own)
+own_spent : (m : Membership) (f : ℕ → SlotState) (q j : ℕ) → owner m j ≡ q
+    → is_spent_of m f q j ≡ (is_none (f j).learned && is_spent m (f j))
+own_spent m f q j own = ap (λ bit. (bit && is_none (f j).learned) && is_spent m (f j)) (eq-eqb (owner m j) q own)
 
 -- what is counted of two slots is the same
 pub record IsAlike (m : Membership) (s r : SlotState) : Type 0 where
   pub open_count : is_none s.learned ≡ is_none r.learned
-  pub full_count : (is_none s.learned && is_spent m s) ≡ (is_none r.learned && is_spent m r)
+  pub spent_count : (is_none s.learned && is_spent m s) ≡ (is_none r.learned && is_spent m r)
 
 pub alike_same : (m : Membership) (s r : SlotState) → s ≡ r → IsAlike m s r
 alike_same m s r e = record {
   open_count = ap (λ (x : SlotState). is_none x.learned) e;
-  full_count = ap (λ (x : SlotState). is_none x.learned && is_spent m x) e;
+  spent_count = ap (λ (x : SlotState). is_none x.learned && is_spent m x) e;
 }
 
 pub tally_alike : (m : Membership) (f g : ℕ → SlotState) (q : ℕ) (a : Tally)
@@ -126,10 +126,10 @@ tally_alike m f g q a alike h = record {
       ∙ sym (own_open m g q j own))
       (λ (other : owner m j ≡ q → ⊥). other_open m f q j other ∙ sym (other_open m g q j other))
       (cases_eq (owner m j) q));
-  full_count = h.full_count ∙ count_same (is_full_of m f q) (is_full_of m g q) a.stop
+  spent_count = h.spent_count ∙ count_same (is_spent_of m f q) (is_spent_of m g q) a.stop
       (λ j l. ⊎_elim
-      (λ (own : owner m j ≡ q). own_full m f q j own ∙ (alike j (omega (arith, h.small)) own).full_count
-      ∙ sym (own_full m g q j own))
+      (λ (own : owner m j ≡ q). own_spent m f q j own ∙ (alike j (omega (arith, h.small)) own).spent_count
+      ∙ sym (own_spent m g q j own))
       (λ (other : owner m j ≡ q → ⊥). and_left _ _ (other_open m f q j other)
       ∙ sym (and_left _ _ (other_open m g q j other)))
       (cases_eq (owner m j) q));
@@ -139,40 +139,40 @@ pub tally_none : (m : Membership) (f : ℕ → SlotState) (q : ℕ) (a : Tally) 
 tally_none m f q a e = rw e (record {
   small = omega arith;
   open_count = sym (count_by-below_zero (is_open_of m f q));
-  full_count = sym (count_by-below_zero (is_full_of m f q));
+  spent_count = sym (count_by-below_zero (is_spent_of m f q));
 })
 
 module _ (m : Membership) (f : ℕ → SlotState) (q i : ℕ) (a : Tally) (own : owner m i ≡ q) (h : IsTally m f q a) where
   open_bit : bit (is_open_of m f q i) ≡ open_one (f i)
   open_bit = ap bit (own_open m f q i own)
 
-  full_bit : bit (is_full_of m f q i) ≡ full_one m (f i)
-  full_bit = ap bit (own_full m f q i own)
+  spent_bit : bit (is_spent_of m f q i) ≡ spent_one m (f i)
+  spent_bit = ap bit (own_spent m f q i own)
 
   -- an instance below the place was counted
   pub has_counted : i < a.stop → HasCounted m a (f i)
   has_counted less = record {
     open_count = omega (arith, open_bit, h.open_count, count_one (is_open_of m f q) i a.stop less);
-    full_count = omega (arith, full_bit, h.full_count, count_one (is_full_of m f q) i a.stop less);
+    spent_count = omega (arith, spent_bit, h.spent_count, count_one (is_spent_of m f q) i a.stop less);
     few = omega (arith, h.open_count, h.small, count_few (is_open_of m f q) a.stop);
-    fewer = omega (arith, h.full_count, h.small, count_few (is_full_of m f q) a.stop);
+    fewer = omega (arith, h.spent_count, h.small, count_few (is_spent_of m f q) a.stop);
   }
 
   module _ (g : ℕ → SlotState) (rest : (j : ℕ) → (j ≡ i → ⊥) → f j ≡ g j) where
     open_rest : (j : ℕ) → (j ≡ i → ⊥) → is_open_of m f q j ≡ is_open_of m g q j
     open_rest j off = ap (λ (s : SlotState). eqb (owner m j) q && is_none s.learned) (rest j off)
 
-    full_rest : (j : ℕ) → (j ≡ i → ⊥) → is_full_of m f q j ≡ is_full_of m g q j
-    full_rest j off =
+    spent_rest : (j : ℕ) → (j ≡ i → ⊥) → is_spent_of m f q j ≡ is_spent_of m g q j
+    spent_rest j off =
         ap (λ (s : SlotState). (eqb (owner m j) q && is_none s.learned) && is_spent m s) (rest j off)
 
     new_open : bit (is_open_of m g q i) ≡ open_one (g i)
     new_open = ap bit (own_open m g q i own)
 
-    new_full : bit (is_full_of m g q i) ≡ full_one m (g i)
-    new_full = ap bit (own_full m g q i own)
+    new_spent : bit (is_spent_of m g q i) ≡ spent_one m (g i)
+    new_spent = ap bit (own_spent m g q i own)
 
-    counted_anew : i < a.stop → IsTally m g q (tallied m (untallied m a (f i)) (g i))
+    counted_anew : i < a.stop → IsTally m g q (with_counted m (without_counted m a (f i)) (g i))
     counted_anew less =
         let was = has_counted less in
         record {
@@ -185,31 +185,33 @@ module _ (m : Membership) (f : ℕ → SlotState) (q i : ℕ) (a : Tally) (own :
             was.open_count,
             count_but (is_open_of m f q) (is_open_of m g q) a.stop i less open_rest,
           );
-          full_count = omega (
+          spent_count = omega (
             arith,
-            full_bit,
-            new_full,
-            h.full_count,
-            was.full_count,
-            count_but (is_full_of m f q) (is_full_of m g q) a.stop i less full_rest,
+            spent_bit,
+            new_spent,
+            h.spent_count,
+            was.spent_count,
+            count_but (is_spent_of m f q) (is_spent_of m g q) a.stop i less spent_rest,
           );
         }
 
     -- one slot is another one from now on
-    pub tally_moved : IsTally m g q (moved m i a (f i) (g i))
-    tally_moved =
+    pub tally_after_is : IsTally m g q (tally_after m i a (f i) (g i))
+    tally_after_is =
         ⊎_elim
         (λ (less : i < a.stop).
-        subst (λ bit. IsTally m g q (cond bit (tallied m (untallied m a (f i)) (g i)) a)) (sym (lt-ltb i a.stop less))
+        subst (λ bit. IsTally m g q (cond bit (with_counted m (without_counted m a (f i)) (g i)) a))
+        (sym (lt-ltb i a.stop less))
         (counted_anew less))
         (λ (past : a.stop ≤ i).
-        subst (λ bit. IsTally m g q (cond bit (tallied m (untallied m a (f i)) (g i)) a)) (sym (le-ltb i a.stop past))
+        subst (λ bit. IsTally m g q (cond bit (with_counted m (without_counted m a (f i)) (g i)) a))
+        (sym (le-ltb i a.stop past))
         (record {
           small = h.small;
           open_count = h.open_count ∙ count_same (is_open_of m f q) (is_open_of m g q) a.stop
               (λ j l. open_rest j (λ e. absurd (omega arith)));
-          full_count = h.full_count ∙ count_same (is_full_of m f q) (is_full_of m g q) a.stop
-              (λ j l. full_rest j (λ e. absurd (omega arith)));
+          spent_count = h.spent_count ∙ count_same (is_spent_of m f q) (is_spent_of m g q) a.stop
+              (λ j l. spent_rest j (λ e. absurd (omega arith)));
         }))
         (cases_lt i a.stop)
 
@@ -244,17 +246,17 @@ pub record IsTalliedTo (m : Membership) (f : ℕ → SlotState) (q first stop : 
   pub own : owner m i ≡ q
   pub over : (j : ℕ) → stop ≤ j → j < i → owner m j ≡ q → ⊥
   pub opens : IsCountUpTo (is_open_of m f q) i (a.open_count + count_by (is_open_of m f q) (below first))
-  pub fulls : IsCountUpTo (is_full_of m f q) i (a.full_count + count_by (is_full_of m f q) (below first))
+  pub spent : IsCountUpTo (is_spent_of m f q) i (a.spent_count + count_by (is_spent_of m f q) (below first))
 
 module _ (m : Membership) (f : ℕ → SlotState) (q first stop : ℕ) where
-  pub tallied_start : (a : Tally) (i : ℕ) → a.open_count ≡ 0 → a.full_count ≡ 0 → first ≤ stop → owner m i ≡ q
+  pub tallied_start : (a : Tally) (i : ℕ) → a.open_count ≡ 0 → a.spent_count ≡ 0 → first ≤ stop → owner m i ≡ q
       → first ≤ i → ((j : ℕ) → first ≤ j → owner m j ≡ q → i ≤ j) → IsTalliedTo m f q first stop a i
-  tallied_start a i no_open no_full ahead own low least = record {
+  tallied_start a i no_open no_spent ahead own low least = record {
     own = own;
     over = λ j past less mine. let far = least j (omega arith) mine in absurd (omega (arith, far));
     opens = count_gap (is_open_of m f q) first i _ low unowned_open (record { counted = omega (arith, no_open) });
-    fulls = count_gap (is_full_of m f q) first i _ low (λ j from less. and_left _ _ (unowned_open j from less))
-        (record { counted = omega (arith, no_full) });
+    spent = count_gap (is_spent_of m f q) first i _ low (λ j from less. and_left _ _ (unowned_open j from less))
+        (record { counted = omega (arith, no_spent) });
   }
     where
       unowned_open : (j : ℕ) → first ≤ j → j < i → is_open_of m f q j ≡ false
@@ -262,14 +264,14 @@ module _ (m : Membership) (f : ℕ → SlotState) (q first stop : ℕ) where
           other_open m f q j (λ mine. let far = least j from mine in absurd (omega (arith, far)))
 
   pub tallied_few : (a : Tally) (i : ℕ) → i < stop → stop ≤ instance_count → IsTalliedTo m f q first stop a i
-      → (a.open_count ≤ instance_count) × (a.full_count ≤ instance_count)
+      → (a.open_count ≤ instance_count) × (a.spent_count ≤ instance_count)
   tallied_few a i less small h = (
     omega (arith, h.opens.counted, count_few (is_open_of m f q) i),
-    omega (arith, h.fulls.counted, count_few (is_full_of m f q) i),
+    omega (arith, h.spent.counted, count_few (is_spent_of m f q) i),
   )
 
   pub tallied_more : (a d : Tally) (i next : ℕ) → i < stop → i + 1 ≤ next → owner m next ≡ owner m i
-      → ((j : ℕ) → i + 1 ≤ j → owner m j ≡ owner m i → next ≤ j) → d ≡ tallied m a (f i)
+      → ((j : ℕ) → i + 1 ≤ j → owner m j ≡ owner m i → next ≤ j) → d ≡ with_counted m a (f i)
       → IsTalliedTo m f q first stop a i → IsTalliedTo m f q first stop d next
   tallied_more a d i next less ahead own least is h =
       subst (λ (x : Tally). IsTalliedTo m f q first stop x next) (sym is) (record {
@@ -279,9 +281,9 @@ module _ (m : Membership) (f : ℕ → SlotState) (q first stop : ℕ) where
         opens = count_gap (is_open_of m f q) (i + 1) next _ ahead between
             (one_more (is_open_of m f q) a.open_count (open_one (f i)) (count_by (is_open_of m f q) (below first))
             (sym (ap bit (own_open m f q i h.own))) h.opens);
-        fulls = count_gap (is_full_of m f q) (i + 1) next _ ahead (λ j low high. and_left _ _ (between j low high))
-            (one_more (is_full_of m f q) a.full_count (full_one m (f i)) (count_by (is_full_of m f q) (below first))
-            (sym (ap bit (own_full m f q i h.own))) h.fulls);
+        spent = count_gap (is_spent_of m f q) (i + 1) next _ ahead (λ j low high. and_left _ _ (between j low high))
+            (one_more (is_spent_of m f q) a.spent_count (spent_one m (f i)) (count_by (is_spent_of m f q) (below first))
+            (sym (ap bit (own_spent m f q i h.own))) h.spent);
       })
     where
       between : (j : ℕ) → i + 1 ≤ j → j < next → is_open_of m f q j ≡ false
@@ -301,36 +303,36 @@ module _ (m : Membership) (f : ℕ → SlotState) (q first stop : ℕ) where
     open_count = (count_to (is_open_of m f q) i stop _ (λ j low high. absurd (omega arith))
         (λ j low high. other_open m f q j (h.over j low high)) h.opens).counted
         ∙ ap (λ n. count_by (is_open_of m f q) (below n)) (sym end);
-    full_count = (count_to (is_full_of m f q) i stop _ (λ j low high. absurd (omega arith))
-        (λ j low high. and_left _ _ (other_open m f q j (h.over j low high))) h.fulls).counted
-        ∙ ap (λ n. count_by (is_full_of m f q) (below n)) (sym end);
+    spent_count = (count_to (is_spent_of m f q) i stop _ (λ j low high. absurd (omega arith))
+        (λ j low high. and_left _ _ (other_open m f q j (h.over j low high))) h.spent).counted
+        ∙ ap (λ n. count_by (is_spent_of m f q) (below n)) (sym end);
   }
 
 -- ---- counts between two places
 
 module _ (m : Membership) (f : ℕ → SlotState) (q first : ℕ) where
   -- nothing was counted yet
-  pub from_start : (d : Tally) → d.stop ≡ first → first ≤ instance_count → d.open_count ≡ 0 → d.full_count ≡ 0
+  pub from_start : (d : Tally) → d.stop ≡ first → first ≤ instance_count → d.open_count ≡ 0 → d.spent_count ≡ 0
       → IsTallyFrom m f q first d
-  from_start d at small no_open no_full = record {
+  from_start d at small no_open no_spent = record {
     ahead = omega (arith, at);
     small = omega (arith, at);
     open_count = rw at (omega (arith, no_open));
-    full_count = rw at (omega (arith, no_full));
+    spent_count = rw at (omega (arith, no_spent));
   }
 
   pub from_few : (d : Tally) → IsTallyFrom m f q first d
-      → (d.open_count ≤ instance_count) × (d.full_count ≤ instance_count)
+      → (d.open_count ≤ instance_count) × (d.spent_count ≤ instance_count)
   from_few d h = (
     omega (arith, h.open_count, h.small, count_few (is_open_of m f q) d.stop),
-    omega (arith, h.full_count, h.small, count_few (is_full_of m f q) d.stop),
+    omega (arith, h.spent_count, h.small, count_few (is_spent_of m f q) d.stop),
   )
 
   -- past places where nothing is open come some where another test agrees
   pub from_more : (g : ℕ → SlotState) (d x : Tally) (past : ℕ) → d.stop ≤ past
       → ((j : ℕ) → d.stop ≤ j → j < past → owner m j ≡ q → is_none (f j).learned ≡ false)
       → ((j : ℕ) → past ≤ j → j < x.stop → owner m j ≡ q → f j ≡ g j)
-      → IsTallyFrom m g q past x → IsTallyFrom m f q first d → IsTallyFrom m f q first (summed d x)
+      → IsTallyFrom m g q past x → IsTallyFrom m f q first d → IsTallyFrom m f q first (tally_sum d x)
   from_more g d x past ahead closed same further h = record {
     ahead = omega (arith, h.ahead, further.ahead);
     small = further.small;
@@ -341,12 +343,12 @@ module _ (m : Membership) (f : ℕ → SlotState) (q first : ℕ) where
       count_still (is_open_of m f q) d.stop past ahead shut,
       count_between (is_open_of m f q) (is_open_of m g q) past x.stop further.ahead same_open,
     );
-    full_count = omega (
+    spent_count = omega (
       arith,
-      h.full_count,
-      further.full_count,
-      count_still (is_full_of m f q) d.stop past ahead (λ j low high. and_left _ _ (shut j low high)),
-      count_between (is_full_of m f q) (is_full_of m g q) past x.stop further.ahead same_full,
+      h.spent_count,
+      further.spent_count,
+      count_still (is_spent_of m f q) d.stop past ahead (λ j low high. and_left _ _ (shut j low high)),
+      count_between (is_spent_of m f q) (is_spent_of m g q) past x.stop further.ahead same_spent,
     );
   }
     where
@@ -363,8 +365,8 @@ module _ (m : Membership) (f : ℕ → SlotState) (q first : ℕ) where
           (λ (other : owner m j ≡ q → ⊥). other_open m f q j other ∙ sym (other_open m g q j other))
           (cases_eq (owner m j) q)
 
-      same_full : (j : ℕ) → past ≤ j → j < x.stop → is_full_of m f q j ≡ is_full_of m g q j
-      same_full j low high =
+      same_spent : (j : ℕ) → past ≤ j → j < x.stop → is_spent_of m f q j ≡ is_spent_of m g q j
+      same_spent j low high =
           ⊎_elim
           (λ (own : owner m j ≡ q).
           ap (λ (s : SlotState). (eqb (owner m j) q && is_none s.learned) && is_spent m s) (same j low high own))
@@ -372,36 +374,40 @@ module _ (m : Membership) (f : ℕ → SlotState) (q first : ℕ) where
           ∙ sym (and_left _ _ (other_open m g q j other)))
           (cases_eq (owner m j) q)
 
--- what a range has is learned
-pub sound_told : (m : Membership) (slots : List (Option SlotState)) (rs : List (List Span)) (low : ℕ)
-    → IsSound m slots rs low → IsTold m slots rs
-sound_told m slots rs low h j small passed = go (stand_at slots j) refl
+-- what a skipped interval has is learned
+pub sound_learned : (m : Membership) (slots : List (Option SlotState)) (rs : List (List Interval)) (low : ℕ)
+    → AreSlotsAndSkips m slots rs low → LearnedWhereSkipped m slots rs
+sound_learned m slots rs low h j small passed = go (stored_at slots j) refl
   where
-    go : (o : Option SlotState) → stand_at slots j ≡ o → is_none (known_at m slots rs j).learned ≡ false
+    go : (o : Option SlotState) → stored_at slots j ≡ o → is_none (instance_slot_in m slots rs j).learned ≡ false
     go None e = rw (e, passed) refl
-    go (Some s) e = rw e (h.told j s small passed e)
+    go (Some s) e = rw e (h.learned_where_skipped j s small passed e)
 
--- past a range, where nothing is open, come instances that no range has
-pub from_gap : (m : Membership) (slots : List (Option SlotState)) (rs : List (List Span)) (q first : ℕ)
-    (ranges : List Span) (d x : Tally) (stop covered_to past end : ℕ) → IsTold m slots rs → q < length rs
-    → ranges ≡ get_or rs q ranges → d.stop ≤ stop → d.stop ≤ covered_to → past ≡ min covered_to stop → x.stop ≡ end
-    → ((j : ℕ) → d.stop ≤ j → j < covered_to → covers ranges j ≡ true)
-    → ((j : ℕ) → past ≤ j → j < end → covers ranges j ≡ false)
-    → IsTallyFrom m (known_by_slot m slots) q past x
-    → IsTallyFrom m (known_at m slots rs) q first d → IsTallyFrom m (known_at m slots rs) q first (summed d x)
-from_gap m slots rs q first ranges d x stop covered_to past end told member theirs within ahead past_is end_is covered
+-- past an interval, where nothing is open, come instances that no skipped interval has
+pub from_gap : (m : Membership) (slots : List (Option SlotState)) (rs : List (List Interval)) (q first : ℕ)
+    (intervals : List Interval) (d x : Tally) (stop covered_to past end : ℕ) → LearnedWhereSkipped m slots rs
+    → q < length rs
+    → intervals ≡ get_or rs q intervals → d.stop ≤ stop → d.stop ≤ covered_to → past ≡ min covered_to stop
+    → x.stop ≡ end
+    → ((j : ℕ) → d.stop ≤ j → j < covered_to → is_in_any intervals j ≡ true)
+    → ((j : ℕ) → past ≤ j → j < end → is_in_any intervals j ≡ false)
+    → IsTallyFrom m (stored_or_new m slots) q past x
+    → IsTallyFrom m (instance_slot_in m slots rs) q first d
+    → IsTallyFrom m (instance_slot_in m slots rs) q first (tally_sum d x)
+from_gap m slots rs q first intervals d x stop covered_to past end learned_where_skipped member theirs within ahead
+    past_is end_is covered
     clear further h =
-    from_more m (known_at m slots rs) q first (known_by_slot m slots) d x past (omega (arith, past_is))
-    (λ j low high own. told j (omega (arith, high, further.ahead, further.small))
+    from_more m (instance_slot_in m slots rs) q first (stored_or_new m slots) d x past (omega (arith, past_is))
+    (λ j low high own. learned_where_skipped j (omega (arith, high, further.ahead, further.small))
     (passed j own ∙ covered j low (omega (arith, high, past_is))))
-    (λ j low high own. ap (λ bit. unwrap_or (stand_at slots j) (slotless m bit))
+    (λ j low high own. ap (λ bit. unwrap_or (stored_at slots j) (slot_by_skip m bit))
     (passed j own ∙ clear j low (omega (arith, high, end_is))))
     further h
   where
-    passed : (j : ℕ) → owner m j ≡ q → is_passed m rs j ≡ covers ranges j
+    passed : (j : ℕ) → owner m j ≡ q → is_in_skipped m rs j ≡ is_in_any intervals j
     passed j own =
-        ap (λ q. covers (get_or rs q []) j) own
-        ∙ ap (λ xs. covers xs j) (sym (theirs ∙ get_or_default rs q ranges [] member))
+        ap (λ q. is_in_any (get_or rs q []) j) own
+        ∙ ap (λ xs. is_in_any xs j) (sym (theirs ∙ get_or_default rs q intervals [] member))
 
 -- what is counted from a place on, below which nothing is open, is a tally
 pub tally_anew : (m : Membership) (f : ℕ → SlotState) (q first : ℕ) (d : Tally)
@@ -414,11 +420,11 @@ tally_anew m f q first d closed h = record {
     count_by-below_zero (is_open_of m f q),
     count_still (is_open_of m f q) 0 first (omega arith) (λ j low high. and_right _ _ (closed j high)),
   );
-  full_count = omega (
+  spent_count = omega (
     arith,
-    h.full_count,
-    count_by-below_zero (is_full_of m f q),
-    count_still (is_full_of m f q) 0 first (omega arith)
+    h.spent_count,
+    count_by-below_zero (is_spent_of m f q),
+    count_still (is_spent_of m f q) 0 first (omega arith)
         (λ j low high. and_left _ _ (and_right (eqb (owner m j) q) _ (closed j high))),
   );
 }
@@ -426,7 +432,7 @@ tally_anew m f q first d closed h = record {
 -- what is counted on from past the end of a tally makes it longer, if nothing in between is open
 pub tally_further : (m : Membership) (f : ℕ → SlotState) (q first : ℕ) (a d : Tally) → a.stop ≤ first
     → ((j : ℕ) → a.stop ≤ j → j < first → is_none (f j).learned ≡ false) → IsTally m f q a
-    → IsTallyFrom m f q first d → IsTally m f q (summed a d)
+    → IsTallyFrom m f q first d → IsTally m f q (tally_sum a d)
 tally_further m f q first a d ahead closed h further = record {
   small = further.small;
   open_count = omega (
@@ -435,37 +441,37 @@ tally_further m f q first a d ahead closed h further = record {
     further.open_count,
     count_still (is_open_of m f q) a.stop first ahead (λ j low high. and_right _ _ (closed j low high)),
   );
-  full_count = omega (
+  spent_count = omega (
     arith,
-    h.full_count,
-    further.full_count,
-    count_still (is_full_of m f q) a.stop first ahead
+    h.spent_count,
+    further.spent_count,
+    count_still (is_spent_of m f q) a.stop first ahead
         (λ j low high. and_left _ _ (and_right (eqb (owner m j) q) _ (closed j low high))),
   );
 }
 
 pub tally_few : (m : Membership) (f : ℕ → SlotState) (q : ℕ) (d : Tally) → IsTally m f q d
-    → (d.open_count ≤ instance_count) × (d.full_count ≤ instance_count)
+    → (d.open_count ≤ instance_count) × (d.spent_count ≤ instance_count)
 tally_few m f q d h = (
   omega (arith, h.open_count, h.small, count_few (is_open_of m f q) d.stop),
-  omega (arith, h.full_count, h.small, count_few (is_full_of m f q) d.stop),
+  omega (arith, h.spent_count, h.small, count_few (is_spent_of m f q) d.stop),
 )
 
 -- ---- what a suspicion would revoke
 
-module _ (m : Membership) (slots : List (Option SlotState)) (rs : List (List Span)) (now : KnownState)
-    (shown : known_of m slots rs ≡ now) (q reach : ℕ) (d : Tally) (h : IsTally m (known_at m slots rs) q d)
+module _ (m : Membership) (slots : List (Option SlotState)) (rs : List (List Interval)) (now : InstancesState)
+    (shown : instances_in m slots rs ≡ now) (q reach : ℕ) (d : Tally) (h : IsTally m (instance_slot_in m slots rs) q d)
     (stop : d.stop ≡ min reach instance_count) where
   same_members : m ≡ now.members
-  same_members = ap (λ (x : KnownState). x.members) shown
+  same_members = ap (λ (x : InstancesState). x.members) shown
 
-  open_at : (j : ℕ) → j < d.stop → is_open_of m (known_at m slots rs) q j ≡ is_open now q reach j
+  open_at : (j : ℕ) → j < d.stop → is_open_of m (instance_slot_in m slots rs) q j ≡ is_covered_stored now q reach j
   open_at j l =
       let reached : j < reach = omega (arith, stop) in
       let small : j < instance_count = omega (arith, stop) in
       ap (λ (s : SlotState). eqb (owner m j) q && is_none s.learned) (sym (seen m slots rs now shown j small))
-      ∙ ap (λ n. eqb (owner n j) q && is_none (known_slot now j).learned) same_members
-      ∙ ap (λ y. y && is_none (known_slot now j).learned)
+      ∙ ap (λ n. eqb (owner n j) q && is_none (instance_slot now j).learned) same_members
+      ∙ ap (λ y. y && is_none (instance_slot now j).learned)
       (sym (ap (λ y. eqb (owner now.members j) q && y) (lt-ltb j reach reached)
       ∙ and-true (eqb (owner now.members j) q)))
     where
@@ -473,13 +479,14 @@ module _ (m : Membership) (slots : List (Option SlotState)) (rs : List (List Spa
       and-true true = refl
       and-true false = refl
 
-  full_at : (j : ℕ) → j < d.stop
-      → is_full_of m (known_at m slots rs) q j ≡ (is_open now q reach j && is_round_full_at now j)
-  full_at j l =
+  spent_here : (j : ℕ) → j < d.stop
+      → is_spent_of m (instance_slot_in m slots rs) q j ≡ (is_covered_stored now q reach j && is_spent_stored now j)
+  spent_here j l =
       let small : j < instance_count = omega (arith, stop) in
-      ap (λ y. y && is_spent m (known_at m slots rs j)) (open_at j l)
-      ∙ ap (λ (s : SlotState). is_open now q reach j && is_spent m s) (sym (seen m slots rs now shown j small))
-      ∙ ap (λ n. is_open now q reach j && is_spent n (known_slot now j)) same_members
+      ap (λ y. y && is_spent m (instance_slot_in m slots rs j)) (open_at j l)
+      ∙ ap (λ (s : SlotState). is_covered_stored now q reach j && is_spent m s)
+      (sym (seen m slots rs now shown j small))
+      ∙ ap (λ n. is_covered_stored now q reach j && is_spent n (instance_slot now j)) same_members
 
   count_all : (f g : ℕ → Bool) → ((j : ℕ) → j < d.stop → f j ≡ g j)
       → ((j : ℕ) → d.stop ≤ j → j < instance_count → g j ≡ false)
@@ -490,110 +497,122 @@ module _ (m : Membership) (slots : List (Option SlotState)) (rs : List (List Spa
       ∙ sym (ap (count_by g) instances-below ∙ ap (λ n. count_by g (below n)) (sym all)
       ∙ count_by-below_none g d.stop (instance_count - d.stop) (λ j low high. past j low (omega (arith, all))))
 
-  closed_past : (j : ℕ) → d.stop ≤ j → j < instance_count → is_open now q reach j ≡ false
+  closed_past : (j : ℕ) → d.stop ≤ j → j < instance_count → is_covered_stored now q reach j ≡ false
   closed_past j low small =
-      unrevoked_past now.members q reach j (known_slot now j) (omega (arith, stop))
+      unrevoked_past now.members q reach j (instance_slot now j) (omega (arith, stop))
 
   pub tally_survey : IsSurvey now q reach d
   tally_survey = record {
     open_count =
-        h.open_count ∙ count_all (is_open_of m (known_at m slots rs) q) (is_open now q reach) open_at closed_past;
-    full_count =
-        ap (nat_lt 0) (h.full_count ∙ count_all (is_full_of m (known_at m slots rs) q)
-        (λ j. is_open now q reach j && is_round_full_at now j) full_at
+        h.open_count ∙ count_all (is_open_of m (instance_slot_in m slots rs) q) (is_covered_stored now q reach) open_at
+        closed_past;
+    spent_count =
+        ap (nat_lt 0) (h.spent_count ∙ count_all (is_spent_of m (instance_slot_in m slots rs) q)
+        (λ j. is_covered_stored now q reach j && is_spent_stored now j) spent_here
         (λ j low small. and_left _ _ (closed_past j low small)))
-        ∙ sym (any-filter (is_open now q reach) (is_round_full_at now) instances
-        ∙ any_counted (λ j. is_open now q reach j && is_round_full_at now j));
+        ∙ sym (any-filter (is_covered_stored now q reach) (is_spent_stored now) instances
+        ∙ any_counted (λ j. is_covered_stored now q reach j && is_spent_stored now j));
   }
 
 -- ---- the tallies of all servers
 
 -- where a change was refused
-pub unchanged : (m : Membership) (slots new : List (Option SlotState)) (rs : List (List Span)) (low : ℕ)
-    (tallies : List Tally) (ends : List ℕ) → new ≡ slots → IsKnown m slots rs low tallies ends
-    → IsKnown m new rs low tallies ends
-unchanged m slots new rs low tallies ends same h = subst (λ ss. IsKnown m ss rs low tallies ends) (sym same) h
+pub unchanged : (m : Membership) (slots new : List (Option SlotState)) (rs : List (List Interval)) (low : ℕ)
+    (tallies : List Tally) (ends : List ℕ) → new ≡ slots → IsInstancesInside m slots rs low tallies ends
+    → IsInstancesInside m new rs low tallies ends
+unchanged m slots new rs low tallies ends same h = subst (λ ss. IsInstancesInside m ss rs low tallies ends) (sym same) h
 
 -- nothing was counted
-pub uncounted : (m : Membership) (slots : List (Option SlotState)) (rs : List (List Span)) (low : ℕ)
-    (tallies : List Tally) (ends : List ℕ) → IsSound m slots rs low
-    → ((q : ℕ) → tally_of tallies q ≡ no_tally) → ((i : ℕ) → run_end ends i ≡ 0) → IsKnown m slots rs low tallies ends
+pub uncounted : (m : Membership) (slots : List (Option SlotState)) (rs : List (List Interval)) (low : ℕ)
+    (tallies : List Tally) (ends : List ℕ) → AreSlotsAndSkips m slots rs low
+    → ((q : ℕ) → tally_of tallies q ≡ no_tally) → ((i : ℕ) → interval_end ends i ≡ 0)
+    → IsInstancesInside m slots rs low tallies ends
 uncounted m slots rs low tallies ends sound none start = record {
   sound = sound;
-  counted = λ q. tally_none m (known_at m slots rs) q _ (none q);
-  runs = no_runs m _ ends start;
+  counted = λ q. tally_none m (instance_slot_in m slots rs) q _ (none q);
+  learned_intervals = no_learned_intervals m _ ends start;
 }
 
 -- what is counted of each instance is as before
-pub counts_kept : (m : Membership) (slots new : List (Option SlotState)) (rs ranges : List (List Span)) (low next : ℕ)
-    (tallies : List Tally) (ends : List ℕ) → IsSound m new ranges next
-    → ((j : ℕ) → j < instance_count → IsAlike m (known_at m slots rs j) (known_at m new ranges j))
-    → IsKnown m slots rs low tallies ends → IsKnown m new ranges next tallies ends
-counts_kept m slots new rs ranges low next tallies ends sound alike h = record {
+pub counts_kept : (m : Membership) (slots new : List (Option SlotState)) (rs intervals : List (List Interval))
+    (low next : ℕ)
+    (tallies : List Tally) (ends : List ℕ) → AreSlotsAndSkips m new intervals next
+    → ((j : ℕ) → j < instance_count → IsAlike m (instance_slot_in m slots rs j) (instance_slot_in m new intervals j))
+    → IsInstancesInside m slots rs low tallies ends → IsInstancesInside m new intervals next tallies ends
+counts_kept m slots new rs intervals low next tallies ends sound alike h = record {
   sound = sound;
-  counted = λ q. tally_alike m (known_at m slots rs) (known_at m new ranges) q (tally_of tallies q)
+  counted = λ q. tally_alike m (instance_slot_in m slots rs) (instance_slot_in m new intervals) q (tally_of tallies q)
       (λ j small own. alike j small) (h.counted q);
-  runs = runs_stay m _ _ ends (λ j small closed. sym (alike j small).open_count ∙ closed) h.runs;
+  learned_intervals = intervals_stay m _ _ ends (λ j small closed. sym (alike j small).open_count ∙ closed)
+      h.learned_intervals;
 }
 
 -- one slot is another one
-pub counts_moved : (m : Membership) (slots new : List (Option SlotState)) (rs : List (List Span)) (low next i : ℕ)
-    (tallies more : List Tally) (ends : List ℕ) (s r : SlotState) → known_at m slots rs i ≡ s → known_at m new rs i ≡ r
-    → ((j : ℕ) → (j ≡ i → ⊥) → known_at m slots rs j ≡ known_at m new rs j)
+pub counts_after : (m : Membership) (slots new : List (Option SlotState)) (rs : List (List Interval)) (low next i : ℕ)
+    (tallies more : List Tally) (ends : List ℕ) (s r : SlotState) → instance_slot_in m slots rs i ≡ s
+    → instance_slot_in m new rs i ≡ r
+    → ((j : ℕ) → (j ≡ i → ⊥) → instance_slot_in m slots rs j ≡ instance_slot_in m new rs j)
     → (is_none s.learned ≡ false → is_none r.learned ≡ false)
     → ((q : ℕ) → tally_of more q
-    ≡ cond (eqb q (owner m i)) (moved m i (tally_of tallies q) s r) (tally_of tallies q))
-    → IsSound m new rs next → IsKnown m slots rs low tallies ends → IsKnown m new rs next more ends
-counts_moved m slots new rs low next i tallies more ends s r was is rest stays moves sound h = record {
+    ≡ cond (eqb q (owner m i)) (tally_after m i (tally_of tallies q) s r) (tally_of tallies q))
+    → AreSlotsAndSkips m new rs next → IsInstancesInside m slots rs low tallies ends
+    → IsInstancesInside m new rs next more ends
+counts_after m slots new rs low next i tallies more ends s r was is rest stays moves sound h = record {
   sound = sound;
-  counted = λ q. subst (IsTally m (known_at m new rs) q) (sym (moves q)) (⊎_elim
+  counted = λ q. subst (IsTally m (instance_slot_in m new rs) q) (sym (moves q)) (⊎_elim
       (λ (own : owner m i ≡ q).
-      subst (λ bit. IsTally m (known_at m new rs) q
-      (cond bit (moved m i (tally_of tallies q) s r) (tally_of tallies q))) (sym (eq-eqb q (owner m i) (sym own)))
-      (subst (λ x. IsTally m (known_at m new rs) q (moved m i (tally_of tallies q) x r)) was
-      (subst (λ x. IsTally m (known_at m new rs) q (moved m i (tally_of tallies q) (known_at m slots rs i) x)) is
-      (tally_moved m (known_at m slots rs) q i (tally_of tallies q) own (h.counted q) (known_at m new rs) rest))))
+      subst (λ bit. IsTally m (instance_slot_in m new rs) q
+      (cond bit (tally_after m i (tally_of tallies q) s r) (tally_of tallies q))) (sym (eq-eqb q (owner m i) (sym own)))
+      (subst (λ x. IsTally m (instance_slot_in m new rs) q (tally_after m i (tally_of tallies q) x r)) was
+      (subst (λ x. IsTally m (instance_slot_in m new rs) q
+      (tally_after m i (tally_of tallies q) (instance_slot_in m slots rs i) x)) is
+      (tally_after_is m (instance_slot_in m slots rs) q i (tally_of tallies q) own (h.counted q)
+      (instance_slot_in m new rs) rest))))
       (λ (other : owner m i ≡ q → ⊥).
-      subst (λ bit. IsTally m (known_at m new rs) q
-      (cond bit (moved m i (tally_of tallies q) s r) (tally_of tallies q)))
+      subst (λ bit. IsTally m (instance_slot_in m new rs) q
+      (cond bit (tally_after m i (tally_of tallies q) s r) (tally_of tallies q)))
       (sym (ne_eqb q (owner m i) (λ e. other (sym e))))
-      (tally_alike m (known_at m slots rs) (known_at m new rs) q (tally_of tallies q)
+      (tally_alike m (instance_slot_in m slots rs) (instance_slot_in m new rs) q (tally_of tallies q)
       (λ j small own. alike_same m _ _ (rest j (λ e. other (ap (owner m) (sym e) ∙ own)))) (h.counted q)))
       (cases_eq (owner m i) q));
-  runs = runs_stay m _ _ ends (λ j small closed. ⊎_elim
+  learned_intervals = intervals_stay m _ _ ends (λ j small closed. ⊎_elim
       (λ (at : j ≡ i).
-      let here : known_at m new rs j ≡ r = ap (known_at m new rs) at ∙ is in
-      let before : known_at m slots rs j ≡ s = ap (known_at m slots rs) at ∙ was in
+      let here : instance_slot_in m new rs j ≡ r = ap (instance_slot_in m new rs) at ∙ is in
+      let before : instance_slot_in m slots rs j ≡ s = ap (instance_slot_in m slots rs) at ∙ was in
       ap (λ (x : SlotState). is_none x.learned) here
       ∙ stays (sym (ap (λ (x : SlotState). is_none x.learned) before) ∙ closed))
       (λ (off : j ≡ i → ⊥).
       sym (ap (λ (x : SlotState). is_none x.learned) (rest j off)) ∙ closed)
-      (cases_eq j i)) h.runs;
+      (cases_eq j i)) h.learned_intervals;
 }
 
 -- one server's instances are counted anew, or further, and those of the others are as before
-pub counts_put : (m : Membership) (slots new : List (Option SlotState)) (rs ranges : List (List Span)) (low next : ℕ)
-    (tallies more : List Tally) (ends : List ℕ) (p : ℕ) → IsSound m new ranges next
-    → ((j : ℕ) → j < instance_count → (owner m j ≡ p → ⊥) → IsAlike m (known_at m slots rs j) (known_at m new ranges j))
-    → ((j : ℕ) → j < instance_count → is_none (known_at m slots rs j).learned ≡ false
-    → is_none (known_at m new ranges j).learned ≡ false)
-    → IsTally m (known_at m new ranges) p (tally_of more p)
+pub counts_put : (m : Membership) (slots new : List (Option SlotState)) (rs intervals : List (List Interval))
+    (low next : ℕ)
+    (tallies more : List Tally) (ends : List ℕ) (p : ℕ) → AreSlotsAndSkips m new intervals next
+    → ((j : ℕ) → j < instance_count → (owner m j ≡ p → ⊥)
+    → IsAlike m (instance_slot_in m slots rs j) (instance_slot_in m new intervals j))
+    → ((j : ℕ) → j < instance_count → is_none (instance_slot_in m slots rs j).learned ≡ false
+    → is_none (instance_slot_in m new intervals j).learned ≡ false)
+    → IsTally m (instance_slot_in m new intervals) p (tally_of more p)
     → ((q : ℕ) → (q ≡ p → ⊥) → tally_of more q ≡ tally_of tallies q)
-    → IsKnown m slots rs low tallies ends → IsKnown m new ranges next more ends
-counts_put m slots new rs ranges low next tallies more ends p sound alike stays here rest h = record {
+    → IsInstancesInside m slots rs low tallies ends → IsInstancesInside m new intervals next more ends
+counts_put m slots new rs intervals low next tallies more ends p sound alike stays here rest h = record {
   sound = sound;
   counted = λ q. ⊎_elim
-      (λ (at : q ≡ p). subst (λ q. IsTally m (known_at m new ranges) q (tally_of more q)) (sym at) here)
+      (λ (at : q ≡ p). subst (λ q. IsTally m (instance_slot_in m new intervals) q (tally_of more q)) (sym at) here)
       (λ (off : q ≡ p → ⊥).
-      subst (IsTally m (known_at m new ranges) q) (sym (rest q off))
-      (tally_alike m (known_at m slots rs) (known_at m new ranges) q (tally_of tallies q)
+      subst (IsTally m (instance_slot_in m new intervals) q) (sym (rest q off))
+      (tally_alike m (instance_slot_in m slots rs) (instance_slot_in m new intervals) q (tally_of tallies q)
       (λ j small own. alike j small (λ e. off (sym own ∙ e))) (h.counted q)))
       (cases_eq q p);
-  runs = runs_stay m _ _ ends stays h.runs;
+  learned_intervals = intervals_stay m _ _ ends stays h.learned_intervals;
 }
 
--- other runs are kept
-pub runs_kept : (m : Membership) (slots : List (Option SlotState)) (rs : List (List Span)) (low : ℕ)
-    (tallies : List Tally) (ends more : List ℕ) → AreRuns m (λ j. is_none (known_at m slots rs j).learned) more
-    → IsKnown m slots rs low tallies ends → IsKnown m slots rs low tallies more
-runs_kept m slots rs low tallies ends more runs h = record { sound = h.sound; counted = h.counted; runs = runs }
+-- other intervals are kept
+pub intervals_kept : (m : Membership) (slots : List (Option SlotState)) (rs : List (List Interval)) (low : ℕ)
+    (tallies : List Tally) (ends more : List ℕ)
+    → AreLearnedIntervals m (λ j. is_none (instance_slot_in m slots rs j).learned) more
+    → IsInstancesInside m slots rs low tallies ends → IsInstancesInside m slots rs low tallies more
+intervals_kept m slots rs low tallies ends more learned_intervals h =
+    record { sound = h.sound; counted = h.counted; learned_intervals = learned_intervals }

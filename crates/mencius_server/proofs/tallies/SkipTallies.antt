@@ -1,4 +1,4 @@
--- What was counted of a server's instances, once no-op is learned at those of a stretch.
+-- What was counted of a server's instances, once no-op is learned at those of an interval.
 use Rattle.std.proofs.Common.{◌≡◌, ℕ, ◌+◌, ◌<◌, ◌≤◌, Bool, true, false, ◌&&◌, not, min, refl, sym, ◌∙◌, ap, arith, ⊎_elim}
 use Rattle.std.specs.Prelude.{is_none}
 use Rattle.std.specs.List.{count_by}
@@ -6,29 +6,30 @@ use Rattle.std.proofs.lemmas.Bool.{cases_eq, cases_lt, eq-eqb, ne_eqb}
 use Rattle.mencius_base.specs.Members.{below, owner}
 use Rattle.mencius_model.proofs.trace.NumberLists.{count_by-below_le}
 use Rattle.coord_paxos.specs.SlotState.{SlotState}
-use Rattle.mencius_server.specs.Ranges.{is_within}
-use Rattle.mencius_server.specs.Slots.{given, is_in}
-use Rattle.mencius_server.specs.Tallies.{IsTally, IsTallyFrom, is_full_of, is_open_of, lessened}
-use Rattle.mencius_server.specs.declared.stretch.Stretch.{Stretch}
+use Rattle.mencius_server.specs.Intervals.{is_between}
+use Rattle.mencius_server.specs.Slots.{is_in, slot_after_skip_in}
+use Rattle.mencius_server.specs.Tallies.{IsTally, IsTallyFrom, is_open_of, is_spent_of, tally_difference}
+use Rattle.mencius_server.specs.declared.owned_interval.OwnedInterval.{OwnedInterval}
 use Rattle.mencius_server.specs.declared.tally.Tally.{Tally}
-use Rattle.mencius_server.proofs.intervals.RangeCounts.{bit, count_same, count_split, count_within}
-use Rattle.mencius_server.proofs.instances.SkipKnown.{learned_noop}
-use Rattle.mencius_server.proofs.intervals.RisingRanges.{within_before, within_past}
+use Rattle.mencius_server.proofs.intervals.IntervalCounts.{bit, count_same, count_split, count_within}
+use Rattle.mencius_server.proofs.stored.SkipStored.{learned_noop}
+use Rattle.mencius_server.proofs.intervals.RisingIntervals.{within_before, within_past}
 use Rattle.mencius_server.specs.Machine.{is_spent}
 
 -- what passes below a place, once nothing between two others passes any more
-count_given : (test r : ℕ → Bool) (first stop n end count some : ℕ) → first ≤ stop → first ≤ n → end ≡ min stop n
+count_after_skip : (test r : ℕ → Bool) (first stop n end count some : ℕ) → first ≤ stop → first ≤ n → end ≡ min stop n
     → some + count_by test (below first) ≡ count_by test (below end) → count ≡ count_by test (below n)
-    → ((j : ℕ) → j < n → r j ≡ (test j && not (is_within first stop j)))
+    → ((j : ℕ) → j < n → r j ≡ (test j && not (is_between first stop j)))
     → count_by r (below n) + some ≡ count
-count_given test r first stop n end count some order low at some_is count_is rest =
+count_after_skip test r first stop n end count some order low at some_is count_is rest =
     let low_is : min n first ≡ first = omega arith in
     let high_is : min n stop ≡ end = omega (arith, at) in
-    let within : count_by (λ j. test j && is_within first stop j) (below n) + count_by test (below first)
+    let within : count_by (λ j. test j && is_between first stop j) (below n) + count_by test (below first)
     ≡ count_by test (below end) = rw (low_is, high_is) at (count_within test first stop n order) in
-    let split = count_split test (λ j. test j && is_within first stop j) (λ j. test j && not (is_within first stop j)) n
-    (λ j l. both (test j) (is_within first stop j)) in
-    let same = count_same r (λ j. test j && not (is_within first stop j)) n rest in
+    let split = count_split test (λ j. test j && is_between first stop j) (λ j. test j && not (is_between first stop j))
+    n
+    (λ j l. both (test j) (is_between first stop j)) in
+    let same = count_same r (λ j. test j && not (is_between first stop j)) n rest in
     omega (arith, within, split, same, some_is, count_is)
   where
     both : (a d : Bool) → bit a ≡ bit (a && d) + bit (a && not d)
@@ -44,21 +45,21 @@ and-true : (a : Bool) → (a && true) ≡ a
 and-true true = refl
 and-true false = refl
 
-module _ (a : Stretch) (f : ℕ → SlotState) where
+module _ (a : OwnedInterval) (f : ℕ → SlotState) where
   abbrev after : ℕ → SlotState
-  after j = given a j (f j)
+  after j = slot_after_skip_in a j (f j)
 
-  in_own : (j : ℕ) → owner a.members j ≡ a.server → is_in a j ≡ is_within a.first a.stop j
+  in_own : (j : ℕ) → owner a.members j ≡ a.server → is_in a j ≡ is_between a.first a.stop j
   in_own j own = rw (eq-eqb a.server (owner a.members j) (sym own)) refl
 
-  -- nothing in the stretch is open then
-  given_open : (j : ℕ) → is_open_of a.members after a.server j
-      ≡ (is_open_of a.members f a.server j && not (is_within a.first a.stop j))
-  given_open j =
+  -- nothing in the interval is open then
+  after_skip_open : (j : ℕ) → is_open_of a.members after a.server j
+      ≡ (is_open_of a.members f a.server j && not (is_between a.first a.stop j))
+  after_skip_open j =
       ⊎_elim
       (λ (own : owner a.members j ≡ a.server).
       let e = eq-eqb (owner a.members j) a.server own in
-      rw e (go (is_within a.first a.stop j) (in_own j own)))
+      rw e (go (is_between a.first a.stop j) (in_own j own)))
       (λ (other : owner a.members j ≡ a.server → ⊥).
       rw (ne_eqb (owner a.members j) a.server other) refl)
       (cases_eq (owner a.members j) a.server)
@@ -67,11 +68,11 @@ module _ (a : Stretch) (f : ℕ → SlotState) where
       go true e = rw e (learned_noop (f j) ∙ sym (and-false (is_none (f j).learned)))
       go false e = rw e (sym (and-true (is_none (f j).learned)))
 
-  given_full : (j : ℕ) → is_full_of a.members after a.server j
-      ≡ (is_full_of a.members f a.server j && not (is_within a.first a.stop j))
-  given_full j = ap (λ bit. bit && is_spent a.members (after j)) (given_open j) ∙ ⊎_elim
+  after_skip_spent : (j : ℕ) → is_spent_of a.members after a.server j
+      ≡ (is_spent_of a.members f a.server j && not (is_between a.first a.stop j))
+  after_skip_spent j = ap (λ bit. bit && is_spent a.members (after j)) (after_skip_open j) ∙ ⊎_elim
       (λ (own : owner a.members j ≡ a.server).
-      go (is_open_of a.members f a.server j) (is_within a.first a.stop j) (in_own j own))
+      go (is_open_of a.members f a.server j) (is_between a.first a.stop j) (in_own j own))
       (λ (other : owner a.members j ≡ a.server → ⊥).
       rw (ne_eqb (owner a.members j) a.server other) refl)
       (cases_eq (owner a.members j) a.server)
@@ -82,20 +83,20 @@ module _ (a : Stretch) (f : ℕ → SlotState) where
       go true false e = rw e (sym (and-true (is_spent a.members (f j))))
       go false d e = refl
 
-  -- where the stretch has no place below the end of the tally, it stays
+  -- where the interval has no place below the end of the tally, it stays
   pub less_none : (y : Tally) → min a.stop y.stop ≤ a.first → IsTally a.members f a.server y
       → IsTally a.members after a.server y
   less_none y none h = record {
     small = h.small;
     open_count = h.open_count ∙ count_same (is_open_of a.members f a.server) (is_open_of a.members after a.server)
-        y.stop (λ j l. sym (given_open j ∙ ap (λ bit. is_open_of a.members f a.server j && not bit) (out j l)
+        y.stop (λ j l. sym (after_skip_open j ∙ ap (λ bit. is_open_of a.members f a.server j && not bit) (out j l)
         ∙ and-true (is_open_of a.members f a.server j)));
-    full_count = h.full_count ∙ count_same (is_full_of a.members f a.server) (is_full_of a.members after a.server)
-        y.stop (λ j l. sym (given_full j ∙ ap (λ bit. is_full_of a.members f a.server j && not bit) (out j l)
-        ∙ and-true (is_full_of a.members f a.server j)));
+    spent_count = h.spent_count ∙ count_same (is_spent_of a.members f a.server) (is_spent_of a.members after a.server)
+        y.stop (λ j l. sym (after_skip_spent j ∙ ap (λ bit. is_spent_of a.members f a.server j && not bit) (out j l)
+        ∙ and-true (is_spent_of a.members f a.server j)));
   }
     where
-      out : (j : ℕ) → j < y.stop → is_within a.first a.stop j ≡ false
+      out : (j : ℕ) → j < y.stop → is_between a.first a.stop j ≡ false
       out j l =
           ⊎_elim (λ (before : j < a.first). within_before a.first a.stop j before)
           (λ (from : a.first ≤ j). within_past a.first a.stop j (omega (arith, none)))
@@ -104,22 +105,24 @@ module _ (a : Stretch) (f : ℕ → SlotState) where
   -- and else it loses those below its end
   pub less_some : (y some : Tally) → a.first < min a.stop y.stop → some.stop ≡ min a.stop y.stop
       → IsTallyFrom a.members f a.server a.first some → IsTally a.members f a.server y
-      → IsTally a.members after a.server (lessened y some)
+      → IsTally a.members after a.server (tally_difference y some)
   less_some y some order at counted h =
       let order_open : a.first ≤ a.stop = omega arith in
       let low : a.first ≤ y.stop = omega arith in
-      let opens = count_given (is_open_of a.members f a.server) (is_open_of a.members after a.server) a.first a.stop
+      let opens = count_after_skip (is_open_of a.members f a.server) (is_open_of a.members after a.server) a.first
+      a.stop
       y.stop some.stop y.open_count some.open_count order_open low at counted.open_count h.open_count
-      (λ j l. given_open j) in
-      let fulls = count_given (is_full_of a.members f a.server) (is_full_of a.members after a.server) a.first a.stop
-      y.stop some.stop y.full_count some.full_count order_open low at counted.full_count h.full_count
-      (λ j l. given_full j) in
-      record { small = h.small; open_count = omega (arith, opens); full_count = omega (arith, fulls) }
+      (λ j l. after_skip_open j) in
+      let spent = count_after_skip (is_spent_of a.members f a.server) (is_spent_of a.members after a.server) a.first
+      a.stop
+      y.stop some.stop y.spent_count some.spent_count order_open low at counted.spent_count h.spent_count
+      (λ j l. after_skip_spent j) in
+      record { small = h.small; open_count = omega (arith, opens); spent_count = omega (arith, spent) }
 
   -- there are as many
   pub less_fits : (y some : Tally) → a.first < min a.stop y.stop → some.stop ≡ min a.stop y.stop
       → IsTallyFrom a.members f a.server a.first some → IsTally a.members f a.server y
-      → (some.open_count ≤ y.open_count) × (some.full_count ≤ y.full_count)
+      → (some.open_count ≤ y.open_count) × (some.spent_count ≤ y.spent_count)
   less_fits y some order at counted h =
       let below_end : some.stop ≤ y.stop = omega (arith, at) in (
         omega (
@@ -130,8 +133,8 @@ module _ (a : Stretch) (f : ℕ → SlotState) where
         ),
         omega (
           arith,
-          counted.full_count,
-          h.full_count,
-          count_by-below_le (is_full_of a.members f a.server) some.stop y.stop below_end,
+          counted.spent_count,
+          h.spent_count,
+          count_by-below_le (is_spent_of a.members f a.server) some.stop y.stop below_end,
         ),
       )

@@ -7,7 +7,7 @@ use Rattle.mencius_base.specs.Members.{Membership, owner}
 use Rattle.coord_paxos.specs.SlotState.{SlotState}
 use Rattle.mencius_server.specs.Machine.{is_ticket, suggested_in}
 use Rattle.mencius_model.specs.Server.{ticket_of}
-use Rattle.mencius_server.proofs.instances.InstanceGaps.{unowned}
+use Rattle.mencius_server.proofs.stored.InstanceGaps.{unowned}
 
 or-false : (a : Bool) → (a || false) ≡ a
 or-false true = refl

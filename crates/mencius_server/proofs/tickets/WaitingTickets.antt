@@ -185,13 +185,14 @@ module _ (s : ServerState) (i t : ℕ) (kept : IsServer s) (mine : owner s.membe
           (list_any (is_suggested_past s u j) instances) (eqb t u && ltb j i) u before)
 
   -- the marks after it
-  pub moved_later : (old new : List Bool) → length old ≤ s.front
+  pub suggested_again_later : (old new : List Bool) → length old ≤ s.front
       → ((j u : ℕ) → j < instance_count → suggested_at s j ≡ Some u
       → list_any (is_suggested_past s u j) instances ≡ get_or old j false)
       → ((j : ℕ) → get_or new j false ≡ (get_or old j false || is_ticket t (suggested_at s j)))
       → (j u : ℕ) → j < instance_count → suggested_at later j ≡ Some u
       → list_any (is_suggested_past later u j) instances ≡ get_or new j false
-  moved_later old new short marks marked j u inside e = past_more u j ∙ ⊎_elim at_place elsewhere (cases_eq j i)
+  suggested_again_later old new short marks marked j u inside e = past_more u j
+      ∙ ⊎_elim at_place elsewhere (cases_eq j i)
     where
       at_place : j ≡ i → (list_any (is_suggested_past s u j) instances || (eqb t u && ltb j i)) ≡ get_or new j false
       at_place at =

@@ -10,7 +10,7 @@ pub invariant_of-self-then-owner-self : goal.invariant_of-self-then-owner-self
 invariant_of-self-then-owner-self c =
     let said : IsSaid c.self.inside.members c.args.change = subst
     (λ (s : ServerState). IsSaid s.members c.args.change) (sym c.self.view_is) c.requires.said in
-    change_kept _ _ _ c.self.inside.known _ c.self.inside.notes _ c.self.invariant c.args.inst
+    change_kept _ _ _ c.self.inside.instances _ c.self.inside.notes _ c.self.invariant c.args.inst
     (min c.self.inside.notes.lost_from c.args.inst) c.args.change c.requires.small said
     c.in_ok-change.ensures.ok (omega arith) (inl (omega arith)) c.note_lost.ensures
 
@@ -18,7 +18,7 @@ pub invariant_of-self-else-owner-self : goal.invariant_of-self-else-owner-self
 invariant_of-self-else-owner-self c =
     let said : IsSaid c.self.inside.members c.args.change = subst
     (λ (s : ServerState). IsSaid s.members c.args.change) (sym c.self.view_is) c.requires.said in
-    change_kept _ _ _ c.self.inside.known _ c.self.inside.notes _ c.self.invariant c.args.inst
+    change_kept _ _ _ c.self.inside.instances _ c.self.inside.notes _ c.self.invariant c.args.inst
     c.self.inside.notes.lost_from c.args.change c.requires.small said
     c.in_ok-change.ensures.ok (omega arith) (inr (λ mine. absurd (c.if-owner-self.false (c.owner.ensures.owner
     ∙ mine)))) refl
@@ -32,6 +32,6 @@ invariant_of-self-else-is_lost c =
       | in_default way ↦ search rules
       | in_default-2 way ↦ search rules
     ] in
-    change_kept _ _ _ c.self.inside.known _ c.self.inside.notes _ c.self.invariant c.args.inst
+    change_kept _ _ _ c.self.inside.instances _ c.self.inside.notes _ c.self.invariant c.args.inst
     c.self.inside.notes.lost_from c.args.change c.requires.small said
     c.in_ok-change.ensures.ok (omega arith) (inr (λ mine. ap is_noop (sym c.learned.ensures) ∙ other_value)) refl

@@ -4,7 +4,7 @@ use Rattle.std.proofs.lemmas.Bool.{cases_lt}
 use Rattle.mencius_model.proofs.trace.NumberLists.{find-instances, find-instances_none}
 use Rattle.mencius_server.specs.Machine.{is_free_at}
 use Rattle.mencius_server.specs.State.{ServerState, slot}
-use Rattle.mencius_server.proofs.instances.InstanceGaps.{before_unfree, known_unfree, none_more, other_unfree, unowned}
+use Rattle.mencius_server.proofs.stored.InstanceGaps.{before_unfree, learned_unfree, none_more, other_unfree, unowned}
 use Rattle.mencius_server.proofs.Server.find_free.Goals as goal
 
 pub returns-then-is_none-clause-place : goal.returns-then-is_none-clause-place
@@ -42,7 +42,7 @@ loop-inst-preserved c =
       own = c.next_own-inst-in-loop-inst.ensures.own;
       low = omega (arith, c.next_own-inst-in-loop-inst.ensures.above);
       none = none_more (is_free_at c.args.self.now) c.loop-inst.inst c.next_own-inst-in-loop-inst.result
-          (known_unfree c.args.self.now c.loop-inst.inst known)
+          (learned_unfree c.args.self.now c.loop-inst.inst known)
           (λ j low high. other_unfree c.args.self.now j
           (unowned c.args.self.now.members c.args.self.now.id
           (c.loop-inst.inst

@@ -6,11 +6,11 @@ use Rattle.mencius_server.proofs.Server.place.Goals as goal
 
 pub invariant_of-self-2 : goal.invariant_of-self-2
 invariant_of-self-2 c =
-    let now : ServerState = seen c.self.inside.members c.self.inside.id c.self.inside.front c.self.inside.known in
+    let now : ServerState = seen c.self.inside.members c.self.inside.id c.self.inside.front c.self.inside.instances in
     let front : c.self.inside.front ≡ c.args.self.now.front = ap (λ (s : ServerState). s.front) c.self.view_is in
     let free : IsFree now c.args.inst =
     subst (λ (s : ServerState). IsFree s c.args.inst) (sym c.self.view_is) c.requires in
-    place_kept _ _ _ c.self.inside.known _ c.self.inside.notes _ c.self.invariant c.reserve.new.self c.args.inst
+    place_kept _ _ _ c.self.inside.instances _ c.self.inside.notes _ c.self.invariant c.reserve.new.self c.args.inst
     c.args.ticket c.from.result (c.from.ensures ∙ c.count.ensures.count)
     (omega (arith, c.from.ensures, c.count.ensures.some)) (omega (arith, c.from.ensures, c.count.ensures.few)) free
     c.in_ok-suggest.ensures.ok

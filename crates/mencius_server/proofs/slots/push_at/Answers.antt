@@ -1,10 +1,10 @@
 use Rattle.std.proofs.Common.{◌≡◌, ◌<◌, ◌+◌, [], ◌∷◌, ◌++◌, Bool, cond, eqb, false, length, add-zero, ◌∙◌, ap, arith, refl, sym}
 use Rattle.std.specs.Prelude.{is_none, vec_len}
 use Rattle.coord_paxos.specs.Fresh.{new_slot}
-use Rattle.mencius_server.specs.Places.{standing}
-use Rattle.mencius_server.specs.Slots.{stand_at}
-use Rattle.mencius_server.proofs.instances.PlaceTable.{none_read, placed_stand, some_read, stand_stand}
-use Rattle.mencius_server.proofs.instances.StretchLoops.{made_no, made_yes}
+use Rattle.mencius_server.specs.SlotTable.{stored_slots}
+use Rattle.mencius_server.specs.Slots.{stored_at}
+use Rattle.mencius_server.proofs.stored.PlaceTable.{none_read, placed_store, some_read, stored_store}
+use Rattle.mencius_server.proofs.stored.IntervalLoops.{made_no, made_yes}
 use Rattle.mencius_server.proofs.slots.push_at.Goals as goal
 
 pub push_reserved-requires : goal.push_reserved-requires
@@ -21,18 +21,18 @@ returns-then-is_none-clause-placed c =
     omega (arith, c.requires.wide, c.args.places.now.ok.0) in
     let gone = none_read c.args.places.now.items c.args.slots.now.items c.args.inst c.index.result.now
     c.is_none.result c.requires.placed.few within c.index.ensures c.is_none.ensures c.if-is_none.true in
-    placed_stand c.args.places.now.items c.args.places.now.items c.args.slots.now.items _ _ c.len-place.result
+    placed_store c.args.places.now.items c.args.places.now.items c.args.slots.now.items _ _ c.len-place.result
     c.args.inst c.args.slots.now.ok.0 c.requires.placed refl
     gone c.requires.placed.few (λ j. refl) within c.len-place.ensures _
     (omega (arith, c.len-place.ensures, c.push_reserved.ensures.len))
 
-pub returns-then-is_none-clause-stand : goal.returns-then-is_none-clause-stand
-returns-then-is_none-clause-stand c = λ j.
+pub returns-then-is_none-clause-stored : goal.returns-then-is_none-clause-stored
+returns-then-is_none-clause-stored c = λ j.
     let within : c.args.inst < length c.args.places.now.items =
     omega (arith, c.requires.wide, c.args.places.now.ok.0) in
     let gone = none_read c.args.places.now.items c.args.slots.now.items c.args.inst c.index.result.now
     c.is_none.result c.requires.placed.few within c.index.ensures c.is_none.ensures c.if-is_none.true in
-    stand_stand c.args.places.now.items c.args.places.now.items c.args.slots.now.items _ _ c.len-place.result
+    stored_store c.args.places.now.items c.args.places.now.items c.args.slots.now.items _ _ c.len-place.result
     c.args.inst c.args.slots.now.ok.0 c.requires.placed refl
     gone c.requires.placed.few (λ j. refl) within c.len-place.ensures (new_slot c.args.members) _
     (c.push_reserved.ensures.items ∙ ap (λ place. c.args.slots.now.items ++ place ∷ []) c.new.ensures) j
@@ -46,9 +46,9 @@ returns-then-is_none-clause-more c =
     c.is_none.result c.requires.placed.few within c.index.ensures c.is_none.ensures c.if-is_none.true in
     c.push_reserved.ensures.len ∙ ap (λ (d : Bool). vec_len c.args.slots.now + cond d 1 0) (sym (ap is_none gone))
 
--- a slot stands there
+-- a slot is stored there
 found : (c : goal.Else-is_none)
-    → is_none (stand_at (standing c.args.places.now.items c.args.slots.now.items) c.args.inst) ≡ false
+    → is_none (stored_at (stored_slots c.args.places.now.items c.args.slots.now.items) c.args.inst) ≡ false
 found c =
     let within : c.args.inst < length c.args.places.now.items =
     omega (arith, c.requires.wide, c.args.places.now.ok.0) in
@@ -56,8 +56,8 @@ found c =
     c.args.slots.now.ok.0 c.requires.placed within c.index.ensures
     c.is_none.ensures c.if-is_none.false
 
-pub returns-else-is_none-clause-stand : goal.returns-else-is_none-clause-stand
-returns-else-is_none-clause-stand c = λ j. made_no (eqb j c.args.inst) _ _ _ (found c)
+pub returns-else-is_none-clause-stored : goal.returns-else-is_none-clause-stored
+returns-else-is_none-clause-stored c = λ j. made_no (eqb j c.args.inst) _ _ _ (found c)
 
 pub returns-else-is_none-clause-more : goal.returns-else-is_none-clause-more
 returns-else-is_none-clause-more c =

@@ -1,13 +1,13 @@
 use Rattle.std.proofs.Common.{arith, cond, refl, sym, subst, ap, ◌∙◌}
 use Rattle.std.proofs.lemmas.Bool.{eq-eqb}
-use Rattle.mencius_server.specs.Known.{known_at}
+use Rattle.mencius_server.specs.Instances.{instance_slot_in}
 use Rattle.mencius_server.specs.Tallies.{IsTally, tally_of}
 use Rattle.mencius_server.proofs.tallies.InstanceTallies.{tally_anew}
 use Rattle.mencius_server.proofs.tally.retally_changed.Goals as goal
 
 pub returns-then-is_changed-clause-here : goal.returns-then-is_changed-clause-here
 returns-then-is_changed-clause-here c =
-    let known = known_at c.args.members c.args.slots.now c.args.skipped.now.items in
+    let known = instance_slot_in c.args.members c.args.slots.now c.args.skipped.now.items in
     subst (IsTally c.args.members known c.args.server)
     (sym (c.put.ensures c.args.server
     ∙ ap (λ bit. cond bit c.tally_from-tally.result (tally_of c.args.tallies.now c.args.server))

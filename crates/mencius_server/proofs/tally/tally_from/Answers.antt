@@ -1,5 +1,5 @@
 use Rattle.std.proofs.Common.{refl, sym, subst, ap, arith}
-use Rattle.mencius_server.specs.Known.{known_at}
+use Rattle.mencius_server.specs.Instances.{instance_slot_in}
 use Rattle.mencius_server.specs.Tallies.{IsTallyFrom}
 use Rattle.mencius_server.specs.declared.tally.Tally.{Tally}
 use Rattle.mencius_server.proofs.tallies.InstanceTallies.{from_few, from_gap, from_start}
@@ -7,7 +7,7 @@ use Rattle.mencius_server.proofs.tally.tally_from.Goals as goal
 
 pub loop-tally-init : goal.loop-tally-init
 loop-tally-init c = record {
-  counted = from_start c.args.members (known_at c.args.members c.args.slots.now c.args.skipped.now.items)
+  counted = from_start c.args.members (instance_slot_in c.args.members c.args.slots.now c.args.skipped.now.items)
       c.args.server c.args.first _ refl (omega (arith, c.requires.ahead, c.requires.small)) refl refl;
   within = c.requires.ahead;
 }
@@ -16,9 +16,9 @@ pub plus-tally-requires-clause-few : goal.plus-tally-requires-clause-few
 plus-tally-requires-clause-few c =
     (from_few c.args.members _ c.args.server c.args.first _
     (from_gap c.args.members c.args.slots.now c.args.skipped.now.items c.args.server c.args.first
-    c.index-ranges.result.now c.loop-tally.tally c.tally_slots.result c.args.stop c.past.result c.min-past.result
-    c.clear_to-end.result c.requires.told (omega (arith, c.requires.member, c.requires.sorted.count))
-    c.index-ranges.ensures c.loop-tally.invariant.within c.past.ensures.above c.min-past.ensures
+    c.index-intervals.result.now c.loop-tally.tally c.tally_slots.result c.args.stop c.past.result c.min-past.result
+    c.clear_to-end.result c.requires.learned_where_skipped (omega (arith, c.requires.member, c.requires.sorted.count))
+    c.index-intervals.ensures c.loop-tally.invariant.within c.past.ensures.above c.min-past.ensures
     c.tally_slots.ensures.stop c.past.ensures.covered c.clear_to-end.ensures.clear c.tally_slots.ensures.counted
     c.loop-tally.invariant.counted)).0
 
@@ -26,20 +26,21 @@ pub plus-tally-requires-clause-fewer : goal.plus-tally-requires-clause-fewer
 plus-tally-requires-clause-fewer c =
     (from_few c.args.members _ c.args.server c.args.first _
     (from_gap c.args.members c.args.slots.now c.args.skipped.now.items c.args.server c.args.first
-    c.index-ranges.result.now c.loop-tally.tally c.tally_slots.result c.args.stop c.past.result c.min-past.result
-    c.clear_to-end.result c.requires.told (omega (arith, c.requires.member, c.requires.sorted.count))
-    c.index-ranges.ensures c.loop-tally.invariant.within c.past.ensures.above c.min-past.ensures
+    c.index-intervals.result.now c.loop-tally.tally c.tally_slots.result c.args.stop c.past.result c.min-past.result
+    c.clear_to-end.result c.requires.learned_where_skipped (omega (arith, c.requires.member, c.requires.sorted.count))
+    c.index-intervals.ensures c.loop-tally.invariant.within c.past.ensures.above c.min-past.ensures
     c.tally_slots.ensures.stop c.past.ensures.covered c.clear_to-end.ensures.clear c.tally_slots.ensures.counted
     c.loop-tally.invariant.counted)).1
 
 pub loop-tally-preserved : goal.loop-tally-preserved
 loop-tally-preserved c = record {
-  counted = subst (IsTallyFrom c.args.members (known_at c.args.members c.args.slots.now c.args.skipped.now.items)
+  counted = subst (IsTallyFrom c.args.members
+      (instance_slot_in c.args.members c.args.slots.now c.args.skipped.now.items)
       c.args.server c.args.first) (sym c.plus-tally.ensures)
       (from_gap c.args.members c.args.slots.now c.args.skipped.now.items c.args.server c.args.first
-      c.index-ranges.result.now c.loop-tally.tally c.tally_slots.result c.args.stop c.past.result c.min-past.result
-      c.clear_to-end.result c.requires.told (omega (arith, c.requires.member, c.requires.sorted.count))
-      c.index-ranges.ensures c.loop-tally.invariant.within c.past.ensures.above c.min-past.ensures
+      c.index-intervals.result.now c.loop-tally.tally c.tally_slots.result c.args.stop c.past.result c.min-past.result
+      c.clear_to-end.result c.requires.learned_where_skipped (omega (arith, c.requires.member, c.requires.sorted.count))
+      c.index-intervals.ensures c.loop-tally.invariant.within c.past.ensures.above c.min-past.ensures
       c.tally_slots.ensures.stop c.past.ensures.covered c.clear_to-end.ensures.clear c.tally_slots.ensures.counted
       c.loop-tally.invariant.counted);
   within = omega (

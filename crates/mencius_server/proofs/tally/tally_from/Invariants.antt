@@ -1,11 +1,11 @@
 use Rattle.std.proofs.Common.{◌-◌, ◌≤◌}
-use Rattle.mencius_server.specs.Known.{known_at}
+use Rattle.mencius_server.specs.Instances.{instance_slot_in}
 use Rattle.mencius_server.specs.Tallies.{IsTallyFrom}
 use Rattle.mencius_server.proofs.tally.tally_from.Given as goal
 
 abbrev pub invariant-loop-tally : goal.invariant-loop-tally
 invariant-loop-tally l = record {
-  counted : IsTallyFrom l.members (known_at l.members l.slots l.skipped.items) l.server l.first l.tally;
+  counted : IsTallyFrom l.members (instance_slot_in l.members l.slots l.skipped.items) l.server l.first l.tally;
   within : l.tally.stop ≤ l.stop;
 }
 

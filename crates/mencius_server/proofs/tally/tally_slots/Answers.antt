@@ -1,12 +1,12 @@
 use Rattle.std.proofs.Common.{arith, refl, ap, ◌∙◌}
-use Rattle.mencius_server.specs.Slots.{known_by_slot}
+use Rattle.mencius_server.specs.Slots.{stored_or_new}
 use Rattle.mencius_server.specs.declared.tally.Tally.{Tally}
 use Rattle.mencius_server.proofs.tallies.InstanceTallies.{tallied_all, tallied_few, tallied_more, tallied_start}
 use Rattle.mencius_server.proofs.tally.tally_slots.Goals as goal
 
 pub loop-inst-init : goal.loop-inst-init
 loop-inst-init c = record {
-  tallied = tallied_start c.args.members (known_by_slot c.args.members c.args.slots.now) c.args.server c.args.first
+  tallied = tallied_start c.args.members (stored_or_new c.args.members c.args.slots.now) c.args.server c.args.first
       c.args.stop _ c.first_owned-inst.result refl refl c.requires.ahead c.first_owned-inst.ensures.owned
       c.first_owned-inst.ensures.above c.first_owned-inst.ensures.least;
   stop = refl;
@@ -14,7 +14,7 @@ loop-inst-init c = record {
 
 pub loop-inst-preserved : goal.loop-inst-preserved
 loop-inst-preserved c = record {
-  tallied = tallied_more c.args.members (known_by_slot c.args.members c.args.slots.now) c.args.server c.args.first
+  tallied = tallied_more c.args.members (stored_or_new c.args.members c.args.slots.now) c.args.server c.args.first
       c.args.stop c.loop-inst.tally c.tally_slot-tally.result c.loop-inst.inst c.next_owned-inst.result
       c.loop-inst-test.true c.next_owned-inst.ensures.above c.next_owned-inst.ensures.owned
       c.next_owned-inst.ensures.least c.tally_slot-tally.ensures c.loop-inst.invariant.tallied;
@@ -23,19 +23,19 @@ loop-inst-preserved c = record {
 
 pub tally_slot-tally-requires-clause-few : goal.tally_slot-tally-requires-clause-few
 tally_slot-tally-requires-clause-few c =
-    (tallied_few c.args.members (known_by_slot c.args.members c.args.slots.now) c.args.server c.args.first
+    (tallied_few c.args.members (stored_or_new c.args.members c.args.slots.now) c.args.server c.args.first
     c.args.stop c.loop-inst.tally c.loop-inst.inst c.loop-inst-test.true c.requires.small
     c.loop-inst.invariant.tallied).0
 
 pub tally_slot-tally-requires-clause-fewer : goal.tally_slot-tally-requires-clause-fewer
 tally_slot-tally-requires-clause-fewer c =
-    (tallied_few c.args.members (known_by_slot c.args.members c.args.slots.now) c.args.server c.args.first
+    (tallied_few c.args.members (stored_or_new c.args.members c.args.slots.now) c.args.server c.args.first
     c.args.stop c.loop-inst.tally c.loop-inst.inst c.loop-inst-test.true c.requires.small
     c.loop-inst.invariant.tallied).1
 
 pub returns-clause-counted : goal.returns-clause-counted
 returns-clause-counted c =
-    tallied_all c.args.members (known_by_slot c.args.members c.args.slots.now) c.args.server c.args.first
+    tallied_all c.args.members (stored_or_new c.args.members c.args.slots.now) c.args.server c.args.first
     c.args.stop c.loop-inst.tally c.loop-inst.inst c.requires.ahead (omega (arith, c.loop-inst-test.false))
     c.requires.small c.loop-inst.invariant.stop c.loop-inst.invariant.tallied
 

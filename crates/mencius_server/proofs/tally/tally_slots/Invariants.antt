@@ -1,11 +1,11 @@
 use Rattle.std.proofs.Common.{◌≡◌, ◌-◌}
-use Rattle.mencius_server.specs.Slots.{known_by_slot}
+use Rattle.mencius_server.specs.Slots.{stored_or_new}
 use Rattle.mencius_server.proofs.tallies.InstanceTallies.{IsTalliedTo}
 use Rattle.mencius_server.proofs.tally.tally_slots.Given as goal
 
 abbrev pub invariant-loop-inst : goal.invariant-loop-inst
 invariant-loop-inst l = record {
-  tallied : IsTalliedTo l.members (known_by_slot l.members l.slots) l.server l.first l.stop l.tally l.inst;
+  tallied : IsTalliedTo l.members (stored_or_new l.members l.slots) l.server l.first l.stop l.tally l.inst;
   stop : l.tally.stop ≡ l.stop;
 }
 

@@ -11,4 +11,5 @@ returns-in-Accepted c =
     (sym c.in-Accepted.is)
     (subst (λ n. OnOk c.push_tally-in-Accepted.result (string_bytes c.push_tally-in-Accepted.new.text
     ≡ string_bytes c.args.text.now ++ tally_line (codes "acceptances") c.args.server c.in-Accepted.inst
-    c.in-Accepted.ballot c.args.glance.now.accepts n)) c.majority-majority.ensures c.push_tally-in-Accepted.ensures)
+    c.in-Accepted.ballot c.args.glance.now.acceptance_count n)) c.majority-majority.ensures
+    c.push_tally-in-Accepted.ensures)

@@ -1,0 +1,58 @@
+use Rattle.std.proofs.Common.{◌≡◌, ℕ, ◌<◌, ◌≤◌, ◌++◌, true, ap, arith, subst, sym, ◌∙◌}
+use Rattle.std.specs.List.{count_by}
+use Rattle.mencius_base.specs.Members.{below}
+use Rattle.mencius_server.specs.Machine.{round_after}
+use Rattle.mencius_server.specs.Instances.{InstancesState, has_slot, instance_slot, is_open_in, prepares_in, with_first_phases}
+use Rattle.mencius_server.proofs.suspicions.SuspicionBySlots.{open_count, open_sent, stored_has, suspect_is}
+use Rattle.mencius_server.proofs.suspicions.OpenInstances.{open_same}
+use Rattle.mencius_base.specs.Limits.{greatest_round, instance_count}
+use Rattle.mencius_server.proofs.instances.Instances.begin_all.Goals as goal
+
+pub store_open-requires-clause-few : goal.store_open-requires-clause-few
+store_open-requires-clause-few c =
+    omega (
+      arith,
+      c.requires.few,
+      open_count _ _ _ _ c.open_interval-interval.ensures,
+    )
+
+pub begin_open-requires-clause-stored : goal.begin_open-requires-clause-stored
+begin_open-requires-clause-stored c =
+    let P : InstancesState → Type 0 =
+    λ s. (j : ℕ) → j < instance_count → is_open_in s c.open_interval-interval.result j ≡ true → has_slot s j ≡ true in
+    subst P (sym c.in_ok-store_open.ensures.ok)
+    (stored_has _ _ _ _ c.open_interval-interval.ensures)
+
+pub begin_open-requires-clause-rounds : goal.begin_open-requires-clause-rounds
+begin_open-requires-clause-rounds c =
+    let P : InstancesState → Type 0 =
+    λ s. (j : ℕ) → j < instance_count → is_open_in s c.open_interval-interval.result j ≡ true
+    → round_after s.members (instance_slot s j) ≤ greatest_round in
+    subst P (sym c.in_ok-store_open.ensures.ok)
+    (λ j l e. c.requires.rounds j l
+    (sym (open_same _ _ _ _ c.open_interval-interval.ensures j l) ∙ e))
+
+pub begin_open-requires-clause-room : goal.begin_open-requires-clause-room
+begin_open-requires-clause-room c =
+    subst (λ (s : InstancesState). count_by (is_open_in s c.open_interval-interval.result)
+    (below c.open_interval-interval.result.stop) ≤ c.args.out.now.room) (sym c.in_ok-store_open.ensures.ok)
+    (omega (
+      arith,
+      c.requires.room,
+      open_count _ _ _ _ c.open_interval-interval.ensures,
+    ))
+
+pub returns-clause-sent : goal.returns-clause-sent
+returns-clause-sent c =
+    c.begin_open.ensures.sent
+    ∙ ap (λ (s : InstancesState). c.args.out.now.messages
+    ++ prepares_in s c.args.id c.open_interval-interval.result) c.in_ok-store_open.ensures.ok
+    ∙ ap (λ xs. c.args.out.now.messages ++ xs)
+    (open_sent _ _ _ _ c.open_interval-interval.ensures c.args.id)
+
+pub returns-clause-after : goal.returns-clause-after
+returns-clause-after c =
+    c.begin_open.ensures.after
+    ∙ ap (λ (s : InstancesState). with_first_phases s c.args.id c.open_interval-interval.result)
+    c.in_ok-store_open.ensures.ok
+    ∙ suspect_is _ _ _ _ c.open_interval-interval.ensures c.args.id

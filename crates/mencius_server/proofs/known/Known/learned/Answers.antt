@@ -1,9 +1,0 @@
-use Rattle.std.proofs.Common.{sym, ◌∙◌, ap}
-use Rattle.coord_paxos.specs.SlotState.{SlotState}
-use Rattle.mencius_server.proofs.instances.KnownInstances.{seen}
-use Rattle.mencius_server.proofs.known.Known.learned.Goals as goal
-
-pub returns : goal.returns
-returns c = c.learned_at.ensures
-    ∙ ap (λ (s : SlotState). s.learned)
-    (sym (seen _ _ _ _ c.self.view_is c.args.inst c.requires))

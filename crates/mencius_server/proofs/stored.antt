@@ -1,0 +1,9 @@
+-- What is stored of each instance.
+pub mod StoredInstances
+pub mod PlaceTable
+pub mod SkipStored
+pub mod SkipFromOutside
+pub mod SkippedSlot
+pub mod SkipLoop
+pub mod IntervalLoops
+pub mod InstanceGaps

@@ -1,0 +1,330 @@
+-- A loop that goes over the instances of an interval.
+use Rattle.std.proofs.Common.{◌≡◌, ℕ, ◌+◌, ◌-◌, ◌<◌, ◌≤◌, Bool, true, false, cond, ◌&&◌, not, List, [], ◌∷◌, Option, None, Some, eqb, refl, sym, ◌∙◌, ap, arith, ⊎_elim}
+use Rattle.std.specs.Prelude.{is_none}
+use Rattle.std.specs.List.{count_by}
+use Rattle.std.specs.Option.{option_map}
+use Rattle.std.proofs.lemmas.Bool.{cases_Bool, cases_eq, cases_lt, eq-eqb, ne_eqb, and_left, and_right}
+use Rattle.mencius_base.specs.declared.message.Value.TheVariants.{Noop}
+use Rattle.mencius_base.specs.Limits.{instance_count}
+use Rattle.mencius_base.specs.Members.{below, owner}
+use Rattle.mencius_model.proofs.trace.NumberLists.{count_by-below_le, count_by-below_more}
+use Rattle.coord_paxos.specs.SlotState.{SlotState}
+use Rattle.coord_paxos.specs.Slot.{after_learn}
+use Rattle.coord_paxos.specs.Fresh.{new_slot}
+use Rattle.mencius_server.specs.declared.skipped_intervals.Interval.{Interval}
+use Rattle.mencius_server.specs.declared.owned_interval.OwnedInterval.{OwnedInterval}
+use Rattle.mencius_server.specs.Intervals.{is_in_any}
+use Rattle.mencius_server.specs.Slots.{is_covered_slot, is_in, is_lacking, is_learned, is_learned_before, is_unlearned, new_slot_at, prepare_at, prepare_of, slot_after_phase, slot_after_skip_in, stored_after_phase, stored_at}
+use Rattle.mencius_server.proofs.suspicions.FirstPhases.{HasRoomFrom, room_here, room_more}
+use Rattle.mencius_server.proofs.stored.InstanceGaps.{room_gap, skipped_here, unowned, unskipped_before, unskipped_other, unskipped_past}
+use Rattle.mencius_server.proofs.stored.SkippedSlot.{after_skip_at, after_skip_kept}
+
+-- ---- which instances are in an interval
+
+pub in_here : (a : OwnedInterval) (j : ℕ) → owner a.members j ≡ a.server → a.first ≤ j → j < a.stop → is_in a j ≡ true
+in_here a j own low high = skipped_here a.members a.server a.first a.stop j own low high
+
+pub out_before : (a : OwnedInterval) (j : ℕ) → j < a.first → is_in a j ≡ false
+out_before a j low = unskipped_before a.members a.server a.first a.stop j low
+
+pub out_past : (a : OwnedInterval) (j : ℕ) → a.stop ≤ j → is_in a j ≡ false
+out_past a j past = unskipped_past a.members a.server a.first a.stop j past
+
+-- between one of them and the next
+pub out_between : (a : OwnedInterval) (i next : ℕ) → owner a.members i ≡ a.server
+    → ((j : ℕ) → i + 1 ≤ j → owner a.members j ≡ owner a.members i → next ≤ j)
+    → (j : ℕ) → i + 1 ≤ j → j < next → is_in a j ≡ false
+out_between a i next own least j low high =
+    unskipped_other a.members a.server a.first a.stop j
+    (unowned a.members a.server (i + 1) next (λ j l mine. least j l (mine ∙ sym own)) j low high)
+
+-- whatever fails outside of an interval, and at a server's instances from one of them up to a place, fails up to there
+pub along_interval : (a : OwnedInterval) (i end : ℕ) (test : ℕ → Bool) → ((j : ℕ) → is_in a j ≡ false → test j ≡ false)
+    → owner a.members i ≡ a.server → a.stop ≤ instance_count
+    → ((j : ℕ) → i ≤ j → j < end → owner a.members j ≡ owner a.members i → j < instance_count → test j ≡ false)
+    → (j : ℕ) → i ≤ j → j < end → test j ≡ false
+along_interval a i end test outside own small along j from less = ⊎_elim
+    (λ (mine : owner a.members j ≡ owner a.members i). ⊎_elim
+    (λ (within : j < a.stop). along j from less mine (omega (arith, within, small)))
+    (λ (past : a.stop ≤ j). outside j (out_past a j past))
+    (cases_lt j a.stop))
+    (λ (other : owner a.members j ≡ owner a.members i → ⊥).
+    outside j (unskipped_other a.members a.server a.first a.stop j
+    (ne_eqb (owner a.members j) a.server (λ e. other (e ∙ sym own)))))
+    (cases_eq (owner a.members j) (owner a.members i))
+
+-- ---- what a loop makes of the slots
+
+-- at the instances before i the slots are as f makes them, and from there on they are the old ones
+pub record IsWalked (f : ℕ → Option SlotState → Option SlotState) (old new : ℕ → Option SlotState) (i : ℕ) : Type 0
+  where
+    pub done : (j : ℕ) → j < i → new j ≡ f j (old j)
+    pub rest : (j : ℕ) → i ≤ j → new j ≡ old j
+
+module _ (f : ℕ → Option SlotState → Option SlotState) (old : ℕ → Option SlotState) where
+  pub walked_start : (first : ℕ) → ((j : ℕ) → j < first → f j (old j) ≡ old j) → IsWalked f old old first
+  walked_start first none = record { done = λ j low. sym (none j low); rest = λ j low. refl }
+
+  pub walked_more : (now new : ℕ → Option SlotState) (i next : ℕ) → i + 1 ≤ next
+      → ((j : ℕ) → i + 1 ≤ j → j < next → f j (old j) ≡ old j)
+      → new i ≡ f i (now i) → ((j : ℕ) → (j ≡ i → ⊥) → new j ≡ now j) → IsWalked f old now i → IsWalked f old new next
+  walked_more now new i next ahead none here away h = record {
+    done = λ j less. ⊎_elim
+        (λ (low : j < i). away j (λ at. absurd (omega arith)) ∙ h.done j low)
+        (λ (from : i ≤ j). ⊎_elim
+        (λ (at : j ≡ i). ap new at ∙ here ∙ ap (f i) (h.rest i (omega arith)) ∙ ap (λ x. f x (old x)) (sym at))
+        (λ (off : j ≡ i → ⊥). away j off ∙ h.rest j from ∙ sym (none j (omega arith) less))
+        (cases_eq j i))
+        (cases_lt j i);
+    rest = λ j low. let from : i ≤ j = omega arith in away j (λ at. absurd (omega arith)) ∙ h.rest j from;
+  }
+
+  pub walked_on : (now : ℕ → Option SlotState) (i next : ℕ) → i ≤ next
+      → ((j : ℕ) → i ≤ j → j < next → f j (old j) ≡ old j) → IsWalked f old now i → IsWalked f old now next
+  walked_on now i next ahead none h = record {
+    done = λ j less. ⊎_elim
+        (λ (low : j < i). h.done j low)
+        (λ (from : i ≤ j). h.rest j from ∙ sym (none j from less))
+        (cases_lt j i);
+    rest = λ j low. h.rest j (omega (arith, ahead, low));
+  }
+
+  pub walked_all : (new : ℕ → Option SlotState) (i : ℕ) → ((j : ℕ) → i ≤ j → f j (old j) ≡ old j)
+      → IsWalked f old new i → (j : ℕ) → new j ≡ f j (old j)
+  walked_all new i none h j =
+      ⊎_elim
+      (λ (low : j < i). h.done j low)
+      (λ (from : i ≤ j). h.rest j from ∙ sym (none j from))
+      (cases_lt j i)
+
+-- what is written at one instance
+pub written_here : (g : Option SlotState → Option SlotState) (now new : ℕ → Option SlotState) (i : ℕ)
+    → ((j : ℕ) → new j ≡ cond (eqb j i) (g (now j)) (now j)) → new i ≡ g (now i)
+written_here g now new i written = written i ∙ ap (λ bit. cond bit (g (now i)) (now i)) (eq-eqb i i refl)
+
+pub written_off : (g : Option SlotState → Option SlotState) (now new : ℕ → Option SlotState) (i : ℕ)
+    → ((j : ℕ) → new j ≡ cond (eqb j i) (g (now j)) (now j))
+    → (j : ℕ) → (j ≡ i → ⊥) → new j ≡ now j
+written_off g now new i written j off = written j ∙ ap (λ bit. cond bit (g (now j)) (now j)) (ne_eqb j i off)
+
+-- ---- no-op is learned
+
+pub after_skip_out : (a : OwnedInterval) (j : ℕ) (o : Option SlotState) → is_in a j ≡ false
+    → option_map (slot_after_skip_in a j) o ≡ o
+after_skip_out a j o e = after_skip_kept a.members a.server a.first a.stop j o e
+
+pub after_skip_in : (a : OwnedInterval) (j : ℕ) (o : Option SlotState) → is_in a j ≡ true
+    → option_map (slot_after_skip_in a j) o ≡ option_map (λ s. after_learn s Noop) o
+after_skip_in a j o e = after_skip_at a.members a.server a.first a.stop j o e
+
+-- past the last slot of the interval
+pub after_skip_past : (a : OwnedInterval) (end j : ℕ) (old : ℕ → Option SlotState)
+    → ((j : ℕ) → end ≤ j → j < a.stop → old j ≡ None) → end ≤ j → option_map (slot_after_skip_in a j) (old j) ≡ old j
+after_skip_past a end j old none past = ⊎_elim
+    (λ (less : j < a.stop). let gone = none j past less in ap (option_map (slot_after_skip_in a j)) gone ∙ sym gone)
+    (λ (over : a.stop ≤ j). after_skip_out a j (old j) (out_past a j over))
+    (cases_lt j a.stop)
+
+-- ---- what was learned before
+
+pub learned_before_out : (a : OwnedInterval) (rs : List Interval) (ss : List (Option SlotState)) (j : ℕ)
+    → is_in a j ≡ false
+    → is_learned_before a rs ss j ≡ false
+learned_before_out a rs ss j e = and_left _ _ e
+
+pub learned_before_in : (a : OwnedInterval) (rs : List Interval) (ss : List (Option SlotState)) (j : ℕ)
+    → is_in a j ≡ true
+    → is_learned_before a rs ss j ≡ (not (is_in_any rs j) && is_learned (stored_at ss j))
+learned_before_in a rs ss j e = rw e refl
+
+pub learned_before_past : (a : OwnedInterval) (rs : List Interval) (ss : List (Option SlotState)) (end : ℕ)
+    → ((j : ℕ) → end ≤ j → j < a.stop → stored_at ss j ≡ None)
+    → (j : ℕ) → end ≤ j → is_learned_before a rs ss j ≡ false
+learned_before_past a rs ss end none j past = ⊎_elim
+    (λ (less : j < a.stop). nowhere (is_in a j) (not (is_in_any rs j)) (stored_at ss j) (none j past less))
+    (λ (over : a.stop ≤ j). learned_before_out a rs ss j (out_past a j over))
+    (cases_lt j a.stop)
+  where
+    nowhere : (d x : Bool) (o : Option SlotState) → o ≡ None → (d && (x && is_learned o)) ≡ false
+    nowhere true true None e = refl
+    nowhere true false o e = refl
+    nowhere false x o e = refl
+    nowhere true true (Some s) e = absurd (cc)
+
+-- ---- first phases
+
+pub phase_out : (a : OwnedInterval) (p j : ℕ) (o : Option SlotState) → is_in a j ≡ false
+    → stored_after_phase a p j o ≡ o
+phase_out a p j o e = rw e refl
+
+pub phase_in : (a : OwnedInterval) (p j : ℕ) (o : Option SlotState) → is_in a j ≡ true
+    → stored_after_phase a p j o ≡ option_map (slot_after_phase a.members p) o
+phase_in a p j None e = rw e refl
+phase_in a p j (Some s) e = rw e (go (is_none s.learned) refl)
+  where
+    go : (d : Bool) → is_none s.learned ≡ d
+        → cond (is_none s.learned) (Some (slot_after_phase a.members p s)) (Some s)
+        ≡ Some (slot_after_phase a.members p s)
+    go true e = rw e refl
+    go false e = rw e refl
+
+pub uncovered_out : (a : OwnedInterval) (ss : List (Option SlotState)) (j : ℕ) → is_in a j ≡ false
+    → is_covered_slot a ss j ≡ false
+uncovered_out a ss j e = and_left _ _ e
+
+pub uncovered_between : (a : OwnedInterval) (ss : List (Option SlotState)) (i next : ℕ) → owner a.members i ≡ a.server
+    → ((j : ℕ) → i + 1 ≤ j → owner a.members j ≡ owner a.members i → next ≤ j)
+    → (j : ℕ) → i + 1 ≤ j → j < next → is_covered_slot a ss j ≡ false
+uncovered_between a ss i next own least j low high = uncovered_out a ss j (out_between a i next own least j low high)
+
+pub unlearned_in : (a : OwnedInterval) (ss : List (Option SlotState)) (j : ℕ) → is_in a j ≡ true
+    → is_covered_slot a ss j ≡ is_unlearned (stored_at ss j)
+unlearned_in a ss j e = rw e refl
+
+-- the message for one instance
+pub prepare_here : (a : OwnedInterval) (p i : ℕ) (ss : List (Option SlotState)) (d : Bool) (o : Option SlotState)
+    → stored_at ss i ≡ o → d ≡ is_unlearned o
+    → prepare_at a.members p i o ≡ cond d (prepare_of a p ss i ∷ []) []
+prepare_here a p i ss d None e h = rw h refl
+prepare_here a p i ss d (Some s) e h = rw (h, e) refl
+
+-- ---- slots that come to be stored
+
+pub new_slot_out : (a : OwnedInterval) (rs : List Interval) (j : ℕ) (o : Option SlotState) → is_in a j ≡ false
+    → new_slot_at a rs j o ≡ o
+new_slot_out a rs j None e = rw e refl
+new_slot_out a rs j (Some s) e = refl
+
+-- where none is lacking
+pub new_slot_none : (a : OwnedInterval) (rs : List Interval) (ss : List (Option SlotState)) (j : ℕ)
+    → is_lacking a rs ss j ≡ false → new_slot_at a rs j (stored_at ss j) ≡ stored_at ss j
+new_slot_none a rs ss j e = go (stored_at ss j) refl
+  where
+    go : (o : Option SlotState) → stored_at ss j ≡ o → new_slot_at a rs j o ≡ o
+    go (Some s) is = refl
+    go None is = let no : (is_in a j && not (is_in_any rs j)) ≡ false =
+        plain (is_in a j) (not (is_in_any rs j))
+        (sym (ap (λ o. is_in a j && (not (is_in_any rs j) && is_none o)) is) ∙ e) in
+        ap (λ x. cond x (Some (new_slot a.members)) None) no
+      where
+        plain : (d x : Bool) → (d && (x && true)) ≡ false → (d && x) ≡ false
+        plain true true e = e
+        plain true false e = refl
+        plain false x e = refl
+
+pub new_slot_in : (a : OwnedInterval) (rs : List Interval) (j : ℕ) (o : Option SlotState) → is_in a j ≡ true
+    → is_in_any rs j ≡ false
+    → cond (is_none o) (Some (new_slot a.members)) o ≡ new_slot_at a rs j o
+new_slot_in a rs j None e fails = rw (e, fails) refl
+new_slot_in a rs j (Some s) e fails = refl
+
+pub lacking_in : (a : OwnedInterval) (rs : List Interval) (ss : List (Option SlotState)) (j : ℕ) → is_in a j ≡ true
+    → is_in_any rs j ≡ false → is_lacking a rs ss j ≡ is_none (stored_at ss j)
+lacking_in a rs ss j e fails = rw (e, fails) refl
+
+pub lacking_out : (a : OwnedInterval) (rs : List Interval) (ss : List (Option SlotState)) (j : ℕ) → is_in a j ≡ false
+    → is_lacking a rs ss j ≡ false
+lacking_out a rs ss j e = and_left _ _ e
+
+pub lacking_covered : (a : OwnedInterval) (rs : List Interval) (ss : List (Option SlotState)) (j : ℕ)
+    → is_in_any rs j ≡ true
+    → is_lacking a rs ss j ≡ false
+lacking_covered a rs ss j e = rw e (and_right (is_in a j) _ refl)
+
+-- a slot that is made where none is stored
+pub made_yes : {X : Type 0} (a d : Bool) (x y : X) → d ≡ true → cond a x y ≡ cond (a && d) x y
+made_yes true d x y e = rw e refl
+made_yes false d x y e = refl
+
+pub made_no : {X : Type 0} (a d : Bool) (x y : X) → d ≡ false → y ≡ cond (a && d) x y
+made_no true d x y e = rw e refl
+made_no false d x y e = refl
+
+-- past instances at which none is lacking
+pub leapt : (a : OwnedInterval) (rs : List Interval) (old now : List (Option SlotState)) (i next : ℕ) → i ≤ next
+    → ((j : ℕ) → i ≤ j → j < next → is_lacking a rs old j ≡ false)
+    → IsWalked (new_slot_at a rs) (stored_at old) (stored_at now) i
+    → (room : ℕ) → HasRoomFrom (is_lacking a rs old) a.stop room i
+    → IsWalked (new_slot_at a rs) (stored_at old) (stored_at now) next
+    × HasRoomFrom (is_lacking a rs old) a.stop room next
+leapt a rs old now i next ahead none walked room has = (
+  walked_on (new_slot_at a rs) (stored_at old) (stored_at now) i next ahead
+      (λ j l h. new_slot_none a rs old j (none j l h)) walked,
+  room_gap (is_lacking a rs old) a.stop room i next ahead none has,
+)
+
+module _ (a : OwnedInterval) (rs : List Interval) (old : List (Option SlotState)) (now : List (Option SlotState))
+    (i next : ℕ)
+    (own : owner a.members i ≡ a.server) (low : a.first ≤ i) (high : i < a.stop) (ahead : i + 1 ≤ next)
+    (least : (j : ℕ) → i + 1 ≤ j → owner a.members j ≡ owner a.members i → next ≤ j)
+    (walked : IsWalked (new_slot_at a rs) (stored_at old) (stored_at now) i) (cap len : ℕ)
+    (room : HasRoomFrom (is_lacking a rs old) a.stop (cap - len) i) where
+  start : stored_at now i ≡ stored_at old i
+  start = walked.rest i (omega arith)
+
+  between : (j : ℕ) → i + 1 ≤ j → j < next → new_slot_at a rs j (stored_at old j) ≡ stored_at old j
+  between j l h = new_slot_out a rs j (stored_at old j) (out_between a i next own least j l h)
+
+  gap : (j : ℕ) → i + 1 ≤ j → j < next → is_lacking a rs old j ≡ false
+  gap j l h = lacking_out a rs old j (out_between a i next own least j l h)
+
+  module _ (clear : is_in_any rs i ≡ false) where
+    lacks : is_lacking a rs old i ≡ is_none (stored_at now i)
+    lacks = lacking_in a rs old i (in_here a i own low high) clear ∙ ap is_none (sym start)
+
+    pub filled_room : is_none (stored_at now i) ≡ true → len < cap
+    filled_room none = let some = room_here (is_lacking a rs old) a.stop (cap - len) i high (lacks ∙ none) room in
+        omega (arith, some)
+
+    filled_more : (more : ℕ) → more ≡ len + cond (is_none (stored_at now i)) 1 0
+        → HasRoomFrom (is_lacking a rs old) a.stop (cap - more) next
+    filled_more more is = room_gap (is_lacking a rs old) a.stop (cap - more) (i + 1) next ahead gap
+        (room_more (is_lacking a rs old) a.stop (cap - len) (cap - more) i (go (is_none (stored_at now i)) refl) room)
+      where
+        go : (d : Bool) → is_none (stored_at now i) ≡ d → (cap - more) + cond (is_lacking a rs old i) 1 0 ≡ cap - len
+        go true e = let fits = filled_room e in let one : more ≡ len + 1 = is
+            ∙ ap (λ d. len + cond d 1 0) e in rw (lacks ∙ e) (omega (arith, fits, one))
+        go false e = let none : more ≡ len + 0 = is
+            ∙ ap (λ d. len + cond d 1 0) e in rw (lacks ∙ e) (omega (arith, none))
+
+    module _ (new : List (Option SlotState))
+        (made : (j : ℕ) → stored_at new j ≡ cond (eqb j i && is_none (stored_at now i)) (Some (new_slot a.members))
+        (stored_at now j)) where
+      filled_walked : IsWalked (new_slot_at a rs) (stored_at old) (stored_at new) next
+      filled_walked = walked_more (new_slot_at a rs) (stored_at old) (stored_at now) (stored_at new) i next ahead
+          between
+          (made i ∙ ap (λ d. cond (d && is_none (stored_at now i)) (Some (new_slot a.members)) (stored_at now i))
+          (eq-eqb i i refl)
+          ∙ new_slot_in a rs i (stored_at now i) (in_here a i own low high) clear)
+          (λ j off. made j ∙ ap (λ d. cond (d && is_none (stored_at now i)) (Some (new_slot a.members))
+          (stored_at now j)) (ne_eqb j i off))
+          walked
+
+      pub filled : (more : ℕ) → more ≡ len + cond (is_none (stored_at now i)) 1 0
+          → IsWalked (new_slot_at a rs) (stored_at old) (stored_at new) next
+          × HasRoomFrom (is_lacking a rs old) a.stop (cap - more) next
+      filled more is = (filled_walked, filled_more more is)
+
+  -- where a slot is stored
+  pub stored_whole : is_none (stored_at now i) ≡ false → is_lacking a rs old i ≡ false
+  stored_whole some = and_right (is_in a i) _ (and_right (not (is_in_any rs i)) _ (ap is_none (sym start) ∙ some))
+
+  pub passed : is_lacking a rs old i ≡ false → IsWalked (new_slot_at a rs) (stored_at old) (stored_at now) next
+      × HasRoomFrom (is_lacking a rs old) a.stop (cap - len) next
+  passed whole = leapt a rs old now i next (omega (arith, ahead)) (λ j l h. ⊎_elim
+      (λ (at : j ≡ i). ap (is_lacking a rs old) at ∙ whole)
+      (λ (off : j ≡ i → ⊥). gap j (omega (arith, l, off)) h)
+      (cases_eq j i)) walked (cap - len) room
+
+-- a count of none
+pub none_of_all : (test : ℕ → Bool) (n : ℕ) → count_by test (below n) ≤ 0 → (j : ℕ) → j < n → test j ≡ false
+none_of_all test n few j less =
+    ⊎_elim
+    (λ (yes : test j ≡ true).
+    let more : count_by test (below (j + 1)) ≡ count_by test (below j) + 1 = count_by-below_more test j
+    ∙ ap (λ (a : Bool). count_by test (below j) + cond a 1 0) yes in
+    let all : count_by test (below (j + 1)) ≤ count_by test (below n) =
+    count_by-below_le test (j + 1) n (omega arith) in
+    absurd (omega (arith, more, all, few)))
+    (λ (no : test j ≡ false). no)
+    (cases_Bool (test j))

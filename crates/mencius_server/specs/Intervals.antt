@@ -1,0 +1,36 @@
+-- Intervals of the instances that one server skipped.
+use Rattle.std.specs.Prelude.{◌≡◌, ℕ, ◌+◌, ◌-◌, ◌<◌, ◌≤◌, Bool, false, List, [], ◌∷◌, nat_lt, nat_le, if◌then◌else◌, ◌&&◌, ◌||◌, max, min}
+use Rattle.mencius_base.specs.Members.{Membership, owner}
+use Rattle.mencius_base.specs.Numbers.{Inst, ServerId}
+use Rattle.mencius_server.specs.declared.skipped_intervals.Interval.{Interval}
+
+abbrev pub is_between : Inst → Inst → Inst → Bool
+is_between first stop j = nat_le first j && nat_lt j stop
+
+-- the instance lies in one of the intervals
+abbrev pub is_in_any : List Interval → Inst → Bool
+is_in_any [] j = false
+is_in_any (r ∷ rs) j = is_between r.first r.stop j || is_in_any rs j
+
+-- none is empty, and each begins past the end of the one before, and at or past a place
+abbrev pub IsRising : Inst → List Interval → Type 0
+IsRising low [] = Unit {0}
+IsRising low (r ∷ rs) = (low ≤ r.first) × (r.first < r.stop) × IsRising (r.stop + 1) rs
+
+-- the intervals of a server q begin and end at its instances, below a place
+abbrev pub IsOwned : Membership → ServerId → Inst → List Interval → Type 0
+IsOwned m q top [] = Unit {0}
+IsOwned m q top (r ∷ rs) = (owner m r.first ≡ q) × (owner m r.stop ≡ q) × (r.stop ≤ top) × IsOwned m q top rs
+
+-- the intervals with one more, joined with those that it meets
+abbrev pub with_interval : List Interval → Inst → Inst → List Interval
+with_interval [] first stop = record { first = first; stop = stop } ∷ []
+with_interval (r ∷ rs) first stop =
+    if nat_lt r.stop first then r ∷ with_interval rs first stop
+    else (if nat_lt stop r.first then record { first = first; stop = stop } ∷ r ∷ rs
+    else with_interval rs (min first r.first) (max stop r.stop))
+
+-- how far the intervals reach in all
+abbrev pub reach_of : List Interval → ℕ
+reach_of [] = 0
+reach_of (r ∷ rs) = (r.stop - r.first) + reach_of rs
