@@ -248,17 +248,17 @@ unfolding most_rounds
 suspect_causes m w p q s o e r member =
     same_causes (eqb p q) _ _ _ _ _ _
     (ap (λ (xs : List ℕ). is_none (first_item xs))
-    (filter-instances_same (is_covered_at (server_at m w p) q) (is_covered m w p q) covers))
+    (filter-instances_same (is_covered_at (server_at m w p) q) (is_covered m w p q) is_same))
     (any-map (is_spent_at (server_at m w p)) (filter (is_covered_at (server_at m w p) q) instances)
     ∙ ap (list_any (λ (a : Bool). a))
     (map-filter-instances_same (is_spent_at (server_at m w p)) (λ (i : ℕ). ltb greatest_round (next_round m w p i))
     (is_covered_at (server_at m w p) q) (is_covered m w p q)
-    (λ j small. ap (λ (x : SlotState). ltb greatest_round (round_after m x)) (slot-server_at m w p j small)) covers)
+    (λ j small. ap (λ (x : SlotState). ltb greatest_round (round_after m x)) (slot-server_at m w p j small)) is_same)
     ∙ sym (any-map (λ (i : ℕ). ltb greatest_round (next_round m w p i)) (covered_by m w p q)))
     (ap (λ (ms : List Message). ltb o.limit (length o.messages + length ms)) (suspect_messages m w p q r member))
   where
-    covers : (j : ℕ) → j < instance_count → is_covered_at (server_at m w p) q j ≡ is_covered m w p q j
-    covers j small = covered_same m w p q r member j small
+    is_same : (j : ℕ) → j < instance_count → is_covered_at (server_at m w p) q j ≡ is_covered m w p q j
+    is_same j small = covered_same m w p q r member j small
 
 pub suspect_is_event : SuspectIsEvent
 suspect_is_event w s q at member = record {

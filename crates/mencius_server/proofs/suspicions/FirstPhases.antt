@@ -100,9 +100,9 @@ IsServer-suspect s q other kept = record {
   unsaid = λ i. (fits i).unsaid;
 }
   where
-    begun : (i : ℕ) → is_covered_in s.members q (reach_at s q) i (slot s i) ≡ true
+    started : (i : ℕ) → is_covered_in s.members q (reach_at s q) i (slot s i) ≡ true
         → FitsAt s s.front i (with_next_phase s.members s.id (slot s i))
-    begun i e =
+    started i e =
         let theirs : owner s.members i ≡ q = eqb-true _ _ (and_parts _ _ (and_parts _ _ e).0).0 in
         record {
           stays = λ known. known;
@@ -113,7 +113,7 @@ IsServer-suspect s q other kept = record {
         }
 
     given : (i : ℕ) → FitsAt s s.front i (slot_after_suspect s.members s.id q (reach_at s q) i (slot s i))
-    given i = FitsAt-cond s s.front i (is_covered_in s.members q (reach_at s q) i (slot s i)) _ (slot s i) (begun i)
+    given i = FitsAt-cond s s.front i (is_covered_in s.members q (reach_at s q) i (slot s i)) _ (slot s i) (started i)
         (FitsAt-slot s i kept)
 
     fits : (i : ℕ) → KeepsAt s s.front i (slot (after_suspect s q) i)
@@ -166,12 +166,12 @@ pub phase_each : (begins : ℕ → Bool) (now new : ℕ → Option SlotState) (H
     → ((j : ℕ) (s : SlotState) → j < i → begins j ≡ true → now j ≡ Some s → Holds s)
     → ((s : SlotState) → begins i ≡ true → new i ≡ Some s → Holds s)
     → (j : ℕ) (s : SlotState) → j < next → begins j ≡ true → new j ≡ Some s → Holds s
-phase_each begins now new Holds i next between off before here j s less begun stored =
+phase_each begins now new Holds i next between off before here j s less started stored =
     ⊎_elim
-    (λ (low : j < i). before j s low begun (sym (off j (λ e. absurd (omega arith))) ∙ stored))
+    (λ (low : j < i). before j s low started (sym (off j (λ e. absurd (omega arith))) ∙ stored))
     (λ (from : i ≤ j). ⊎_elim
-    (λ (at : j ≡ i). here s (sym (ap begins at) ∙ begun) (sym (ap new at) ∙ stored))
+    (λ (at : j ≡ i). here s (sym (ap begins at) ∙ started) (sym (ap new at) ∙ stored))
     (λ (past : j ≡ i → ⊥).
-    let both : true ≡ false = sym begun ∙ between j (omega arith) less in absurd (cc))
+    let both : true ≡ false = sym started ∙ between j (omega arith) less in absurd (cc))
     (cases_eq j i))
     (cases_lt j i)
