@@ -3,7 +3,8 @@ pub mod JudgedParts
 pub mod CutWords
 pub mod WrittenWords
 pub mod PlainWords
+pub mod Versions
 pub mod OperationWords
 pub mod EventWords
-pub mod CasWords
+pub mod VersionWords
 pub mod TextWords

@@ -1,10 +1,11 @@
 pub mod Judged
 pub mod Words
+pub mod Versions
 pub mod Operations
 pub mod Grammar
 pub mod Spelled
 pub mod Steps
-pub mod Cas
+pub mod TextVersions
 pub mod Texts
 pub mod Sayable
 pub mod Laws

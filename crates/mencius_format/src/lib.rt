@@ -7,25 +7,25 @@
 //! the crates above.
 #![tactic(auto)]
 
-mod cas;
 mod judged;
 pub mod laws;
 mod operations;
 mod part;
 mod reading;
 mod step;
+mod text_version;
 mod version;
 mod words;
 mod writing;
 
-pub use cas::{command_is_cas, event_is_cas, submit_is_cas};
-pub use operations::{OPERATIONS, is_cas, operands_of};
+pub use operations::{NO_OPERATION, operands_of, version_of_command};
 pub use part::Part;
 pub use reading::{
     behind_submit, fault_of, parse_command, parse_event, parse_id, parse_step, parse_submission,
 };
 pub use step::Step;
-pub use version::{FIRST_VERSION, NEWEST_VERSION};
+pub use text_version::{command_version, event_version, submit_version};
+pub use version::{FIRST_VERSION, NEWEST_VERSION, may_stand_in};
 pub use words::{cut_at_dot, cut_at_space, parse_u8, parse_u32};
 pub use writing::{
     push_command, push_deliver, push_event, push_execute, push_id, push_lose, push_retry,

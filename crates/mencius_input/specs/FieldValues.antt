@@ -23,7 +23,7 @@ use Rattle.mencius_input.specs.declared.newest.Newest.{Newest}
 use Rattle.mencius_input.specs.declared.scenario.Scenario.{Scenario}
 use Rattle.mencius_input.specs.declared.scenario.Shared.{Shared}
 use Rattle.mencius_input.specs.FieldsOf.{field_name, list_field, names, whole_fields}
-use Rattle.mencius_input.specs.Newest.{any_in, has_command_cas, has_event_cas, in_version}
+use Rattle.mencius_input.specs.Newest.{command_item_version, event_item_version, in_version, list_version}
 use Rattle.mencius_input.specs.Noted.{list_in}
 use Rattle.mencius_input.specs.Plan.{commands_of, numbers_within}
 use Rattle.mencius_input.specs.Scenario.{◌>>=◌, all_in, cluster_within, has_only, number_of}
@@ -32,7 +32,10 @@ use Rattle.mencius_input.specs.Scenario.{◌>>=◌, all_in, cluster_within, has_
 
 -- what is read of the events
 abbrev pub events_said : Data → Newest (List Event)
-events_said d = record { said = judged (list_all event_within) (list_in d); has_cas = any_in has_event_cas d }
+events_said d = record {
+  said = judged (list_all event_within) (list_in d);
+  version = list_version event_item_version d;
+}
 
 -- a list of lists of texts, in the newest version
 abbrev pub lists_of : Data → Option (List (List Request))
@@ -44,11 +47,14 @@ lists_within lists = list_all (list_all command_within) lists && nat_le (length 
 
 -- what is read of the commands
 abbrev pub lists_said : Data → Newest (List (List Request))
-lists_said d = record { said = judged lists_within (lists_of d); has_cas = any_in (any_in has_command_cas) d }
+lists_said d = record {
+  said = judged lists_within (lists_of d);
+  version = list_version (list_version command_item_version) d;
+}
 
 -- the same of the lists that were kept
 abbrev pub lists_kept : Newest (Vec (Vec Command Global) Global) → Newest (List (List Request))
-lists_kept x = record { said = seen (λ lists. map (λ list. list.items) lists.items) x.said; has_cas = x.has_cas }
+lists_kept x = record { said = seen (λ lists. map (λ list. list.items) lists.items) x.said; version = x.version }
 
 -- what is read of the list of a kind
 pub data SaidList : Type 0 where

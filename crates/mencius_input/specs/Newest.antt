@@ -1,43 +1,39 @@
--- What is read of a list before the version is known: what it says in the newest version, and whether a `cas` stands
--- in it, which no other version has; for private clauses.
-use Rattle.std.specs.Prelude.{ℕ, ◌&&◌, ◌||◌, List, Bool, false, not, Option, Some, None, Result, Err, if◌then◌else◌}
+-- What is read of a list before the version is known: what it says in the newest version, and the least version in
+-- which it may stand; for private clauses.
+use Rattle.std.specs.Prelude.{ℕ, max, List, Option, option_map, unwrap_or, Result, Err, if◌then◌else◌}
 use Rattle.serde_json.specs.Data.{Data, Items, no_items, item}
 use Rattle.serde_json.specs.Find.{as_array, as_str}
 use Rattle.mencius_ends.specs.declared.fault.AppFault.{AppFault}
 use Rattle.mencius_ends.specs.declared.fault.AppFault.TheVariants.{BadShape}
 use Rattle.mencius_input.specs.declared.newest.Newest.{Newest}
-use Rattle.mencius_format.specs.Cas.{command_is_cas, event_is_cas}
-use Rattle.mencius_format.specs.Grammar.{takes_cas}
+use Rattle.mencius_format.specs.TextVersions.{command_version, event_version}
+use Rattle.mencius_format.specs.Versions.{first_version, may_stand_in}
 use Rattle.mencius_format.specs.Words.{words}
 
 -- ---- in what is read
 
-abbrev pub text_is : (List (List ℕ) → Bool) → Option (List ℕ) → Bool
-text_is test None = false
-text_is test (Some text) = test (words text)
+-- a text by its words; what is no text needs no later version
+abbrev pub text_version : (List (List ℕ) → ℕ) → Option (List ℕ) → ℕ
+text_version needed text = unwrap_or (option_map (λ bytes. needed (words bytes)) text) first_version
 
--- a text that is a command's, or an event's
-abbrev pub has_command_cas : Data → Bool
-has_command_cas d = text_is command_is_cas (as_str d)
+-- that of a command, or of an event
+abbrev pub command_item_version : Data → ℕ
+command_item_version d = text_version command_version (as_str d)
 
-abbrev pub has_event_cas : Data → Bool
-has_event_cas d = text_is event_is_cas (as_str d)
+abbrev pub event_item_version : Data → ℕ
+event_item_version d = text_version event_version (as_str d)
 
--- one of some items passes
-unfoldable pub any_of : (Data → Bool) → Items → Bool
-any_of test no_items = false
-any_of test (item d ds) = test d || any_of test ds
+-- the greatest of some items
+unfoldable pub items_version : (Data → ℕ) → Items → ℕ
+items_version needed no_items = first_version
+items_version needed (item d ds) = max (needed d) (items_version needed ds)
 
-abbrev pub any_of_these : (Data → Bool) → Option Items → Bool
-any_of_these test None = false
-any_of_these test (Some ds) = any_of test ds
-
--- one of the items of a list
-abbrev pub any_in : (Data → Bool) → Data → Bool
-any_in test d = any_of_these test (as_array d)
+-- of those of a list
+abbrev pub list_version : (Data → ℕ) → Data → ℕ
+list_version needed d = unwrap_or (option_map (items_version needed) (as_array d)) first_version
 
 -- ---- once the version is known
 
 -- what is said in a version
 abbrev pub in_version : {X : Type 0} → ℕ → Newest X → Result X AppFault
-in_version version x = if x.has_cas && not (takes_cas version) then Err BadShape else x.said
+in_version version x = if may_stand_in x.version version then x.said else Err BadShape

@@ -22,7 +22,7 @@ use Rattle.mencius_input.specs.declared.kind.Kind.TheVariants.{Replay, Run}
 use Rattle.mencius_input.specs.declared.places.Place.{Place}
 use Rattle.mencius_input.specs.declared.places.Place.TheVariants as place
 use Rattle.mencius_input.specs.FieldsOf.{default_of, field_name, field_within, fields, list_field, whole_fields}
-use Rattle.mencius_input.specs.Newest.{has_command_cas, has_event_cas}
+use Rattle.mencius_input.specs.Newest.{command_item_version, event_item_version}
 use Rattle.mencius_input.specs.Plan.{command_said}
 use Rattle.mencius_input.specs.Scenario.{item_said, json_of, number_of, whole_in}
 
@@ -80,10 +80,10 @@ abbrev pub item_fault : Kind → ℕ → Data → Option AppFault
 item_fault Replay version d = result_err (item_said version d)
 item_fault Run version d = result_err (command_said version d)
 
--- the item is a `cas`, by the place of that word alone
-abbrev pub item_has_cas : Kind → Data → Bool
-item_has_cas Replay d = has_event_cas d
-item_has_cas Run d = has_command_cas d
+-- the least version that an item needs
+abbrev pub item_version : Kind → Data → ℕ
+item_version Replay d = event_item_version d
+item_version Run d = command_item_version d
 
 -- what the first of some items gives that gives anything, each by its index, which is counted from here on
 unfoldable pub first_of : {X : Type 0} → (ℕ → Data → Option X) → ℕ → Items → Option X

@@ -7,19 +7,21 @@ ghost use Rattle.serde_json.specs.Read.{read};
 ghost use Rattle.serde_json.specs.View.{items_view, view};
 ghost use Rattle.mencius_input.specs.FieldsOf.{fields};
 ghost use Rattle.mencius_input.specs.declared.field.Field.TheVariants.{Servers};
-ghost use Rattle.mencius_format.specs.Grammar.{command_of, command_within, event_of, event_within, newest_version, takes_cas};
+ghost use Rattle.mencius_format.specs.Grammar.{command_of, command_within, event_of, event_within, may_stand_in, newest_version};
 ghost use Rattle.mencius_format.specs.Judged.{judged};
-ghost use Rattle.mencius_input.specs.Places.{count_place, field_named, field_place, first_in, first_item, first_of, first_place, is_fault, is_great_number, is_lacking, is_limit, is_shape, item_fault, item_has_cas, items_place, lack_place, list_field_place, list_place, names_in, not_whole, number_place, place_in, place_state, version_of};
+ghost use Rattle.mencius_input.specs.Places.{count_place, field_named, field_place, first_in, first_item, first_of, first_place, is_fault, is_great_number, is_lacking, is_limit, is_shape, item_fault, item_version, items_place, lack_place, list_field_place, list_place, names_in, not_whole, number_place, place_in, place_state, version_of};
 ghost use Rattle.mencius_input.specs.Scenario.{number_of};
 ghost use Rattle.mencius_format.specs.Words.{words};
 
 use crate::field::{Field, list_field, whole_fields};
 use crate::kind::{Kind, tree_of};
-use crate::newest::takes_cas;
 use json::Scratch;
 use mencius_base::NoMemory;
 use mencius_ends::AppFault;
-use mencius_format::{NEWEST_VERSION, command_is_cas, event_is_cas, parse_command, parse_event};
+use mencius_format::{
+    FIRST_VERSION, NEWEST_VERSION, command_version, event_version, may_stand_in, parse_command,
+    parse_event,
+};
 use mencius_json::{MOST_DEPTH, Tokens, next_name, pass};
 use serde_json::Value;
 use std::alloc::Global;
@@ -92,22 +94,22 @@ fn version_of(scenario: &Value) -> u64
     said_number(scenario, Field::Version).unwrap_or(NEWEST_VERSION)
 }
 
-// Whether an item is a `cas`, by the place of that word alone.
-fn item_has_cas(kind: Kind, item: &Value) -> bool
-    ensures { result ≡ item_has_cas kind (view item.now) }
+// The least version that an item needs, by the word of its operation alone.
+fn item_version(kind: Kind, item: &Value) -> u64
+    ensures { result ≡ item_version kind (view item.now) }
 {
     match (item.as_str(), kind) {
-        (Some(text), Kind::Replay) => event_is_cas(text),
-        (Some(text), Kind::Run) => command_is_cas(text),
-        (None, _) => false,
+        (Some(text), Kind::Replay) => event_version(text),
+        (Some(text), Kind::Run) => command_version(text),
+        (None, _) => FIRST_VERSION,
     }
 }
 
-// Whether an item is a `cas` in a version that has none.
-fn is_cas_too_many(kind: Kind, version: u64, item: &Value) -> bool
-    ensures { result ≡ (item_has_cas kind (view item.now) && not (takes_cas version)) }
+// Whether an item needs a later version than this.
+fn is_too_new(kind: Kind, version: u64, item: &Value) -> bool
+    ensures { result ≡ not (may_stand_in (item_version kind (view item.now)) version) }
 {
-    item_has_cas(kind, item) && !takes_cas(version)
+    !may_stand_in(item_version(kind, item), version)
 }
 
 // The fault of an item.
@@ -119,7 +121,7 @@ fn fault_of_item(
 ) -> Result<Option<AppFault>, NoMemory>
     ensures { IfOk result (λ o. o ≡ item_fault kind version (view item.now)) }
 {
-    if is_cas_too_many(kind, version, item) {
+    if is_too_new(kind, version, item) {
         return Ok(Some(AppFault::BadShape));
     }
     newest_fault_of_item(alloc, kind, item)

@@ -1,13 +1,12 @@
 //! Which word of an event or a command is wrong, in a person's words. Each word is judged by what reads it.
 
 use crate::kind::Kind;
-use crate::newest::takes_cas;
 use crate::shown::shown;
 use mencius_base::{BadCommand, Command, CommandId, Key, NoMemory, Op, Text};
 use mencius_ends::AppFault;
 use mencius_format::{
-    NEWEST_VERSION, OPERATIONS, Part, command_is_cas, cut_at_dot, cut_at_space, event_is_cas,
-    fault_of, operands_of, parse_id, parse_u8, parse_u32,
+    NO_OPERATION, Part, command_version, cut_at_dot, cut_at_space, event_version, fault_of,
+    may_stand_in, operands_of, parse_id, parse_u8, parse_u32,
 };
 use std::alloc::Global;
 
@@ -219,7 +218,7 @@ fn wrong_operation(
     }
     let Some(operands) = operands_of(operation) else {
         let word = shown(alloc, operation)?;
-        return Ok(Some(format!(in alloc; "{name} is none of {OPERATIONS}: {word}")?));
+        return Ok(Some(format!(in alloc; "{NO_OPERATION}: {word}")?));
     };
     wrong_words(alloc, operands, left, fault)
 }
@@ -282,12 +281,23 @@ fn wrong_command(alloc: Global, text: &str, fault: AppFault) -> Result<String, N
     left_over(alloc, &mut left)
 }
 
-// Whether a text is a `cas`, by the place of that word alone.
-fn text_is_cas(kind: Kind, text: &str) -> bool {
+// The least version that a text needs, by the word of its operation alone.
+fn version_of_text(kind: Kind, text: &str) -> u64 {
     match kind {
-        Kind::Replay => event_is_cas(text),
-        Kind::Run => command_is_cas(text),
+        Kind::Replay => event_version(text),
+        Kind::Run => command_version(text),
     }
+}
+
+// The word that stands where that of the operation does.
+fn operation_in(kind: Kind, text: &str) -> &str {
+    let mut left = Some(text);
+    if matches!(kind, Kind::Replay) {
+        let _submit = next_word(&mut left);
+        let _server = next_word(&mut left);
+    }
+    let _id = next_word(&mut left);
+    next_word(&mut left).unwrap_or("")
 }
 
 /// What is wrong with the text of an event, or in a run of a command, that has this fault in a version: the
@@ -299,9 +309,10 @@ pub(crate) fn wrong_item(
     text: &str,
     fault: AppFault,
 ) -> Result<String, NoMemory> {
-    if text_is_cas(kind, text) && !takes_cas(version) {
-        let newest = NEWEST_VERSION;
-        return Ok(format!(in alloc; "only version {newest} has the operation cas")?);
+    let needed = version_of_text(kind, text);
+    if !may_stand_in(needed, version) {
+        let operation = operation_in(kind, text);
+        return Ok(format!(in alloc; "only version {needed} has the operation {operation}")?);
     }
     match kind {
         Kind::Replay => wrong_event(alloc, text, fault),

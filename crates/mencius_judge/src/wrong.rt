@@ -3,7 +3,9 @@
 use crate::line::MOST_LINE_BYTES;
 use mencius_base::{MOST_KEY_BYTES, MOST_TEXT_BYTES, is_name};
 use mencius_ends::AppFault;
-use mencius_format::{Part, cut_at_space, operands_of, parse_id, parse_u8, parse_u32};
+use mencius_format::{
+    NO_OPERATION, Part, cut_at_space, operands_of, parse_id, parse_u8, parse_u32,
+};
 
 /// What is wrong with a line that is longer than a line may be.
 pub(crate) const TOO_LONG: &str = "it is longer than 1,024 bytes";
@@ -93,7 +95,7 @@ fn wrong_words(words: &[Word], left: &mut Option<&str>, fault: AppFault) -> Opti
 // The operation, or the first of its words that has the fault.
 fn wrong_operation(left: &mut Option<&str>, fault: AppFault) -> Option<&'static str> {
     let Some(operands) = operands_of(next_word(left).unwrap_or("")) else {
-        return Some("the operation is none of set, get, del and cas");
+        return Some(NO_OPERATION);
     };
     for part in operands {
         let word = match part {

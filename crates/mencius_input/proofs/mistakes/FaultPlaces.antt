@@ -14,28 +14,27 @@ use Rattle.mencius_ends.specs.declared.fault.AppFault.{AppFault}
 use Rattle.mencius_ends.specs.declared.fault.AppFault.TheVariants.{BadShape}
 use Rattle.mencius_input.specs.declared.kind.Kind.{Kind}
 use Rattle.mencius_input.specs.declared.kind.Kind.TheVariants.{Replay, Run}
-use Rattle.mencius_format.specs.Grammar.{newest_version, takes_cas}
-use Rattle.mencius_input.specs.Newest.{has_command_cas, has_event_cas}
+use Rattle.mencius_format.specs.Grammar.{may_stand_in, newest_version}
 use Rattle.mencius_input.specs.declared.places.Place.{Place}
-use Rattle.mencius_input.specs.Places.{PlaceState, first_of, is_great_number, item_fault, item_has_cas, place_state}
+use Rattle.mencius_input.specs.Places.{PlaceState, first_of, is_great_number, item_fault, item_version, place_state}
 use Rattle.mencius_input.specs.Plan.{command_said}
 use Rattle.mencius_input.specs.Scenario.{item_said}
-use Rattle.mencius_input.proofs.lists.CasItems.{command_said_in, item_said_in}
+use Rattle.mencius_input.proofs.lists.VersionItems.{command_said_in, item_said_in}
 
-fault_of : {X : Type 0} (left_out : Bool) (r s : Result X AppFault) → cond left_out (Err BadShape) r ≡ s
-    → cond left_out (Some BadShape) (result_err r) ≡ result_err s
+fault_of : {X : Type 0} (stands : Bool) (r s : Result X AppFault) → cond stands r (Err BadShape) ≡ s
+    → cond (not stands) (Some BadShape) (result_err r) ≡ result_err s
 fault_of true r s e = ap result_err e
 fault_of false r s e = ap result_err e
 
--- an item is judged in its version as in the newest, but for a `cas` that its version has not
+-- an item is judged in its version as in the newest, unless it needs a later one
 pub item_fault_in : (kind : Kind) (version : ℕ) (d : Data)
-    → cond (item_has_cas kind d && not (takes_cas version)) (Some BadShape) (item_fault kind newest_version d)
+    → cond (not (may_stand_in (item_version kind d) version)) (Some BadShape) (item_fault kind newest_version d)
     ≡ item_fault kind version d
 item_fault_in Replay version d =
-    fault_of (has_event_cas d && not (takes_cas version)) (item_said newest_version d) (item_said version d)
+    fault_of (may_stand_in (item_version Replay d) version) (item_said newest_version d) (item_said version d)
     (item_said_in version d)
 item_fault_in Run version d =
-    fault_of (has_command_cas d && not (takes_cas version)) (command_said newest_version d) (command_said version d)
+    fault_of (may_stand_in (item_version Run d) version) (command_said newest_version d) (command_said version d)
     (command_said_in version d)
 
 -- what is asked of the items from an index on is asked of the item there, and then of those behind it

@@ -19,7 +19,7 @@ use Rattle.mencius_input.specs.FieldValues.{AreFieldValues, fitted, fitted_plan,
 use Rattle.mencius_input.specs.FieldsOf.{field_within, names}
 use Rattle.mencius_input.specs.Plan.{commands_of, numbers_within, plan_read, plan_within}
 use Rattle.mencius_input.specs.Scenario.{all_in, all_of, has_only, number_of, scenario_of, scenario_within}
-use Rattle.mencius_input.proofs.lists.CasItems.{lists_said_in}
+use Rattle.mencius_input.proofs.lists.VersionItems.{lists_said_in}
 use Rattle.mencius_input.proofs.objects.SharedFields.{fitted_judged, members_in, shared_say}
 
 -- ---- what an object says as a plan, by its fields

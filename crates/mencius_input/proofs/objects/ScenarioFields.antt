@@ -11,7 +11,7 @@ use Rattle.mencius_input.specs.declared.scenario.Shared.{Shared}
 use Rattle.mencius_input.specs.FieldValues.{AreFieldValues, fitted, list_kept, list_said, said_of, schedule_said, shared_in}
 use Rattle.mencius_input.specs.FieldsOf.{names}
 use Rattle.mencius_input.specs.Scenario.{events_of, has_only, schedule_of, schedule_within, within, written_of}
-use Rattle.mencius_input.proofs.lists.CasItems.{events_said_in}
+use Rattle.mencius_input.proofs.lists.VersionItems.{events_said_in}
 use Rattle.mencius_input.proofs.objects.SharedFields.{fitted_judged, no_course, shared_say}
 
 -- what an object says as events, by its field

@@ -21,7 +21,7 @@ use Rattle.mencius_format.specs.Grammar.{id_of, id_within, newest_version, two_n
 use Rattle.mencius_format.specs.Operations.{op_text}
 use Rattle.mencius_format.specs.Texts.{command_text, id_text}
 use Rattle.mencius_format.specs.Words.{words}
-use Rattle.mencius_format.proofs.OperationWords.{both_hold, most_op_bytes, op_word}
+use Rattle.mencius_format.proofs.OperationWords.{both_hold, most_op_bytes, op_stands, op_word}
 use Rattle.mencius_format.proofs.TextWords.{commands_read_back}
 use Rattle.mencius_format.proofs.WrittenWords.{Lacks, cut_at, entry_good, lacks_append, lacks_dot, lacks_space, name_again, named_lacks, number_again, uncut}
 use Rattle.mencius_judge.specs.declared.observation.Observation.{Observation}
@@ -70,7 +70,7 @@ answer_lacks (Some text) h = (λ e. absurd (omega arith), named_lacks text h.0)
 
 said_again : (o : Observation) → IsSayable o → observation_of (words (observation_text o)) ≡ Some o
 unfolding observation_of
-said_again (Submit command) h = rw ((commands_read_back newest_version command h (λ e. refl)).0) refl
+said_again (Submit command) h = rw ((commands_read_back newest_version command h (op_stands command.op)).0) refl
 said_again (Execute server id) h =
     rw (
       cut_at 32 (decimal server) (id_text id) (lacks_space server (u8 server h.0)) refl,
@@ -115,7 +115,7 @@ answer_fits None h = refl
 answer_fits (Some text) h = h.1
 
 within_again : (o : Observation) → IsSayable o → observation_within o ≡ true
-within_again (Submit command) h = (commands_read_back newest_version command h (λ e. refl)).1
+within_again (Submit command) h = (commands_read_back newest_version command h (op_stands command.op)).1
 within_again (Execute server id) h = both_hold _ _ (below_test server (2 ^ 8) h.0) (id_fits id h.1)
 within_again (Reply id text) h = both_hold _ _ (id_fits id h.0) (answer_fits text h.1)
 within_again (Lookup reader key text) h =

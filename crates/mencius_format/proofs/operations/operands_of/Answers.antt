@@ -13,13 +13,13 @@ returns-in-set c = (
 pub returns-in-get : goal.returns-in-get
 returns-in-get c = (
   subst IsOperation (sym c.in-get.is) is_operation_get,
-  (λ ws op. rw (c.in-get.is, get_words ws) (λ e. (key_read Get (λ _. refl) ws op e).0)),
+  (λ ws op. rw (c.in-get.is, get_words ws) (λ e. (key_read Get _ (λ _. refl) ws op e).0)),
 )
 
 pub returns-in-del : goal.returns-in-del
 returns-in-del c = (
   subst IsOperation (sym c.in-del.is) is_operation_del,
-  (λ ws op. rw (c.in-del.is, del_words ws) (λ e. (key_read Del (λ _. refl) ws op e).0)),
+  (λ ws op. rw (c.in-del.is, del_words ws) (λ e. (key_read Del _ (λ _. refl) ws op e).0)),
 )
 
 pub returns-in-cas : goal.returns-in-cas

@@ -1,10 +1,10 @@
-use Rattle.std.proofs.Common.{◌≡◌, None, Ok, length, map, nat_lt, refl, sym, ap, ◌∙◌, ◌||◌, arith}
+use Rattle.std.proofs.Common.{◌≡◌, None, Ok, length, map, nat_lt, refl, sym, ap, ◌∙◌, arith, max}
 use Rattle.std.specs.List.{list_all}
 use Rattle.json.specs.Json.{after_end_array}
 use Rattle.mencius_base.specs.Limits.{most_servers}
 use Rattle.mencius_format.specs.Grammar.{command_within, newest_version}
 use Rattle.mencius_format.specs.Judged.{seen}
-use Rattle.mencius_input.specs.Newest.{any_in, has_command_cas}
+use Rattle.mencius_input.specs.Newest.{command_item_version, list_version}
 use Rattle.mencius_input.specs.Plan.{commands_of}
 use Rattle.mencius_input.specs.FieldValues.{lists_within}
 use Rattle.mencius_input.proofs.Stops.{stops_at, stops_whole}
@@ -13,7 +13,7 @@ use Rattle.mencius_input.proofs.commands.lists_in.Goals as goal
 
 pub items-init : goal.items-init
 items-init c =
-    list_start (commands_of newest_version) lists_within (any_in has_command_cas) _ _ _ refl
+    list_start (commands_of newest_version) lists_within (list_version command_item_version) _ _ _ refl
     (ap (λ lists. Ok (map (λ list. list.items) lists)) c.new-lists.ensures.items)
 
 pub returns-in_err-commands-clause-err : goal.returns-in_err-commands-clause-err
@@ -32,7 +32,7 @@ items-preserved c =
     few_further (list_all command_within) most_servers _ _ l.invariant going.0 _ done.ok.0 _ _ _
     (rw (← going.1) done.shorter)
     (rw (← going.1) done.ok.1)
-    (ap (λ bit. l.has_cas || bit) done.ok.3)
+    (c.max-version.ensures ∙ ap (max l.version) done.ok.3)
     (sym done.ok.2)
     (few_seen (λ list. list.items) most_servers _ _ _ _ _ _ _ c.where_room-commands.ensures
     (ap (λ n. nat_lt n most_servers) many) c.in_ok-note.ensures)
