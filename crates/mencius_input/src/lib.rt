@@ -6,6 +6,7 @@
 mod commands;
 mod events;
 mod explaining;
+mod faulty_items;
 mod field;
 mod fields;
 mod kind;

@@ -1,27 +1,21 @@
 //! Where a scenario has a fault.
 
-ghost use Rattle.std.specs.Prelude.{◌≡◌, ◌&&◌, IfOk, None, Ok, Some, find, is_some, not, option_map, string_bytes, true};
-ghost use Rattle.std.specs.Result.{result_err};
-ghost use Rattle.serde_json.specs.Find.{as_number, as_object, as_str};
+ghost use Rattle.std.specs.Prelude.{◌≡◌, ◌&&◌, IfOk, None, Ok, Some, find, is_some, option_map, true};
+ghost use Rattle.serde_json.specs.Find.{as_number, as_object};
 ghost use Rattle.serde_json.specs.Read.{read};
 ghost use Rattle.serde_json.specs.View.{items_view, view};
 ghost use Rattle.mencius_input.specs.FieldsOf.{fields};
 ghost use Rattle.mencius_input.specs.declared.field.Field.TheVariants.{Servers};
-ghost use Rattle.mencius_format.specs.Grammar.{command_of, command_within, event_of, event_within, may_stand_in, newest_version};
-ghost use Rattle.mencius_format.specs.Judged.{judged};
-ghost use Rattle.mencius_input.specs.Places.{count_place, field_named, field_place, first_in, first_item, first_of, first_place, is_fault, is_great_number, is_lacking, is_limit, is_shape, item_fault, item_version, items_place, lack_place, list_field_place, list_place, names_in, not_whole, number_place, place_in, place_state, version_of};
+ghost use Rattle.mencius_input.specs.Places.{count_place, field_named, field_place, first_in, first_item, first_of, first_place, is_great_number, is_lacking, is_limit, is_shape, items_place, lack_place, list_field_place, list_place, names_in, not_whole, number_place, place_in, place_state, version_of};
 ghost use Rattle.mencius_input.specs.Scenario.{number_of};
-ghost use Rattle.mencius_format.specs.Words.{words};
 
+use crate::faulty_items::{first_item, is_limit, is_shape};
 use crate::field::{Field, list_field, whole_fields};
 use crate::kind::{Kind, tree_of};
 use json::Scratch;
 use mencius_base::NoMemory;
 use mencius_ends::AppFault;
-use mencius_format::{
-    FIRST_VERSION, NEWEST_VERSION, command_version, event_version, may_stand_in, parse_command,
-    parse_event,
-};
+use mencius_format::NEWEST_VERSION;
 use mencius_json::{MOST_DEPTH, Tokens, next_name, pass};
 use serde_json::Value;
 use std::alloc::Global;
@@ -92,147 +86,6 @@ fn version_of(scenario: &Value) -> u64
     ensures { result ≡ version_of (view scenario.now) }
 {
     said_number(scenario, Field::Version).unwrap_or(NEWEST_VERSION)
-}
-
-// The least version that an item needs, by the word of its operation alone.
-fn item_version(kind: Kind, item: &Value) -> u64
-    ensures { result ≡ item_version kind (view item.now) }
-{
-    match (item.as_str(), kind) {
-        (Some(text), Kind::Replay) => event_version(text),
-        (Some(text), Kind::Run) => command_version(text),
-        (None, _) => FIRST_VERSION,
-    }
-}
-
-// Whether an item needs a later version than this.
-fn is_too_new(kind: Kind, version: u64, item: &Value) -> bool
-    ensures { result ≡ not (may_stand_in (item_version kind (view item.now)) version) }
-{
-    !may_stand_in(item_version(kind, item), version)
-}
-
-// The fault of an item.
-fn fault_of_item(
-    alloc: Global,
-    kind: Kind,
-    version: u64,
-    item: &Value,
-) -> Result<Option<AppFault>, NoMemory>
-    ensures { IfOk result (λ o. o ≡ item_fault kind version (view item.now)) }
-{
-    if is_too_new(kind, version, item) {
-        return Ok(Some(AppFault::BadShape));
-    }
-    newest_fault_of_item(alloc, kind, item)
-}
-
-// The fault that an item has in the newest version.
-fn newest_fault_of_item(
-    alloc: Global,
-    kind: Kind,
-    item: &Value,
-) -> Result<Option<AppFault>, NoMemory>
-    ensures { IfOk result (λ o. o ≡ item_fault kind newest_version (view item.now)) }
-{
-    match (item.as_str(), kind) {
-        (Some(text), Kind::Replay) => fault_of_event(alloc, text),
-        (Some(text), Kind::Run) => fault_of_command(alloc, text),
-        (None, _) => Ok(Some(AppFault::BadShape)),
-    }
-}
-
-// The fault of an event in the newest version.
-fn fault_of_event(alloc: Global, text: &str) -> Result<Option<AppFault>, NoMemory>
-    ensures { IfOk result (λ o.
-        o ≡ result_err (judged event_within (event_of newest_version (words text.now)))) }
-{
-    match parse_event(alloc, text) {
-        Ok(_) => Ok(None),
-        Err(AppFault::NoMemory) => Err(NoMemory),
-        Err(fault) => Ok(Some(fault)),
-    }
-}
-
-// The fault of a command in the newest version.
-fn fault_of_command(alloc: Global, text: &str) -> Result<Option<AppFault>, NoMemory>
-    ensures { IfOk result (λ o.
-        o ≡ result_err (judged command_within (command_of newest_version (words text.now)))) }
-{
-    match parse_command(alloc, text) {
-        Ok(_) => Ok(None),
-        Err(AppFault::NoMemory) => Err(NoMemory),
-        Err(fault) => Ok(Some(fault)),
-    }
-}
-
-// Whether the fault is a bad shape.
-fn is_shape(fault: AppFault) -> bool
-    ensures { result ≡ is_shape fault }
-{
-    matches!(fault, AppFault::BadShape)
-}
-
-// Whether the fault is a limit that is passed.
-fn is_limit(fault: AppFault) -> bool
-    ensures { result ≡ is_limit fault }
-{
-    matches!(fault, AppFault::BadLimit)
-}
-
-// Whether what was found is the fault.
-fn is_fault(fault: AppFault, found: Option<AppFault>) -> bool
-    ensures { result ≡ is_fault fault found }
-{
-    match found {
-        Some(AppFault::BadShape) => is_shape(fault),
-        Some(AppFault::BadLimit) => is_limit(fault),
-        _ => false,
-    }
-}
-
-// Whether an item has the fault.
-fn has_fault(
-    alloc: Global,
-    kind: Kind,
-    version: u64,
-    item: &Value,
-    fault: AppFault,
-) -> Result<bool, NoMemory>
-    ensures { IfOk result (λ x. x ≡ is_fault fault (item_fault kind version (view item.now))) }
-{
-    let found = fault_of_item(alloc, kind, version, item)?;
-    Ok(is_fault(fault, found))
-}
-
-// The text that an item is, if it is one.
-fn text_of_item(alloc: Global, item: &Value) -> Result<Option<String>, NoMemory>
-    ensures { IfOk result (λ o. option_map string_bytes o ≡ as_str (view item.now)) }
-{
-    match item.as_str() {
-        Some(text) => Ok(Some(String::from_str(alloc, text)?)),
-        None => Ok(None),
-    }
-}
-
-// The first of the items that has the fault.
-fn first_item(
-    alloc: Global,
-    kind: Kind,
-    version: u64,
-    items: &[Value],
-    fault: AppFault,
-) -> Result<Option<(usize, Option<String>)>, NoMemory>
-    ensures { IfOk result (λ o. option_map (λ x. (x.0, option_map string_bytes x.1)) o
-        ≡ first_item kind fault version (items_view items.now)) }
-{
-    for (index, item) in items.iter().enumerate() {
-        if has_fault(alloc, kind, version, item, fault)? {
-            let text = text_of_item(alloc, item)?;
-            return Ok(Some((index, text)));
-        }
-    }
-    Ok(None)
 }
 
 // The place in an item of the commands.

@@ -4,7 +4,7 @@ use Rattle.mencius_ends.specs.declared.fault.AppFault.TheVariants.{BadShape}
 use Rattle.mencius_format.specs.Grammar.{newest_version}
 use Rattle.mencius_input.specs.Places.{item_fault}
 use Rattle.mencius_input.proofs.mistakes.FaultPlaces.{item_fault_in}
-use Rattle.mencius_input.proofs.places.fault_of_item.Goals as goal
+use Rattle.mencius_input.proofs.faulty_items.fault_of_item.Goals as goal
 
 pub returns-then-is_too_new : goal.returns-then-is_too_new
 returns-then-is_too_new c =

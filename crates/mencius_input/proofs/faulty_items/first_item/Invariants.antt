@@ -1,7 +1,7 @@
 use Rattle.std.proofs.Common.{◌≡◌, drop}
 use Rattle.serde_json.specs.View.{items_view}
 use Rattle.mencius_input.specs.Places.{fault_at, first_item, first_of}
-use Rattle.mencius_input.proofs.places.first_item.Given as goal
+use Rattle.mencius_input.proofs.faulty_items.first_item.Given as goal
 
 abbrev pub invariant-loop-index : goal.invariant-loop-index
 invariant-loop-index l =

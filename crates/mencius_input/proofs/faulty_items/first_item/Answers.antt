@@ -3,7 +3,7 @@ use Rattle.serde_json.specs.Find.{as_str}
 use Rattle.serde_json.specs.View.{view}
 use Rattle.mencius_input.specs.Places.{fault_at}
 use Rattle.mencius_input.proofs.mistakes.FaultPlaces.{first_found, first_none, first_passed}
-use Rattle.mencius_input.proofs.places.first_item.Goals as goal
+use Rattle.mencius_input.proofs.faulty_items.first_item.Goals as goal
 
 pub returns-then-branch : goal.returns-then-branch
 returns-then-branch c =
