@@ -54,7 +54,7 @@ impl Server {
         ensures id { self.new.id ≡ self.old.id }
         ensures limit { out.new.limit ≡ out.old.limit }
     {
-        // The proof reads off the length that the outbox is within its limit.
+        // For the proof: the outbox is within its limit.
         let _few = out.len();
         match *message {
             Message::Suggest { from, inst, ticket } => self.hear_suggest(from, inst, ticket, out),
@@ -152,7 +152,7 @@ impl Server {
         ensures refusal { IsRefusedFor
             (outbox_full out.old (length (prepare_sent self.old from inst ballot))) result }
     {
-        // The proof reads off the length that the outbox is within its limit.
+        // For the proof: the outbox is within its limit.
         let _few = out.len();
         match self.instances.prepare_answer(inst, ballot) {
             Answer::Promise(vote) => {
@@ -199,7 +199,7 @@ impl Server {
         ensures refusal { IsRefusedFor
             (outbox_full out.old (length (promise_sent self.old from inst ballot vote))) result }
     {
-        // The proof reads off the length that the outbox is within its limit.
+        // For the proof: the outbox is within its limit.
         let _few = out.len();
         if ballot != self.instances.trying(inst) {
             return Ok(0);
@@ -238,7 +238,7 @@ impl Server {
         ensures refusal { IsRefusedFor
             (outbox_full out.old (length (propose_sent self.old from inst ballot))) result }
     {
-        // The proof reads off the length that the outbox is within its limit.
+        // For the proof: the outbox is within its limit.
         let _few = out.len();
         if ballot < self.instances.promised(inst) {
             return Ok(0);
@@ -286,7 +286,7 @@ impl Server {
         ensures refusal { IsRefusedFor
             (outbox_full out.old (length (accepted_sent self.old from inst ballot))) result }
     {
-        // The proof reads off the length that the outbox is within its limit.
+        // For the proof: the outbox is within its limit.
         let _few = out.len();
         if ballot != self.instances.trying(inst) {
             return Ok(0);
@@ -323,7 +323,7 @@ impl Server {
         ensures limit { out.new.limit ≡ out.old.limit }
     {
         let first = self.front;
-        // The proof reads off the count that there are few members.
+        // For the proof: there are few members.
         let _few = self.members.count();
         let stop = self.members.first_owned(self.id, inst + 1);
         self.advance(stop);

@@ -40,6 +40,7 @@ mod owned_interval;
 mod revocation;
 mod skipped_intervals;
 mod slots;
+mod stored_instances;
 mod suggestion;
 mod tally;
 
@@ -79,7 +80,7 @@ impl Server {
         ensures ok { IfOk result (λ s. s ≡ server_at members [] id) }
         ensures memory { IfErr result (λ r. r ≡ refusal.NoMemory) }
     {
-        // The proof reads off the count that there are few members.
+        // For the proof: there are few members.
         let _few = members.count();
         let instances = Instances::new(alloc, members)?;
         Ok(Server {
@@ -103,7 +104,7 @@ impl Server {
         ensures id { result ≡ self.now.id }
         ensures member { result < self.now.members.count }
     {
-        // The proof reads the number's bound off the members.
+        // For the proof: the number is below that of the members.
         let _members = &self.members;
         self.id
     }

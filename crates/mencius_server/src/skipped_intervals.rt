@@ -6,7 +6,7 @@ ghost use Rattle.mencius_server.specs.Intervals.{IsRising, is_in_any, reach_of, 
 ghost use Rattle.mencius_server.specs.declared.skipped_intervals.Interval.{Interval};
 ghost use Rattle.std.specs.Prelude.{◌≡◌, ℕ, ◌+◌, ◌<◌, ◌≤◌, [], true, false, length, slice_index_or, vec_capacity, vec_len, IfOk, OnErr, OnOk};
 
-use mencius_base::NoMemory;
+use mencius_base::{Members, NoMemory};
 use std::alloc::Global;
 use std::marker::Model;
 
@@ -43,6 +43,22 @@ impl SkippedIntervals {
         SkippedIntervals {
             intervals: Vec::new(alloc),
         }
+    }
+
+    /// For each server, no interval.
+    pub(crate) fn none_of_each(
+        alloc: Global,
+        members: Members,
+    ) -> Result<Vec<SkippedIntervals>, NoMemory>
+        ensures none { IfOk result (λ x. (q : ℕ) → slice_index_or x.items q [] ≡ []) }
+        ensures count { IfOk result (λ x. length x.items ≡ members.count) }
+    {
+        let count = members.count() as usize;
+        let mut skipped = Vec::new(alloc);
+        while skipped.len() < count {
+            skipped.push(SkippedIntervals::new(alloc))?;
+        }
+        Ok(skipped)
     }
 
     /// How many intervals there are.

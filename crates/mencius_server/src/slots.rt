@@ -3,20 +3,20 @@ ghost use Rattle.mencius_base.specs.Limits.{greatest_round, instance_count};
 ghost use Rattle.coord_paxos.specs.Fresh.{new_slot};
 ghost use Rattle.coord_paxos.specs.Slot.{after_learn};
 ghost use Rattle.coord_paxos.specs.SlotState.{SlotState};
-ghost use Rattle.mencius_base.specs.Members.{below, instances};
+ghost use Rattle.mencius_base.specs.Members.{below, first_owned, instances, owner};
 ghost use Rattle.mencius_base.specs.declared.message.Value.TheVariants.{Noop};
-ghost use Rattle.mencius_server.specs.Instances.{slot_by_skip};
+ghost use Rattle.mencius_server.specs.Instances.{is_newly_skipped_in, slot_by_skip};
 ghost use Rattle.mencius_server.specs.Lending.{LendsSlot};
 ghost use Rattle.mencius_server.specs.Machine.{is_spent, round_after};
 ghost use Rattle.mencius_server.specs.SlotTable.{IsSlotTable, stored_slots};
-ghost use Rattle.mencius_server.specs.Intervals.{is_in_any};
+ghost use Rattle.mencius_server.specs.Intervals.{IsOwned, IsRising, is_between, is_in_any};
 ghost use Rattle.mencius_server.specs.LearnedIntervals.{AreLearnedIntervals};
 ghost use Rattle.mencius_server.specs.Slots.{PassesLearnedIntervals, is_covered_slot, is_lacking, is_learned, is_learned_before, is_unlearned, new_slot_at, prepare_at, prepare_of, slot_after_phase, slot_after_skip_in, stored_after_phase, stored_at};
 ghost use Rattle.mencius_server.specs.OwnedIntervals.{IsOwnedInterval};
 ghost use Rattle.std.specs.Borrow.{sem};
 ghost use Rattle.std.specs.List.{count_by, filter};
 ghost use Rattle.std.specs.Option.{option_map};
-ghost use Rattle.std.specs.Prelude.{◌≡◌, ℕ, ◌+◌, ◌<◌, ◌≤◌, ◌==◌, ◌++◌, ◌&&◌, not, false, true, is_none, is_some, length, map, slice_index_or, vec_capacity, vec_len, IfNone, IfSome, IsSome, None, OnErr, OnOk, Some, if◌then◌else◌};
+ghost use Rattle.std.specs.Prelude.{◌≡◌, ℕ, ◌+◌, ◌<◌, ◌≤◌, ◌==◌, ◌++◌, ◌&&◌, ◌||◌, not, false, true, is_none, is_some, length, map, slice_index_or, vec_capacity, vec_len, IfNone, IfOk, IfSome, IsSome, None, OnErr, OnOk, Some, if◌then◌else◌};
 
 use crate::learned_intervals::LearnedIntervals;
 use crate::owned_interval::{OwnedInterval, next_owned};
@@ -251,12 +251,48 @@ impl Slots {
         }
     }
 
-    /// At how many slots of an interval a value was learned and no skipped interval has the instance.
-    pub(crate) fn count_learned_before(
-        &self,
-        interval: OwnedInterval,
-        skipped: &SkippedIntervals,
-    ) -> u32
+    /// Learns no-op at an interval of a server's instances, and counts those that were not learned.
+    pub(crate) fn skip(
+        &mut self,
+        intervals: &mut SkippedIntervals,
+        interval: &OwnedInterval,
+    ) -> Result<u32, NoMemory>
+        requires interval { IsOwnedInterval interval.now }
+        requires some { interval.now.first < interval.now.stop }
+        requires owned { IsOwned interval.now.members interval.now.server
+            (first_owned interval.now.members interval.now.server instance_count) intervals.old }
+        requires rising { IsRising 0 intervals.old }
+        requires end { owner interval.now.members interval.now.stop ≡ interval.now.server }
+        requires low { interval.now.stop
+            ≤ first_owned interval.now.members interval.now.server instance_count }
+        requires learned_where_skipped { (j : ℕ) (s : SlotState) → j < instance_count
+            → owner interval.now.members j ≡ interval.now.server → is_in_any intervals.old j ≡ true
+            → stored_at self.old j ≡ Some s → is_none s.learned ≡ false }
+        ensures rising { IsRising 0 intervals.new }
+        ensures owned { IsOwned interval.now.members interval.now.server
+            (first_owned interval.now.members interval.now.server instance_count) intervals.new }
+        ensures covers { OnOk result ((j : ℕ) → j < instance_count
+            → owner interval.now.members j ≡ interval.now.server
+            → is_in_any intervals.new j
+            ≡ (is_in_any intervals.old j || is_between interval.now.first interval.now.stop j)) }
+        ensures slots { OnOk result ((j : ℕ) → j < instance_count
+            → stored_at self.new j ≡ option_map (slot_after_skip_in interval.now j) (stored_at self.old j)) }
+        ensures learned { IfOk result (λ n. n
+            ≡ count_by (is_newly_skipped_in interval.now intervals.old self.old) instances) }
+        ensures same { OnErr result (intervals.new ≡ intervals.old) }
+        ensures kept { OnErr result (self.new ≡ self.old) }
+    {
+        let first = interval.first;
+        let stop = interval.stop;
+        let members = interval.members;
+        let learned_before = self.count_learned_before(*interval, intervals);
+        let further = intervals.add(first, stop)?;
+        self.learn_noops(*interval);
+        Ok(further / u32::from(members.count()) - learned_before)
+    }
+
+    // At how many slots of an interval a value was learned and no skipped interval has the instance.
+    fn count_learned_before(&self, interval: OwnedInterval, skipped: &SkippedIntervals) -> u32
         requires interval { IsOwnedInterval interval }
         ensures { result ≡ count_by (is_learned_before interval skipped.now self.now) instances }
     {
@@ -282,8 +318,8 @@ impl Slots {
         }
     }
 
-    /// Learns no-op at each slot of an interval.
-    pub(crate) fn learn_noops(&mut self, interval: OwnedInterval)
+    // Learns no-op at each slot of an interval.
+    fn learn_noops(&mut self, interval: OwnedInterval)
         requires interval { IsOwnedInterval interval }
         ensures { (j : ℕ) → j < instance_count
             → stored_at self.new j ≡ option_map (slot_after_skip_in interval j) (stored_at self.old j) }

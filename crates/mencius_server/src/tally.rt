@@ -13,8 +13,8 @@ ghost use Rattle.std.specs.Prelude.{◌≡◌, ℕ, ◌+◌, ◌<◌, ◌≤◌,
 use crate::change::Change;
 use crate::owned_interval::{OwnedInterval, next_owned};
 use crate::revocation::round_after;
-use crate::skipped_intervals::SkippedIntervals;
 use crate::slots::Slots;
+use crate::stored_instances::StoredInstances;
 use coord_paxos::Slot;
 use mencius_base::{GREATEST_ROUND, MOST_SERVERS, Members, Outbox, Refusal};
 use std::marker::Model;
@@ -218,38 +218,81 @@ impl Tallies {
     }
 }
 
-// Counts a server's instances between two places.
-//
-// It jumps over the skipped intervals, and goes from one instance to the next where there is none.
-pub(crate) fn tally_from(
-    slots: &Slots,
-    skipped: &Vec<SkippedIntervals>,
-    members: Members,
-    server: u8,
-    first: u32,
-    stop: u32,
-) -> Tally
-    requires sorted { IsSorted members skipped.now.items }
-    requires learned_where_skipped { LearnedWhereSkipped members slots.now skipped.now.items }
-    requires member { server < members.count }
-    requires ahead { first ≤ stop }
-    requires small { stop ≤ instance_count }
-    ensures counted { IsTallyFrom members (instance_slot_in members slots.now skipped.now.items)
-        server first result }
-    ensures stop { result.stop ≡ stop }
-{
-    let intervals = &skipped[server as usize];
-    let mut tally = Tally {
-        stop: first,
-        open_count: 0,
-        spent_count: 0,
-    };
-    while tally.stop < stop {
-        let past = intervals.past(tally.stop).min(stop);
-        let end = intervals.clear_to(past, stop);
-        tally = tally.plus(tally_slots(slots, members, server, past, end));
+impl StoredInstances {
+    /// Counts a server's instances between two places.
+    ///
+    /// It jumps over the skipped intervals, and goes from one instance to the next where there is none.
+    pub(crate) fn tally_from(&self, server: u8, first: u32, stop: u32) -> Tally
+        requires sorted { IsSorted self.now.members self.now.skipped.items }
+        requires learned_where_skipped { LearnedWhereSkipped self.now.members self.now.slots self.now.skipped.items }
+        requires member { server < self.now.members.count }
+        requires ahead { first ≤ stop }
+        requires small { stop ≤ instance_count }
+        ensures counted { IsTallyFrom self.now.members
+            (instance_slot_in self.now.members self.now.slots self.now.skipped.items) server first result }
+        ensures stop { result.stop ≡ stop }
+    {
+        let intervals = &self.skipped[server as usize];
+        let mut tally = Tally {
+            stop: first,
+            open_count: 0,
+            spent_count: 0,
+        };
+        while tally.stop < stop {
+            let past = intervals.past(tally.stop).min(stop);
+            let end = intervals.clear_to(past, stop);
+            tally = tally.plus(tally_slots(&self.slots, self.members, server, past, end));
+        }
+        tally
     }
-    tally
+
+    /// What was counted of a server's instances, once no-op is learned at those of an interval.
+    ///
+    /// It counts only those of them that were counted.
+    pub(crate) fn tally_after_skip(&self, interval: &OwnedInterval, tally: Tally) -> Tally
+        requires members { interval.now.members ≡ self.now.members }
+        requires sorted { IsSorted self.now.members self.now.skipped.items }
+        requires learned_where_skipped { LearnedWhereSkipped self.now.members self.now.slots self.now.skipped.items }
+        requires member { interval.now.server < self.now.members.count }
+        requires counted { IsTally interval.now.members
+            (instance_slot_in interval.now.members self.now.slots self.now.skipped.items) interval.now.server tally }
+        ensures { IsTally interval.now.members
+            (λ j. slot_after_skip_in interval.now j
+            (instance_slot_in interval.now.members self.now.slots self.now.skipped.items j))
+            interval.now.server result }
+    {
+        let first = interval.first;
+        let stop = interval.stop.min(tally.stop);
+        if first >= stop {
+            return tally;
+        }
+        let newly_skipped = self.tally_from(interval.server, first, stop);
+        tally.without(newly_skipped)
+    }
+
+    /// Counts a server's instances anew, if many may have changed.
+    pub(crate) fn retally_changed(&self, server: u8, is_changed: bool, tallies: &mut Tallies)
+        requires sorted { IsSorted self.now.members self.now.skipped.items }
+        requires learned_where_skipped { LearnedWhereSkipped self.now.members self.now.slots self.now.skipped.items }
+        requires member { server < self.now.members.count }
+        requires small { (tally_of tallies.old server).stop ≤ instance_count }
+        requires quiet { is_changed ≡ false
+            → IsTally self.now.members
+            (instance_slot_in self.now.members self.now.slots self.now.skipped.items) server
+            (tally_of tallies.old server) }
+        ensures here { IsTally self.now.members
+            (instance_slot_in self.now.members self.now.slots self.now.skipped.items) server
+            (tally_of tallies.new server) }
+        ensures rest { (q : ℕ) → (q ≡ server → ⊥) → tally_of tallies.new q ≡ tally_of tallies.old q }
+    {
+        if is_changed {
+            // For the proof: there are few members.
+            let _few = self.members.count();
+            let stop = tallies.get(server).stop;
+            let tally = self.tally_from(server, 0, stop);
+            tallies.put(server, tally);
+        }
+    }
 }
 
 // Counts a server's instances between two places where no skipped interval has any.
@@ -283,68 +326,5 @@ fn tally_slot(slots: &Slots, members: Members, inst: u32, tally: Tally) -> Tally
     match slots.get(inst) {
         Some(slot) => tally.with_slot(members, slot),
         None => tally.with_bare(),
-    }
-}
-
-// What was counted of a server's instances, once no-op is learned at those of an interval.
-//
-// It counts only those of them that were counted.
-pub(crate) fn tally_after_skip(
-    slots: &Slots,
-    skipped: &Vec<SkippedIntervals>,
-    interval: &OwnedInterval,
-    tally: Tally,
-) -> Tally
-    requires sorted { IsSorted interval.now.members skipped.now.items }
-    requires learned_where_skipped { LearnedWhereSkipped interval.now.members slots.now skipped.now.items }
-    requires member { interval.now.server < interval.now.members.count }
-    requires counted { IsTally interval.now.members
-        (instance_slot_in interval.now.members slots.now skipped.now.items) interval.now.server tally }
-    ensures { IsTally interval.now.members
-        (λ j. slot_after_skip_in interval.now j (instance_slot_in interval.now.members slots.now skipped.now.items j))
-        interval.now.server result }
-{
-    let first = interval.first;
-    let stop = interval.stop.min(tally.stop);
-    if first >= stop {
-        return tally;
-    }
-    let newly_skipped = tally_from(
-        slots,
-        skipped,
-        interval.members,
-        interval.server,
-        first,
-        stop,
-    );
-    tally.without(newly_skipped)
-}
-
-// Counts a server's instances anew, if many may have changed.
-pub(crate) fn retally_changed(
-    slots: &Slots,
-    skipped: &Vec<SkippedIntervals>,
-    members: Members,
-    server: u8,
-    is_changed: bool,
-    tallies: &mut Tallies,
-)
-    requires sorted { IsSorted members skipped.now.items }
-    requires learned_where_skipped { LearnedWhereSkipped members slots.now skipped.now.items }
-    requires member { server < members.count }
-    requires small { (tally_of tallies.old server).stop ≤ instance_count }
-    requires quiet { is_changed ≡ false
-        → IsTally members (instance_slot_in members slots.now skipped.now.items) server
-        (tally_of tallies.old server) }
-    ensures here { IsTally members (instance_slot_in members slots.now skipped.now.items) server
-        (tally_of tallies.new server) }
-    ensures rest { (q : ℕ) → (q ≡ server → ⊥) → tally_of tallies.new q ≡ tally_of tallies.old q }
-{
-    if is_changed {
-        // The proof reads off the count that there are few members.
-        let _few = members.count();
-        let stop = tallies.get(server).stop;
-        let tally = tally_from(slots, skipped, members, server, 0, stop);
-        tallies.put(server, tally);
     }
 }

@@ -55,9 +55,9 @@ retally_changed-requires-clause-small c = (c.self.invariant.counted c.args.inter
 
 pub retally_changed-requires-clause-quiet : goal.retally_changed-requires-clause-quiet
 retally_changed-requires-clause-quiet c = λ none.
-    tally_alike c.self.inside.members
-    (instance_slot_in c.self.inside.members c.self.inside.slots c.self.inside.skipped.items)
-    (instance_slot_in c.self.inside.members c.begin_all-is_last.new.self c.self.inside.skipped.items)
+    tally_alike c.self.inside.stored.members
+    (instance_slot_in c.self.inside.stored.members c.self.inside.stored.slots c.self.inside.stored.skipped.items)
+    (instance_slot_in c.self.inside.stored.members c.begin_all-is_last.new.self c.self.inside.stored.skipped.items)
     c.args.interval.now.server
     (tally_of c.self.inside.tallies c.args.interval.now.server)
     (λ j small own. phase_alike _ _ _ _ _ c.self.view_is c.self.invariant.sound c.args.interval.now

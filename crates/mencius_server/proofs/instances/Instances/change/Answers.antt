@@ -21,7 +21,8 @@ at-slot-requires-clause-there c =
 pub change-requires-clause-said : goal.change-requires-clause-said
 change-requires-clause-said c =
     subst (λ (s : SlotState). IsSaid s.members c.args.change)
-    (stored_slot c.self.inside.members c.self.inside.slots c.self.inside.skipped.items c.args.self.now
+    (stored_slot c.self.inside.stored.members c.self.inside.stored.slots c.self.inside.stored.skipped.items
+    c.args.self.now
     c.store.new.self c.args.inst c.at-slot.result.now c.self.view_is c.in_ok-store.ensures.ok c.requires.small
     c.at-slot.ensures.value) c.requires.said
 
@@ -44,12 +45,13 @@ shows m slots rs i old stored s x ch there shown ok is made =
 
 pub change-requires-clause-counted : goal.change-requires-clause-counted
 change-requires-clause-counted c = λ less.
-    let m = c.self.inside.members in
+    let m = c.self.inside.stored.members in
     let tally = tally_of c.self.inside.tallies (owner m c.args.inst) in
     subst (λ (s : SlotState). HasCounted m tally s)
-    (instance_there m c.self.inside.slots c.self.inside.skipped.items c.args.inst c.at-slot.result.now
+    (instance_there m c.self.inside.stored.slots c.self.inside.stored.skipped.items c.args.inst c.at-slot.result.now
     c.at-slot.ensures.value)
-    (has_counted m (instance_slot_in m c.self.inside.slots c.self.inside.skipped.items) (owner m c.args.inst)
+    (has_counted m (instance_slot_in m c.self.inside.stored.slots c.self.inside.stored.skipped.items) (owner m
+    c.args.inst)
     c.args.inst
     tally refl
     (c.self.invariant.counted (owner m c.args.inst)) less)
@@ -70,12 +72,13 @@ kept m slots rs low next i tallies more ends s x there stays moves sound h =
 
 pub invariant_of-self : goal.invariant_of-self
 invariant_of-self c =
-    kept c.self.inside.members c.self.inside.slots c.self.inside.skipped.items c.self.inside.learned_below _ c.args.inst
+    kept c.self.inside.stored.members c.self.inside.stored.slots c.self.inside.stored.skipped.items
+    c.self.inside.learned_below _ c.args.inst
     c.self.inside.tallies c.change.new.self c.self.inside.learned_intervals c.at-slot.result.now c.change.new.slot
     c.at-slot.ensures.value
     (stays c.at-slot.result.now c.change.new.slot c.args.change c.change.ensures.slot) c.change.ensures.counted
-    (written_sound_from c.self.inside.members c.self.inside.slots
-    (set c.self.inside.slots c.args.inst (Some c.change.new.slot)) c.self.inside.skipped.items c.args.inst
+    (written_sound_from c.self.inside.stored.members c.self.inside.stored.slots
+    (set c.self.inside.stored.slots c.args.inst (Some c.change.new.slot)) c.self.inside.stored.skipped.items c.args.inst
     c.at-slot.result.now c.change.new.slot c.at-slot.ensures.value refl
     c.self.inside.learned_below c.learned_from-self-inside.result c.requires.small
     (stays c.at-slot.result.now c.change.new.slot c.args.change c.change.ensures.slot)
@@ -85,12 +88,13 @@ invariant_of-self c =
 
 pub invariant_of-self-else-inst-self : goal.invariant_of-self-else-inst-self
 invariant_of-self-else-inst-self c =
-    kept c.self.inside.members c.self.inside.slots c.self.inside.skipped.items c.self.inside.learned_below _ c.args.inst
+    kept c.self.inside.stored.members c.self.inside.stored.slots c.self.inside.stored.skipped.items
+    c.self.inside.learned_below _ c.args.inst
     c.self.inside.tallies c.change.new.self c.self.inside.learned_intervals c.at-slot.result.now c.change.new.slot
     c.at-slot.ensures.value
     (stays c.at-slot.result.now c.change.new.slot c.args.change c.change.ensures.slot) c.change.ensures.counted
-    (written_sound c.self.inside.members c.self.inside.slots
-    (set c.self.inside.slots c.args.inst (Some c.change.new.slot)) c.self.inside.skipped.items c.args.inst
+    (written_sound c.self.inside.stored.members c.self.inside.stored.slots
+    (set c.self.inside.stored.slots c.args.inst (Some c.change.new.slot)) c.self.inside.stored.skipped.items c.args.inst
     c.at-slot.result.now c.change.new.slot c.at-slot.ensures.value refl
     c.self.inside.learned_below c.requires.small (stays c.at-slot.result.now c.change.new.slot c.args.change
     c.change.ensures.slot)
@@ -99,13 +103,15 @@ invariant_of-self-else-inst-self c =
 pub returns-then-inst-self-clause-ok : goal.returns-then-inst-self-clause-ok
 returns-then-inst-self-clause-ok c =
     shows _ _ _ _ _ _ _ _ _ c.at-slot.ensures.value c.self.view_is c.in_ok-store.ensures.ok
-    (stored_slot c.self.inside.members c.self.inside.slots c.self.inside.skipped.items c.args.self.now
+    (stored_slot c.self.inside.stored.members c.self.inside.stored.slots c.self.inside.stored.skipped.items
+    c.args.self.now
     c.store.new.self c.args.inst c.at-slot.result.now c.self.view_is c.in_ok-store.ensures.ok c.requires.small
     c.at-slot.ensures.value) c.change.ensures.slot
 
 pub returns-else-inst-self-clause-ok : goal.returns-else-inst-self-clause-ok
 returns-else-inst-self-clause-ok c =
     shows _ _ _ _ _ _ _ _ _ c.at-slot.ensures.value c.self.view_is c.in_ok-store.ensures.ok
-    (stored_slot c.self.inside.members c.self.inside.slots c.self.inside.skipped.items c.args.self.now
+    (stored_slot c.self.inside.stored.members c.self.inside.stored.slots c.self.inside.stored.skipped.items
+    c.args.self.now
     c.store.new.self c.args.inst c.at-slot.result.now c.self.view_is c.in_ok-store.ensures.ok c.requires.small
     c.at-slot.ensures.value) c.change.ensures.slot

@@ -6,9 +6,14 @@ use Rattle.mencius_server.proofs.instances.Instances.open_interval.Goals as goal
 
 pub returns : goal.returns
 returns c =
-    let m = c.self.inside.members in
+    let m = c.self.inside.stored.members in
     let members = ap (λ (s : InstancesState). s.members) c.self.view_is in
-    let member : c.args.suspected < m.count = omega (arith, c.requires, ap (λ (s : InstancesState). s.members.count) c.self.view_is) in
+    let member : c.args.suspected < m.count = omega (
+      arith,
+      c.requires,
+      ap (λ (s : InstancesState).
+          s.members.count) c.self.view_is,
+    ) in
     record {
       interval = record {
         member = member;

@@ -13,14 +13,15 @@ open_from-first-requires-clause-learned_intervals c = c.self.invariant.learned_i
 
 pub invariant_of-self : goal.invariant_of-self
 invariant_of-self c =
-    intervals_kept c.self.inside.members c.self.inside.slots c.self.inside.skipped.items c.self.inside.learned_below
+    intervals_kept c.self.inside.stored.members c.self.inside.stored.slots c.self.inside.stored.skipped.items
+    c.self.inside.learned_below
     c.self.inside.tallies c.self.inside.learned_intervals _ c.open_from-first.ensures.learned_intervals c.self.invariant
 
 pub returns-clause-reach : goal.returns-clause-reach
 returns-clause-reach c =
-    let m = c.self.inside.members in
-    let slots = c.self.inside.slots in
-    let rs = c.self.inside.skipped.items in
+    let m = c.self.inside.stored.members in
+    let slots = c.self.inside.stored.slots in
+    let rs = c.self.inside.stored.skipped.items in
     let first = c.open_from-first.result in
     let own : owner m c.from-from.result ≡ c.args.suspected =
     rw c.from-from.ensures (first_own m c.args.suspected
@@ -28,7 +29,8 @@ returns-clause-reach c =
     let below : (j : ℕ) → j < first → owner m j ≡ c.args.suspected → j < instance_count
     → is_none (instance_slot_in m slots rs j).learned ≡ false =
     λ j less mine small.
-    c.open_from-first.ensures.learned j (omega (arith, first_least m c.args.suspected j mine, c.from-from.ensures)) less (mine ∙ sym own)
+    c.open_from-first.ensures.learned j (omega (arith, first_least m c.args.suspected j mine, c.from-from.ensures))
+    less (mine ∙ sym own)
     small in
     elim c.if-first-near.branch [
       | then-first-near w ↦ w.result-is ∙ ap (λ n. c.args.front + 2 * n + 1) c.beta-beta.ensures.beta

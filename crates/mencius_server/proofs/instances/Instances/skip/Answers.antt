@@ -17,12 +17,12 @@ use Rattle.mencius_server.proofs.intervals.NewIntervals.{old_news}
 use Rattle.mencius_base.specs.Limits.{instance_count}
 use Rattle.mencius_server.proofs.instances.Instances.skip.Goals as goal
 
-pub skip_interval-requires-clause-low : goal.skip_interval-requires-clause-low
-skip_interval-requires-clause-low c =
-    let member : c.args.from < c.self.inside.members.count =
+pub skip-requires-clause-low : goal.skip-requires-clause-low
+skip-requires-clause-low c =
+    let member : c.args.from < c.self.inside.stored.members.count =
     omega (arith, c.requires.member, ap (λ (s : InstancesState). s.members.count) c.self.view_is) in
-    c.first_owned-stop.ensures.least (first_owned c.self.inside.members c.args.from instance_count)
-    (omega (arith, c.min.ensures)) (first_owned_owner c.self.inside.members c.args.from instance_count member)
+    c.first_owned-stop.ensures.least (first_owned c.self.inside.stored.members c.args.from instance_count)
+    (omega (arith, c.min.ensures)) (first_owned_owner c.self.inside.stored.members c.args.from instance_count member)
 
 -- the interval that is skipped
 abbrev skipped : Membership → ℕ → ℕ → ℕ → OwnedInterval
@@ -56,43 +56,43 @@ aligned m q first stop x y n is above least above_stop least_stop = record {
 
 pub invariant_of-self-2 : goal.invariant_of-self-2
 invariant_of-self-2 c =
-    let m = c.self.inside.members in
-    let rs = c.self.inside.skipped.items in
-    let member = has_intervals m c.self.inside.slots rs c.args.self.now c.args.from c.self.view_is
+    let m = c.self.inside.stored.members in
+    let rs = c.self.inside.stored.skipped.items in
+    let member = has_intervals m c.self.inside.stored.slots rs c.args.self.now c.args.from c.self.view_is
     c.self.invariant.sound.sorted c.requires.member in
     let same_intervals : c.index_mut-intervals.result.now ≡ get_or rs c.args.from [] =
     c.index_mut-intervals.ensures.value ∙ get_or_default rs c.args.from _ [] member in
     let covered = then_covered m c.args.from _ _ _ _ rs same_intervals c.in_ok-learned.ensures.covers in
     let interval = skipped m c.args.from c.first_owned-first.result c.first_owned-stop.result in
-    counts_put m c.self.inside.slots c.skip_interval.new.slots rs (set rs c.args.from c.skip_interval.new.intervals)
+    counts_put m c.self.inside.stored.slots c.skip.new.self rs (set rs c.args.from c.skip.new.intervals)
     c.self.inside.learned_below c.learned_from-self-inside.result c.self.inside.tallies c.put.new.self
     c.self.inside.learned_intervals c.args.from
-    (skip_sound m interval refl c.self.inside.slots c.skip_interval.new.slots rs member c.skip_interval.new.intervals
+    (skip_sound m interval refl c.self.inside.stored.slots c.skip.new.self rs member c.skip.new.intervals
     covered
     c.in_ok-learned.ensures.slots
     c.self.inside.learned_below c.learned_from-self-inside.result
-    (skip_sorted m interval refl c.self.inside.slots c.skip_interval.new.slots rs member c.skip_interval.new.intervals
+    (skip_sorted m interval refl c.self.inside.stored.slots c.skip.new.self rs member c.skip.new.intervals
     covered
     c.in_ok-learned.ensures.slots
-    c.skip_interval.ensures.rising c.skip_interval.ensures.owned c.self.invariant.sound.sorted)
+    c.skip.ensures.rising c.skip.ensures.owned c.self.invariant.sound.sorted)
     c.learned_from-self-inside.ensures.small c.learned_from-self-inside.ensures.learned
     c.learned_from-self-inside.ensures.least c.self.invariant.sound)
-    (λ j small other. alike_same m _ _ (sym (skip_theirs m interval refl c.self.inside.slots
-    c.skip_interval.new.slots rs member c.skip_interval.new.intervals covered c.in_ok-learned.ensures.slots j small
+    (λ j small other. alike_same m _ _ (sym (skip_theirs m interval refl c.self.inside.stored.slots
+    c.skip.new.self rs member c.skip.new.intervals covered c.in_ok-learned.ensures.slots j small
     other)))
-    (skip_stays m interval refl c.self.inside.slots c.skip_interval.new.slots rs member c.skip_interval.new.intervals
+    (skip_stays m interval refl c.self.inside.stored.slots c.skip.new.self rs member c.skip.new.intervals
     covered
     c.in_ok-learned.ensures.slots)
-    (subst (IsTally m (instance_slot_in m c.skip_interval.new.slots (set rs c.args.from c.skip_interval.new.intervals))
+    (subst (IsTally m (instance_slot_in m c.skip.new.self (set rs c.args.from c.skip.new.intervals))
     c.args.from)
     (sym (c.put.ensures c.args.from
     ∙ ap (λ bit. cond bit c.tally_after_skip-tally.result (tally_of c.self.inside.tallies c.args.from))
     (eq-eqb c.args.from c.args.from refl)))
-    (tally_alike m (λ j. slot_after_skip_in interval j (instance_slot_in m c.self.inside.slots rs j))
-    (instance_slot_in m c.skip_interval.new.slots (set rs c.args.from c.skip_interval.new.intervals)) c.args.from
+    (tally_alike m (λ j. slot_after_skip_in interval j (instance_slot_in m c.self.inside.stored.slots rs j))
+    (instance_slot_in m c.skip.new.self (set rs c.args.from c.skip.new.intervals)) c.args.from
     c.tally_after_skip-tally.result
-    (λ j small own. alike_same m _ _ (sym (skip_gives m interval refl c.self.inside.slots c.skip_interval.new.slots
-    rs member c.skip_interval.new.intervals covered c.in_ok-learned.ensures.slots j small)))
+    (λ j small own. alike_same m _ _ (sym (skip_gives m interval refl c.self.inside.stored.slots c.skip.new.self
+    rs member c.skip.new.intervals covered c.in_ok-learned.ensures.slots j small)))
     c.tally_after_skip-tally.ensures))
     (λ q other. c.put.ensures q
     ∙ ap (λ bit. cond bit c.tally_after_skip-tally.result (tally_of c.self.inside.tallies q))
@@ -101,15 +101,15 @@ invariant_of-self-2 c =
 
 pub returns-clause-after : goal.returns-clause-after
 returns-clause-after c =
-    let m = c.self.inside.members in
-    let rs = c.self.inside.skipped.items in
-    let member = has_intervals m c.self.inside.slots rs c.args.self.now c.args.from c.self.view_is
+    let m = c.self.inside.stored.members in
+    let rs = c.self.inside.stored.skipped.items in
+    let member = has_intervals m c.self.inside.stored.slots rs c.args.self.now c.args.from c.self.view_is
     c.self.invariant.sound.sorted c.requires.member in
     let same_intervals : c.index_mut-intervals.result.now ≡ get_or rs c.args.from [] =
     c.index_mut-intervals.ensures.value ∙ get_or_default rs c.args.from _ [] member in
     let covered = then_covered m c.args.from _ _ _ _ rs same_intervals c.in_ok-learned.ensures.covers in
     let interval = skipped m c.args.from c.first_owned-first.result c.first_owned-stop.result in
-    skip_shows m interval refl c.self.inside.slots c.skip_interval.new.slots rs member c.skip_interval.new.intervals
+    skip_shows m interval refl c.self.inside.stored.slots c.skip.new.self rs member c.skip.new.intervals
     covered
     c.in_ok-learned.ensures.slots c.args.self.now c.self.view_is
     ∙ skip_is c.args.from c.args.first c.args.stop interval
@@ -120,27 +120,27 @@ returns-clause-after c =
 
 pub returns-clause-learned : goal.returns-clause-learned
 returns-clause-learned c =
-    let m = c.self.inside.members in
-    let rs = c.self.inside.skipped.items in
-    let member = has_intervals m c.self.inside.slots rs c.args.self.now c.args.from c.self.view_is
+    let m = c.self.inside.stored.members in
+    let rs = c.self.inside.stored.skipped.items in
+    let member = has_intervals m c.self.inside.stored.slots rs c.args.self.now c.args.from c.self.view_is
     c.self.invariant.sound.sorted c.requires.member in
     let same_intervals : c.index_mut-intervals.result.now ≡ get_or rs c.args.from [] =
     c.index_mut-intervals.ensures.value ∙ get_or_default rs c.args.from _ [] member in
     let interval = skipped m c.args.from c.first_owned-first.result c.first_owned-stop.result in
     c.in_ok-learned.ensures.learned
-    ∙ ap (λ r. count_by (is_newly_skipped_in interval r c.self.inside.slots) instances) same_intervals
+    ∙ ap (λ r. count_by (is_newly_skipped_in interval r c.self.inside.stored.slots) instances) same_intervals
     ∙ news_is c.args.from c.args.first c.args.stop interval
     (aligned m c.args.from c.args.first c.args.stop _ _ c.min.result (omega (arith, c.min.ensures))
     c.first_owned-first.ensures.above c.first_owned-first.ensures.least
     c.first_owned-stop.ensures.above c.first_owned-stop.ensures.least)
     c.args.self.now (ap (λ (x : InstancesState). x.members) c.self.view_is)
-    m c.self.inside.slots rs c.self.inside.learned_below c.self.view_is c.self.invariant.sound
+    m c.self.inside.stored.slots rs c.self.inside.learned_below c.self.view_is c.self.invariant.sound
 
-pub skip_interval-requires-clause-learned_where_skipped : goal.skip_interval-requires-clause-learned_where_skipped
-skip_interval-requires-clause-learned_where_skipped c =
-    let m = c.self.inside.members in
-    let rs = c.self.inside.skipped.items in
-    let member = has_intervals m c.self.inside.slots rs c.args.self.now c.args.from c.self.view_is
+pub skip-requires-clause-learned_where_skipped : goal.skip-requires-clause-learned_where_skipped
+skip-requires-clause-learned_where_skipped c =
+    let m = c.self.inside.stored.members in
+    let rs = c.self.inside.stored.skipped.items in
+    let member = has_intervals m c.self.inside.stored.slots rs c.args.self.now c.args.from c.self.view_is
     c.self.invariant.sound.sorted c.requires.member in
     let same_intervals : c.index_mut-intervals.result.now ≡ get_or rs c.args.from [] =
     c.index_mut-intervals.ensures.value ∙ get_or_default rs c.args.from _ [] member in
@@ -149,31 +149,31 @@ skip_interval-requires-clause-learned_where_skipped c =
 
 pub learned_from-self-inside-requires-clause-sorted : goal.learned_from-self-inside-requires-clause-sorted
 learned_from-self-inside-requires-clause-sorted c =
-    let m = c.self.inside.members in
-    let rs = c.self.inside.skipped.items in
-    let member = has_intervals m c.self.inside.slots rs c.args.self.now c.args.from c.self.view_is
+    let m = c.self.inside.stored.members in
+    let rs = c.self.inside.stored.skipped.items in
+    let member = has_intervals m c.self.inside.stored.slots rs c.args.self.now c.args.from c.self.view_is
     c.self.invariant.sound.sorted c.requires.member in
     let same_intervals : c.index_mut-intervals.result.now ≡ get_or rs c.args.from [] =
     c.index_mut-intervals.ensures.value ∙ get_or_default rs c.args.from _ [] member in
     let covered = then_covered m c.args.from _ _ _ _ rs same_intervals c.in_ok-learned.ensures.covers in
     let interval = skipped m c.args.from c.first_owned-first.result c.first_owned-stop.result in
-    skip_sorted m interval refl c.self.inside.slots c.skip_interval.new.slots rs member c.skip_interval.new.intervals
+    skip_sorted m interval refl c.self.inside.stored.slots c.skip.new.self rs member c.skip.new.intervals
     covered
-    c.in_ok-learned.ensures.slots c.skip_interval.ensures.rising c.skip_interval.ensures.owned
+    c.in_ok-learned.ensures.slots c.skip.ensures.rising c.skip.ensures.owned
     c.self.invariant.sound.sorted
 
 -- an interval that was skipped before
 pub returns-then-past-stop-clause-after : goal.returns-then-past-stop-clause-after
 returns-then-past-stop-clause-after c =
-    let m = c.self.inside.members in
-    let rs = c.self.inside.skipped.items in
-    let member = has_intervals m c.self.inside.slots rs c.args.self.now c.args.from c.self.view_is
+    let m = c.self.inside.stored.members in
+    let rs = c.self.inside.stored.skipped.items in
+    let member = has_intervals m c.self.inside.stored.slots rs c.args.self.now c.args.from c.self.view_is
     c.self.invariant.sound.sorted c.requires.member in
     let same_intervals : c.index.result.now ≡ get_or rs c.args.from [] =
     c.index.ensures ∙ get_or_default rs c.args.from _ [] member in
     let interval = skipped m c.args.from c.first_owned-first.result c.first_owned-stop.result in
-    skip_again m interval c.self.inside.slots rs c.args.self.now refl c.self.view_is
-    (sound_learned m c.self.inside.slots rs c.self.inside.learned_below c.self.invariant.sound)
+    skip_again m interval c.self.inside.stored.slots rs c.args.self.now refl c.self.view_is
+    (sound_learned m c.self.inside.stored.slots rs c.self.inside.learned_below c.self.invariant.sound)
     (λ j low high. ap (λ xs. is_in_any xs j) (sym same_intervals)
     ∙ c.past.ensures.covered j low (omega (arith, high, c.if-past-stop.true)))
     ∙ skip_is c.args.from c.args.first c.args.stop interval
@@ -184,19 +184,19 @@ returns-then-past-stop-clause-after c =
 
 pub returns-then-past-stop-clause-learned : goal.returns-then-past-stop-clause-learned
 returns-then-past-stop-clause-learned c =
-    let m = c.self.inside.members in
-    let rs = c.self.inside.skipped.items in
-    let member = has_intervals m c.self.inside.slots rs c.args.self.now c.args.from c.self.view_is
+    let m = c.self.inside.stored.members in
+    let rs = c.self.inside.stored.skipped.items in
+    let member = has_intervals m c.self.inside.stored.slots rs c.args.self.now c.args.from c.self.view_is
     c.self.invariant.sound.sorted c.requires.member in
     let same_intervals : c.index.result.now ≡ get_or rs c.args.from [] =
     c.index.ensures ∙ get_or_default rs c.args.from _ [] member in
     let interval = skipped m c.args.from c.first_owned-first.result c.first_owned-stop.result in
-    old_news interval c.index.result.now c.self.inside.slots
+    old_news interval c.index.result.now c.self.inside.stored.slots
     (λ j low high. c.past.ensures.covered j low (omega (arith, high, c.if-past-stop.true)))
-    ∙ ap (λ r. count_by (is_newly_skipped_in interval r c.self.inside.slots) instances) same_intervals
+    ∙ ap (λ r. count_by (is_newly_skipped_in interval r c.self.inside.stored.slots) instances) same_intervals
     ∙ news_is c.args.from c.args.first c.args.stop interval
     (aligned m c.args.from c.args.first c.args.stop _ _ c.min.result (omega (arith, c.min.ensures))
     c.first_owned-first.ensures.above c.first_owned-first.ensures.least
     c.first_owned-stop.ensures.above c.first_owned-stop.ensures.least)
     c.args.self.now (ap (λ (x : InstancesState). x.members) c.self.view_is)
-    m c.self.inside.slots rs c.self.inside.learned_below c.self.view_is c.self.invariant.sound
+    m c.self.inside.stored.slots rs c.self.inside.learned_below c.self.view_is c.self.invariant.sound

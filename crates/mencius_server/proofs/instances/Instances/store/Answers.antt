@@ -18,26 +18,29 @@ invariant_of-self c = unchanged _ _ _ _ _ _ _ c.in_err-store.ensures.err c.self.
 
 pub invariant_of-self-2 : goal.invariant_of-self-2
 invariant_of-self-2 c =
-    let gone = none_there (stored_at c.self.inside.slots c.args.inst) c.has.result c.has.ensures c.if-has.false in
+    let gone = none_there (stored_at c.self.inside.stored.slots c.args.inst) c.has.result c.has.ensures
+    c.if-has.false in
     let stored =
     λ (j : ℕ). c.in_ok-store.ensures.ok j
-    ∙ ap (λ bit. cond (eqb j c.args.inst) (Some (slot_by_skip c.self.inside.members bit))
-    (stored_at c.self.inside.slots j))
-    c.is_in_skipped-was_skipped.ensures in
+    ∙ ap (λ bit. cond (eqb j c.args.inst) (Some (slot_by_skip c.self.inside.stored.members bit))
+    (stored_at c.self.inside.stored.slots j))
+    c.is_skipped-was_skipped.ensures in
     counts_kept _ _ _ _ _ _ _ _ _
     (store_sound _ _ _ _ _ gone stored c.self.inside.learned_below c.self.invariant.sound)
     (λ j small. alike_same _ _ _
-    (sym (store_same c.self.inside.members _ _ c.self.inside.skipped.items _ gone stored j)))
+    (sym (store_same c.self.inside.stored.members _ _ c.self.inside.stored.skipped.items _ gone stored j)))
     c.self.invariant
 
 pub returns-clause-ok : goal.returns-clause-ok
 returns-clause-ok c =
-    let gone = none_there (stored_at c.self.inside.slots c.args.inst) c.has.result c.has.ensures c.if-has.false in
+    let gone = none_there (stored_at c.self.inside.stored.slots c.args.inst) c.has.result c.has.ensures
+    c.if-has.false in
     store_shows _ _ _ _ _ gone
     (λ j. c.in_ok-store.ensures.ok j
-    ∙ ap (λ bit. cond (eqb j c.args.inst) (Some (slot_by_skip c.self.inside.members bit))
-    (stored_at c.self.inside.slots j)) c.is_in_skipped-was_skipped.ensures) c.args.self.now c.self.view_is
+    ∙ ap (λ bit. cond (eqb j c.args.inst) (Some (slot_by_skip c.self.inside.stored.members bit))
+    (stored_at c.self.inside.stored.slots j)) c.is_skipped-was_skipped.ensures) c.args.self.now c.self.view_is
 
 pub returns-clause-there : goal.returns-clause-there
 returns-clause-there c =
-    stored_has c.self.inside.members _ _ c.self.inside.skipped.items _ c.requires _ c.in_ok-store.ensures.ok
+    stored_has c.self.inside.stored.members _ _ c.self.inside.stored.skipped.items _ c.requires _
+    c.in_ok-store.ensures.ok

@@ -37,7 +37,10 @@ alike m s x t e = rw e (record { open_count = refl; spent_count = refl })
 -- what is known, and what was counted of it, with the slot that is written
 kept : (m : Membership) (slots : List (Option SlotState)) (rs : List (List Interval)) (low i t : ℕ)
     (tallies : List Tally)
-    (ends : List ℕ) (x y : SlotState) → i < instance_count → stored_at slots i ≡ Some x → y ≡ record x { proposal = Some (Ticket t) }
+    (ends : List ℕ) (x y : SlotState) → i < instance_count → stored_at slots i ≡ Some x → y ≡ record x {
+      proposal =
+          Some (Ticket t);
+    }
     → IsInstancesInside m slots rs low tallies ends → IsInstancesInside m (set slots i (Some y)) rs low tallies ends
 kept m slots rs low i t tallies ends x y small there is h =
     counts_kept m slots (set slots i (Some y)) rs rs low low tallies ends
@@ -55,14 +58,17 @@ kept m slots rs low i t tallies ends x y small there is h =
 
 pub invariant_of-self : goal.invariant_of-self
 invariant_of-self c =
-    kept c.self.inside.members c.self.inside.slots c.self.inside.skipped.items c.self.inside.learned_below c.args.inst
-    c.args.ticket c.self.inside.tallies c.self.inside.learned_intervals c.at.result.now c.suggest.new.self c.requires.small c.at.ensures.value
+    kept c.self.inside.stored.members c.self.inside.stored.slots c.self.inside.stored.skipped.items
+    c.self.inside.learned_below c.args.inst
+    c.args.ticket c.self.inside.tallies c.self.inside.learned_intervals c.at.result.now c.suggest.new.self
+    c.requires.small c.at.ensures.value
     c.suggest.ensures c.self.invariant
 
 pub returns-clause-ok : goal.returns-clause-ok
 returns-clause-ok c =
-    written_shows c.self.inside.members c.self.inside.slots
-    (set c.self.inside.slots c.args.inst (Some c.suggest.new.self)) c.self.inside.skipped.items c.args.inst
+    written_shows c.self.inside.stored.members c.self.inside.stored.slots
+    (set c.self.inside.stored.slots c.args.inst (Some c.suggest.new.self)) c.self.inside.stored.skipped.items
+    c.args.inst
     c.at.result.now c.suggest.new.self c.at.ensures.value refl c.store.new.self c.self.view_is
     ∙ ap (λ (x : InstancesState). record x { slots = set x.slots c.args.inst c.suggest.new.self })
     c.in_ok-store.ensures.ok

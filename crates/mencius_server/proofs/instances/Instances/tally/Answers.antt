@@ -32,44 +32,56 @@ counted_on m slots rs low q first tallies ends start further known was ahead pas
 
 pub returns-then-start-stop-clause-survey : goal.returns-then-start-stop-clause-survey
 returns-then-start-stop-clause-survey c =
-    let known = instance_slot_in c.self.inside.members c.self.inside.slots c.self.inside.skipped.items in
-    tally_survey c.self.inside.members c.self.inside.slots c.self.inside.skipped.items c.args.self.now c.self.view_is
+    let known = instance_slot_in c.self.inside.stored.members c.self.inside.stored.slots
+    c.self.inside.stored.skipped.items in
+    tally_survey c.self.inside.stored.members c.self.inside.stored.slots c.self.inside.stored.skipped.items
+    c.args.self.now c.self.view_is
     c.args.suspected c.args.reach c.up_to-start.result
-    (started c.self.inside.members known c.args.suspected c.self.inside.tallies c.up_to-start.result
+    (started c.self.inside.stored.members known c.args.suspected c.self.inside.tallies c.up_to-start.result
     c.self.invariant.counted c.up_to-start.ensures.was)
     (c.if-start-stop.true ∙ c.min-stop.ensures)
 
 pub plus-tally-requires-clause-few : goal.plus-tally-requires-clause-few
 plus-tally-requires-clause-few c =
-    let known = instance_slot_in c.self.inside.members c.self.inside.slots c.self.inside.skipped.items in
-    (tally_few c.self.inside.members known c.args.suspected _
-    (counted_on c.self.inside.members c.self.inside.slots c.self.inside.skipped.items _ c.args.suspected
-    c.min-first.result c.self.inside.tallies c.self.inside.learned_intervals c.up_to-start.result _ c.self.invariant c.up_to-start.ensures.was
+    let known = instance_slot_in c.self.inside.stored.members c.self.inside.stored.slots
+    c.self.inside.stored.skipped.items in
+    (tally_few c.self.inside.stored.members known c.args.suspected _
+    (counted_on c.self.inside.stored.members c.self.inside.stored.slots c.self.inside.stored.skipped.items _
+    c.args.suspected
+    c.min-first.result c.self.inside.tallies c.self.inside.learned_intervals c.up_to-start.result _
+    c.self.invariant c.up_to-start.ensures.was
     (omega (arith, c.max.ensures, c.min-first.ensures, c.min-stop.ensures, c.up_to-start.ensures.low))
     (omega (arith, c.max.ensures, c.min-first.ensures)) c.tally_from-further.ensures.counted)).0
 
 pub plus-tally-requires-clause-fewer : goal.plus-tally-requires-clause-fewer
 plus-tally-requires-clause-fewer c =
-    let known = instance_slot_in c.self.inside.members c.self.inside.slots c.self.inside.skipped.items in
-    (tally_few c.self.inside.members known c.args.suspected _
-    (counted_on c.self.inside.members c.self.inside.slots c.self.inside.skipped.items _ c.args.suspected
-    c.min-first.result c.self.inside.tallies c.self.inside.learned_intervals c.up_to-start.result _ c.self.invariant c.up_to-start.ensures.was
+    let known = instance_slot_in c.self.inside.stored.members c.self.inside.stored.slots
+    c.self.inside.stored.skipped.items in
+    (tally_few c.self.inside.stored.members known c.args.suspected _
+    (counted_on c.self.inside.stored.members c.self.inside.stored.slots c.self.inside.stored.skipped.items _
+    c.args.suspected
+    c.min-first.result c.self.inside.tallies c.self.inside.learned_intervals c.up_to-start.result _
+    c.self.invariant c.up_to-start.ensures.was
     (omega (arith, c.max.ensures, c.min-first.ensures, c.min-stop.ensures, c.up_to-start.ensures.low))
     (omega (arith, c.max.ensures, c.min-first.ensures)) c.tally_from-further.ensures.counted)).1
 
 pub invariant_of-self : goal.invariant_of-self
 invariant_of-self c =
-    let known = instance_slot_in c.self.inside.members c.self.inside.slots c.self.inside.skipped.items in
-    counts_put c.self.inside.members c.self.inside.slots c.self.inside.slots c.self.inside.skipped.items
-    c.self.inside.skipped.items c.self.inside.learned_below c.self.inside.learned_below c.self.inside.tallies
+    let known = instance_slot_in c.self.inside.stored.members c.self.inside.stored.slots
+    c.self.inside.stored.skipped.items in
+    counts_put c.self.inside.stored.members c.self.inside.stored.slots c.self.inside.stored.slots
+    c.self.inside.stored.skipped.items
+    c.self.inside.stored.skipped.items c.self.inside.learned_below c.self.inside.learned_below c.self.inside.tallies
     c.put.new.self c.self.inside.learned_intervals c.args.suspected c.self.invariant.sound
-    (λ j small other. alike_same c.self.inside.members _ _ refl) (λ j small known. known)
-    (subst (IsTally c.self.inside.members known c.args.suspected)
+    (λ j small other. alike_same c.self.inside.stored.members _ _ refl) (λ j small known. known)
+    (subst (IsTally c.self.inside.stored.members known c.args.suspected)
     (sym (c.put.ensures c.args.suspected
     ∙ ap (λ bit. cond bit c.plus-tally.result (tally_of c.self.inside.tallies c.args.suspected))
     (eq-eqb c.args.suspected c.args.suspected refl) ∙ c.plus-tally.ensures))
-    (counted_on c.self.inside.members c.self.inside.slots c.self.inside.skipped.items _ c.args.suspected
-    c.min-first.result c.self.inside.tallies c.self.inside.learned_intervals c.up_to-start.result _ c.self.invariant c.up_to-start.ensures.was
+    (counted_on c.self.inside.stored.members c.self.inside.stored.slots c.self.inside.stored.skipped.items _
+    c.args.suspected
+    c.min-first.result c.self.inside.tallies c.self.inside.learned_intervals c.up_to-start.result _
+    c.self.invariant c.up_to-start.ensures.was
     (omega (arith, c.max.ensures, c.min-first.ensures, c.min-stop.ensures, c.up_to-start.ensures.low))
     (omega (arith, c.max.ensures, c.min-first.ensures)) c.tally_from-further.ensures.counted))
     (λ q other. c.put.ensures q
@@ -78,12 +90,16 @@ invariant_of-self c =
 
 pub returns-clause-survey : goal.returns-clause-survey
 returns-clause-survey c =
-    let known = instance_slot_in c.self.inside.members c.self.inside.slots c.self.inside.skipped.items in
-    tally_survey c.self.inside.members c.self.inside.slots c.self.inside.skipped.items c.args.self.now c.self.view_is
+    let known = instance_slot_in c.self.inside.stored.members c.self.inside.stored.slots
+    c.self.inside.stored.skipped.items in
+    tally_survey c.self.inside.stored.members c.self.inside.stored.slots c.self.inside.stored.skipped.items
+    c.args.self.now c.self.view_is
     c.args.suspected c.args.reach c.plus-tally.result
-    (subst (IsTally c.self.inside.members known c.args.suspected) (sym c.plus-tally.ensures)
-    (counted_on c.self.inside.members c.self.inside.slots c.self.inside.skipped.items _ c.args.suspected
-    c.min-first.result c.self.inside.tallies c.self.inside.learned_intervals c.up_to-start.result _ c.self.invariant c.up_to-start.ensures.was
+    (subst (IsTally c.self.inside.stored.members known c.args.suspected) (sym c.plus-tally.ensures)
+    (counted_on c.self.inside.stored.members c.self.inside.stored.slots c.self.inside.stored.skipped.items _
+    c.args.suspected
+    c.min-first.result c.self.inside.tallies c.self.inside.learned_intervals c.up_to-start.result _
+    c.self.invariant c.up_to-start.ensures.was
     (omega (arith, c.max.ensures, c.min-first.ensures, c.min-stop.ensures, c.up_to-start.ensures.low))
     (omega (arith, c.max.ensures, c.min-first.ensures)) c.tally_from-further.ensures.counted))
     (ap (λ (x : Tally). x.stop) c.plus-tally.ensures ∙ c.tally_from-further.ensures.stop ∙ c.min-stop.ensures)

@@ -13,4 +13,4 @@ pub returns-in-None : goal.returns-in-None
 returns-in-None c =
     sym (ap (λ (s : SlotState). s.trying)
     (seen_none _ _ _ _ c.self.view_is c.args.inst c.requires c.in-None.ensures.none)
-    ∙ (by_skip_quiet c.self.inside.members _).1)
+    ∙ (by_skip_quiet c.self.inside.stored.members _).1)

@@ -2,7 +2,7 @@ use Rattle.std.proofs.Common.{◌≡◌, ap, arith, ◌∙◌}
 use Rattle.mencius_server.specs.Intervals.{reach_of}
 use Rattle.mencius_server.proofs.intervals.NewIntervals.{news_count}
 use Rattle.mencius_server.proofs.intervals.RisingIntervals.{in_any_with_interval, owned_with_interval, rising_with_interval}
-use Rattle.mencius_server.proofs.instances.skip_interval.Goals as goal
+use Rattle.mencius_server.proofs.slots.Slots.skip.Goals as goal
 
 pub returns-clause-owned : goal.returns-clause-owned
 returns-clause-owned c =
@@ -24,7 +24,7 @@ returns-clause-rising c =
 
 pub overflow_sub-result : goal.overflow_sub-result
 overflow_sub-result c =
-    let news = news_count c.args.interval.now c.args.intervals.now c.args.slots.now c.in_ok-further.further
+    let news = news_count c.args.interval.now c.args.intervals.now c.args.self.now c.in_ok-further.further
     c.count_learned_before-learned_before.result c.requires.interval.member c.requires.interval.own c.requires.end
     c.requires.some c.requires.low c.requires.rising c.requires.owned
     (c.in_ok-further.ensures.further ∙ ap reach_of c.in_ok-further.ensures.ok)
@@ -34,7 +34,7 @@ overflow_sub-result c =
 
 pub returns-clause-learned : goal.returns-clause-learned
 returns-clause-learned c =
-    let news = news_count c.args.interval.now c.args.intervals.now c.args.slots.now c.in_ok-further.further
+    let news = news_count c.args.interval.now c.args.intervals.now c.args.self.now c.in_ok-further.further
     c.count_learned_before-learned_before.result c.requires.interval.member c.requires.interval.own c.requires.end
     c.requires.some c.requires.low c.requires.rising c.requires.owned
     (c.in_ok-further.ensures.further ∙ ap reach_of c.in_ok-further.ensures.ok)

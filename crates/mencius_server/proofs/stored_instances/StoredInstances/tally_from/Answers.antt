@@ -3,19 +3,20 @@ use Rattle.mencius_server.specs.Instances.{instance_slot_in}
 use Rattle.mencius_server.specs.Tallies.{IsTallyFrom}
 use Rattle.mencius_server.specs.declared.tally.Tally.{Tally}
 use Rattle.mencius_server.proofs.tallies.InstanceTallies.{from_few, from_gap, from_start}
-use Rattle.mencius_server.proofs.tally.tally_from.Goals as goal
+use Rattle.mencius_server.proofs.stored_instances.StoredInstances.tally_from.Goals as goal
 
 pub loop-tally-init : goal.loop-tally-init
 loop-tally-init c = record {
-  counted = from_start c.args.members (instance_slot_in c.args.members c.args.slots.now c.args.skipped.now.items)
-      c.args.server c.args.first _ refl (omega (arith, c.requires.ahead, c.requires.small)) refl refl;
+  counted = from_start c.args.self.now.members
+      (instance_slot_in c.args.self.now.members c.args.self.now.slots c.args.self.now.skipped.items) c.args.server
+      c.args.first _ refl (omega (arith, c.requires.ahead, c.requires.small)) refl refl;
   within = c.requires.ahead;
 }
 
 pub plus-tally-requires-clause-few : goal.plus-tally-requires-clause-few
 plus-tally-requires-clause-few c =
-    (from_few c.args.members _ c.args.server c.args.first _
-    (from_gap c.args.members c.args.slots.now c.args.skipped.now.items c.args.server c.args.first
+    (from_few c.args.self.now.members _ c.args.server c.args.first _
+    (from_gap c.args.self.now.members c.args.self.now.slots c.args.self.now.skipped.items c.args.server c.args.first
     c.index-intervals.result.now c.loop-tally.tally c.tally_slots.result c.args.stop c.past.result c.min-past.result
     c.clear_to-end.result c.requires.learned_where_skipped (omega (arith, c.requires.member, c.requires.sorted.count))
     c.index-intervals.ensures c.loop-tally.invariant.within c.past.ensures.above c.min-past.ensures
@@ -24,8 +25,8 @@ plus-tally-requires-clause-few c =
 
 pub plus-tally-requires-clause-fewer : goal.plus-tally-requires-clause-fewer
 plus-tally-requires-clause-fewer c =
-    (from_few c.args.members _ c.args.server c.args.first _
-    (from_gap c.args.members c.args.slots.now c.args.skipped.now.items c.args.server c.args.first
+    (from_few c.args.self.now.members _ c.args.server c.args.first _
+    (from_gap c.args.self.now.members c.args.self.now.slots c.args.self.now.skipped.items c.args.server c.args.first
     c.index-intervals.result.now c.loop-tally.tally c.tally_slots.result c.args.stop c.past.result c.min-past.result
     c.clear_to-end.result c.requires.learned_where_skipped (omega (arith, c.requires.member, c.requires.sorted.count))
     c.index-intervals.ensures c.loop-tally.invariant.within c.past.ensures.above c.min-past.ensures
@@ -34,10 +35,10 @@ plus-tally-requires-clause-fewer c =
 
 pub loop-tally-preserved : goal.loop-tally-preserved
 loop-tally-preserved c = record {
-  counted = subst (IsTallyFrom c.args.members
-      (instance_slot_in c.args.members c.args.slots.now c.args.skipped.now.items)
+  counted = subst (IsTallyFrom c.args.self.now.members
+      (instance_slot_in c.args.self.now.members c.args.self.now.slots c.args.self.now.skipped.items)
       c.args.server c.args.first) (sym c.plus-tally.ensures)
-      (from_gap c.args.members c.args.slots.now c.args.skipped.now.items c.args.server c.args.first
+      (from_gap c.args.self.now.members c.args.self.now.slots c.args.self.now.skipped.items c.args.server c.args.first
       c.index-intervals.result.now c.loop-tally.tally c.tally_slots.result c.args.stop c.past.result c.min-past.result
       c.clear_to-end.result c.requires.learned_where_skipped (omega (arith, c.requires.member, c.requires.sorted.count))
       c.index-intervals.ensures c.loop-tally.invariant.within c.past.ensures.above c.min-past.ensures

@@ -1,5 +1,5 @@
 use Rattle.std.proofs.Common.{◌≡◌, ◌≤◌, ◌-◌, ℕ, [], get_or, vec_len}
-use Rattle.mencius_server.proofs.instances.no_intervals.Given as goal
+use Rattle.mencius_server.proofs.skipped_intervals.SkippedIntervals.none_of_each.Given as goal
 
 abbrev pub invariant-loop-alloc : goal.invariant-loop-alloc
 invariant-loop-alloc l = record {

@@ -1,0 +1,157 @@
+//! What a suspicion of a server would revoke, and the first phases that it starts.
+ghost use Rattle.mencius_base.specs.Limits.{greatest_front, greatest_round, instance_count};
+ghost use Rattle.mencius_base.specs.Members.{below, instances};
+ghost use Rattle.mencius_server.specs.Instances.{has_slot, instance_slot, instances_after_suspect, is_covered_stored, is_open_in, prepares_in, prepares_stored, reach_stored, with_first_phases, with_open_stored};
+ghost use Rattle.mencius_server.specs.Machine.{round_after};
+ghost use Rattle.mencius_server.specs.OwnedIntervals.{IsOwnedInterval};
+ghost use Rattle.mencius_server.specs.Tallies.{IsOpenInterval, IsSurvey};
+ghost use Rattle.std.specs.List.{count_by};
+ghost use Rattle.std.specs.Prelude.{◌≡◌, ℕ, ◌+◌, ◌<◌, ◌≤◌, ◌++◌, true, OnErr, OnOk};
+
+use super::Instances;
+use crate::owned_interval::OwnedInterval;
+use crate::tally::Tally;
+use mencius_base::{INSTANCES, NoMemory, Outbox};
+
+impl Instances {
+    /// How far a suspicion of a server reaches from a front: to the place past twice beta from there, if its least
+    /// instance that is not learned is below beta from there, and else nowhere.
+    ///
+    /// It leaps over the interval of learned instances that the last call found, since what was learned stays learned.
+    /// So all calls together look at each instance once, and each of them at one more.
+    pub(crate) fn reach(&mut self, suspected: u8, front: u32) -> u32
+        requires suspected { suspected < self.old.members.count }
+        requires near { front ≤ greatest_front }
+        ensures reach { result ≡ reach_stored self.old suspected front }
+        ensures same { self.new ≡ self.old }
+    {
+        let members = self.stored.members;
+        // For the proof: there are few members.
+        let _few = members.count();
+        let beta = members.beta();
+        let near = (front + beta).min(INSTANCES);
+        // A server's first instance has its number.
+        let from = u32::from(suspected);
+        let learned_intervals = &mut self.learned_intervals;
+        let first = self.stored.open_from(learned_intervals, from, near);
+        if first < near {
+            front + 2 * beta + 1
+        } else {
+            0
+        }
+    }
+
+    /// What a suspicion of a server would revoke that reaches so far.
+    ///
+    /// It counts on from the reach of the last call, since whatever changed below that was counted when it changed. So
+    /// all calls together look at each instance once, and at none that a skipped interval has.
+    pub(crate) fn tally(&mut self, suspected: u8, reach: u32) -> Tally
+        requires { suspected < self.old.members.count }
+        ensures survey { IsSurvey self.old suspected reach result }
+        ensures same { self.new ≡ self.old }
+    {
+        let members = self.stored.members;
+        // For the proof: there are few members.
+        let _few = members.count();
+        let stop = reach.min(INSTANCES);
+        // A server's front never moves back, and then this is all that was counted, unless the suspicion reaches
+        // nowhere.
+        let start = self.tallies.up_to(suspected, stop);
+        if start.stop == stop {
+            return start;
+        }
+        let first = start.stop.max(self.learned_below).min(stop);
+        let further = self.stored.tally_from(suspected, first, stop);
+        let tally = start.plus(further);
+        self.tallies.put(suspected, tally);
+        tally
+    }
+
+    /// Starts a first phase at each instance of a server before a place where nothing was learned.
+    ///
+    /// There is room for the Prepares, and there are at most so many of these instances.
+    pub(crate) fn begin_all(
+        &mut self,
+        id: u8,
+        suspected: u8,
+        reach: u32,
+        open_count: u32,
+        out: &mut Outbox,
+    ) -> Result<(), NoMemory>
+        requires id { id < self.old.members.count }
+        requires suspected { suspected < self.old.members.count }
+        requires few { count_by (is_covered_stored self.old suspected reach) instances ≤ open_count }
+        requires rounds { (j : ℕ) → j < instance_count → is_covered_stored self.old suspected reach j ≡ true
+            → round_after self.old.members (instance_slot self.old j) ≤ greatest_round }
+        requires room { count_by (is_covered_stored self.old suspected reach) instances ≤ out.old.room }
+        ensures sent { OnOk result (out.new.messages
+            ≡ out.old.messages ++ prepares_stored self.old id suspected reach) }
+        ensures after { OnOk result (self.new ≡ instances_after_suspect self.old id suspected reach) }
+        ensures limit { out.new.limit ≡ out.old.limit }
+        ensures same { OnErr result (self.new ≡ self.old) }
+        ensures unsent { OnErr result (out.new ≡ out.old) }
+    {
+        let interval = self.open_interval(suspected, reach);
+        self.store_open(&interval, open_count)?;
+        self.begin_open(&interval, id, out);
+        Ok(())
+    }
+
+    // Stores slots at the instances of an interval that are not learned, of which there are at most so many.
+    fn store_open(&mut self, interval: &OwnedInterval, open_count: u32) -> Result<(), NoMemory>
+        requires interval { IsOwnedInterval interval.now }
+        requires members { interval.now.members ≡ self.old.members }
+        requires small { interval.now.stop ≤ instance_count }
+        requires few { count_by (is_open_in self.old interval.now) (below interval.now.stop)
+            ≤ open_count }
+        ensures ok { OnOk result (self.new ≡ with_open_stored self.old interval.now) }
+        ensures err { OnErr result (self.new ≡ self.old) }
+    {
+        let server = interval.server;
+        let skipped = &self.stored.skipped[server as usize];
+        self.stored
+            .slots
+            .store_all(*interval, skipped, &self.learned_intervals, open_count)?;
+        Ok(())
+    }
+
+    // Starts a first phase at the instances of an interval that are not learned, at all of which slots are stored.
+    fn begin_open(&mut self, interval: &OwnedInterval, id: u8, out: &mut Outbox)
+        requires interval { IsOwnedInterval interval.now }
+        requires members { interval.now.members ≡ self.old.members }
+        requires small { interval.now.stop ≤ instance_count }
+        requires id { id < self.old.members.count }
+        requires stored { (j : ℕ) → j < instance_count → is_open_in self.old interval.now j ≡ true
+            → has_slot self.old j ≡ true }
+        requires rounds { (j : ℕ) → j < instance_count → is_open_in self.old interval.now j ≡ true
+            → round_after self.old.members (instance_slot self.old j) ≤ greatest_round }
+        requires room { count_by (is_open_in self.old interval.now) (below interval.now.stop)
+            ≤ out.old.room }
+        ensures after { self.new ≡ with_first_phases self.old id interval.now }
+        ensures sent { out.new.messages ≡ out.old.messages ++ prepares_in self.old id interval.now }
+        ensures limit { out.new.limit ≡ out.old.limit }
+    {
+        let server = interval.server;
+        let is_last = self
+            .stored
+            .slots
+            .begin_all(*interval, id, &mut self.learned_intervals, out);
+        self.stored
+            .retally_changed(server, is_last, &mut self.tallies);
+    }
+
+    // A server's instances before a place.
+    fn open_interval(&self, suspected: u8, reach: u32) -> OwnedInterval
+        requires { suspected < self.now.members.count }
+        ensures { IsOpenInterval self.now suspected reach result }
+    {
+        let members = self.stored.members;
+        OwnedInterval {
+            members,
+            server: suspected,
+            // A server's first instance has its number.
+            first: u32::from(suspected),
+            stop: reach.min(INSTANCES),
+        }
+    }
+}
