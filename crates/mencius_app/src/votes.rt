@@ -20,7 +20,7 @@ pub(crate) fn accepted_by(
     ensures len { IfOk result (λ x. vec_len x ≡ instance_count) }
     ensures ballots { IfOk result (λ x. AreAccepted (trace_of cluster.now) server x.items) }
 {
-    // The check of a value that holds a message looks for the types inside it among those named here.
+    // For the proof: a type inside a message.
     let _inside: Option<Vote> = None;
     let mut ballots = no_ballots(alloc)?;
     for number in 0..cluster.messages() {
@@ -87,7 +87,7 @@ pub(crate) fn vote_of(cluster: &Cluster, inst: u32, ballot: Option<Ballot>) -> O
 fn proposed(cluster: &Cluster, inst: u32, ballot: Ballot) -> Option<Value>
     ensures { result ≡ proposed (trace_of cluster.now) inst ballot }
 {
-    // The check of a value that holds a message looks for the types inside it among those named here.
+    // For the proof: a type inside a message.
     let _inside: Option<Vote> = None;
     for number in 0..cluster.messages() {
         let Some(message) = cluster.message(number) else {

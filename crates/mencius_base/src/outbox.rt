@@ -107,7 +107,7 @@ impl Outbox {
         ensures limit { self.new.limit ≡ self.old.limit }
         ensures room { self.new.room + 1 ≡ self.old.room }
     {
-        // The check of a push looks for the types inside a message among those named here.
+        // For the proof: a type inside a message.
         let _inside: Option<Vote> = None;
         self.messages.push_reserved(message);
     }

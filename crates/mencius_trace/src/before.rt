@@ -39,7 +39,7 @@ pub(crate) struct Before {
 pub(crate) fn note(alloc: Global, cluster: &Cluster, event: &Event) -> Result<Before, AllocError>
     ensures { IfOk result (IsBefore cluster.now event.now) }
 {
-    // Called for their promises alone: the journal replays, and there are few members.
+    // For the proof: the journal replays, and there are few members.
     cluster.replays();
     let _few = cluster.servers();
     let server = server_of(event);
@@ -75,7 +75,7 @@ fn server_of(event: &Event) -> u8
 fn heard_in(cluster: &Cluster, event: &Event) -> Option<Message>
     ensures { result ≡ heard_in (trace_of cluster.now) event.now }
 {
-    // The check of a value that holds a message looks for the types inside it among those named here.
+    // For the proof: a type inside a message.
     let _inside: Option<Vote> = None;
     match event {
         Event::Deliver { message, .. } => cluster.message(*message),

@@ -306,7 +306,7 @@ fn push_sent_line(text: &mut String, cluster: &Cluster, number: u32) -> Result<(
         ++ of_message (sent_line (trace_of cluster.now)) number
         (slice_get (sent (trace_of cluster.now)) number)) }
 {
-    // The check of a value that holds a message looks for the types inside it among those named here.
+    // For the proof: a type inside a message.
     let _inside: Option<Vote> = None;
     match cluster.message(number) {
         Some(message) => push_sent(text, cluster, number, message),

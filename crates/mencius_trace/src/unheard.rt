@@ -34,7 +34,7 @@ pub(crate) fn push_unheard(
 fn settled(alloc: Global, cluster: &Cluster) -> Result<Marks, NoMemory>
     ensures { IfOk result (AreSettled (trace_of cluster.now)) }
 {
-    // Called for their promises alone: the journal replays, and there are few members.
+    // For the proof: the journal replays, and there are few members.
     cluster.replays();
     let _few = cluster.servers();
     let mut marks = Marks::new(alloc);
@@ -84,7 +84,7 @@ fn push_unheard_lines(
         ++ of_message (unheard_lines cluster.now.members (trace_of cluster.now)) number
         (slice_get (sent (trace_of cluster.now)) number)) }
 {
-    // The check of a value that holds a message looks for the types inside it among those named here.
+    // For the proof: a type inside a message.
     let _inside: Option<Vote> = None;
     match cluster.message(number) {
         Some(message) => push_for_each(text, cluster, settled, number, &message),

@@ -43,7 +43,7 @@ impl Mail {
 }
 
 fn comes(dice: &mut Dice, cluster: &Cluster, message: u32, slow: u8, server: u8) -> bool {
-    // The check of a value that holds a message looks for the types inside it among those named here.
+    // For the proof: a type inside a message.
     let _inside: Option<Vote> = None;
     match cluster.message(message) {
         Some(sent) => {

@@ -63,7 +63,7 @@ impl Walk {
 
     /// Delivers a message to every server that it goes to.
     pub fn deliver_everywhere(&mut self, message: u32) -> Result<(), Stop> {
-        // The check of a value that holds a message looks for the types inside it among those named here.
+        // For the proof: a type inside a message.
         let _inside: Option<Vote> = None;
         let Some(sent) = self.cluster.message(message) else {
             return Ok(());
