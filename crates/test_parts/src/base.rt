@@ -26,19 +26,17 @@ fn fault_of(alloc: Global, key: &str, text: &str) -> Result<Option<BadCommand>, 
 #[test]
 fn commands_have_limits(rt: HostRuntime) -> Result<(), Fail> {
     let alloc = rt.alloc();
-    let long_text = "t".repeat(alloc, 257)?;
-    let long_text = long_text.as_str();
-    assert_eq!(rt; fault_of(alloc, "A-z_0.9", "")?, None);
-    assert_eq!(rt; fault_of(alloc, "a b", "x y")?, Some(BadCommand::KeyByte));
-    assert_eq!(rt; fault_of(alloc, "", "x y")?, Some(BadCommand::TextByte));
-    assert_eq!(rt;
-        fault_of(alloc, "", long_text)?,
-        Some(BadCommand::KeyLength)
-    );
-    assert_eq!(rt;
-        fault_of(alloc, "a", long_text)?,
-        Some(BadCommand::TextLength)
-    );
+    let long = "t".repeat(alloc, 257)?;
+    let long = long.as_str();
+    for (key, text, fault) in [
+        ("A-z_0.9", "", None),
+        ("a b", "x y", Some(BadCommand::KeyByte)),
+        ("", "x y", Some(BadCommand::TextByte)),
+        ("", long, Some(BadCommand::KeyLength)),
+        ("a", long, Some(BadCommand::TextLength)),
+    ] {
+        assert_eq!(rt; fault_of(alloc, key, text)?, fault);
+    }
     Ok(())
 }
 
@@ -127,9 +125,8 @@ fn an_outbox_stops_at_its_limit(rt: HostRuntime) -> Result<(), Fail> {
     outbox.push(suggest(0, 0));
     outbox.push(suggest(3, 1));
     assert_eq!(rt; outbox.reserve(1), Err(Refusal::MessagesFull));
-    assert_eq!(rt; outbox.len(), 2);
-    assert_eq!(rt; outbox.limit(), 2);
-    assert_eq!(rt; outbox.room(), 0);
+    let counts = (outbox.len(), outbox.limit(), outbox.room());
+    assert_eq!(rt; counts, (2, 2, 0));
     assert_eq!(rt;
         outbox.messages(),
         [suggest(0, 0), suggest(3, 1)].as_slice()
@@ -146,14 +143,20 @@ fn messages_go_where_they_are_addressed(rt: HostRuntime) -> Result<(), Fail> {
         inst: 0,
         ballot: Ballot::OWNER,
     };
-    assert!(rt; accepted.is_for(three, 0));
-    assert!(rt; !accepted.is_for(three, 1));
     let skip = Message::Skip {
         from: 0,
         first: 0,
         stop: 4102,
     };
-    assert!(rt; skip.is_for(three, 0));
-    assert!(rt; !skip.is_for(three, 3), "there is no such server");
+    for (message, server, want) in [
+        (accepted, 0, true),
+        (accepted, 1, false),
+        (skip, 0, true),
+        // There is no such server.
+        (skip, 3, false),
+    ] {
+        let is_for = message.is_for(three, server);
+        assert_eq!(rt; is_for, want, "{message:?} at {server}");
+    }
     Ok(())
 }

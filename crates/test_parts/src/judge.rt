@@ -2,6 +2,7 @@
 
 use mencius_judge::{Judge, Promise, parse_line};
 use std::alloc::Global;
+use std::process::Abort;
 use std::test::Fail;
 
 // Of the lines behind a log that keeps all promises, the first that breaks one, from 0, and which one.
@@ -72,13 +73,24 @@ fn see(alloc: Global, judge: &mut Judge, lines: &str) -> Result<Found, Fail> {
     Ok(None)
 }
 
+fn assert_found(
+    rt: &impl Abort,
+    alloc: Global,
+    judge: &mut Judge,
+    lines: &str,
+    found: Found,
+) -> Result<(), Fail> {
+    assert_eq!(rt; see(alloc, judge, lines)?, found, "{lines}");
+    Ok(())
+}
+
 #[test]
 fn worked_logs(rt: HostRuntime) -> Result<(), Fail> {
     let alloc = rt.alloc();
     for (before, lines, found) in LOGS {
         let mut judge = Judge::new(alloc)?;
-        assert_eq!(rt; see(alloc, &mut judge, before)?, None, "{before}");
-        assert_eq!(rt; see(alloc, &mut judge, lines)?, found, "{lines}");
+        assert_found(&rt, alloc, &mut judge, before, None)?;
+        assert_found(&rt, alloc, &mut judge, lines, found)?;
     }
     Ok(())
 }
@@ -89,23 +101,24 @@ fn says(alloc: Global, line: &str) -> Option<bool> {
     Some(said.is_some())
 }
 
+const LINES: [(&str, Option<bool>); 12] = [
+    ("", Some(false)),
+    ("# a remark", Some(false)),
+    ("submit 1.0 cas a x y", Some(true)),
+    ("execute 255 1.0", Some(true)),
+    ("reply 1.0 none", Some(true)),
+    ("reply 1.0 =", Some(true)),
+    ("lookup 7 a =x", Some(true)),
+    ("told 7 0", Some(true)),
+    ("execute 256 1.0", None),
+    ("reply 1.0 x", None),
+    ("told 7", None),
+    (" told 7 0", None),
+];
+
 #[test]
 fn lines_say_observations(rt: HostRuntime) {
-    let alloc = rt.alloc();
-    for line in ["", "# a remark"] {
-        assert_eq!(rt; says(alloc, line), Some(false), "{line}");
-    }
-    for line in [
-        "submit 1.0 cas a x y",
-        "execute 255 1.0",
-        "reply 1.0 none",
-        "reply 1.0 =",
-        "lookup 7 a =x",
-        "told 7 0",
-    ] {
-        assert_eq!(rt; says(alloc, line), Some(true), "{line}");
-    }
-    for line in ["execute 256 1.0", "reply 1.0 x", "told 7", " told 7 0"] {
-        assert_eq!(rt; says(alloc, line), None, "{line}");
+    for (line, want) in LINES {
+        assert_eq!(rt; says(rt.alloc(), line), want, "{line}");
     }
 }

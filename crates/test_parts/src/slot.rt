@@ -1,27 +1,37 @@
 //! One instance at one server: what it answers as acceptor, and what it counts as proposer.
 
-ghost use Rattle.std.specs.Prelude.{◌≡◌, ◌<◌, IfSome};
+ghost use Rattle.std.specs.Prelude.{◌≡◌, ◌<◌};
 
 use coord_paxos::{Answer, Slot};
 use mencius_base::{Ballot, Members, Value, Vote};
+use std::panic::Expect;
 use std::process::Abort;
-use std::test::Fail;
+
+fn three(rt: &impl Abort) -> Members
+    ensures { result.count ≡ 3 }
+{
+    Members::new(3).expect(rt, "three")
+}
 
 // A ballot of three members by its number: 4 is round 1 of server 1.
-fn ballot(members: Members, number: u32) -> Option<Ballot>
-    requires { members.count ≡ 3 }
-    ensures { IfSome result (λ x. x ≡ number) }
+fn ballot(rt: &impl Abort, number: u32) -> Ballot
+    ensures { result ≡ number }
 {
-    Ballot::new(members, number / 3, (number % 3) as u8)
+    Ballot::new(three(rt), number / 3, (number % 3) as u8).expect(rt, "a ballot")
 }
 
 fn vote(ballot: Ballot, value: Value) -> Option<Vote> {
     Some(Vote { ballot, value })
 }
 
+// The number of a ballot, if there is one.
+fn number_of(members: Members, round: u32, server: u8) -> Option<u32> {
+    Some(Ballot::new(members, round, server)?.number())
+}
+
 #[test]
-fn ballots_are_numbered(rt: HostRuntime) -> Result<(), Fail> {
-    let members = Members::new(3).ok_or("three")?;
+fn ballots_are_numbered(rt: HostRuntime) {
+    let members = three(&rt);
     for (round, server, want) in [
         (1, 1, Some(4)),
         (65_535, 2, Some(196_607)),
@@ -29,12 +39,19 @@ fn ballots_are_numbered(rt: HostRuntime) -> Result<(), Fail> {
         (65_536, 1, None),
         (1, 3, None),
     ] {
-        let number = Ballot::new(members, round, server).map(|ballot| ballot.number());
+        let number = number_of(members, round, server);
         assert_eq!(rt; number, want, "round {round} of server {server}");
     }
-    assert_eq!(rt; Ballot::OWNER.leader(members, 5), 2);
-    assert_eq!(rt; ballot(members, 7).ok_or("seven")?.leader(members, 5), 1);
-    Ok(())
+}
+
+#[test]
+fn ballots_have_leaders(rt: HostRuntime) {
+    let members = three(&rt);
+    let leaders = (
+        Ballot::OWNER.leader(members, 5),
+        ballot(&rt, 7).leader(members, 5),
+    );
+    assert_eq!(rt; leaders, (2, 1));
 }
 
 // A Prepare is answered so.
@@ -53,15 +70,13 @@ fn assert_learns(rt: &impl Abort, slot: &mut Slot, value: Value, want: bool) {
 }
 
 #[test]
-fn an_acceptor_answers(rt: HostRuntime) -> Result<(), Fail> {
-    let members = Members::new(3).ok_or("three")?;
-    let four = ballot(members, 4).ok_or("four")?;
-    let five = ballot(members, 5).ok_or("five")?;
-    let seven = ballot(members, 7).ok_or("seven")?;
-    let eight = ballot(members, 8).ok_or("eight")?;
+fn an_acceptor_answers(rt: HostRuntime) {
+    let four = ballot(&rt, 4);
+    let five = ballot(&rt, 5);
+    let seven = ballot(&rt, 7);
     let ticket = Value::Ticket(0);
     let accepted = vote(five, ticket);
-    let mut slot = Slot::new(members);
+    let mut slot = Slot::new(three(&rt));
 
     assert_answers(&rt, &mut slot, four, Answer::Promise(None));
     assert_answers(&rt, &mut slot, four, Answer::Silent);
@@ -74,10 +89,9 @@ fn an_acceptor_answers(rt: HostRuntime) -> Result<(), Fail> {
     assert_learns(&rt, &mut slot, ticket, true);
     assert_learns(&rt, &mut slot, Value::Noop, false);
     assert_eq!(rt; slot.learned(), Some(ticket));
-    assert_answers(&rt, &mut slot, eight, Answer::Known(ticket));
+    assert_answers(&rt, &mut slot, ballot(&rt, 8), Answer::Known(ticket));
     assert_eq!(rt; slot.promised(), seven);
     assert_accepts(&rt, &mut slot, seven, ticket, true);
-    Ok(())
 }
 
 // A promise of a ballot is counted, and this is proposed.
@@ -104,14 +118,19 @@ fn assert_accept(rt: &impl Abort, slot: &mut Slot, from: u8, ballot: Ballot, wan
     assert_eq!(rt; slot.add_accept(from, ballot), want);
 }
 
+// All three promised the ballot that is tried, and accepted what was proposed at it.
+fn assert_has_all(rt: &impl Abort, slot: &Slot, ballot: Ballot, value: Value) {
+    assert_eq!(rt; (slot.trying(), slot.proposal()), (ballot, Some(value)));
+    assert_eq!(rt; slot.promises(), [true, true, true].as_slice());
+    assert_eq!(rt; slot.accepts(), [true, true, true].as_slice());
+}
+
 #[test]
-fn a_proposer_counts_servers(rt: HostRuntime) -> Result<(), Fail> {
-    let members = Members::new(3).ok_or("three")?;
-    let four = ballot(members, 4).ok_or("four")?;
-    let five = ballot(members, 5).ok_or("five")?;
+fn a_proposer_counts_servers(rt: HostRuntime) {
+    let four = ballot(&rt, 4);
     let ticket = Value::Ticket(0);
     let owned = vote(Ballot::OWNER, ticket);
-    let mut slot = Slot::new(members);
+    let mut slot = Slot::new(three(&rt));
 
     slot.begin(four);
     assert_promise(&rt, &mut slot, 1, four, None, None);
@@ -120,21 +139,16 @@ fn a_proposer_counts_servers(rt: HostRuntime) -> Result<(), Fail> {
     assert_promise(&rt, &mut slot, 0, four, None, None);
     assert_accept(&rt, &mut slot, 1, four, None);
     assert_accept(&rt, &mut slot, 1, four, None);
-    assert_accept(&rt, &mut slot, 2, five, None);
+    assert_accept(&rt, &mut slot, 2, ballot(&rt, 5), None);
     assert_accept(&rt, &mut slot, 2, four, Some(ticket));
     assert_accept(&rt, &mut slot, 0, four, None);
-    assert_eq!(rt; slot.trying(), four);
-    assert_eq!(rt; slot.proposal(), Some(ticket));
-    assert_eq!(rt; slot.promises(), [true, true, true].as_slice());
-    assert_eq!(rt; slot.accepts(), [true, true, true].as_slice());
-    Ok(())
+    assert_has_all(&rt, &slot, four, ticket);
 }
 
 #[test]
-fn an_owner_needs_no_first_phase(rt: HostRuntime) -> Result<(), Fail> {
-    let members = Members::new(3).ok_or("three")?;
+fn an_owner_needs_no_first_phase(rt: HostRuntime) {
     let ticket = Value::Ticket(5);
-    let mut slot = Slot::new(members);
+    let mut slot = Slot::new(three(&rt));
 
     slot.suggest(5);
     assert_accept(&rt, &mut slot, 0, Ballot::OWNER, None);
@@ -142,5 +156,4 @@ fn an_owner_needs_no_first_phase(rt: HostRuntime) -> Result<(), Fail> {
     assert_eq!(rt; slot.learned(), None);
     assert_accept(&rt, &mut slot, 1, Ballot::OWNER, Some(ticket));
     assert_eq!(rt; slot.learned(), Some(ticket));
-    Ok(())
 }

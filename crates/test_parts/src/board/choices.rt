@@ -11,7 +11,7 @@ use std::alloc::Global;
 use std::fmt::Debug;
 use std::panic::Expect;
 use std::process::Abort;
-use std::test::Fail;
+use std::slice::Iter;
 
 // A pick or an event, as `Debug` writes it.
 fn shown<R: Abort, T: Debug>(rt: &R, alloc: Global, value: &T) -> String {
@@ -71,7 +71,7 @@ fn take_one_command<R: Abort>(rt: &R, alloc: Global, cluster: &mut Cluster) {
 }
 
 #[test]
-fn words_pick_by_the_table(rt: HostRuntime) -> Result<(), Fail> {
+fn words_pick_by_the_table(rt: HostRuntime) {
     let alloc = rt.alloc();
     let mut cluster = new_cluster(&rt, alloc, 3);
     let on_new = ([40, 1, 2], 0, true, "Is(Deliver { message: 0, server: 2 })");
@@ -80,7 +80,6 @@ fn words_pick_by_the_table(rt: HostRuntime) -> Result<(), Fail> {
     for row in PICKS {
         assert_picks(&rt, alloc, &cluster, row);
     }
-    Ok(())
 }
 
 // Two workers over three servers, whose lists have 2, 1 and 2 commands.
@@ -109,6 +108,20 @@ fn submits(event: &Event, wanted: Option<&(u8, u32)>) -> bool {
     }
 }
 
+// Whether an event is what was picked: the next command that is left, or this event.
+fn is_picked<R: Abort>(
+    rt: &R,
+    alloc: Global,
+    event: &Event,
+    picked: Pick,
+    left: &mut Iter<(u8, u32)>,
+) -> bool {
+    match picked {
+        Pick::NextCommand => submits(event, left.next()),
+        Pick::Is(wanted) => shown(rt, alloc, event).as_str() == shown(rt, alloc, &wanted).as_str(),
+    }
+}
+
 // Whether 200 choices of a worker are what the words drawn beside them pick, and its commands come in this order of
 // servers and numbers.
 fn follows<R: Abort>(
@@ -130,13 +143,7 @@ fn follows<R: Abort>(
         let third = words_beside.next_word();
         let picked = pick([first, second, third], 4, 0 < left.len(), cluster);
         let event = chooser.choose(cluster).expect(rt, "memory");
-        let as_picked = match picked {
-            Pick::NextCommand => submits(&event, left.next()),
-            Pick::Is(wanted) => {
-                shown(rt, alloc, &event).as_str() == shown(rt, alloc, &wanted).as_str()
-            }
-        };
-        if !as_picked {
+        if !is_picked(rt, alloc, &event, picked, &mut left) {
             return false;
         }
         let _answer = cluster.step(event);
@@ -145,12 +152,11 @@ fn follows<R: Abort>(
 }
 
 #[test]
-fn choices_follow_the_words_and_the_lists(rt: HostRuntime) -> Result<(), Fail> {
+fn choices_follow_the_words_and_the_lists(rt: HostRuntime) {
     let alloc = rt.alloc();
     let plan = two_workers(&rt, alloc);
     let mut cluster = new_cluster(&rt, alloc, 3);
     let first = [(0, 0), (2, 20), (0, 1), (2, 21)];
     assert!(rt; follows(&rt, alloc, &plan, 0, &first, &mut cluster));
     assert!(rt; follows(&rt, alloc, &plan, 1, &[(1, 10)], &mut cluster));
-    Ok(())
 }

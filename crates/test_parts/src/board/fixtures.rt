@@ -1,5 +1,6 @@
 //! Commands, clusters and boards that the tests share.
-ghost use Rattle.std.specs.Prelude.{◌≡◌};
+ghost use Rattle.mencius_base.specs.Limits.{most_readers};
+ghost use Rattle.std.specs.Prelude.{◌≡◌, ◌<◌, ◌≤◌};
 
 use mencius_base::{Command, CommandId, Event, Key, Members, Op, Text};
 use mencius_board::Board;
@@ -7,6 +8,7 @@ use mencius_cluster::Cluster;
 use std::alloc::Global;
 use std::panic::Expect;
 use std::process::Abort;
+use std::sync::Wait;
 
 // Client 1's command of a number, which binds the key `a` to a text.
 pub fn set_a<R: Abort>(rt: &R, alloc: Global, number: u32, text: String) -> Command {
@@ -40,6 +42,13 @@ pub fn cas_a<R: Abort>(rt: &R, alloc: Global, number: u32, held: &str, text: &st
 pub fn new_cluster<R: Abort>(rt: &R, alloc: Global, servers: u8) -> Cluster {
     let members = Members::new(servers).expect(rt, "members");
     Cluster::new(alloc, members).expect(rt, "memory")
+}
+
+pub fn new_board<R: Abort + Wait>(rt: &R, alloc: Global, servers: u8, readers: u8) -> Board
+    requires { (0 < readers) × (readers ≤ most_readers) }
+{
+    let cluster = new_cluster(rt, alloc, servers);
+    Board::new(rt, alloc, cluster, readers).expect(rt, "a board")
 }
 
 // Takes an event that is accepted, and answers the number of the first message that it sends.

@@ -1,7 +1,7 @@
 //! Readers find what was shown, told or not, also beside a thread that steps.
 ghost use Rattle.std.specs.Prelude.{◌≡◌};
 
-use super::fixtures::{cas_a, decide, new_cluster, set_number, set_x};
+use super::fixtures::{cas_a, decide, new_board, set_number, set_x};
 use core::mem::replace_with;
 use mencius_board::{Board, BoardFault, News, Reader};
 use std::alloc::Global;
@@ -69,21 +69,30 @@ fn told_and_untold<R: Wait + Abort>(
     assert_lacks(rt, alloc, &mut told, "a");
     let news = board.show(rt, alloc)?;
     assert_told(rt, alloc, &mut told, news);
-    assert_finds_x(rt, alloc, &mut untold);
-    assert_eq!(rt; untold.count(), 1);
-    assert_lacks(rt, alloc, &mut untold, "b");
-    for _ in 0..3 {
-        assert_finds_x(rt, alloc, &mut told);
-        assert_finds_x(rt, alloc, &mut untold);
-    }
+    assert_untold(rt, alloc, &mut untold);
+    assert_find_x(rt, alloc, &mut told, &mut untold);
     Ok(())
+}
+
+// A reader that is told nothing finds the only command.
+fn assert_untold<R: Abort>(rt: &R, alloc: Global, reader: &mut Reader) {
+    assert_finds_x(rt, alloc, reader);
+    assert_eq!(rt; reader.count(), 1);
+    assert_lacks(rt, alloc, reader, "b");
+}
+
+// Two readers find it again and again.
+fn assert_find_x<R: Abort>(rt: &R, alloc: Global, first: &mut Reader, second: &mut Reader) {
+    for _ in 0..3 {
+        assert_finds_x(rt, alloc, first);
+        assert_finds_x(rt, alloc, second);
+    }
 }
 
 #[test]
 fn two_readers_find_what_is_shown(rt: HostRuntime) -> Result<(), Fail> {
     let alloc = rt.alloc();
-    let cluster = new_cluster(&rt, alloc, 1);
-    let mut board = Board::new(&rt, alloc, cluster, 2)?;
+    let mut board = new_board(&rt, alloc, 1, 2);
     let answer = told_and_untold(&rt, alloc, &mut board);
     let cluster = board.end(&rt);
     answer?;
@@ -114,8 +123,7 @@ fn told_of_the_last_change<R: Wait + Abort>(
 #[test]
 fn a_reader_finds_what_was_compared_and_set(rt: HostRuntime) -> Result<(), Fail> {
     let alloc = rt.alloc();
-    let cluster = new_cluster(&rt, alloc, 1);
-    let mut board = Board::new(&rt, alloc, cluster, 1)?;
+    let mut board = new_board(&rt, alloc, 1, 1);
     let answer = told_of_the_last_change(&rt, alloc, &mut board);
     let cluster = board.end(&rt);
     answer?;
@@ -168,10 +176,9 @@ fn finds_rising(alloc: Global, mut reader: Reader) -> bool {
 }
 
 #[test]
-fn readers_beside_a_thread_that_owns_the_board(rt: HostRuntime) -> Result<(), Fail> {
+fn readers_beside_a_thread_that_owns_the_board(rt: HostRuntime) {
     let alloc = rt.alloc();
-    let cluster = new_cluster(&rt, alloc, 1);
-    let mut board = Board::new(&rt, alloc, cluster, 2)?;
+    let mut board = new_board(&rt, alloc, 1, 2);
     let (first, second) = two_told(&rt, alloc, &mut board).expect(&rt, "two readers");
     let place = &mut board;
     let (all_shown, found) = thread::join(
@@ -188,5 +195,4 @@ fn readers_beside_a_thread_that_owns_the_board(rt: HostRuntime) -> Result<(), Fa
     let cluster = board.end(&rt);
     assert!(rt; all_shown && found.0 && found.1);
     assert_eq!(rt; cluster.commands(), 199);
-    Ok(())
 }

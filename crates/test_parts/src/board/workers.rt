@@ -1,12 +1,11 @@
 //! Workers run side by side, and a turn waits for the lock.
-use super::fixtures::{new_cluster, set_number};
+use super::fixtures::{new_board, set_number};
 use mencius_board::{Board, Gate, Plan, lend, run_workers};
 use std::alloc::Global;
 use std::panic::Expect;
 use std::process::Abort;
 use std::sync::atomic::{AtomicBool, Ordering};
 use std::sync::{Mutex, Wait};
-use std::test::Fail;
 use std::thread;
 
 // Workers of one turn each over three servers, each of which has one command.
@@ -54,21 +53,33 @@ impl Gate for Meeting {
     }
 }
 
+impl Meeting {
+    fn new() -> Meeting {
+        Meeting {
+            here: [AtomicBool::new(false), AtomicBool::new(false)],
+            missed: AtomicBool::new(false),
+        }
+    }
+
+    // Whether both came and neither missed the other.
+    fn are_met(&self) -> bool {
+        let [zero, one] = &self.here;
+        zero.load(Ordering::SeqCst)
+            && one.load(Ordering::SeqCst)
+            && !self.missed.load(Ordering::SeqCst)
+    }
+}
+
 #[test]
-fn two_workers_meet(rt: HostRuntime) -> Result<(), Fail> {
+fn two_workers_meet(rt: HostRuntime) {
     let alloc = rt.alloc();
     let plan = plan_of(&rt, alloc, 2, 1);
-    let gate = Meeting {
-        here: [AtomicBool::new(false), AtomicBool::new(false)],
-        missed: AtomicBool::new(false),
-    };
-    let board = Mutex::new(Board::new(&rt, alloc, new_cluster(&rt, alloc, 3), 1)?);
-    let ran = run_workers(&rt, alloc, &board, &plan, &gate).map(|choosers| choosers.len());
+    let gate = Meeting::new();
+    let board = Mutex::new(new_board(&rt, alloc, 3, 1));
+    let choosers = run_workers(&rt, alloc, &board, &plan, &gate).expect(&rt, "a run");
+    assert_eq!(rt; choosers.len(), 2);
     drop(board.into_inner().end(&rt));
-    assert_eq!(rt; ran, Ok(2));
-    assert!(rt; gate.here.iter().all(|here| here.load(Ordering::SeqCst)));
-    assert!(rt; !gate.missed.load(Ordering::SeqCst));
-    Ok(())
+    assert!(rt; gate.are_met());
 }
 
 // Lets the only worker take its turn once another thread has the lock, and tells that thread so.
@@ -96,7 +107,7 @@ fn keep_lock<R: Wait>(rt: &R, board: &Mutex<Board>, gate: &Late) -> bool {
 }
 
 #[test]
-fn a_turn_waits_for_the_lock(rt: HostRuntime) -> Result<(), Fail> {
+fn a_turn_waits_for_the_lock(rt: HostRuntime) {
     let alloc = rt.alloc();
     // The first words of this seed pick the next command.
     let plan = plan_of(&rt, alloc, 1, 24);
@@ -104,7 +115,7 @@ fn a_turn_waits_for_the_lock(rt: HostRuntime) -> Result<(), Fail> {
         held: AtomicBool::new(false),
         passed: AtomicBool::new(false),
     };
-    let board = Mutex::new(Board::new(&rt, alloc, new_cluster(&rt, alloc, 3), 1)?);
+    let board = Mutex::new(new_board(&rt, alloc, 3, 1));
     let (kept, ran) = thread::join(
         &rt,
         || keep_lock(&rt, &board, &gate),
@@ -113,5 +124,4 @@ fn a_turn_waits_for_the_lock(rt: HostRuntime) -> Result<(), Fail> {
     let cluster = board.into_inner().end(&rt);
     assert!(rt; kept && ran);
     assert_eq!(rt; (cluster.commands(), cluster.events()), (1, 1));
-    Ok(())
 }

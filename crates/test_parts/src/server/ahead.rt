@@ -1,16 +1,16 @@
 //! Suspicions that look ahead of the own front.
 
-use super::{assert_happens, assert_learns, prepare, submit, suspect, take_skip};
-use mencius_base::{Ballot, Members, Message, Outbox, Refusal, Value};
+use super::{Act, assert_happens, assert_learns, ballot, prepare, take_skip};
+use mencius_base::{Members, Message, Outbox, Refusal, Value};
 use mencius_server::Server;
 use std::alloc::Global;
+use std::panic::Expect;
 use std::process::Abort;
-use std::test::Fail;
 
 // Server 1 of three that look so far ahead.
-fn new_server_with_beta(alloc: Global, beta: u32) -> Result<Server, Fail> {
-    let members = Members::with_beta(3, beta).ok_or("three")?;
-    Ok(Server::new(alloc, members, 1)?)
+fn new_server_with_beta(rt: &impl Abort, alloc: Global, beta: u32) -> Server {
+    let members = Members::with_beta(3, beta).expect(rt, "three");
+    Server::new(alloc, members, 1).expect(rt, "memory")
 }
 
 // No-op is learned at an instance of server 0.
@@ -32,7 +32,7 @@ fn assert_reaches(rt: &impl Abort, alloc: Global, server: &mut Server, insts: &[
         Ok(0)
     };
     let mut out = Outbox::new(alloc, 100);
-    assert_happens(rt, server, suspect(1, 0), &mut out, answer);
+    assert_happens(rt, server, Act::Suspect(0), &mut out, answer);
     let mut sent = out.messages().iter();
     for wanted in insts {
         match sent.next() {
@@ -57,66 +57,82 @@ const REACHES: [(u32, &[u32], &[u32]); 8] = [
 ];
 
 #[test]
-fn suspicions_look_ahead(rt: HostRuntime) -> Result<(), Fail> {
+fn suspicions_look_ahead(rt: HostRuntime) {
     let alloc = rt.alloc();
     for (beta, learned, insts) in REACHES {
-        let mut one = new_server_with_beta(alloc, beta)?;
-        for inst in learned {
-            learn_noop(&rt, alloc, &mut one, *inst);
-        }
+        let mut one = new_server_with_beta(&rt, alloc, beta);
+        move_on(&rt, alloc, &mut one, &[], learned);
         assert_reaches(&rt, alloc, &mut one, insts);
         // What it keeps of the first suspicion changes nothing.
         assert_reaches(&rt, alloc, &mut one, insts);
     }
-    Ok(())
 }
 
 // Server 1 moves its front by so many own instances, and learns what server 0 has no part in any more.
 fn move_on(rt: &impl Abort, alloc: Global, server: &mut Server, tickets: &[u32], learned: &[u32]) {
     let mut out = Outbox::new(alloc, 100);
     for ticket in tickets {
-        let event = submit(server.id(), *ticket);
-        assert_happens(rt, server, event, &mut out, Ok(0));
+        assert_happens(rt, server, Act::Submit(*ticket), &mut out, Ok(0));
     }
     for inst in learned {
         learn_noop(rt, alloc, server, *inst);
     }
 }
 
+// A front moves on by these own instances and by what is learned; the front then, and where a suspicion reaches then.
+type Move = (&'static [u32], &'static [u32], u32, &'static [u32]);
+
+const MOVES: [Move; 5] = [
+    (&[], &[], 1, &[0, 3]),
+    (&[], &[0], 1, &[]),
+    (&[0], &[], 4, &[3, 6]),
+    (&[1], &[6, 3], 7, &[]),
+    (&[2], &[12], 10, &[9]),
+];
+
 // Where a suspicion may begin, and how far it reaches, moves with the own front.
 #[test]
-fn suspicions_look_ahead_of_the_front(rt: HostRuntime) -> Result<(), Fail> {
+fn suspicions_look_ahead_of_the_front(rt: HostRuntime) {
     let alloc = rt.alloc();
-    let mut one = new_server_with_beta(alloc, 2)?;
-    assert_reaches(&rt, alloc, &mut one, &[0, 3]);
-    move_on(&rt, alloc, &mut one, &[], &[0]);
-    assert_reaches(&rt, alloc, &mut one, &[]);
-    move_on(&rt, alloc, &mut one, &[0], &[]);
-    assert_reaches(&rt, alloc, &mut one, &[3, 6]);
-    move_on(&rt, alloc, &mut one, &[1], &[6, 3]);
-    assert_eq!(rt; one.front(), 7);
-    assert_reaches(&rt, alloc, &mut one, &[]);
-    move_on(&rt, alloc, &mut one, &[2], &[12]);
-    assert_reaches(&rt, alloc, &mut one, &[9]);
-    Ok(())
+    let mut one = new_server_with_beta(&rt, alloc, 2);
+    for (tickets, learned, front, insts) in MOVES {
+        move_on(&rt, alloc, &mut one, tickets, learned);
+        assert_eq!(rt; one.front(), front);
+        assert_reaches(&rt, alloc, &mut one, insts);
+    }
+}
+
+// A suspicion of server 0 is answered so where so many messages have room.
+fn assert_suspects(
+    rt: &impl Abort,
+    alloc: Global,
+    server: &mut Server,
+    room: u32,
+    answer: Result<u32, Refusal>,
+) -> Outbox {
+    let mut out = Outbox::new(alloc, room);
+    assert_happens(rt, server, Act::Suspect(0), &mut out, answer);
+    out
 }
 
 // The last instance is 4,095, however far a server looks, and all are sent or none.
 #[test]
-fn suspicions_end_at_the_last_instance(rt: HostRuntime) -> Result<(), Fail> {
+fn suspicions_end_at_the_last_instance(rt: HostRuntime) {
     let alloc = rt.alloc();
-    let mut one = new_server_with_beta(alloc, 4095)?;
-    let mut little = Outbox::new(alloc, 1365);
+    let mut one = new_server_with_beta(&rt, alloc, 4095);
     let full = Err(Refusal::MessagesFull);
-    assert_happens(&rt, &mut one, suspect(1, 0), &mut little, full);
-    let mut out = Outbox::new(alloc, 1366);
-    assert_happens(&rt, &mut one, suspect(1, 0), &mut out, Ok(0));
-    let four = Ballot::new(one.members(), 1, 1).ok_or("ballot 4")?;
+    drop(assert_suspects(&rt, alloc, &mut one, 1365, full));
+    let out = assert_suspects(&rt, alloc, &mut one, 1366, Ok(0));
     assert_eq!(rt; out.len(), 1366);
-    assert!(rt; out.messages().last().copied() == prepare(1, 4095, four));
-    let mut other = new_server_with_beta(alloc, 4095)?;
-    take_skip(&rt, &mut other, &mut out, (0, 4098), 1366);
-    assert_reaches(&rt, alloc, &mut other, &[]);
-    assert_reaches(&rt, alloc, &mut other, &[]);
-    Ok(())
+    let last = out.messages().last().copied();
+    assert!(rt; last == prepare(1, 4095, ballot(&rt, 4)));
+}
+
+#[test]
+fn a_skip_to_the_last_instance_leaves_none_to_suspect(rt: HostRuntime) {
+    let alloc = rt.alloc();
+    let mut one = new_server_with_beta(&rt, alloc, 4095);
+    take_skip(&rt, &mut one, &mut Outbox::new(alloc, 0), (0, 4098), 1366);
+    assert_reaches(&rt, alloc, &mut one, &[]);
+    assert_reaches(&rt, alloc, &mut one, &[]);
 }
