@@ -6,8 +6,8 @@ use crate::courses::{
 use mencius_base::{CommandId, Entry, Event, Members, Message, Value};
 use mencius_cluster::{Answered, Cluster, Effect};
 use std::alloc::Global;
+use std::panic::Expect;
 use std::process::Abort;
-use std::test::Fail;
 
 // For each event of `get_at_another_server` how many messages it sends, and how many instances it teaches.
 const EFFECTS: [(u32, u32); 14] = [
@@ -37,24 +37,27 @@ fn shown(cluster: &Cluster, client: u32) -> &str {
     }
 }
 
+// An event is accepted, and does this.
+fn assert_effect<R: Abort>(rt: &R, cluster: &mut Cluster, event: Event, effect: Effect) {
+    assert!(rt; cluster.step(event) == Ok(effect));
+}
+
 #[test]
-fn each_event_has_its_effect(rt: HostRuntime) -> Result<(), Fail> {
+fn each_event_has_its_effect(rt: HostRuntime) {
     let alloc = rt.alloc();
     let scenario = scenario_of(&rt, alloc, GET_AT_ANOTHER_SERVER);
     let mut cluster = new_cluster(&rt, alloc, scenario.members);
-    let mut wanted = EFFECTS.iter();
-    for event in scenario.course {
-        let first = cluster.messages();
-        let &(sent, learned) = wanted.next().ok_or("more events than effects")?;
+    assert_eq!(rt; scenario.course.len(), EFFECTS.len());
+    let mut first: u32 = 0;
+    for (event, (sent, learned)) in scenario.course.into_iter().zip(EFFECTS) {
         let effect = Effect {
             first,
             sent,
             learned,
         };
-        assert!(rt; cluster.step(event) == Ok(effect));
+        assert_effect(&rt, &mut cluster, event, effect);
+        first = first.wrapping_add(sent);
     }
-    assert!(rt; wanted.next().is_none());
-    Ok(())
 }
 
 // What a cluster answers of a server: its front, how many instances it executed, and how many commands.
@@ -64,21 +67,31 @@ fn answers_of(cluster: &Cluster, server: u8) -> Option<(u32, u32, usize)> {
     Some((front, done, cluster.history(server)?.len()))
 }
 
+// What it answers of each of the three.
+const ANSWERS: [(u32, u32, usize); 3] = [(3, 1, 1), (4, 2, 2), (2, 0, 0)];
+
 fn assert_servers<R: Abort>(rt: &R, cluster: &Cluster) {
-    assert_eq!(rt; cluster.members().count(), 3);
-    assert_eq!(rt; cluster.servers(), 3);
-    assert_eq!(rt; answers_of(cluster, 0), Some((3, 1, 1)));
-    assert_eq!(rt; answers_of(cluster, 1), Some((4, 2, 2)));
-    assert_eq!(rt; answers_of(cluster, 2), Some((2, 0, 0)));
+    let found = (
+        cluster.members().count(),
+        cluster.servers(),
+        cluster.longest(),
+    );
+    assert_eq!(rt; found, (3, 3, 1));
+    for (server, wanted) in (0..3).zip(ANSWERS) {
+        assert_eq!(rt; answers_of(cluster, server), Some(wanted));
+    }
     assert_eq!(rt; cluster.front(3), None);
-    assert_eq!(rt; cluster.longest(), 1);
+}
+
+// The ticket that a server executed last.
+fn last_of(cluster: &Cluster, server: u8) -> Option<u32> {
+    cluster.history(server)?.last().copied()
 }
 
 fn assert_learned<R: Abort>(rt: &R, cluster: &Cluster) {
-    let last = cluster.history(1).and_then(|history| history.last());
-    assert_eq!(rt; last.copied(), Some(1));
-    assert_eq!(rt; cluster.learned(1, 1), Some(Value::Ticket(1)));
-    assert_eq!(rt; cluster.learned(2, 1), None);
+    assert_eq!(rt; last_of(cluster, 1), Some(1));
+    let found = (cluster.learned(1, 1), cluster.learned(2, 1));
+    assert_eq!(rt; found, (Some(Value::Ticket(1)), None));
 }
 
 #[test]
@@ -89,35 +102,33 @@ fn servers_answer(rt: HostRuntime) {
 }
 
 // Server 1 suspects server 0, where servers look ahead by two or not: how many Prepares it sends, at 0 and at 3.
-fn assert_sends_ahead<R: Abort>(rt: &R, alloc: Global, beta: u32, sent: u32) -> Result<(), Fail> {
-    let members = Members::with_beta(3, beta).ok_or("three servers")?;
+fn assert_sends_ahead<R: Abort>(rt: &R, alloc: Global, beta: u32, sent: u32) {
+    let members = Members::with_beta(3, beta).expect(rt, "three servers");
     let mut cluster = new_cluster(rt, alloc, members);
     assert_eq!(rt; cluster.members().beta(), beta);
+    let suspicion = Event::Suspect {
+        server: 1,
+        suspected: 0,
+    };
     let effect = Effect {
         first: 0,
         sent,
         learned: 0,
     };
-    let suspicion = Event::Suspect {
-        server: 1,
-        suspected: 0,
-    };
-    assert!(rt; cluster.step(suspicion) == Ok(effect));
+    assert_effect(rt, &mut cluster, suspicion, effect);
     assert_eq!(rt; cluster.members().beta(), beta);
-    Ok(())
 }
 
 #[test]
-fn members_keep_their_beta(rt: HostRuntime) -> Result<(), Fail> {
+fn members_keep_their_beta(rt: HostRuntime) {
     let alloc = rt.alloc();
-    assert_sends_ahead(&rt, alloc, 0, 1)?;
-    assert_sends_ahead(&rt, alloc, 2, 2)
+    assert_sends_ahead(&rt, alloc, 0, 1);
+    assert_sends_ahead(&rt, alloc, 2, 2);
 }
 
 fn assert_counts<R: Abort>(rt: &R, cluster: &Cluster) {
-    assert_eq!(rt; cluster.messages(), 8);
-    assert_eq!(rt; cluster.events(), 14);
-    assert_eq!(rt; cluster.commands(), 2);
+    let found = (cluster.messages(), cluster.events(), cluster.commands());
+    assert_eq!(rt; found, (8, 14, 2));
 }
 
 // Message 4 is the suggestion of the second command.

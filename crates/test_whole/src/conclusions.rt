@@ -1,8 +1,13 @@
 //! What a caller concludes of a cluster, of servers stepped by hand, and of a board's readers, worked once.
 
-use crate::courses::{GET_AT_ANOTHER_SERVER, ONE_COMMAND, cluster_after, new_cluster, scenario_of};
-use mencius_base::{Ballot, Members, Message, Outbox, Refusal};
+ghost use Rattle.std.specs.Prelude.{◌≡◌, ◌<◌};
+
+use crate::courses::{
+    GET_AT_ANOTHER_SERVER, ONE_COMMAND, cluster_after, new_board, new_cluster, scenario_of,
+};
+use mencius_base::{Ballot, Event, Members, Message, Outbox, Refusal};
 use mencius_board::{Board, BoardFault};
+use mencius_cluster::Cluster;
 use mencius_conclusions::conclusions::{histories, note_across};
 use mencius_conclusions::hands::deliver;
 use mencius_conclusions::readings::{Reading, look_up_shown, look_up_within};
@@ -11,11 +16,13 @@ use std::alloc::Global;
 use std::panic::Expect;
 use std::process::Abort;
 use std::sync::Wait;
-use std::test::Fail;
 
 // How many events come first, two servers, the first one's history then, and the second one's
-// history after all events. Server 0 executes ticket 0, and later server 1 both tickets.
-const ROWS: [(usize, u8, u8, &[u32], &[u32]); 5] = [
+// history after all events.
+type Row = (usize, u8, u8, &'static [u32], &'static [u32]);
+
+// Server 0 executes ticket 0, and later server 1 both tickets.
+const ROWS: [Row; 5] = [
     (0, 1, 1, &[], &[0, 1]),
     (6, 0, 1, &[0], &[0, 1]),
     (6, 0, 2, &[0], &[]),
@@ -23,42 +30,55 @@ const ROWS: [(usize, u8, u8, &[u32], &[u32]); 5] = [
     (14, 1, 0, &[0, 1], &[0]),
 ];
 
-#[test]
-fn noted_histories(rt: HostRuntime) -> Result<(), Fail> {
-    let alloc = rt.alloc();
-    for (first, server, other, earlier, later) in ROWS {
-        let scenario = scenario_of(&rt, alloc, GET_AT_ANOTHER_SERVER);
-        let mut cluster = new_cluster(&rt, alloc, scenario.members);
-        let mut rest = scenario.course.into_iter();
-        for event in rest.by_ref().take(first) {
-            assert!(rt; cluster.step(event).is_ok());
-        }
-        let rest = rest.collect(alloc)?;
-        let noted = note_across(alloc, &mut cluster, server, rest, other).expect(&rt, "memory");
-        assert!(rt; noted.earlier.as_slice() == earlier, "after {first}");
-        assert!(rt; noted.later.as_slice() == later, "after {first}");
-        assert_eq!(rt; cluster.events(), 14);
-        let (longer, shorter) = histories(&cluster, 1, 0).expect(&rt, "members");
-        assert!(rt; longer == [0, 1].as_slice());
-        assert!(rt; shorter == [0].as_slice());
-        assert!(rt; histories(&cluster, 1, 3).is_none());
+// A cluster after so many events, which accepts each, and the events that are left.
+fn begun<R: Abort>(rt: &R, alloc: Global, first: usize) -> (Cluster, Vec<Event>) {
+    let scenario = scenario_of(rt, alloc, GET_AT_ANOTHER_SERVER);
+    let mut cluster = new_cluster(rt, alloc, scenario.members);
+    let mut rest = scenario.course.into_iter();
+    for event in rest.by_ref().take(first) {
+        assert!(rt; cluster.step(event).is_ok());
     }
-    Ok(())
+    (cluster, rest.collect(alloc).expect(rt, "memory"))
+}
+
+// After all events server 1 has executed both tickets, and server 0 the first.
+fn assert_histories<R: Abort>(rt: &R, cluster: &Cluster) {
+    let (longer, shorter) = histories(cluster, 1, 0).expect(rt, "members");
+    assert!(rt; longer == [0, 1].as_slice());
+    assert!(rt; shorter == [0].as_slice());
+    assert!(rt; histories(cluster, 1, 3).is_none());
+}
+
+fn assert_noted<R: Abort>(rt: &R, alloc: Global, row: Row) {
+    let (first, server, other, earlier, later) = row;
+    let (mut cluster, rest) = begun(rt, alloc, first);
+    let noted = note_across(alloc, &mut cluster, server, rest, other).expect(rt, "memory");
+    assert!(rt; noted.earlier.as_slice() == earlier, "after {first}");
+    assert!(rt; noted.later.as_slice() == later, "after {first}");
+    assert_eq!(rt; cluster.events(), 14);
+    assert_histories(rt, &cluster);
 }
 
 #[test]
-fn no_such_server(rt: HostRuntime) -> Result<(), Fail> {
-    let alloc = rt.alloc();
-    for (server, other) in [(3, 0), (0, 3), (3, 3)] {
-        let scenario = scenario_of(&rt, alloc, GET_AT_ANOTHER_SERVER);
-        let mut cluster = new_cluster(&rt, alloc, scenario.members);
-        let events = scenario.course.into_iter().collect(alloc)?;
-        let answer = note_across(alloc, &mut cluster, server, events, other);
-        let refusal = answer.expect_err(&rt, "no such server");
-        assert_eq!(rt; refusal, Refusal::BadServer);
-        assert_eq!(rt; cluster.events(), 0);
+fn noted_histories(rt: HostRuntime) {
+    for row in ROWS {
+        assert_noted(&rt, rt.alloc(), row);
     }
-    Ok(())
+}
+
+fn assert_no_server<R: Abort>(rt: &R, alloc: Global, server: u8, other: u8) {
+    let (mut cluster, events) = begun(rt, alloc, 0);
+    let answer = note_across(alloc, &mut cluster, server, events, other);
+    let refusal = answer.expect_err(rt, "no such server");
+    assert_eq!(rt; refusal, Refusal::BadServer);
+    assert_eq!(rt; cluster.events(), 0);
+}
+
+#[test]
+fn no_such_server(rt: HostRuntime) {
+    for (server, other) in [(3, 0), (0, 3), (3, 3)] {
+        assert_no_server(&rt, rt.alloc(), server, other);
+    }
 }
 
 // The last message says that server 1 accepts what server 0 suggested at instance 0.
@@ -72,24 +92,43 @@ fn assert_accepted<R: Abort>(rt: &R, out: &Outbox) {
     assert!(rt; out.messages().last() == Some(&answer));
 }
 
+// One of three servers.
+fn new_server<R: Abort>(rt: &R, alloc: Global, members: Members, id: u8) -> Server
+    requires { id < members.count }
+    ensures id { result.id ≡ id }
+    ensures members { result.members ≡ members }
+{
+    Server::new(alloc, members, id).expect(rt, "memory")
+}
+
+// A server suggests its first ticket.
+fn suggested<R: Abort>(rt: &R, server: &mut Server, out: &mut Outbox) -> Message
+    ensures id { server.new.id ≡ server.old.id }
+    ensures members { server.new.members ≡ server.old.members }
+{
+    assert!(rt; server.submit(0, out).is_ok());
+    *out.messages().first().expect(rt, "a suggestion")
+}
+
 // Server 1 hears the first suggestion of server 0, and accepts it.
 #[test]
-fn first_delivery(rt: HostRuntime) -> Result<(), Fail> {
+fn first_delivery(rt: HostRuntime) {
     let alloc = rt.alloc();
     let members = Members::new(3).expect(&rt, "three servers");
-    let mut zero = Server::new(alloc, members, 0).expect(&rt, "memory");
-    let mut one = Server::new(alloc, members, 1).expect(&rt, "memory");
-    let two = Server::new(alloc, members, 2).expect(&rt, "memory");
+    let mut zero = new_server(&rt, alloc, members, 0);
+    let mut one = new_server(&rt, alloc, members, 1);
+    let two = new_server(&rt, alloc, members, 2);
     let mut out = Outbox::new(alloc, 8);
-    assert!(rt; zero.submit(0, &mut out).is_ok());
-    let message = *out.messages().first().expect(&rt, "a suggestion");
-    if !message.is_for(members, 1) {
-        assert!(rt; false, "it is for server 1");
-        return Ok(());
-    }
+    let message = suggested(&rt, &mut zero, &mut out);
+    assert!(rt; message.is_for(members, 1), "it is for server 1");
     assert!(rt; deliver(&mut one, &zero, &two, &mut out, &message) == Ok(0));
     assert_accepted(&rt, &out);
-    Ok(())
+}
+
+// What is found, in so many commands.
+fn assert_reading<R: Abort>(rt: &R, reading: &Reading, count: u32, text: Option<&str>) {
+    assert_eq!(rt; reading.count, count);
+    assert_eq!(rt; reading.text.as_deref(), text);
 }
 
 fn look_up<R: Wait>(rt: &R, alloc: Global, board: &mut Board) -> Result<Reading, BoardFault> {
@@ -98,17 +137,13 @@ fn look_up<R: Wait>(rt: &R, alloc: Global, board: &mut Board) -> Result<Reading,
 }
 
 #[test]
-fn a_told_reader_finds_what_was_executed(rt: HostRuntime) -> Result<(), Fail> {
+fn a_told_reader_finds_what_was_executed(rt: HostRuntime) {
     let alloc = rt.alloc();
-    let cluster = cluster_after(&rt, alloc, ONE_COMMAND);
-    let mut board = Board::new(&rt, alloc, cluster, 1).expect(&rt, "memory");
+    let mut board = new_board(&rt, alloc, cluster_after(&rt, alloc, ONE_COMMAND));
     let answer = look_up(&rt, alloc, &mut board);
     let cluster = board.end(&rt);
-    let found = answer.expect(&rt, "a reading");
-    assert_eq!(rt; found.count, 1);
-    assert!(rt; found.text.expect(&rt, "a text").as_str() == "x");
+    assert_reading(&rt, &answer.expect(&rt, "a reading"), 1, Some("x"));
     assert_eq!(rt; cluster.events(), 6);
-    Ok(())
 }
 
 // A lookup before the longest history is shown, and one after.
@@ -125,15 +160,12 @@ fn look_up_twice<R: Wait>(
 }
 
 #[test]
-fn an_untold_reader_finds_what_is_shown(rt: HostRuntime) -> Result<(), Fail> {
+fn an_untold_reader_finds_what_is_shown(rt: HostRuntime) {
     let alloc = rt.alloc();
-    let cluster = cluster_after(&rt, alloc, ONE_COMMAND);
-    let mut board = Board::new(&rt, alloc, cluster, 1).expect(&rt, "memory");
+    let mut board = new_board(&rt, alloc, cluster_after(&rt, alloc, ONE_COMMAND));
     let answer = look_up_twice(&rt, alloc, &mut board);
     drop(board.end(&rt));
     let (before, after) = answer.expect(&rt, "two readings");
-    assert_eq!(rt; (before.count, after.count), (0, 1));
-    assert!(rt; before.text.is_none());
-    assert!(rt; after.text.expect(&rt, "a text").as_str() == "x");
-    Ok(())
+    assert_reading(&rt, &before, 0, None);
+    assert_reading(&rt, &after, 1, Some("x"));
 }

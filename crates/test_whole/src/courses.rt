@@ -1,11 +1,13 @@
 //! Schedules, and clusters that were stepped through them.
 
-use mencius_app::{Events, Scenario, read_scenario};
+use mencius_app::{Events, Scenario, read_plan, read_scenario};
 use mencius_base::{Members, Refusal};
+use mencius_board::{Board, Plan};
 use mencius_cluster::Cluster;
 use std::alloc::Global;
 use std::panic::Expect;
 use std::process::Abort;
+use std::sync::Wait;
 
 /// Server 0 sets `a`, and nobody suspects it.
 pub const ONE_COMMAND: &str = "{\"version\":1,\"servers\":3,\"events\":[\
@@ -28,9 +30,19 @@ pub fn scenario_of<R: Abort>(rt: &R, alloc: Global, text: &str) -> Scenario<Even
     read_scenario(alloc, text.as_bytes()).expect(rt, "a scenario")
 }
 
+/// What the scenario of a run says.
+pub fn plan_of<R: Abort>(rt: &R, alloc: Global, text: &str) -> Scenario<Plan> {
+    read_plan(alloc, text.as_bytes()).expect(rt, "a plan")
+}
+
 /// A cluster of these members to which nothing has happened yet.
 pub fn new_cluster<R: Abort>(rt: &R, alloc: Global, members: Members) -> Cluster {
     Cluster::new(alloc, members).expect(rt, "memory")
+}
+
+/// A board over a cluster, with room for one reader.
+pub fn new_board<R: Abort + Wait>(rt: &R, alloc: Global, cluster: Cluster) -> Board {
+    Board::new(rt, alloc, cluster, 1).expect(rt, "a board")
 }
 
 /// A cluster after a schedule.

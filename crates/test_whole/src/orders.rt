@@ -1,16 +1,15 @@
 //! Two workers whose gate lets one turn begin at a time, in a known order: their run is a board on which these turns
 //! are taken in this order, and a reader beside them finds what worker 0 has shown.
 
-use crate::courses::new_cluster;
-use crate::runs::{TWO_WORKERS, is_printed, ran};
-use mencius_app::read_plan;
-use mencius_board::{Board, Chooser, Gate, Reader, lend, run_workers, worker_turn};
+use crate::courses::{new_board, new_cluster, plan_of};
+use crate::runs::{TWO_WORKERS, is_printed, printed, run_two, take};
+use mencius_board::{Board, Chooser, Gate, Plan, Reader, lend};
 use mencius_cluster::Cluster;
 use std::alloc::Global;
 use std::panic::Expect;
 use std::process::Abort;
 use std::sync::{Condvar, Mutex, Wait};
-use std::test::Fail;
+use std::thread::Threads;
 
 // How many turns each of the two workers takes.
 const TURNS: usize = 2000;
@@ -97,52 +96,61 @@ struct Outcome {
     counts: Vec<u32>,
 }
 
-fn take<R: Abort>(rt: &R, board: &mut Board, chooser: &mut Chooser) {
-    let answer = worker_turn(board, chooser);
-    assert_eq!(rt; answer, Ok(()));
+// How many commands a board shows.
+fn show<R: Abort + Wait>(rt: &R, alloc: Global, board: &mut Board) -> u32 {
+    board.show(rt, alloc).expect(rt, "News").count()
 }
 
-// Takes the turns in their order, and the last two in this one. After each 64th turn of worker 0 the board is shown.
-fn outcome_of<R: Abort + Wait>(rt: &R, alloc: Global, last_two: [u8; 2]) -> Result<Outcome, Fail> {
-    let scenario = read_plan(alloc, TWO_WORKERS.as_bytes()).map_err(|_| "a plan")?;
-    let cluster = new_cluster(rt, alloc, scenario.members);
-    assert!(rt; scenario.course.workers() == 2);
-    let mut zero = Chooser::new(&scenario.course, 0);
-    let mut one = Chooser::new(&scenario.course, 1);
+// Takes the turns in their order, and the last two in this one, and answers how many commands are shown before each
+// turn of worker 1. After each 64th turn of worker 0 the board is shown.
+fn take_turns<R: Abort + Wait>(
+    rt: &R,
+    alloc: Global,
+    board: &mut Board,
+    plan: &Plan,
+    last_two: [u8; 2],
+) -> Vec<u32> {
+    assert!(rt; plan.workers() == 2);
+    let mut zero = Chooser::new(plan, 0);
+    let mut one = Chooser::new(plan, 1);
     let mut counts = Vec::new(alloc);
     let mut count = 0;
     let mut turns: u32 = 0;
-    let mut board = Board::new(rt, alloc, cluster, 1).expect(rt, "a board");
     for worker in (0..TURNS_IN_ORDER).map(worker_of).chain(last_two) {
         if worker == 0 {
-            take(rt, &mut board, &mut zero);
+            take(rt, board, &mut zero);
             turns = turns.wrapping_add(1);
             if turns % 64 == 0 {
-                count = board.show(rt, alloc).expect(rt, "News").count();
+                count = show(rt, alloc, board);
             }
         } else {
             counts.push(count).expect(rt, "memory");
-            take(rt, &mut board, &mut one);
+            take(rt, board, &mut one);
         }
     }
+    counts
+}
+
+fn outcome_of<R: Abort + Wait>(rt: &R, alloc: Global, last_two: [u8; 2]) -> Outcome {
+    let scenario = plan_of(rt, alloc, TWO_WORKERS);
+    let mut board = new_board(rt, alloc, new_cluster(rt, alloc, scenario.members));
+    let counts = take_turns(rt, alloc, &mut board, &scenario.course, last_two);
     let cluster = board.end(rt);
-    Ok(Outcome { cluster, counts })
+    Outcome { cluster, counts }
+}
+
+// Whether a text is what is printed of the turns, the last two in this order.
+fn is_of_turns<R: Abort + Wait>(rt: &R, alloc: Global, text: &str, last_two: [u8; 2]) -> bool {
+    let outcome = outcome_of(rt, alloc, last_two);
+    is_printed(rt, alloc, text, &outcome.cluster)
 }
 
 #[test]
-fn a_run_is_a_board_that_is_stepped_in_order(rt: HostRuntime) -> Result<(), Fail> {
+fn a_run_is_a_board_that_is_stepped_in_order(rt: HostRuntime) {
     let alloc = rt.alloc();
-    let mut written = Vec::new(alloc);
-    let answer = ran(&rt, alloc, TWO_WORKERS, &OrderGate::new(&rt), &mut written);
-    assert_eq!(rt; answer, Ok(()));
-    let text = String::from_utf8(written)?;
-    let first = outcome_of(&rt, alloc, [0, 1])?;
-    let second = outcome_of(&rt, alloc, [1, 0])?;
-    assert!(rt;
-        is_printed(&rt, alloc, text.as_str(), &first.cluster)?
-            || is_printed(&rt, alloc, text.as_str(), &second.cluster)?
-    );
-    Ok(())
+    let written = printed(&rt, alloc, TWO_WORKERS, &OrderGate::new(&rt));
+    let text = written.as_str();
+    assert!(rt; is_of_turns(&rt, alloc, text, [0, 1]) || is_of_turns(&rt, alloc, text, [1, 0]));
 }
 
 // A reader that looks again and again.
@@ -172,6 +180,22 @@ struct ReaderGate<'a, R> {
     looks: Mutex<Looks>,
 }
 
+impl<'a, R> ReaderGate<'a, R> {
+    fn new(rt: &'a R, alloc: Global, reader: Reader, counts: &'a [u32]) -> ReaderGate<'a, R> {
+        let looks = Looks {
+            reader,
+            lookups: 0,
+            are_right: true,
+        };
+        ReaderGate {
+            order: OrderGate::new(rt),
+            alloc,
+            counts,
+            looks: Mutex::new(looks),
+        }
+    }
+}
+
 impl<R: Wait> Gate for ReaderGate<'_, R> {
     fn pass(&self, worker: u8) {
         self.order.pass(worker);
@@ -183,34 +207,24 @@ impl<R: Wait> Gate for ReaderGate<'_, R> {
     }
 }
 
-#[test]
-fn a_reader_beside_workers_finds_what_is_shown(rt: HostRuntime) -> Result<(), Fail> {
-    let alloc = rt.alloc();
-    let scenario = read_plan(alloc, TWO_WORKERS.as_bytes()).map_err(|_| "a plan")?;
-    let outcome = outcome_of(&rt, alloc, [0, 1])?;
-    assert_eq!(rt; outcome.counts.len(), TURNS);
-    assert!(rt; outcome.counts.last().is_some_and(|&count| 0 < count));
-    let cluster = new_cluster(&rt, alloc, scenario.members);
-    let mut board = Board::new(&rt, alloc, cluster, 1).expect(&rt, "a board");
-    let reader = board.reader().expect(&rt, "a reader");
-    let looks = Looks {
-        reader,
-        lookups: 0,
-        are_right: true,
-    };
-    let gate = ReaderGate {
-        order: OrderGate::new(&rt),
-        alloc,
-        counts: outcome.counts.as_slice(),
-        looks: Mutex::new(looks),
-    };
+// How a reader's looks beside two workers go, if it finds so many commands at each.
+fn looks_beside<R: Abort + Threads + Wait + Sync>(rt: &R, alloc: Global, counts: &[u32]) -> Looks {
+    let scenario = plan_of(rt, alloc, TWO_WORKERS);
+    let mut board = new_board(rt, alloc, new_cluster(rt, alloc, scenario.members));
+    let reader = board.reader().expect(rt, "a reader");
+    let gate = ReaderGate::new(rt, alloc, reader, counts);
     let board = Mutex::new(board);
-    let ran = run_workers(&rt, alloc, &board, &scenario.course, &gate).map(
-        |choosers| choosers.len(),
-    );
-    drop(board.into_inner().end(&rt));
-    assert_eq!(rt; ran, Ok(2));
-    let looks = gate.looks.into_inner();
+    run_two(rt, alloc, &board, &scenario.course, &gate);
+    drop(board.into_inner().end(rt));
+    gate.looks.into_inner()
+}
+
+#[test]
+fn a_reader_beside_workers_finds_what_is_shown(rt: HostRuntime) {
+    let alloc = rt.alloc();
+    let counts = outcome_of(&rt, alloc, [0, 1]).counts;
+    assert_eq!(rt; counts.len(), TURNS);
+    assert!(rt; counts.last().is_some_and(|&count| 0 < count));
+    let looks = looks_beside(&rt, alloc, counts.as_slice());
     assert!(rt; looks.are_right && looks.lookups == TURNS);
-    Ok(())
 }

@@ -2,17 +2,16 @@
 
 ghost use Rattle.std.specs.Prelude.{◌≡◌};
 
-use crate::courses::new_cluster;
-use mencius_app::read_plan;
+use crate::courses::{new_cluster, plan_of};
 use mencius_base::{Command, CommandId};
 use mencius_board::{Board, BoardFault, Chooser, Plan, Reader, worker_turn};
 use mencius_cluster::{Answered, Cluster};
 use std::alloc::{AllocError, Global};
 use std::collections::BTreeMap;
 use std::marker::Model;
+use std::panic::Expect;
 use std::process::Abort;
 use std::sync::Wait;
-use std::test::Fail;
 use test_watch::plain_map::change;
 
 // Five servers and eight workers, and half of the choices lose a message.
@@ -130,12 +129,13 @@ fn rotated<R: Wait>(
 }
 
 // The cluster after all turns, during which the reader always finds what it is to find.
-fn assert_finds<R: Abort + Wait>(rt: &R, alloc: Global, scenario: &str) -> Result<Cluster, Fail> {
-    let scenario = read_plan(alloc, scenario.as_bytes()).map_err(|_| "a plan")?;
+fn assert_finds<R: Abort + Wait>(rt: &R, alloc: Global, scenario: &str) -> Cluster {
+    let scenario = plan_of(rt, alloc, scenario);
     let cluster = new_cluster(rt, alloc, scenario.members);
-    let (finds, cluster) = rotated(rt, alloc, &scenario.course, cluster)?;
+    let rotated = rotated(rt, alloc, &scenario.course, cluster);
+    let (finds, cluster) = rotated.expect(rt, "a board");
     assert!(rt; finds);
-    Ok(cluster)
+    cluster
 }
 
 // Three servers and eight workers, and few choices lose a message.
@@ -148,12 +148,11 @@ const COMPARED: &str =
     \"loss\":1,\"commands\":[[\"1.0 set a x\",\"1.1 cas a x y\"],[\"2.0 cas b  z\"],[\"3.0 cas a z x\"]]}";
 
 #[test]
-fn told_reader_beside_workers_in_rotation(rt: HostRuntime) -> Result<(), Fail> {
-    assert_finds(&rt, rt.alloc(), EIGHT_WORKERS)?;
-    let cluster = assert_finds(&rt, rt.alloc(), FEW_LOSSES)?;
-    let longest = cluster.history(cluster.longest()).ok_or("a history")?;
-    assert!(rt; 0 < longest.len());
-    Ok(())
+fn told_reader_beside_workers_in_rotation(rt: HostRuntime) {
+    drop(assert_finds(&rt, rt.alloc(), EIGHT_WORKERS));
+    let cluster = assert_finds(&rt, rt.alloc(), FEW_LOSSES);
+    let longest = cluster.history(cluster.longest());
+    assert!(rt; 0 < longest.expect(&rt, "a history").len());
 }
 
 // The text that client 1's second command found.
@@ -169,8 +168,7 @@ fn found_by_cas(cluster: &Cluster) -> Option<&str> {
 }
 
 #[test]
-fn told_reader_beside_workers_that_compare_and_set(rt: HostRuntime) -> Result<(), Fail> {
-    let cluster = assert_finds(&rt, rt.alloc(), COMPARED)?;
+fn told_reader_beside_workers_that_compare_and_set(rt: HostRuntime) {
+    let cluster = assert_finds(&rt, rt.alloc(), COMPARED);
     assert_eq!(rt; found_by_cas(&cluster), Some("x"));
-    Ok(())
 }

@@ -201,45 +201,84 @@ fn reader<'a>(
     })
 }
 
-fn writer<'a>(
-    taken: &'a mut Vec<u8>,
+// A writer without what it has taken.
+#[derive(Clone, Copy)]
+struct Paper {
     piece: usize,
     interruptions: u32,
     trouble: Trouble,
     trouble_at: usize,
-) -> Std<Page<'a>> {
-    Std::new(Page {
-        taken,
-        piece,
-        interruptions,
-        calls: 0,
-        trouble,
-        trouble_at,
-    })
 }
 
-// A call whose reader fails at each of its calls in turn writes nothing.
+// What came of a call: its answer, how often its reader and its writer failed, and what was written.
+#[derive(Drop)]
+struct Made {
+    answer: Result<(), AppFault>,
+    failures: (u64, u64),
+    taken: Vec<u8>,
+}
+
+fn made<R: Abort + Threads + Wait + Sync>(
+    rt: &R,
+    alloc: Global,
+    call: Call,
+    mut source: Std<Pieces>,
+    paper: Paper,
+) -> Made {
+    let mut taken = Vec::new(alloc);
+    let mut sink = Std::new(Page {
+        taken: &mut taken,
+        piece: paper.piece,
+        interruptions: paper.interruptions,
+        calls: 0,
+        trouble: paper.trouble,
+        trouble_at: paper.trouble_at,
+    });
+    let answer = make(rt, alloc, call, &mut source, &mut sink);
+    let failures = (source.failures(), sink.failures());
+    Made {
+        answer,
+        failures,
+        taken,
+    }
+}
+
+// A call whose reader fails at one of its calls writes nothing.
+fn assert_reads_at<R: Abort + Threads + Wait + Sync>(
+    rt: &R,
+    alloc: Global,
+    call: Call,
+    input: &str,
+    at: usize,
+) {
+    let paper = Paper {
+        piece: 100,
+        interruptions: 0,
+        trouble: Trouble::None,
+        trouble_at: 0,
+    };
+    let made = made(rt, alloc, call, reader(input, 3, 0, Some(at)), paper);
+    let failed = Err(AppFault::ReadFailed);
+    assert_eq!(rt; made.answer, failed, "{call:?} at {at}");
+    assert_eq!(rt; made.failures, (1, 0));
+    assert!(rt; made.taken.is_empty());
+}
+
+// It does so at each of its calls in turn.
 fn assert_reads<R: Abort + Threads + Wait + Sync>(rt: &R, alloc: Global, call: Call, input: &str) {
     // Three bytes a call, and one call more that finds the end.
     let calls = input.len().div_ceil(3) + 1;
     for at in 0..calls {
-        let mut source = reader(input, 3, 0, Some(at));
-        let mut taken = Vec::new(alloc);
-        let mut sink = writer(&mut taken, 100, 0, Trouble::None, 0);
-        let answer = make(rt, alloc, call, &mut source, &mut sink);
-        assert_eq!(rt; answer, Err(AppFault::ReadFailed), "{call:?} at {at}");
-        assert_eq!(rt; source.failures(), 1);
-        assert!(rt; taken.is_empty());
+        assert_reads_at(rt, alloc, call, input, at);
     }
 }
 
 #[test]
-fn reader_fails_at_each_call(rt: HostRuntime) -> Result<(), Fail> {
+fn reader_fails_at_each_call(rt: HostRuntime) {
     for (call, input, _text) in READS {
         assert_reads(&rt, rt.alloc(), call, input);
     }
     assert_reads(&rt, rt.alloc(), Call::Draw, NO_EVENTS);
-    Ok(())
 }
 
 // A call whose reader and writer are interrupted so often at first is answered so.
@@ -252,34 +291,52 @@ fn assert_answers<R: Abort + Threads + Wait + Sync>(
 ) {
     let (call, input, text) = row;
     let (reads, writes) = interruptions;
-    let mut source = reader(input, 3, reads, None);
-    let mut taken = Vec::new(alloc);
-    let mut sink = writer(&mut taken, 1, writes, Trouble::None, 0);
-    let answer = make(rt, alloc, call, &mut source, &mut sink);
-    assert_eq!(rt; answer, want, "{call:?} at {reads} and {writes}");
-    assert_eq!(rt; source.failures(), reads as u64);
-    assert_eq!(rt; sink.failures(), writes as u64);
+    let paper = Paper {
+        piece: 1,
+        interruptions: writes,
+        trouble: Trouble::None,
+        trouble_at: 0,
+    };
+    let made = made(rt, alloc, call, reader(input, 3, reads, None), paper);
+    assert_eq!(rt; made.answer, want, "{call:?} at {reads} and {writes}");
+    assert_eq!(rt; made.failures, (reads as u64, writes as u64));
     let whole = if want == Ok(()) { text } else { "" };
     assert!(rt;
-        taken.as_slice() == whole.as_bytes(),
+        made.taken.as_slice() == whole.as_bytes(),
         "{call:?} at {reads} and {writes}"
     );
 }
 
-#[test]
-fn interruptions(rt: HostRuntime) -> Result<(), Fail> {
-    let alloc = rt.alloc();
-    let failed = Err(AppFault::WriteFailed);
-    for row in READS {
-        assert_answers(&rt, alloc, row, (1000, 0), Ok(()));
-        assert_answers(&rt, alloc, row, (0, 1000), Ok(()));
-        assert_answers(&rt, alloc, row, (1000, 1000), Ok(()));
-        assert_answers(&rt, alloc, row, (1001, 0), Err(AppFault::ReadFailed));
-        assert_answers(&rt, alloc, row, (0, 1001), failed);
+// How often the reader and the writer are interrupted at first, and the answer.
+type Interrupted = ((u32, u32), Result<(), AppFault>);
+
+const WRITES: [Interrupted; 2] = [((0, 1000), Ok(())), ((0, 1001), Err(AppFault::WriteFailed))];
+
+const BOTH: [Interrupted; 3] = [
+    ((1000, 0), Ok(())),
+    ((1000, 1000), Ok(())),
+    ((1001, 0), Err(AppFault::ReadFailed)),
+];
+
+fn assert_interruptions<R: Abort + Threads + Wait + Sync>(
+    rt: &R,
+    alloc: Global,
+    row: (Call, &str, &str),
+    table: &[Interrupted],
+) {
+    for (interruptions, want) in table {
+        assert_answers(rt, alloc, row, *interruptions, *want);
     }
-    assert_answers(&rt, alloc, REPORTED, (0, 1000), Ok(()));
-    assert_answers(&rt, alloc, REPORTED, (0, 1001), failed);
-    Ok(())
+}
+
+#[test]
+fn interruptions(rt: HostRuntime) {
+    let alloc = rt.alloc();
+    for row in READS {
+        assert_interruptions(&rt, alloc, row, &WRITES);
+        assert_interruptions(&rt, alloc, row, &BOTH);
+    }
+    assert_interruptions(&rt, alloc, REPORTED, &WRITES);
 }
 
 // A call whose writer is in trouble where a byte of the text is to be written, has written what comes before.
@@ -302,40 +359,51 @@ fn assert_stops_at<R: Abort + Threads + Wait + Sync>(
     at: usize,
 ) {
     let (call, input, text) = row;
-    let mut source = reader(input, 100, 0, None);
-    let mut taken = Vec::new(alloc);
-    let mut sink = writer(&mut taken, 1, 0, trouble, at);
-    let answer = make(rt, alloc, call, &mut source, &mut sink);
-    assert_eq!(rt; answer, Err(AppFault::WriteFailed), "{call:?} at {at}");
-    assert_eq!(rt; sink.failures(), 1);
+    let paper = Paper {
+        piece: 1,
+        interruptions: 0,
+        trouble,
+        trouble_at: at,
+    };
+    let made = made(rt, alloc, call, reader(input, 100, 0, None), paper);
+    let failed = Err(AppFault::WriteFailed);
+    assert_eq!(rt; made.answer, failed, "{call:?} at {at}");
+    assert_eq!(rt; made.failures, (0, 1));
     let written = text.as_bytes().get(..at);
-    assert!(rt; written == Some(taken.as_slice()), "{call:?} at {at}");
+    assert!(rt; written == Some(made.taken.as_slice()), "{call:?} at {at}");
 }
 
 #[test]
-fn writer_in_trouble_at_each_call(rt: HostRuntime) -> Result<(), Fail> {
+fn writer_in_trouble_at_each_call(rt: HostRuntime) {
     for trouble in [Trouble::Error, Trouble::TakesNothing] {
         for row in READS {
             assert_stops(&rt, rt.alloc(), row, trouble);
         }
         assert_stops(&rt, rt.alloc(), REPORTED, trouble);
     }
-    Ok(())
 }
 
 // A picture is long, so its writer is in trouble at some of its bytes alone.
+fn assert_stops_at_some<R: Abort + Threads + Wait + Sync>(
+    rt: &R,
+    alloc: Global,
+    row: (Call, &str, &str),
+    trouble: Trouble,
+) {
+    let length = row.2.len();
+    for at in [0, length / 2, length.saturating_sub(1)] {
+        assert_stops_at(rt, alloc, row, trouble, at);
+    }
+}
+
 #[test]
 fn picture_with_troubles(rt: HostRuntime) -> Result<(), Fail> {
     let alloc = rt.alloc();
     let text = picture(alloc, TRACE, &WHOLE)?.expect(&rt, "few levels");
     let row = (Call::Draw, NO_EVENTS, text.as_str());
-    assert_answers(&rt, alloc, row, (1000, 1000), Ok(()));
-    assert_answers(&rt, alloc, row, (1001, 0), Err(AppFault::ReadFailed));
-    assert_answers(&rt, alloc, row, (0, 1001), Err(AppFault::WriteFailed));
-    for trouble in [Trouble::Error, Trouble::TakesNothing] {
-        assert_stops_at(&rt, alloc, row, trouble, 0);
-        assert_stops_at(&rt, alloc, row, trouble, text.len() / 2);
-        assert_stops_at(&rt, alloc, row, trouble, text.len().saturating_sub(1));
-    }
+    assert_interruptions(&rt, alloc, row, &WRITES);
+    assert_interruptions(&rt, alloc, row, &BOTH);
+    assert_stops_at_some(&rt, alloc, row, Trouble::Error);
+    assert_stops_at_some(&rt, alloc, row, Trouble::TakesNothing);
     Ok(())
 }
