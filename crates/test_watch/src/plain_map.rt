@@ -11,32 +11,41 @@ pub fn change(
     op: &Op,
 ) -> Result<Option<String>, AllocError> {
     match op {
-        Op::Set { key, text } => {
-            let key = String::from_str(alloc, key.as_str())?;
-            let text = String::from_str(alloc, text.as_str())?;
-            match texts.insert(key, text) {
-                Ok(former) => Ok(former),
-                Err(_) => Err(AllocError),
-            }
-        }
-        Op::Get { key } => match texts.get(key.as_str()) {
-            Some(text) => Ok(Some(String::from_str(alloc, text.as_str())?)),
-            None => Ok(None),
-        },
+        Op::Set { key, text } => set(texts, alloc, key.as_str(), text.as_str()),
+        Op::Get { key } => get(texts, alloc, key.as_str()),
         Op::Del { key } => Ok(texts.remove(key.as_str())),
         Op::Cas { key, held, text } => {
-            let former = match texts.get(key.as_str()) {
-                Some(former) => String::from_str(alloc, former.as_str())?,
-                None => return Ok(None),
-            };
-            if former.as_str() == held.as_str() {
-                let key = String::from_str(alloc, key.as_str())?;
-                let text = String::from_str(alloc, text.as_str())?;
-                if texts.insert(key, text).is_err() {
-                    return Err(AllocError);
-                }
+            let former = get(texts, alloc, key.as_str())?;
+            if former.as_deref() == Some(held.as_str()) {
+                drop(set(texts, alloc, key.as_str(), text.as_str())?);
             }
-            Ok(Some(former))
+            Ok(former)
         }
+    }
+}
+
+// Binds a key to a text, and answers what it had.
+fn set(
+    texts: &mut BTreeMap<String, String>,
+    alloc: Global,
+    key: &str,
+    text: &str,
+) -> Result<Option<String>, AllocError> {
+    let key = String::from_str(alloc, key)?;
+    let text = String::from_str(alloc, text)?;
+    match texts.insert(key, text) {
+        Ok(former) => Ok(former),
+        Err(_) => Err(AllocError),
+    }
+}
+
+fn get(
+    texts: &BTreeMap<String, String>,
+    alloc: Global,
+    key: &str,
+) -> Result<Option<String>, AllocError> {
+    match texts.get(key) {
+        Some(text) => Ok(Some(String::from_str(alloc, text.as_str())?)),
+        None => Ok(None),
     }
 }
