@@ -1,14 +1,15 @@
 //! What a caller concludes of a cluster, of servers stepped by hand, and of a board's readers, worked once.
 
-ghost use Rattle.std.specs.Prelude.{◌≡◌, ◌<◌};
+ghost use Rattle.mencius_server.specs.Reached.{server_at};
+ghost use Rattle.std.specs.Prelude.{[], ◌≡◌, ◌<◌};
 
 use crate::courses::{
     GET_AT_ANOTHER_SERVER, ONE_COMMAND, cluster_after, new_board, new_cluster, scenario_of,
 };
 use mencius_base::{Ballot, Event, Members, Message, Outbox, Refusal};
-use mencius_board::{Board, BoardFault};
+use mencius_board::{Board, BoardFault, Reader};
 use mencius_cluster::Cluster;
-use mencius_conclusions::conclusions::{histories, note_across};
+use mencius_conclusions::conclusions::{Noted, histories, note_across};
 use mencius_conclusions::hands::deliver;
 use mencius_conclusions::readings::{Reading, look_up_shown, look_up_within};
 use mencius_server::Server;
@@ -41,18 +42,35 @@ fn begun<R: Abort>(rt: &R, alloc: Global, first: usize) -> (Cluster, Vec<Event>)
     (cluster, rest.collect(alloc).expect(rt, "memory"))
 }
 
+// The histories of servers 1 and 0.
+fn both<'a, R: Abort>(rt: &R, cluster: &'a Cluster) -> (&'a [u32], &'a [u32]) {
+    histories(cluster, 1, 0).expect(rt, "members")
+}
+
 // After all events server 1 has executed both tickets, and server 0 the first.
 fn assert_histories<R: Abort>(rt: &R, cluster: &Cluster) {
-    let (longer, shorter) = histories(cluster, 1, 0).expect(rt, "members");
+    let (longer, shorter) = both(rt, cluster);
     assert!(rt; longer == [0, 1].as_slice());
     assert!(rt; shorter == [0].as_slice());
     assert!(rt; histories(cluster, 1, 3).is_none());
 }
 
+// What is noted across the events that are left.
+fn noted<R: Abort>(
+    rt: &R,
+    alloc: Global,
+    cluster: &mut Cluster,
+    servers: (u8, u8),
+    rest: Vec<Event>,
+) -> Noted {
+    let (server, other) = servers;
+    note_across(alloc, cluster, server, rest, other).expect(rt, "memory")
+}
+
 fn assert_noted<R: Abort>(rt: &R, alloc: Global, row: Row) {
     let (first, server, other, earlier, later) = row;
     let (mut cluster, rest) = begun(rt, alloc, first);
-    let noted = note_across(alloc, &mut cluster, server, rest, other).expect(rt, "memory");
+    let noted = noted(rt, alloc, &mut cluster, (server, other), rest);
     assert!(rt; noted.earlier.as_slice() == earlier, "after {first}");
     assert!(rt; noted.later.as_slice() == later, "after {first}");
     assert_eq!(rt; cluster.events(), 14);
@@ -95,8 +113,7 @@ fn assert_accepted<R: Abort>(rt: &R, out: &Outbox) {
 // One of three servers.
 fn new_server<R: Abort>(rt: &R, alloc: Global, members: Members, id: u8) -> Server
     requires { id < members.count }
-    ensures id { result.id ≡ id }
-    ensures members { result.members ≡ members }
+    ensures { result ≡ server_at members [] id }
 {
     Server::new(alloc, members, id).expect(rt, "memory")
 }
@@ -146,6 +163,14 @@ fn a_told_reader_finds_what_was_executed(rt: HostRuntime) {
     assert_eq!(rt; cluster.events(), 6);
 }
 
+fn look_within(alloc: Global, board: &mut Board, reader: &mut Reader) -> Result<Reading, BoardFault>
+    requires { reader.old.book ≡ board.old.book }
+    ensures reader { reader.new.book ≡ reader.old.book }
+    ensures board { board.new.book ≡ board.old.book }
+{
+    look_up_within(alloc, board, reader, "a")
+}
+
 // A lookup before the longest history is shown, and one after.
 fn look_up_twice<R: Wait>(
     rt: &R,
@@ -153,9 +178,9 @@ fn look_up_twice<R: Wait>(
     board: &mut Board,
 ) -> Result<(Reading, Reading), BoardFault> {
     let mut reader = board.reader()?;
-    let before = look_up_within(alloc, board, &mut reader, "a")?;
+    let before = look_within(alloc, board, &mut reader)?;
     drop(board.show(rt, alloc)?);
-    let after = look_up_within(alloc, board, &mut reader, "a")?;
+    let after = look_within(alloc, board, &mut reader)?;
     Ok((before, after))
 }
 

@@ -1,7 +1,7 @@
 //! Workers of a run: one alone takes its turns on a board one after the other, and each turn passes the gate.
 
 use crate::courses::{cluster_after, new_board, new_cluster, plan_of};
-use mencius_app::{Open, Std, report, run};
+use mencius_app::{Open, RunFinding, Std, report, run};
 use mencius_board::{Board, Chooser, Gate, Plan, lend, run_workers, worker_turn};
 use mencius_cluster::Cluster;
 use std::alloc::Global;
@@ -15,6 +15,19 @@ use std::thread::Threads;
 const ONE_WORKER: &str = "{\"version\":1,\"servers\":3,\"workers\":1,\"seed\":1,\"turns\":2000,\
     \"loss\":4,\"commands\":[[\"1.0 set a x\"],[\"2.0 get a\"],[\"3.0 del a\"]]}";
 
+// A run, with its journal before the report.
+fn ran<R: Threads + Wait + Sync, G: Gate + Sync>(
+    rt: &R,
+    alloc: Global,
+    scenario: &str,
+    gate: &G,
+    written: &mut Vec<u8>,
+) -> Result<(), RunFinding> {
+    let mut source = Std::new(scenario.as_bytes());
+    let mut sink = Std::new(written);
+    run(rt, alloc, &mut source, &mut sink, gate, true, false, None)
+}
+
 /// What a run prints, with its journal before the report.
 pub fn printed<R: Abort + Threads + Wait + Sync, G: Gate + Sync>(
     rt: &R,
@@ -23,9 +36,7 @@ pub fn printed<R: Abort + Threads + Wait + Sync, G: Gate + Sync>(
     gate: &G,
 ) -> String {
     let mut written = Vec::new(alloc);
-    let mut source = Std::new(scenario.as_bytes());
-    let mut sink = Std::new(&mut written);
-    let answer = run(rt, alloc, &mut source, &mut sink, gate, true, false, None);
+    let answer = ran(rt, alloc, scenario, gate, &mut written);
     assert_eq!(rt; answer, Ok(()));
     String::from_utf8(written).expect(rt, "a text")
 }

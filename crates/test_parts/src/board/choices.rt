@@ -122,6 +122,22 @@ fn is_picked<R: Abort>(
     }
 }
 
+// Whether a worker's choice is what the words pick. The cluster is stepped by it.
+fn turns<R: Abort>(
+    rt: &R,
+    alloc: Global,
+    words: [u32; 3],
+    left: &mut Iter<(u8, u32)>,
+    chooser: &mut Chooser,
+    cluster: &mut Cluster,
+) -> bool {
+    let picked = pick(words, 4, 0 < left.len(), cluster);
+    let event = chooser.choose(cluster).expect(rt, "memory");
+    let is_right = is_picked(rt, alloc, &event, picked, left);
+    let _answer = cluster.step(event);
+    is_right
+}
+
 // Whether 200 choices of a worker are what the words drawn beside them pick, and its commands come in this order of
 // servers and numbers.
 fn follows<R: Abort>(
@@ -141,12 +157,10 @@ fn follows<R: Abort>(
         let first = words_beside.next_word();
         let second = words_beside.next_word();
         let third = words_beside.next_word();
-        let picked = pick([first, second, third], 4, 0 < left.len(), cluster);
-        let event = chooser.choose(cluster).expect(rt, "memory");
-        if !is_picked(rt, alloc, &event, picked, &mut left) {
+        let words = [first, second, third];
+        if !turns(rt, alloc, words, &mut left, &mut chooser, cluster) {
             return false;
         }
-        let _answer = cluster.step(event);
     }
     left.len() == 0
 }

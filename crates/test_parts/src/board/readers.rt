@@ -108,15 +108,30 @@ fn told_of_the_last_change<R: Wait + Abort>(
 ) -> Result<(), BoardFault> {
     let mut reader = board.reader()?;
     decide(rt, board, cas_a(rt, alloc, 1, "", "x"));
-    reader.learn(board.show(rt, alloc)?);
+    tell(rt, alloc, board, &mut reader)?;
     assert_lacks(rt, alloc, &mut reader, "a");
     decide(rt, board, set_x(rt, alloc));
     decide(rt, board, cas_a(rt, alloc, 2, "y", "z"));
     decide(rt, board, cas_a(rt, alloc, 3, "x", ""));
-    let news = board.show(rt, alloc)?;
-    let (_, found, count) = learn_and_look(alloc, &mut reader, news)?;
-    assert_eq!(rt; count, 4);
+    tell(rt, alloc, board, &mut reader)?;
+    assert_eq!(rt; reader.count(), 4);
+    let found = reader.lookup(alloc, "a")?;
     assert!(rt; is_text(&found, ""));
+    Ok(())
+}
+
+// Shows the longest history, and tells a reader of it.
+fn tell<R: Wait>(
+    rt: &R,
+    alloc: Global,
+    board: &mut Board,
+    reader: &mut Reader,
+) -> Result<(), BoardFault>
+    requires { reader.old.book ≡ board.old.book }
+    ensures reader { reader.new.book ≡ reader.old.book }
+    ensures board { board.new.book ≡ board.old.book }
+{
+    reader.learn(board.show(rt, alloc)?);
     Ok(())
 }
 
@@ -140,8 +155,8 @@ fn two_told<R: Wait + Abort>(
     let mut first = board.reader()?;
     let mut second = board.reader()?;
     decide(rt, board, set_number(rt, alloc, 1));
-    first.learn(board.show(rt, alloc)?);
-    second.learn(board.show(rt, alloc)?);
+    tell(rt, alloc, board, &mut first)?;
+    tell(rt, alloc, board, &mut second)?;
     Ok((first, second))
 }
 
