@@ -15,38 +15,37 @@ pub fn has_bound(op: &Op, found: Option<&str>) -> Option<bool> {
 /// An operation at one of three keys. Four of ten set a text, and three compare and set. The number is one that no other
 /// command has, but for a repeat.
 pub fn draw_op(alloc: Global, dice: &mut Dice, number: u32) -> Result<Op, AllocError> {
-    let key = Key::new(draw_of(alloc, dice, ["a", "b", "c"])?);
-    match dice.below(10) {
-        0 | 1 => set(key, format!(in alloc; "{number}")),
-        2 | 3 => set(key, draw_text(alloc, dice)),
-        4 | 5 => Ok(Op::Get { key }),
-        6 => Ok(Op::Del { key }),
-        _ => draw_cas(alloc, dice, key),
-    }
-}
-
-fn set(key: Key, text: Result<String, AllocError>) -> Result<Op, AllocError> {
-    let text = Text::new(text?);
-    Ok(Op::Set { key, text })
-}
-
-fn draw_cas(alloc: Global, dice: &mut Dice, key: Key) -> Result<Op, AllocError> {
-    let held = Text::new(draw_text(alloc, dice)?);
-    let text = Text::new(draw_text(alloc, dice)?);
-    Ok(Op::Cas { key, held, text })
+    let name = match dice.below(3) {
+        0 => "a",
+        1 => "b",
+        _ => "c",
+    };
+    let key = Key::new(String::from_str(alloc, name)?);
+    Ok(match dice.below(10) {
+        0 | 1 => Op::Set {
+            key,
+            text: Text::new(format!(in alloc; "{number}")?),
+        },
+        2 | 3 => Op::Set {
+            key,
+            text: draw_text(alloc, dice)?,
+        },
+        4 | 5 => Op::Get { key },
+        6 => Op::Del { key },
+        _ => Op::Cas {
+            key,
+            held: draw_text(alloc, dice)?,
+            text: draw_text(alloc, dice)?,
+        },
+    })
 }
 
 // One of few texts, so that a command which compares often finds the same.
-fn draw_text(alloc: Global, dice: &mut Dice) -> Result<String, AllocError> {
-    draw_of(alloc, dice, ["", "x", "y"])
-}
-
-fn draw_of(alloc: Global, dice: &mut Dice, texts: [&str; 3]) -> Result<String, AllocError> {
-    let [first, second, third] = texts;
+fn draw_text(alloc: Global, dice: &mut Dice) -> Result<Text, AllocError> {
     let text = match dice.below(3) {
-        0 => first,
-        1 => second,
-        _ => third,
+        0 => "",
+        1 => "x",
+        _ => "y",
     };
-    String::from_str(alloc, text)
+    Ok(Text::new(String::from_str(alloc, text)?))
 }
