@@ -6,7 +6,7 @@ use test_watch::walk::{Stop, Walk};
 
 /// A cluster after the events of a schedule.
 pub fn follow(alloc: Global, scenario: Scenario<Events>) -> Result<Walk, Stop> {
-    let mut walk = Walk::new(alloc, scenario.members)?;
+    let mut walk = Walk::new(alloc, scenario.members, 1)?;
     for event in scenario.course {
         walk.take(event)?;
     }

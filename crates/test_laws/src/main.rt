@@ -5,6 +5,10 @@
 //! of the clusters, each message comes once more in order, so that what was begun is ended. At the end the journal makes
 //! a second cluster with the same answers and the same report.
 //!
+//! After each event all answers are looked at. A third number on standard input is a pace: then they are so after that
+//! many events each time and at the end, and after each event between only those that it may have changed; and of the
+//! second cluster only those of instances that any server could reach.
+//!
 //! Or standard input is a scenario of a replay. Then its events are taken in place of drawn ones, and its journal is
 //! judged; then each message that it sent comes again, from the last to the first, twice over, and all is judged again.
 //!
@@ -27,20 +31,34 @@ use crate::given::{follow, send_again};
 use crate::mail::Mail;
 use crate::tally::Tally;
 use mencius_app::report;
-use mencius_base::{Event, GREATEST_BETA, Members};
+use mencius_base::{Event, GREATEST_BETA, INSTANCES, Members};
 use mencius_cluster::Cluster;
 use mencius_input::{AppFault, Events, Scenario, Std, read_all, read_scenario, write_all};
 use std::alloc::{AllocError, Global};
 use std::process::ExitCode;
 use test_watch::again::again;
-use test_watch::same::first_difference;
+use test_watch::observed::reach;
+use test_watch::same::first_difference_below;
 use test_watch::walk::{Stop, Walk};
 
-// The seed and the count.
-fn read_numbers(bytes: &[u8]) -> Option<(u64, u32)> {
+// What is drawn, and how closely it is looked at.
+#[derive(Clone, Copy, Debug)]
+struct Draw {
+    seed: u64,
+    count: u32,
+    pace: u32,
+}
+
+// The seed, the count, and the pace if there is one.
+fn read_numbers(bytes: &[u8]) -> Option<Draw> {
     let text = str::from_utf8(bytes).ok()?;
-    let (seed, count) = text.trim().split_once(' ')?;
-    Some((seed.parse::<u64>().ok()?, count.parse::<u32>().ok()?))
+    let (seed, rest) = text.trim().split_once(' ')?;
+    let (count, pace) = rest.split_once(' ').unwrap_or((rest, "1"));
+    Some(Draw {
+        seed: seed.parse::<u64>().ok()?,
+        count: count.parse::<u32>().ok()?,
+        pace: pace.parse::<u32>().ok()?,
+    })
 }
 
 // Takes so many events as they are drawn.
@@ -105,12 +123,13 @@ fn draw_members(dice: &mut Dice) -> Option<Members> {
 const FAR: u32 = 12;
 
 // A cluster that was attacked by one schedule.
-fn attack(alloc: Global, dice: &mut Dice) -> Result<Walk, Stop> {
+fn attack(alloc: Global, dice: &mut Dice, pace: u32) -> Result<Walk, Stop> {
     let Some(members) = draw_members(dice) else {
         return Err(Stop::Broken("bad members are drawn"));
     };
-    let mut walk = Walk::new(alloc, members)?;
+    let mut walk = Walk::new(alloc, members, pace)?;
     attack_with(alloc, dice, &mut walk)?;
+    walk.look()?;
     Ok(walk)
 }
 
@@ -139,10 +158,10 @@ fn report_of(alloc: Global, cluster: &Cluster) -> Result<Vec<u8>, Stop> {
     }
 }
 
-// The journal makes a cluster with the same answers and the same report.
-fn judge_journal(alloc: Global, cluster: &Cluster) -> Result<(), Stop> {
+// The journal makes a cluster with the same answers and the same report. Of instances those below `end` are asked for.
+fn judge_journal(alloc: Global, cluster: &Cluster, end: u32) -> Result<(), Stop> {
     let second = again(alloc, cluster)?;
-    if let Some(answer) = first_difference(alloc, cluster, &second)? {
+    if let Some(answer) = first_difference_below(alloc, cluster, &second, end)? {
         return Err(Stop::Broken(answer));
     }
     let text = report_of(alloc, cluster)?;
@@ -153,21 +172,26 @@ fn judge_journal(alloc: Global, cluster: &Cluster) -> Result<(), Stop> {
     Ok(())
 }
 
-fn attack_one(alloc: Global, seed: u64, number: u32, tally: &mut Tally) -> Result<(), Stop> {
-    let walk = attack(alloc, &mut Dice::new(seed, number))?;
-    judge_walk(alloc, &walk, tally)
+fn attack_one(alloc: Global, draw: Draw, number: u32, tally: &mut Tally) -> Result<(), Stop> {
+    let walk = attack(alloc, &mut Dice::new(draw.seed, number), draw.pace)?;
+    let end = if draw.pace > 1 {
+        reach(walk.cluster())
+    } else {
+        INSTANCES
+    };
+    judge_walk(alloc, &walk, end, tally)
 }
 
-fn judge_walk(alloc: Global, walk: &Walk, tally: &mut Tally) -> Result<(), Stop> {
-    judge_journal(alloc, walk.cluster())?;
+fn judge_walk(alloc: Global, walk: &Walk, end: u32, tally: &mut Tally) -> Result<(), Stop> {
+    judge_journal(alloc, walk.cluster(), end)?;
     tally.add(alloc, walk.cluster(), walk.longest().len())?;
     Ok(())
 }
 
 // All schedules, and the number of the one at which it ended early, with the cause.
-fn attack_all(alloc: Global, seed: u64, count: u32, tally: &mut Tally) -> Result<(), (u32, Stop)> {
-    for number in 0..count {
-        if let Err(stop) = attack_one(alloc, seed, number, tally) {
+fn attack_all(alloc: Global, draw: Draw, tally: &mut Tally) -> Result<(), (u32, Stop)> {
+    for number in 0..draw.count {
+        if let Err(stop) = attack_one(alloc, draw, number, tally) {
             return Err((number, stop));
         }
     }
@@ -177,9 +201,9 @@ fn attack_all(alloc: Global, seed: u64, count: u32, tally: &mut Tally) -> Result
 // The schedule that is given, by itself and with all that it sends once more.
 fn attack_given(alloc: Global, scenario: Scenario<Events>, tally: &mut Tally) -> Result<(), Stop> {
     let mut walk = follow(alloc, scenario)?;
-    judge_journal(alloc, walk.cluster())?;
+    judge_journal(alloc, walk.cluster(), INSTANCES)?;
     send_again(&mut walk)?;
-    judge_walk(alloc, &walk, tally)
+    judge_walk(alloc, &walk, INSTANCES, tally)
 }
 
 // The status at the end, and what is said of it; `missing` is what was to happen and did not.
@@ -207,8 +231,8 @@ fn conclude(
 // Attacks by what standard input asks for, and answers the status and what is said.
 fn attack_by(alloc: Global, bytes: &[u8]) -> Result<(u8, String), AllocError> {
     let mut tally = Tally::new();
-    if let Some((seed, count)) = read_numbers(bytes) {
-        let ended = attack_all(alloc, seed, count, &mut tally);
+    if let Some(draw) = read_numbers(bytes) {
+        let ended = attack_all(alloc, draw, &mut tally);
         return conclude(alloc, ended, tally.missing(), &tally);
     }
     match read_scenario(alloc, bytes) {

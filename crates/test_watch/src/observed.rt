@@ -1,7 +1,7 @@
 //! The laws, asked of a running cluster's answers.
 
 use crate::plain_map::change;
-use mencius_base::{Command, INSTANCES, Value};
+use mencius_base::{Command, Entry, INSTANCES, Message, Value, Vote};
 use mencius_cluster::{Answered, Cluster};
 use std::alloc::{AllocError, Global};
 use std::collections::BTreeMap;
@@ -13,6 +13,8 @@ pub struct Observed {
     // The longest history so far, and for each of its commands what the map held at its key.
     longest: Vec<u32>,
     found: Vec<Option<String>>,
+    // By ticket where its command stands there.
+    places: Vec<Option<usize>>,
     texts: BTreeMap<String, String>,
     // By server how long its history was.
     lengths: Vec<usize>,
@@ -27,6 +29,7 @@ impl Observed {
             alloc,
             longest: Vec::new(alloc),
             found: Vec::new(alloc),
+            places: Vec::new(alloc),
             texts: BTreeMap::new(alloc),
             lengths: Vec::new(alloc),
             values: Vec::new(alloc),
@@ -55,6 +58,66 @@ impl Observed {
         Ok(self.see_replies(cluster))
     }
 
+    /// Looks at what an event may have changed that was accepted last, and answers the first law that is broken, as
+    /// [`Observed::see`] does: at what its server learned where a message speaks of, or at the end of its history and
+    /// the reply there.
+    pub fn see_event(
+        &mut self,
+        cluster: &Cluster,
+        entry: Entry,
+    ) -> Result<Option<&'static str>, AllocError> {
+        match entry {
+            Entry::Deliver { message, server } => self.see_delivery(cluster, message, server),
+            Entry::Execute { server } => self.see_execution(cluster, server),
+            Entry::Submit { ticket, .. } => Ok(self.see_reply(cluster, ticket)),
+            Entry::Lose { .. } | Entry::Suspect { .. } | Entry::Retry { .. } => Ok(None),
+        }
+    }
+
+    fn see_delivery(
+        &mut self,
+        cluster: &Cluster,
+        message: u32,
+        server: u8,
+    ) -> Result<Option<&'static str>, AllocError> {
+        // The check of a value that holds a message looks for the types inside it among those named here.
+        let _inside: Option<Vote> = None;
+        match cluster.message(message) {
+            Some(Message::Skip { first, stop, .. }) => {
+                self.see_values(cluster, server, first, stop)
+            }
+            Some(
+                Message::Suggest { inst, .. }
+                | Message::Accepted { inst, .. }
+                | Message::Prepare { inst, .. }
+                | Message::Promise { inst, .. }
+                | Message::Propose { inst, .. }
+                | Message::Learn { inst, .. },
+            ) => self.see_values(cluster, server, inst, inst.saturating_add(1)),
+            None => Ok(Some("a message is gone")),
+        }
+    }
+
+    fn see_execution(
+        &mut self,
+        cluster: &Cluster,
+        server: u8,
+    ) -> Result<Option<&'static str>, AllocError> {
+        let history = cluster.history(server).unwrap_or(&[]);
+        let before = self.lengths.get(usize::from(server)).copied().unwrap_or(0);
+        if self.has_shrunk(server, history.len())? {
+            return Ok(Some("a history shrinks"));
+        }
+        let broken = self.see_history(cluster, history, before)?;
+        if broken.is_some() {
+            return Ok(broken);
+        }
+        match history.last() {
+            Some(ticket) => Ok(self.see_reply(cluster, *ticket)),
+            None => Ok(None),
+        }
+    }
+
     fn see_server(
         &mut self,
         cluster: &Cluster,
@@ -64,39 +127,40 @@ impl Observed {
         if self.has_shrunk(server, history.len())? {
             return Ok(Some("a history shrinks"));
         }
-        let broken = self.see_history(cluster, history)?;
+        let broken = self.see_history(cluster, history, 0)?;
         if broken.is_some() {
             return Ok(broken);
         }
-        self.see_values(cluster, server)
+        self.see_values(cluster, server, 0, reach(cluster))
     }
 
     // Whether the server's history was longer.
     fn has_shrunk(&mut self, server: u8, length: usize) -> Result<bool, AllocError> {
-        match self.lengths.get_mut(usize::from(server)) {
-            Some(before) => {
-                let has_shrunk = length < *before;
-                *before = length;
-                Ok(has_shrunk)
-            }
-            None => {
-                self.lengths.push(length)?;
-                Ok(false)
-            }
+        for _ in self.lengths.len()..=usize::from(server) {
+            self.lengths.push(0)?;
         }
+        let Some(before) = self.lengths.get_mut(usize::from(server)) else {
+            return Ok(false);
+        };
+        let has_shrunk = length < *before;
+        *before = length;
+        Ok(has_shrunk)
     }
 
+    // From the place `first` on.
     fn see_history(
         &mut self,
         cluster: &Cluster,
         history: &[u32],
+        first: usize,
     ) -> Result<Option<&'static str>, AllocError> {
         let known = history.len().min(self.longest.len());
-        if &history[..known] != &self.longest.as_slice()[..known] {
+        let first = first.min(known);
+        if &history[first..known] != &self.longest.as_slice()[first..known] {
             return Ok(Some("two histories differ"));
         }
         for ticket in &history[known..] {
-            if self.longest.contains(ticket) {
+            if self.place_of(*ticket).is_some() {
                 return Ok(Some("a command is executed twice"));
             }
             let Some(command) = cluster.command(*ticket) else {
@@ -107,25 +171,39 @@ impl Observed {
         Ok(None)
     }
 
+    // Where a command stands in the longest history.
+    fn place_of(&self, ticket: u32) -> Option<usize> {
+        *self.places.get(ticket as usize)?
+    }
+
     // Executes a command after all earlier ones.
     fn execute(&mut self, command: &Command, ticket: u32) -> Result<(), AllocError> {
         let found = change(&mut self.texts, self.alloc, command.op())?;
         self.found.push(found)?;
+        for _ in self.places.len()..=ticket as usize {
+            self.places.push(None)?;
+        }
+        if let Some(place) = self.places.get_mut(ticket as usize) {
+            *place = Some(self.longest.len());
+        }
         self.longest.push(ticket)?;
         Ok(())
     }
 
-    // No server learned anything at an instance past what any could reach.
+    // At the instances from one on and before another. No server learned anything at an instance past what any could
+    // reach.
     fn see_values(
         &mut self,
         cluster: &Cluster,
         server: u8,
+        first: u32,
+        end: u32,
     ) -> Result<Option<&'static str>, AllocError> {
-        let end = reach(cluster);
+        let end = end.min(INSTANCES);
         for _ in self.values.len()..end as usize {
             self.values.push(None)?;
         }
-        for inst in 0..end {
+        for inst in first..end {
             if !self.agrees(inst, cluster.learned(server, inst)) {
                 return Ok(Some("two servers learned different values"));
             }
@@ -161,12 +239,25 @@ impl Observed {
         let Some(submission) = cluster.submission(ticket) else {
             return Some("a command is gone");
         };
-        let place = place_in(cluster.history(submission.home).unwrap_or(&[]), ticket);
-        match (&submission.answer, place) {
+        match (
+            &submission.answer,
+            self.place_at(cluster, submission.home, ticket),
+        ) {
             (Answered::Pending, None) => None,
             (Answered::Pending, Some(_)) => Some("an executed command has no reply"),
             (Answered::Given(_), None) => Some("a command has a reply too early"),
             (Answered::Given(reply), Some(place)) => self.compare(reply, place),
+        }
+    }
+
+    // Where a command stands in the history of a server, which is a beginning of the longest one.
+    fn place_at(&self, cluster: &Cluster, server: u8, ticket: u32) -> Option<usize> {
+        let history = cluster.history(server).unwrap_or(&[]);
+        let place = self.place_of(ticket)?;
+        if place < history.len() {
+            Some(place)
+        } else {
+            None
         }
     }
 
@@ -179,9 +270,9 @@ impl Observed {
     }
 }
 
-// Past all instances that a server suggested at or skipped, which are below its front, and past all that it revoked, of
-// which the last is twice beta past its front then.
-fn reach(cluster: &Cluster) -> u32 {
+/// Past all instances that a server suggested at or skipped, which are below its front, and past all that it revoked, of
+/// which the last is twice beta past its front then.
+pub fn reach(cluster: &Cluster) -> u32 {
     let ahead = cluster.members().beta().saturating_mul(2);
     let end = greatest_front(cluster)
         .saturating_add(ahead)
@@ -195,8 +286,4 @@ fn greatest_front(cluster: &Cluster) -> u32 {
         greatest = cluster.front(server).unwrap_or(0).max(greatest);
     }
     greatest
-}
-
-fn place_in(history: &[u32], ticket: u32) -> Option<usize> {
-    history.iter().position(|executed| *executed == ticket)
 }

@@ -5,8 +5,8 @@ use mencius_cluster::Cluster;
 use std::alloc::{AllocError, Global};
 use std::fmt::Debug;
 
-// The first of a server's answers that differ.
-fn of_server(first: &Cluster, second: &Cluster, server: u8) -> Option<&'static str> {
+// The first of a server's answers that differ, of instances below `end`.
+fn of_server(first: &Cluster, second: &Cluster, server: u8, end: u32) -> Option<&'static str> {
     if first.front(server) != second.front(server) {
         return Some("front");
     }
@@ -16,7 +16,7 @@ fn of_server(first: &Cluster, second: &Cluster, server: u8) -> Option<&'static s
     if first.history(server) != second.history(server) {
         return Some("history");
     }
-    for inst in 0..INSTANCES {
+    for inst in 0..end {
         if first.learned(server, inst) != second.learned(server, inst) {
             return Some("learned");
         }
@@ -24,7 +24,7 @@ fn of_server(first: &Cluster, second: &Cluster, server: u8) -> Option<&'static s
     None
 }
 
-fn of_servers(first: &Cluster, second: &Cluster) -> Option<&'static str> {
+fn of_servers(first: &Cluster, second: &Cluster, end: u32) -> Option<&'static str> {
     if first.servers() != second.servers() {
         return Some("servers");
     }
@@ -32,7 +32,7 @@ fn of_servers(first: &Cluster, second: &Cluster) -> Option<&'static str> {
         return Some("longest");
     }
     for server in 0..first.servers() {
-        let found = of_server(first, second, server);
+        let found = of_server(first, second, server, end);
         if found.is_some() {
             return found;
         }
@@ -111,6 +111,16 @@ pub fn first_difference(
     first: &Cluster,
     second: &Cluster,
 ) -> Result<Option<&'static str>, AllocError> {
+    first_difference_below(alloc, first, second, INSTANCES)
+}
+
+/// The same, where of instances only those are asked for that are below `end`.
+pub fn first_difference_below(
+    alloc: Global,
+    first: &Cluster,
+    second: &Cluster,
+    end: u32,
+) -> Result<Option<&'static str>, AllocError> {
     if first.events() != second.events() {
         return Ok(Some("events"));
     }
@@ -120,7 +130,7 @@ pub fn first_difference(
     if let Some(found) = of_messages(first, second) {
         return Ok(Some(found));
     }
-    if let Some(found) = of_servers(first, second) {
+    if let Some(found) = of_servers(first, second, end) {
         return Ok(Some(found));
     }
     of_commands(alloc, first, second)

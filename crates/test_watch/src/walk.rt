@@ -25,15 +25,21 @@ impl From<AllocError> for Stop {
 pub struct Walk {
     cluster: Cluster,
     seen: Observed,
+    pace: u32,
+    // So many events were taken since all answers were looked at.
+    taken: u32,
 }
 
 impl Walk {
-    /// Over a new cluster of these members.
-    pub fn new(alloc: Global, members: Members) -> Result<Walk, Stop> {
+    /// Over a new cluster of these members. After so many events each time all answers are looked at, and after those
+    /// between only what the event may have changed.
+    pub fn new(alloc: Global, members: Members, pace: u32) -> Result<Walk, Stop> {
         match Cluster::new(alloc, members) {
             Ok(cluster) => Ok(Walk {
                 cluster,
                 seen: Observed::new(alloc),
+                pace,
+                taken: 0,
             }),
             Err(_) => Err(Stop::NoMemory),
         }
@@ -49,15 +55,38 @@ impl Walk {
         self.seen.longest()
     }
 
-    /// Takes an event, looks at all answers, and answers whether the event was accepted.
+    /// Takes an event, looks at answers as the pace says, and answers whether the event was accepted.
     pub fn take(&mut self, event: Event) -> Result<bool, Stop> {
         let answer = self.cluster.step(event);
         if answer == Err(Refusal::NoMemory) {
             return Err(Stop::NoMemory);
         }
+        self.taken = self.taken.saturating_add(1);
+        if self.taken >= self.pace {
+            self.look()?;
+        } else if answer.is_ok() {
+            self.look_at_the_last()?;
+        }
+        Ok(answer.is_ok())
+    }
+
+    /// Looks at all answers.
+    pub fn look(&mut self) -> Result<(), Stop> {
+        self.taken = 0;
         match self.seen.see(&self.cluster)? {
             Some(law) => Err(Stop::Broken(law)),
-            None => Ok(answer.is_ok()),
+            None => Ok(()),
+        }
+    }
+
+    // Looks at what the event changed that was accepted last.
+    fn look_at_the_last(&mut self) -> Result<(), Stop> {
+        let Some(entry) = self.cluster.journal().last() else {
+            return Err(Stop::Broken("an event is not in the journal"));
+        };
+        match self.seen.see_event(&self.cluster, *entry)? {
+            Some(law) => Err(Stop::Broken(law)),
+            None => Ok(()),
         }
     }
 
