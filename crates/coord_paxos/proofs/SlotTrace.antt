@@ -8,13 +8,13 @@ use Rattle.mencius_base.specs.declared.message.Value.{Value}
 use Rattle.mencius_base.specs.declared.message.Value.TheVariants.{Ticket}
 use Rattle.mencius_base.specs.declared.message.Vote.{Vote}
 use Rattle.mencius_base.specs.Members.{Membership, below, owner}
-use Rattle.mencius_model.specs.Trace.{Line, Heard, Sent, Learned, Trace, earlier, heard, sent}
-use Rattle.mencius_model.specs.Instance.{promised_by, promised, proposed_by, proposed, accepted_by, accepted, greater, vote_at, vote_of, learned_by, learned, tried_by, trying, reported, promisers, accepters, is_promise, is_acceptance, highest_vote, vote_reported, IsVoted}
-use Rattle.mencius_model.proofs.trace.OneMoreLine.{max-zero, earlier-none, greater-none, greatest_quiet, oldest_quiet, oldest_stays, vote_of_same, accepted_small, greater_above}
+use Rattle.mencius_model.specs.Trace.{Line, Heard, Sent, Learned, Trace, first_some, heard_messages, sent_messages}
+use Rattle.mencius_model.specs.Instance.{promised_by, promised_ballot, proposal_by, proposal, accepted_by, accepted_ballot, greater_ballot, vote_at, vote_of, learned_by, learned_value, tried_by, tried_ballot, reported_vote, promisers, accepters, is_promise, is_acceptance, highest_vote, vote_reported, IsVoted}
+use Rattle.mencius_model.proofs.trace.OneMoreLine.{max-zero, first_some-none, greater_ballot-none, greatest_quiet, oldest_quiet, oldest_stays, vote_of_same, accepted_small, greater_above}
 use Rattle.std.proofs.lemmas.Bool.{eq-eqb, lt-ltb}
 use Rattle.std.specs.Prelude.{slice_get}
 use Rattle.coord_paxos.specs.Slot.{with_acceptance, with_promise}
-use Rattle.mencius_model.proofs.trace.Tallies.{heard_more, or-true, tally_quiet, tally_more, votes_quiet, votes_more}
+use Rattle.mencius_model.proofs.trace.ServerSets.{heard_more, or-true, set_quiet, set_more, votes_quiet, votes_more}
 use Rattle.coord_paxos.specs.SlotState.{SlotState}
 use Rattle.coord_paxos.specs.Reached.{if_own, slot_at}
 use Rattle.mencius_model.proofs.trace.QuietLines.{IsQuiet, quiet_heard, IsUncounted}
@@ -54,155 +54,158 @@ pub same_slot : (s r : SlotState) → s.members ≡ r.members → s.promised ≡
     → s.accepters ≡ r.accepters → s ≡ r
 same_slot s r = same_parts _ _ _ _ _ _ _ _ _ _ _ _ _ _ _ _ _ _
 
--- p's slot for i, with the tallies of other messages heard
+-- p's slot for i, with the sets of other messages heard
 abbrev pub slot_hearing : Membership → Trace → ServerId → Inst → List Message → SlotState
 slot_hearing m w p i hs = record (slot_at m w p i) {
-  reported = highest_vote (map (vote_reported i (trying w p i)) hs);
-  promisers = map (λ (q : ℕ). list_any (is_promise i (trying w p i) q) hs) (below m.count);
-  accepters = map (λ (q : ℕ). list_any (is_acceptance i (trying w p i) q) hs) (below m.count);
+  reported = highest_vote (map (vote_reported i (tried_ballot w p i)) hs);
+  promisers = map (λ (q : ℕ). list_any (is_promise i (tried_ballot w p i) q) hs) (below m.count);
+  accepters = map (λ (q : ℕ). list_any (is_acceptance i (tried_ballot w p i) q) hs) (below m.count);
 }
 
 -- a line that proposes nothing and tries nothing
-slot_at-saying : (m : Membership) (w : Trace) (l : Line) (p i : ℕ) → ((b : ℕ) → proposed_by i b l ≡ None)
+slot_at-saying : (m : Membership) (w : Trace) (l : Line) (p i : ℕ) → ((b : ℕ) → proposal_by i b l ≡ None)
     → tried_by p i l ≡ 0
-    → slot_at m (l ∷ w) p i ≡ record (slot_hearing m w p i (heard (l ∷ w) p)) {
-      promised = max (promised w p i) (promised_by p i l);
-      vote = vote_of w i (greater (accepted w p i) (accepted_by p i l));
-      learned = earlier (learned w p i) (learned_by p i l);
+    → slot_at m (l ∷ w) p i ≡ record (slot_hearing m w p i (heard_messages (l ∷ w) p)) {
+      promised = max (promised_ballot w p i) (promised_by p i l);
+      vote = vote_of w i (greater_ballot (accepted_ballot w p i) (accepted_by p i l));
+      learned = first_some (learned_value w p i) (learned_by p i l);
     }
 slot_at-saying m w l p i unproposed untried =
-    let tried : trying (l ∷ w) p i ≡ trying w p i = greatest_quiet (tried_by p i) l w untried in
-    let proposals : (b : ℕ) → proposed (l ∷ w) i b ≡ proposed w i b =
-    λ b. oldest_quiet (proposed_by i b) l w (unproposed b) in
+    let tried : tried_ballot (l ∷ w) p i ≡ tried_ballot w p i = greatest_quiet (tried_by p i) l w untried in
+    let proposals : (b : ℕ) → proposal (l ∷ w) i b ≡ proposal w i b =
+    λ b. oldest_quiet (proposal_by i b) l w (unproposed b) in
     same_slot _ _ refl refl
-    (vote_of_same (l ∷ w) w i (greater (accepted w p i) (accepted_by p i l)) proposals)
+    (vote_of_same (l ∷ w) w i (greater_ballot (accepted_ballot w p i) (accepted_by p i l)) proposals)
     refl
     tried
-    (ap (reported (l ∷ w) p i) tried)
-    (ap (λ (b : ℕ). if_own m p i b (proposed (l ∷ w) i b)) tried
-    ∙ ap (if_own m p i (trying w p i)) (proposals (trying w p i)))
+    (ap (reported_vote (l ∷ w) p i) tried)
+    (ap (λ (b : ℕ). if_own m p i b (proposal (l ∷ w) i b)) tried
+    ∙ ap (if_own m p i (tried_ballot w p i)) (proposals (tried_ballot w p i)))
     (ap (λ (b : ℕ). map (promisers (l ∷ w) p i b) (below m.count)) tried)
     (ap (λ (b : ℕ). map (accepters (l ∷ w) p i b) (below m.count)) tried)
 
 -- a quiet line changes at most what was heard
 pub slot_at-unsaid : (m : Membership) (w : Trace) (l : Line) (p i : ℕ) → IsQuiet p i l
-    → slot_at m (l ∷ w) p i ≡ slot_hearing m w p i (heard (l ∷ w) p)
+    → slot_at m (l ∷ w) p i ≡ slot_hearing m w p i (heard_messages (l ∷ w) p)
 slot_at-unsaid m w l p i quiet =
     slot_at-saying m w l p i quiet.proposed quiet.tried
     ∙ same_slot _ _ refl
-    (ap (max (promised w p i)) quiet.promised ∙ max-zero (promised w p i))
-    (ap (λ (o : Option ℕ). vote_of w i (greater (accepted w p i) o)) quiet.accepted
-    ∙ ap (vote_of w i) (greater-none (accepted w p i)))
-    (ap (earlier (learned w p i)) quiet.learned ∙ earlier-none (learned w p i))
+    (ap (max (promised_ballot w p i)) quiet.promised ∙ max-zero (promised_ballot w p i))
+    (ap (λ (o : Option ℕ). vote_of w i (greater_ballot (accepted_ballot w p i) o)) quiet.accepted
+    ∙ ap (vote_of w i) (greater_ballot-none (accepted_ballot w p i)))
+    (ap (first_some (learned_value w p i)) quiet.learned ∙ first_some-none (learned_value w p i))
     refl refl refl refl refl
 
-pub slot_at-quiet : (m : Membership) (w : Trace) (l : Line) (p i : ℕ) → IsQuiet p i l → heard (l ∷ w) p ≡ heard w p
+pub slot_at-quiet : (m : Membership) (w : Trace) (l : Line) (p i : ℕ) → IsQuiet p i l → heard_messages (l ∷ w) p
+    ≡ heard_messages w p
     → slot_at m (l ∷ w) p i ≡ slot_at m w p i
 slot_at-quiet m w l p i quiet deaf = slot_at-unsaid m w l p i quiet ∙ ap (slot_hearing m w p i) deaf
 
-pub slot_at-heard : (m : Membership) (w : Trace) (k p i : ℕ) (x : Message) → slice_get (sent w) k ≡ Some x
-    → IsUncounted i (trying w p i) x → slot_at m (Heard k p ∷ w) p i ≡ slot_at m w p i
+pub slot_at-heard : (m : Membership) (w : Trace) (k p i : ℕ) (x : Message) → slice_get (sent_messages w) k ≡ Some x
+    → IsUncounted i (tried_ballot w p i) x → slot_at m (Heard k p ∷ w) p i ≡ slot_at m w p i
 slot_at-heard m w k p i x e un =
     slot_at-unsaid m w (Heard k p) p i (quiet_heard k p i) ∙ ap (slot_hearing m w p i) (heard_more w k p x e)
     ∙ same_slot _ _ refl refl refl refl refl
-    (votes_quiet (vote_reported i (trying w p i)) (heard w p) x un.report)
+    (votes_quiet (vote_reported i (tried_ballot w p i)) (heard_messages w p) x un.report)
     refl
-    (tally_quiet (is_promise i (trying w p i)) (heard w p) x m.count un.promise)
-    (tally_quiet (is_acceptance i (trying w p i)) (heard w p) x m.count un.acceptance)
+    (set_quiet (is_promise i (tried_ballot w p i)) (heard_messages w p) x m.count un.promise)
+    (set_quiet (is_acceptance i (tried_ballot w p i)) (heard_messages w p) x m.count un.acceptance)
 
 -- an acceptance at the ballot that is tried
 pub slot_at-heard_acceptance : (m : Membership) (w : Trace) (k p i from : ℕ)
-    → slice_get (sent w) k ≡ Some (Accepted from p i (trying w p i))
+    → slice_get (sent_messages w) k ≡ Some (Accepted from p i (tried_ballot w p i))
     → slot_at m (Heard k p ∷ w) p i ≡ with_acceptance (slot_at m w p i) from
 slot_at-heard_acceptance m w k p i from e =
     slot_at-unsaid m w (Heard k p) p i (quiet_heard k p i) ∙ ap (slot_hearing m w p i) (heard_more w k p _ e)
     ∙ same_slot _ _ refl refl refl refl refl
-    (votes_quiet (vote_reported i (trying w p i)) (heard w p) _ refl)
+    (votes_quiet (vote_reported i (tried_ballot w p i)) (heard_messages w p) _ refl)
     refl
-    (tally_quiet (is_promise i (trying w p i)) (heard w p) _ m.count (λ q. refl))
-    (tally_more (is_acceptance i (trying w p i)) (heard w p) _ m.count from
-    (λ q. rw (eq-eqb i i refl, eq-eqb (trying w p i) (trying w p i) refl)))
+    (set_quiet (is_promise i (tried_ballot w p i)) (heard_messages w p) _ m.count (λ q. refl))
+    (set_more (is_acceptance i (tried_ballot w p i)) (heard_messages w p) _ m.count from
+    (λ q. rw (eq-eqb i i refl, eq-eqb (tried_ballot w p i) (tried_ballot w p i) refl)))
 
 -- a promise of it
 pub slot_at-heard_promise : (m : Membership) (w : Trace) (k p i from : ℕ) (o : Option Vote)
-    → slice_get (sent w) k ≡ Some (Promise from p i (trying w p i) o)
+    → slice_get (sent_messages w) k ≡ Some (Promise from p i (tried_ballot w p i) o)
     → slot_at m (Heard k p ∷ w) p i ≡ with_promise (slot_at m w p i) from o
 slot_at-heard_promise m w k p i from o e =
     slot_at-unsaid m w (Heard k p) p i (quiet_heard k p i) ∙ ap (slot_hearing m w p i) (heard_more w k p _ e)
     ∙ same_slot _ _ refl refl refl refl refl
-    (votes_more (vote_reported i (trying w p i)) (heard w p) _
-    ∙ rw (eq-eqb i i refl, eq-eqb (trying w p i) (trying w p i) refl))
+    (votes_more (vote_reported i (tried_ballot w p i)) (heard_messages w p) _
+    ∙ rw (eq-eqb i i refl, eq-eqb (tried_ballot w p i) (tried_ballot w p i) refl))
     refl
-    (tally_more (is_promise i (trying w p i)) (heard w p) _ m.count from
-    (λ q. rw (eq-eqb i i refl, eq-eqb (trying w p i) (trying w p i) refl)))
-    (tally_quiet (is_acceptance i (trying w p i)) (heard w p) _ m.count (λ q. refl))
+    (set_more (is_promise i (tried_ballot w p i)) (heard_messages w p) _ m.count from
+    (λ q. rw (eq-eqb i i refl, eq-eqb (tried_ballot w p i) (tried_ballot w p i) refl)))
+    (set_quiet (is_acceptance i (tried_ballot w p i)) (heard_messages w p) _ m.count (λ q. refl))
 
 -- p accepts a value that was proposed
-pub slot_at-accepted : (m : Membership) (w : Trace) (p q i b : ℕ) (z : Value) → promised w p i ≤ b
-    → proposed w i b ≡ Some z
+pub slot_at-accepted : (m : Membership) (w : Trace) (p q i b : ℕ) (z : Value) → promised_ballot w p i ≤ b
+    → proposal w i b ≡ Some z
     → slot_at m (Sent (Accepted p q i b) ∷ w) p i
     ≡ record (slot_at m w p i) { promised = b; vote = Some (record { ballot = b; value = z }) }
 slot_at-accepted m w p q i b z high said =
     let l : Line = Sent (Accepted p q i b) in
     let by : accepted_by p i l ≡ Some b = rw (eq-eqb p p refl, eq-eqb i i refl) in
-    let acceptance : accepted (l ∷ w) p i ≡ Some b =
-    rw by (greater_above (accepted w p i) (promised w p i) b (accepted_small w p i) high) in
+    let acceptance : accepted_ballot (l ∷ w) p i ≡ Some b =
+    rw by (greater_above (accepted_ballot w p i) (promised_ballot w p i) b (accepted_small w p i) high) in
     let promise : promised_by p i l ≡ b = rw (eq-eqb p p refl, eq-eqb i i refl) in
     slot_at-saying m w l p i (λ c. refl) refl
     ∙ same_slot _ _ refl
     (rw promise (omega arith))
     (ap (vote_of w i) acceptance ∙ ap (vote_at b) said)
-    (earlier-none (learned w p i))
+    (first_some-none (learned_value w p i))
     refl refl refl refl refl
 
 vote_stays : (w : Trace) (l : Line) (i : ℕ) (o : Option ℕ)
-    → ((b : ℕ) → o ≡ Some b → (z : Value) × (proposed w i b ≡ Some z)) → vote_of (l ∷ w) i o ≡ vote_of w i o
+    → ((b : ℕ) → o ≡ Some b → (z : Value) × (proposal w i b ≡ Some z)) → vote_of (l ∷ w) i o ≡ vote_of w i o
 vote_stays w l i None said = refl
 vote_stays w l i (Some b) said =
-    ap (vote_at b) (oldest_stays (proposed_by i b) l w _ (said b refl).1 ∙ sym (said b refl).1)
+    ap (vote_at b) (oldest_stays (proposal_by i b) l w _ (said b refl).1 ∙ sym (said b refl).1)
 
 -- a line that may propose something at i, and else is quiet
 pub slot_at-proposing : (m : Membership) (w : Trace) (l : Line) (p i : ℕ) (o : Option Value) → IsVoted w p i
     → promised_by p i l ≡ 0 → accepted_by p i l ≡ None → learned_by p i l ≡ None → tried_by p i l ≡ 0
-    → heard (l ∷ w) p ≡ heard w p
-    → if_own m p i (trying w p i) (proposed (l ∷ w) i (trying w p i)) ≡ o
+    → heard_messages (l ∷ w) p ≡ heard_messages w p
+    → if_own m p i (tried_ballot w p i) (proposal (l ∷ w) i (tried_ballot w p i)) ≡ o
     → slot_at m (l ∷ w) p i ≡ record (slot_at m w p i) { proposal = o }
 slot_at-proposing m w l p i o voted unpromised unaccepted unlearned untried deaf said =
-    let tried : trying (l ∷ w) p i ≡ trying w p i = greatest_quiet (tried_by p i) l w untried in
-    let acceptance : accepted (l ∷ w) p i ≡ accepted w p i = rw unaccepted (greater-none (accepted w p i)) in
+    let tried : tried_ballot (l ∷ w) p i ≡ tried_ballot w p i = greatest_quiet (tried_by p i) l w untried in
+    let acceptance : accepted_ballot (l ∷ w) p i ≡ accepted_ballot w p i =
+    rw unaccepted (greater_ballot-none (accepted_ballot w p i)) in
     same_slot _ _ refl
     (greatest_quiet (promised_by p i) l w unpromised)
-    (ap (vote_of (l ∷ w) i) acceptance ∙ vote_stays w l i (accepted w p i) voted.proposal)
+    (ap (vote_of (l ∷ w) i) acceptance ∙ vote_stays w l i (accepted_ballot w p i) voted.proposal)
     (oldest_quiet (learned_by p i) l w unlearned)
     tried
-    (ap (reported (l ∷ w) p i) tried
-    ∙ ap (λ (hs : List Message). highest_vote (map (vote_reported i (trying w p i)) hs)) deaf)
-    (ap (λ (b : ℕ). if_own m p i b (proposed (l ∷ w) i b)) tried ∙ said)
+    (ap (reported_vote (l ∷ w) p i) tried
+    ∙ ap (λ (hs : List Message). highest_vote (map (vote_reported i (tried_ballot w p i)) hs)) deaf)
+    (ap (λ (b : ℕ). if_own m p i b (proposal (l ∷ w) i b)) tried ∙ said)
     (ap (λ (b : ℕ). map (promisers (l ∷ w) p i b) (below m.count)) tried
-    ∙ ap (λ (hs : List Message). map (λ (q : ℕ). list_any (is_promise i (trying w p i) q) hs) (below m.count)) deaf)
+    ∙ ap (λ (hs : List Message). map (λ (q : ℕ). list_any (is_promise i (tried_ballot w p i) q) hs) (below m.count)) deaf)
     (ap (λ (b : ℕ). map (accepters (l ∷ w) p i b) (below m.count)) tried
-    ∙ ap (λ (hs : List Message). map (λ (q : ℕ). list_any (is_acceptance i (trying w p i) q) hs) (below m.count)) deaf)
+    ∙ ap (λ (hs : List Message). map (λ (q : ℕ). list_any (is_acceptance i (tried_ballot w p i) q) hs) (below m.count)) deaf)
 
 -- p proposes at the ballot that it tries
 pub slot_at-proposed : (m : Membership) (w : Trace) (p i b : ℕ) (z : Value) → IsVoted w p i → 0 < b
-    → b ≡ trying w p i → proposed w i b ≡ None
+    → b ≡ tried_ballot w p i → proposal w i b ≡ None
     → slot_at m (Sent (Propose p i b z) ∷ w) p i ≡ record (slot_at m w p i) { proposal = Some z }
 slot_at-proposed m w p i b z voted tried same unsaid =
     slot_at-proposing m w (Sent (Propose p i b z)) p i (Some z) voted refl refl refl refl refl
-    (ap (λ (c : ℕ). if_own m p i c (proposed (Sent (Propose p i b z) ∷ w) i c)) (sym same)
+    (ap (λ (c : ℕ). if_own m p i c (proposal (Sent (Propose p i b z) ∷ w) i c)) (sym same)
     ∙ rw (unsaid, eq-eqb i i refl, eq-eqb b b refl, lt-ltb 0 b tried, or-true (eqb (owner m i) p)))
 
 -- the owner suggests
-pub slot_at-suggested : (m : Membership) (w : Trace) (p i t : ℕ) → IsVoted w p i → owner m i ≡ p → trying w p i ≡ 0
-    → proposed w i 0 ≡ None
+pub slot_at-suggested : (m : Membership) (w : Trace) (p i t : ℕ) → IsVoted w p i → owner m i ≡ p → tried_ballot w p i
+    ≡ 0
+    → proposal w i 0 ≡ None
     → slot_at m (Sent (Suggest p i t) ∷ w) p i ≡ record (slot_at m w p i) { proposal = Some (Ticket t) }
 slot_at-suggested m w p i t voted mine untried unsaid =
     slot_at-proposing m w (Sent (Suggest p i t)) p i (Some (Ticket t)) voted refl refl refl refl refl
-    (ap (λ (c : ℕ). if_own m p i c (proposed (Sent (Suggest p i t) ∷ w) i c)) untried
+    (ap (λ (c : ℕ). if_own m p i c (proposal (Sent (Suggest p i t) ∷ w) i c)) untried
     ∙ rw (unsaid, eq-eqb i i refl, eq-eqb (owner m i) p mine))
 
 -- p promises
-pub slot_at-promised : (m : Membership) (w : Trace) (p q i b : ℕ) (o : Option Vote) → promised w p i ≤ b
+pub slot_at-promised : (m : Membership) (w : Trace) (p q i b : ℕ) (o : Option Vote) → promised_ballot w p i ≤ b
     → slot_at m (Sent (Promise p q i b o) ∷ w) p i ≡ record (slot_at m w p i) { promised = b }
 slot_at-promised m w p q i b o high =
     let l : Line = Sent (Promise p q i b o) in
@@ -210,26 +213,27 @@ slot_at-promised m w p q i b o high =
     slot_at-saying m w l p i (λ c. refl) refl
     ∙ same_slot _ _ refl
     (rw promise (omega arith))
-    (ap (vote_of w i) (greater-none (accepted w p i)))
-    (earlier-none (learned w p i))
+    (ap (vote_of w i) (greater_ballot-none (accepted_ballot w p i)))
+    (first_some-none (learned_value w p i))
     refl refl refl refl refl
 
 -- p says that it learned a value, whatever it had learned
 pub slot_at-learning : (m : Membership) (w : Trace) (p i : ℕ) (z : Value)
-    → slot_at m (Learned p i z ∷ w) p i ≡ record (slot_at m w p i) { learned = earlier (learned w p i) (Some z) }
+    → slot_at m (Learned p i z ∷ w) p i
+    ≡ record (slot_at m w p i) { learned = first_some (learned_value w p i) (Some z) }
 slot_at-learning m w p i z =
     let l : Line = Learned p i z in
     let by : learned_by p i l ≡ Some z = rw (eq-eqb p p refl, eq-eqb i i refl) in
     slot_at-saying m w l p i (λ c. refl) refl
     ∙ same_slot _ _ refl
-    (max-zero (promised w p i))
-    (ap (vote_of w i) (greater-none (accepted w p i)))
-    (ap (earlier (learned w p i)) by)
+    (max-zero (promised_ballot w p i))
+    (ap (vote_of w i) (greater_ballot-none (accepted_ballot w p i)))
+    (ap (first_some (learned_value w p i)) by)
     refl refl refl refl refl
 
 -- p learns a value
-pub slot_at-learned : (m : Membership) (w : Trace) (p i : ℕ) (z : Value) → learned w p i ≡ None
+pub slot_at-learned : (m : Membership) (w : Trace) (p i : ℕ) (z : Value) → learned_value w p i ≡ None
     → slot_at m (Learned p i z ∷ w) p i ≡ record (slot_at m w p i) { learned = Some z }
 slot_at-learned m w p i z unlearned =
     slot_at-learning m w p i z
-    ∙ ap (λ (o : Option Value). record (slot_at m w p i) { learned = earlier o (Some z) }) unlearned
+    ∙ ap (λ (o : Option Value). record (slot_at m w p i) { learned = first_some o (Some z) }) unlearned

@@ -8,10 +8,10 @@ use Rattle.mencius_base.specs.declared.message.Value.{Value}
 use Rattle.mencius_base.specs.declared.message.Value.TheVariants.{Ticket}
 use Rattle.mencius_base.specs.declared.message.Vote.{Vote}
 use Rattle.mencius_base.specs.Members.{Membership, owner}
-use Rattle.mencius_model.specs.Trace.{Line, Heard, Sent, Learned, Trace, followed_by, heard, sent}
-use Rattle.mencius_model.specs.Instance.{learned, promised, proposed, trying, vote, IsUntried, IsVoted}
-use Rattle.mencius_model.specs.Rules.{acceptor_answer, decision_lines, proposal_lines}
-use Rattle.mencius_model.specs.Next.{decision_at, on_prepare, on_propose, proposal_at}
+use Rattle.mencius_model.specs.Trace.{Line, Heard, Sent, Learned, Trace, followed_by, heard_messages, sent_messages}
+use Rattle.mencius_model.specs.Instance.{learned_value, promised_ballot, proposal, tried_ballot, vote, IsUntried, IsVoted}
+use Rattle.mencius_model.specs.Rules.{decision_lines, prepare_answer_from, proposal_lines}
+use Rattle.mencius_model.specs.Next.{due_decision_at, due_proposal_at, on_prepare, on_propose}
 use Rattle.coord_paxos.specs.Fresh.{new_slot}
 use Rattle.coord_paxos.specs.Slot.{acceptance_answer, after_accept, after_acceptance, after_begin, after_learn, after_prepare, after_promise, prepare_answer, promise_answer}
 use Rattle.coord_paxos.specs.Reached.{slot_at}
@@ -26,8 +26,8 @@ SlotAtTheStart = (m : Membership) (p : ServerId) (i : Inst) → slot_at m [] p i
 abbrev pub SlotAfterSuggest : Type 0
 SlotAfterSuggest =
     (m : Membership) (w : Trace) (p : ServerId) (i : Inst) (t : TicketNo) → IsVoted w p i → owner m i ≡ p
-    → trying w p i ≡ 0
-    → proposed w i 0 ≡ None
+    → tried_ballot w p i ≡ 0
+    → proposal w i 0 ≡ None
     → slot_at m (Sent (Suggest p i t) ∷ w) p i ≡ record (slot_at m w p i) { proposal = Some (Ticket t) }
 
 -- ---- prepare
@@ -36,7 +36,8 @@ SlotAfterSuggest =
 abbrev pub PrepareAnswered : Type 0
 PrepareAnswered =
     (m : Membership) (w : Trace) (p : ServerId) (i : Inst) (b : BallotNo)
-    → prepare_answer (slot_at m w p i) b ≡ acceptor_answer (promised w p i) (vote w p i) b (learned w p i)
+    → prepare_answer (slot_at m w p i) b
+    ≡ prepare_answer_from (promised_ballot w p i) (vote w p i) b (learned_value w p i)
 
 abbrev pub SlotAfterPrepare : Type 0
 SlotAfterPrepare =
@@ -48,7 +49,7 @@ SlotAfterPrepare =
 
 abbrev pub SlotAfterAccept : Type 0
 SlotAfterAccept =
-    (m : Membership) (w : Trace) (p q : ServerId) (i : Inst) (b : BallotNo) (z : Value) → proposed w i b ≡ Some z
+    (m : Membership) (w : Trace) (p q : ServerId) (i : Inst) (b : BallotNo) (z : Value) → proposal w i b ≡ Some z
     → slot_at m (followed_by w (on_propose w p q i b)) p i
     ≡ after_accept (slot_at m w p i) b z
 
@@ -57,7 +58,7 @@ SlotAfterAccept =
 -- p tries a ballot of which it heard nothing yet
 abbrev pub SlotAfterBegin : Type 0
 SlotAfterBegin =
-    (m : Membership) (w : Trace) (p : ServerId) (i : Inst) (b : BallotNo) → trying w p i < b → IsUntried w p i b
+    (m : Membership) (w : Trace) (p : ServerId) (i : Inst) (b : BallotNo) → tried_ballot w p i < b → IsUntried w p i b
     → slot_at m (Sent (Prepare p i b) ∷ w) p i ≡ after_begin (slot_at m w p i) b
 
 -- ---- add_promise
@@ -67,21 +68,21 @@ abbrev pub PromiseAnswered : Type 0
 PromiseAnswered =
     (m : Membership) (w : Trace) (k : MessageNo) (p : ServerId) (i : Inst) (q : ServerId) (b : BallotNo)
     (o : Option Vote)
-    → slice_get (sent w) k ≡ Some (Promise q p i b o)
-    → 0 < b → promise_answer (slot_at m w p i) q b o ≡ proposal_at m w (Heard k p ∷ w) p i b
+    → slice_get (sent_messages w) k ≡ Some (Promise q p i b o)
+    → 0 < b → promise_answer (slot_at m w p i) q b o ≡ due_proposal_at m w (Heard k p ∷ w) p i b
 
 -- a promise of any other ballot calls for nothing
 abbrev pub IgnoresPromises : Type 0
 IgnoresPromises =
     (m : Membership) (w : Trace) (p : ServerId) (i : Inst) (q : ServerId) (b : BallotNo) (o : Option Vote)
-    → b ≢ trying w p i → promise_answer (slot_at m w p i) q b o ≡ None
+    → b ≢ tried_ballot w p i → promise_answer (slot_at m w p i) q b o ≡ None
 
 -- p hears a promise, and proposes if that is due
 abbrev pub SlotAfterPromise : Type 0
 SlotAfterPromise =
     (m : Membership) (w : Trace) (k : MessageNo) (p : ServerId) (i : Inst) (q : ServerId) (b : BallotNo)
     (o : Option Vote)
-    → slice_get (sent w) k ≡ Some (Promise q p i b o)
+    → slice_get (sent_messages w) k ≡ Some (Promise q p i b o)
     → 0 < b → IsVoted w p i
     → slot_at m (followed_by (Heard k p ∷ w) (proposal_lines p i b (promise_answer (slot_at m w p i) q b o))) p i
     ≡ after_promise (slot_at m w p i) q b o
@@ -92,20 +93,20 @@ SlotAfterPromise =
 abbrev pub AcceptanceAnswered : Type 0
 AcceptanceAnswered =
     (m : Membership) (w : Trace) (k : MessageNo) (p : ServerId) (i : Inst) (q : ServerId) (b : BallotNo)
-    → slice_get (sent w) k ≡ Some (Accepted q p i b)
-    → (b ≡ 0 → owner m i ≡ p) → acceptance_answer (slot_at m w p i) q b ≡ decision_at m w (Heard k p ∷ w) p i b
+    → slice_get (sent_messages w) k ≡ Some (Accepted q p i b)
+    → (b ≡ 0 → owner m i ≡ p) → acceptance_answer (slot_at m w p i) q b ≡ due_decision_at m w (Heard k p ∷ w) p i b
 
 -- an acceptance at any other ballot calls for nothing
 abbrev pub IgnoresAcceptances : Type 0
 IgnoresAcceptances =
-    (m : Membership) (w : Trace) (p : ServerId) (i : Inst) (q : ServerId) (b : BallotNo) → b ≢ trying w p i
+    (m : Membership) (w : Trace) (p : ServerId) (i : Inst) (q : ServerId) (b : BallotNo) → b ≢ tried_ballot w p i
     → acceptance_answer (slot_at m w p i) q b ≡ None
 
 -- p hears an acceptance, and learns if that is due
 abbrev pub SlotAfterAcceptance : Type 0
 SlotAfterAcceptance =
     (m : Membership) (w : Trace) (k : MessageNo) (p : ServerId) (i : Inst) (q : ServerId) (b : BallotNo)
-    → slice_get (sent w) k ≡ Some (Accepted q p i b)
+    → slice_get (sent_messages w) k ≡ Some (Accepted q p i b)
     → slot_at m (followed_by (Heard k p ∷ w) (decision_lines p i (acceptance_answer (slot_at m w p i) q b))) p i
     ≡ after_acceptance (slot_at m w p i) q b
 
@@ -137,7 +138,7 @@ LeavesUntouched =
     (m : Membership) (w : Trace) (p : ServerId) (i : Inst) (l : Line) → touches p i l ≡ false
     → slot_at m (l ∷ w) p i ≡ slot_at m w p i
 
--- whether a message counts in a tally at ballot b of i
+-- whether a message counts in a set at ballot b of i
 abbrev pub counts : Inst → BallotNo → Message → Bool
 counts i b (Promise from to inst ballot reported) = inst == i && ballot == b
 counts i b (Accepted from to inst ballot) = inst == i && ballot == b
@@ -147,15 +148,15 @@ counts i b _ = false
 abbrev pub LeavesUncounted : Type 0
 LeavesUncounted =
     (m : Membership) (w : Trace) (k : MessageNo) (p : ServerId) (i : Inst) (x : Message)
-    → slice_get (sent w) k ≡ Some x
-    → counts i (trying w p i) x ≡ false
+    → slice_get (sent_messages w) k ≡ Some x
+    → counts i (tried_ballot w p i) x ≡ false
     → slot_at m (Heard k p ∷ w) p i ≡ slot_at m w p i
 
 -- a proposal at a ballot that p does not try
 abbrev pub LeavesProposals : Type 0
 LeavesProposals =
     (m : Membership) (w : Trace) (p q : ServerId) (i : Inst) (b : BallotNo) (z : Value) → IsVoted w p i
-    → b ≢ trying w p i
+    → b ≢ tried_ballot w p i
     → slot_at m (Sent (Propose q i b z) ∷ w) p i ≡ slot_at m w p i
 
 -- a suggestion at an instance that p does not own
@@ -170,5 +171,5 @@ LeavesSuggestions =
 abbrev pub LeavesRepeats : Type 0
 LeavesRepeats =
     (m : Membership) (w : Trace) (k : MessageNo) (p : ServerId) (i : Inst) (x : Message)
-    → slice_get (sent w) k ≡ Some x → Contains (heard w p) x
+    → slice_get (sent_messages w) k ≡ Some x → Contains (heard_messages w p) x
     → slot_at m (Heard k p ∷ w) p i ≡ slot_at m w p i

@@ -4,7 +4,7 @@ use Rattle.mencius_base.specs.Numbers.{ServerId, Inst, BallotNo}
 use Rattle.mencius_base.specs.declared.message.Value.{Value}
 use Rattle.mencius_base.specs.Members.{Membership, below, owner}
 use Rattle.mencius_model.specs.Trace.{Trace}
-use Rattle.mencius_model.specs.Instance.{promised, vote, learned, trying, reported, proposed, promisers, accepters}
+use Rattle.mencius_model.specs.Instance.{promised_ballot, vote, learned_value, tried_ballot, reported_vote, proposal, promisers, accepters}
 use Rattle.coord_paxos.specs.SlotState.{SlotState}
 
 -- what was proposed at ballot b of i, as far as p may have proposed it: at ballot 0 only the owner does
@@ -13,18 +13,18 @@ if_own m p i b x = if owner m i == p || nat_lt 0 b then x else None
 
 -- what p itself proposed at the ballot that it tries, which is ballot 0 until its first Prepare
 abbrev pub own_proposal : Membership → Trace → ServerId → Inst → Option Value
-own_proposal m w p i = if_own m p i (trying w p i) (proposed w i (trying w p i))
+own_proposal m w p i = if_own m p i (tried_ballot w p i) (proposal w i (tried_ballot w p i))
 
 -- server p's slot for instance i
 abbrev pub slot_at : Membership → Trace → ServerId → Inst → SlotState
 slot_at m w p i = record {
   members = m;
-  promised = promised w p i;
+  promised = promised_ballot w p i;
   vote = vote w p i;
-  learned = learned w p i;
-  trying = trying w p i;
-  reported = reported w p i (trying w p i);
+  learned = learned_value w p i;
+  trying = tried_ballot w p i;
+  reported = reported_vote w p i (tried_ballot w p i);
   proposal = own_proposal m w p i;
-  promisers = map (promisers w p i (trying w p i)) (below m.count);
-  accepters = map (accepters w p i (trying w p i)) (below m.count);
+  promisers = map (promisers w p i (tried_ballot w p i)) (below m.count);
+  accepters = map (accepters w p i (tried_ballot w p i)) (below m.count);
 }

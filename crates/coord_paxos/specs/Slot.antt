@@ -8,7 +8,7 @@ use Rattle.mencius_base.specs.declared.message.Value.{Value}
 use Rattle.mencius_base.specs.declared.message.Vote.{Vote}
 use Rattle.mencius_base.specs.Members.{Membership, is_majority}
 use Rattle.mencius_model.specs.Instance.{higher_vote}
-use Rattle.mencius_model.specs.Rules.{acceptor_answer, decision_due, is_acceptable, is_tried, may_learn, proposal_due}
+use Rattle.mencius_model.specs.Rules.{due_decision_from, due_proposal_from, is_acceptable, is_tried, may_learn, prepare_answer_from}
 use Rattle.coord_paxos.specs.SlotState.{SlotState}
 use Rattle.coord_paxos.specs.Fresh.{nobody}
 
@@ -18,7 +18,7 @@ has_majority m among = is_majority m (count_by (λ bit. bit) among)
 
 -- what is answered to a Prepare
 abbrev pub prepare_answer : SlotState → BallotNo → Answer
-prepare_answer s b = acceptor_answer s.promised s.vote b s.learned
+prepare_answer s b = prepare_answer_from s.promised s.vote b s.learned
 
 -- a ballot that is promised binds from then on, and any other answer changes nothing
 abbrev pub after_answer : SlotState → BallotNo → Answer → SlotState
@@ -51,42 +51,42 @@ with_promise s q x = record s {
 }
 
 -- the value to propose, if one is due
-abbrev pub to_propose : SlotState → Option Value
-to_propose s = proposal_due s.learned s.proposal (has_majority s.members s.promisers) s.reported
+abbrev pub due_proposal : SlotState → Option Value
+due_proposal s = due_proposal_from s.learned s.proposal (has_majority s.members s.promisers) s.reported
 
 -- with the proposal noted, if there is one
-abbrev pub proposing : SlotState → Option Value → SlotState
-proposing s None = s
-proposing s (Some x) = record s { proposal = Some x }
+abbrev pub with_proposal : SlotState → Option Value → SlotState
+with_proposal s None = s
+with_proposal s (Some x) = record s { proposal = Some x }
 
 -- only a promise of the ballot that is tried counts
 abbrev pub promise_answer : SlotState → ServerId → BallotNo → Option Vote → Option Value
-promise_answer s q b x = if is_tried s.trying b then to_propose (with_promise s q x) else None
+promise_answer s q b x = if is_tried s.trying b then due_proposal (with_promise s q x) else None
 
 abbrev pub after_promise : SlotState → ServerId → BallotNo → Option Vote → SlotState
 after_promise s q b x =
-    if is_tried s.trying b then proposing (with_promise s q x) (to_propose (with_promise s q x)) else s
+    if is_tried s.trying b then with_proposal (with_promise s q x) (due_proposal (with_promise s q x)) else s
 
 -- one more acceptance at the ballot that is tried
 abbrev pub with_acceptance : SlotState → ServerId → SlotState
 with_acceptance s q = record s { accepters = slice_set s.accepters q true }
 
 -- the value that is decided, if one is: what this slot proposed
-abbrev pub to_learn : SlotState → Option Value
-to_learn s = decision_due s.learned s.proposal (has_majority s.members s.accepters)
+abbrev pub due_decision : SlotState → Option Value
+due_decision s = due_decision_from s.learned s.proposal (has_majority s.members s.accepters)
 
 -- with the value noted as learned, if there is one
-abbrev pub learning : SlotState → Option Value → SlotState
-learning s None = s
-learning s (Some x) = record s { learned = Some x }
+abbrev pub with_learned : SlotState → Option Value → SlotState
+with_learned s None = s
+with_learned s (Some x) = record s { learned = Some x }
 
 -- only an acceptance at the ballot that is tried counts
 abbrev pub acceptance_answer : SlotState → ServerId → BallotNo → Option Value
-acceptance_answer s q b = if is_tried s.trying b then to_learn (with_acceptance s q) else None
+acceptance_answer s q b = if is_tried s.trying b then due_decision (with_acceptance s q) else None
 
 abbrev pub after_acceptance : SlotState → ServerId → BallotNo → SlotState
 after_acceptance s q b =
-    if is_tried s.trying b then learning (with_acceptance s q) (to_learn (with_acceptance s q)) else s
+    if is_tried s.trying b then with_learned (with_acceptance s q) (due_decision (with_acceptance s q)) else s
 
 -- a value is noted where one may be learned
 abbrev pub after_learn : SlotState → Value → SlotState

@@ -41,7 +41,7 @@ pub fn counts_promises()
     ensures after { SlotAfterPromise }
 {}
 
-/// [`add_accept`](crate::Slot::add_accept) gives the value that is decided by all acceptances
+/// [`add_acceptance`](crate::Slot::add_accept) gives the value that is decided by all acceptances
 /// heard, and the slot after it is learned is the one that the call leaves.
 pub fn counts_acceptances()
     ensures tried { AcceptanceAnswered }
@@ -91,7 +91,7 @@ pub fn reports_greatest()
     ensures greater { GreaterVoteReplaces }
 {}
 
-/// A new ballot starts with empty tallies. It has at most one proposal, which stays until the next
+/// A new ballot starts with empty sets. It has at most one proposal, which stays until the next
 /// ballot, and none once a value is learned.
 pub fn proposes_once()
     ensures empty { BeginEmpties }

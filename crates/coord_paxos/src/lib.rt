@@ -11,7 +11,7 @@ ghost use Rattle.std.specs.Prelude.{◌≡◌, ◌<◌, ◌≤◌, ◌==◌, Som
 ghost use Rattle.coord_paxos.specs.Fresh.{new_slot};
 ghost use Rattle.coord_paxos.specs.Slot.{acceptance_answer, after_accept, after_acceptance, after_begin, after_learn, after_prepare, after_promise, has_majority, prepare_answer, promise_answer, with_acceptance, with_promise};
 ghost use Rattle.mencius_model.specs.Instance.{higher_vote, value_or_noop};
-ghost use Rattle.mencius_model.specs.Rules.{proposal_due};
+ghost use Rattle.mencius_model.specs.Rules.{due_proposal_from};
 ghost use Rattle.mencius_base.specs.declared.message.Value.TheVariants.{Ticket};
 
 pub use mencius_base::Answer;
@@ -21,7 +21,7 @@ use std::marker::Model;
 pub mod laws;
 
 // One truth value for each of the at most seven servers; places past the last server stay false.
-type Tally = [bool; MOST_SERVERS as usize];
+type ServerSet = [bool; MOST_SERVERS as usize];
 
 /// What one server knows of one instance, as acceptor, as proposer and as learner.
 ///
@@ -39,8 +39,8 @@ pub struct Slot {
     trying: Ballot,
     reported: Option<Vote>,
     proposal: Option<Value>,
-    promisers: Tally,
-    accepters: Tally,
+    promisers: ServerSet,
+    accepters: ServerSet,
 }
 
 impl Model for Slot {
@@ -64,7 +64,7 @@ impl Model for Slot {
 
 impl Slot {
     /// The slot of an instance of which nothing was heard: nothing is promised, accepted, tried or
-    /// learned, and both tallies are empty.
+    /// learned, and both sets are empty.
     pub fn new(members: Members) -> Slot
         ensures { result ≡ new_slot members }
     {
@@ -84,7 +84,7 @@ impl Slot {
     }
 
     /// The slot of an instance of which only the value was heard: a new one that learned it.
-    pub fn known(members: Members, value: Value) -> Slot
+    pub fn new_learned(members: Members, value: Value) -> Slot
         ensures { result ≡ after_learn (new_slot members) value }
     {
         let mut slot = Slot::new(members);
@@ -136,7 +136,7 @@ impl Slot {
     }
 
     /// Of whose promises of the ballot tried this server heard: one truth value for each server.
-    pub fn promises(&self) -> &[bool]
+    pub fn promisers(&self) -> &[bool]
         ensures value { result.now ≡ self.now.promisers }
         ensures count { length result.now ≡ self.now.members.count }
     {
@@ -144,7 +144,7 @@ impl Slot {
     }
 
     /// Of whose acceptances at the ballot tried this server heard: one truth value for each server.
-    pub fn accepts(&self) -> &[bool]
+    pub fn accepters(&self) -> &[bool]
         ensures value { result.now ≡ self.now.accepters }
         ensures count { length result.now ≡ self.now.members.count }
     {
@@ -179,7 +179,7 @@ impl Slot {
         ensures { result ≡ prepare_answer self.now ballot }
     {
         if let Some(value) = self.learned {
-            return Answer::Known(value);
+            return Answer::Learn(value);
         }
         if ballot <= self.promised {
             return Answer::Silent;
@@ -242,8 +242,8 @@ impl Slot {
             return None;
         }
         self.note_promise(from, vote);
-        let majority = has_majority(self.members, self.promises());
-        let value = self.proposal_due(majority, self.reported);
+        let majority = has_majority(self.members, self.promisers());
+        let value = self.due_proposal(majority, self.reported);
         if value.is_some() {
             self.proposal = value;
         }
@@ -259,20 +259,20 @@ impl Slot {
             return None;
         }
         let majority = has_majority_with(self.members, self.promisers, from);
-        self.proposal_due(majority, higher(self.reported, vote))
+        self.due_proposal(majority, higher(self.reported, vote))
     }
 
     /// Counts a server's acceptance, if it is at the ballot tried; any other is ignored. Gives the
     /// value that is thereby learned, once a majority of servers accepted: what this server
     /// proposed at that ballot. It gives one at most once, and none where a value is learned.
-    pub fn add_accept(&mut self, from: u8, ballot: Ballot) -> Option<Value>
+    pub fn add_acceptance(&mut self, from: u8, ballot: Ballot) -> Option<Value>
         requires { from < self.old.members.count }
         ensures answer { result ≡ acceptance_answer self.old from ballot }
         ensures after { self.new ≡ after_acceptance self.old from ballot }
     {
-        let value = self.accept_answer(from, ballot);
+        let value = self.acceptance_answer(from, ballot);
         if ballot == self.trying {
-            self.note_accept(from);
+            self.note_acceptance(from);
         }
         if value.is_some() {
             self.learned = value;
@@ -280,8 +280,8 @@ impl Slot {
         value
     }
 
-    /// What [`Slot::add_accept`] would give: nothing changes.
-    pub fn accept_answer(&self, from: u8, ballot: Ballot) -> Option<Value>
+    /// What [`Slot::add_acceptance`] would give: nothing changes.
+    pub fn acceptance_answer(&self, from: u8, ballot: Ballot) -> Option<Value>
         requires { from < self.now.members.count }
         ensures { result ≡ acceptance_answer self.now from ballot }
     {
@@ -295,8 +295,8 @@ impl Slot {
     }
 
     // The value to propose once a majority promised, with the greatest vote that it reported.
-    fn proposal_due(&self, majority: bool, reported: Option<Vote>) -> Option<Value>
-        ensures { result ≡ proposal_due self.now.learned self.now.proposal majority reported }
+    fn due_proposal(&self, majority: bool, reported: Option<Vote>) -> Option<Value>
+        ensures { result ≡ due_proposal_from self.now.learned self.now.proposal majority reported }
     {
         if self.learned.is_some() || self.proposal.is_some() || !majority {
             return None;
@@ -314,7 +314,7 @@ impl Slot {
         self.reported = higher(self.reported, vote);
     }
 
-    fn note_accept(&mut self, from: u8)
+    fn note_acceptance(&mut self, from: u8)
         requires { from < self.old.members.count }
         ensures { self.new ≡ with_acceptance self.old from }
     {
@@ -352,7 +352,7 @@ fn value_or_noop(vote: Option<Vote>) -> Value
 }
 
 // More than half of the servers are in the set, with one more.
-fn has_majority_with(members: Members, among: Tally, from: u8) -> bool
+fn has_majority_with(members: Members, among: ServerSet, from: u8) -> bool
     requires { from < members.count }
     ensures { result ≡ has_majority members (slice_set (take members.count among) from true) }
 {

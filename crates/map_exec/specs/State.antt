@@ -4,16 +4,16 @@ use Rattle.std.specs.Coded.{Coded, code_by, coded×, coded_list, coded_ℕ}
 use Rattle.std.specs.FinMap as finite
 use Rattle.mencius_base.specs.Numbers.{TicketNo}
 use Rattle.mencius_base.specs.declared.command.Command.{Command}
-use Rattle.mencius_model.specs.Store.{Store, apply}
+use Rattle.mencius_model.specs.KeyMap.{KeyMap, apply}
 
 pub record ExecutorState : Type 0 where
-  pub store : Store
+  pub store : KeyMap
   pub history : List TicketNo
 
 -- an executor is stored as the pair of its map and its history
 abbrev pub executor_code : Coded ExecutorState
 executor_code =
-    code_by (Store × List ℕ) (coded× (finite.code (coded_list coded_ℕ) (coded_list coded_ℕ)) (coded_list coded_ℕ))
+    code_by (KeyMap × List ℕ) (coded× (finite.code (coded_list coded_ℕ) (coded_list coded_ℕ)) (coded_list coded_ℕ))
     (λ x. (x.store, x.history)) (λ pair. record { store = pair.0; history = pair.1 }) (λ _. refl)
 
 -- the executor after one more command, with its ticket

@@ -4,7 +4,7 @@ use Rattle.std.specs.Io.KnownBytes.{Keeps}
 use Rattle.mencius_ends.specs.Ends.{HasFailed, TakesAtMost, WritesFront, most_bytes, most_failed_calls}
 use Rattle.mencius_ends.specs.declared.fault.AppFault.{AppFault}
 use Rattle.mencius_ends.specs.declared.fault.AppFault.TheVariants.{ReadFailed, WriteFailed}
-use Rattle.mencius_command_line.specs.CommandLine.{Asked, asked_judge}
+use Rattle.mencius_command_line.specs.CommandLine.{TaskState, asked_judge}
 use Rattle.mencius_app.specs.Input.{IsBadInput}
 
 -- how much is asked, whatever comes of it, of a reader that had these bytes and has those left, and of whose calls so
@@ -19,7 +19,7 @@ pub record AsksLittle (had left : Option (List ℕ)) (reads reads_now writes wri
   pub tried : writes_now ≤ writes + most_failed_calls
 
 -- how much a task asks; a log may have any length
-abbrev pub AsksAs : Asked → Option (List ℕ) → Option (List ℕ) → ℕ → ℕ → ℕ → ℕ → Type 0
+abbrev pub AsksAs : TaskState → Option (List ℕ) → Option (List ℕ) → ℕ → ℕ → ℕ → ℕ → Type 0
 AsksAs asked_judge had left reads reads_now writes writes_now =
     (reads_now ≤ reads + most_failed_calls) × (writes_now ≤ writes + most_failed_calls)
 AsksAs _ had left reads reads_now writes writes_now = AsksLittle had left reads reads_now writes writes_now

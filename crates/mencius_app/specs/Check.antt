@@ -1,7 +1,7 @@
 -- What a check takes, and the line that it prints.
 use Rattle.std.specs.Prelude.{ℕ, ◌≡◌, List, ◌∷◌, ◌++◌, codes, decimal, length, Option, Result, Ok, Err}
 use Rattle.std.specs.List.{flat_map}
-use Rattle.mencius_base.specs.Request.{Request}
+use Rattle.mencius_base.specs.CommandState.{CommandState}
 use Rattle.mencius_ends.specs.declared.fault.AppFault.{AppFault}
 use Rattle.mencius_input.specs.declared.kind.Kind.{Kind}
 use Rattle.mencius_input.specs.declared.kind.Kind.TheVariants as kind
@@ -15,26 +15,26 @@ use Rattle.mencius_base.specs.declared.event.Event.{Event}
 use Rattle.mencius_base.specs.Plan.{PlanState}
 
 -- a scenario of `replay`, or of `run`
-pub data Checked : Type 0 where
-  checked_replay : (written : Scenario (List Event)) → Checked
-  checked_run : (written : Scenario PlanState) → Checked
+pub data EitherScenario : Type 0 where
+  replay_scenario : (written : Scenario (List Event)) → EitherScenario
+  run_scenario : (written : Scenario PlanState) → EitherScenario
 
-abbrev pub as_replay : Result (Scenario (List Event)) AppFault → Result Checked AppFault
-as_replay (Ok written) = Ok (checked_replay written)
+abbrev pub as_replay : Result (Scenario (List Event)) AppFault → Result EitherScenario AppFault
+as_replay (Ok written) = Ok (replay_scenario written)
 as_replay (Err fault) = Err fault
 
-abbrev pub as_run : Result (Scenario PlanState) AppFault → Result Checked AppFault
-as_run (Ok written) = Ok (checked_run written)
+abbrev pub as_run : Result (Scenario PlanState) AppFault → Result EitherScenario AppFault
+as_run (Ok written) = Ok (run_scenario written)
 as_run (Err fault) = Err fault
 
 -- what bytes say as a scenario of this kind
-abbrev pub checked_as : Kind → List ℕ → Result Checked AppFault
-checked_as kind.Replay bytes = as_replay (scenario bytes)
-checked_as kind.Run bytes = as_run (plan bytes)
+abbrev pub scenario_of_kind : Kind → List ℕ → Result EitherScenario AppFault
+scenario_of_kind kind.Replay bytes = as_replay (scenario bytes)
+scenario_of_kind kind.Run bytes = as_run (plan bytes)
 
 -- of the kind that they are meant as
-abbrev pub checked : List ℕ → Result Checked AppFault
-checked bytes = checked_as (kind_in bytes) bytes
+abbrev pub either_scenario : List ℕ → Result EitherScenario AppFault
+either_scenario bytes = scenario_of_kind (kind_in bytes) bytes
 
 -- ---- the line
 
@@ -42,7 +42,7 @@ checked bytes = checked_as (kind_in bytes) bytes
 abbrev pub replay_line : Scenario (List Event) → List ℕ
 replay_line x = codes "ok servers " ++ decimal x.members.count ++ codes " events " ++ decimal (length x.course) ++ line_feed
 
-abbrev pub count_text : List Request → List ℕ
+abbrev pub count_text : List CommandState → List ℕ
 count_text commands = 32 ∷ decimal (length commands)
 
 -- how many servers, workers and turns, and how many commands in each list
@@ -51,18 +51,18 @@ run_line x =
     codes "ok servers " ++ decimal x.members.count ++ codes " workers " ++ decimal x.course.workers
     ++ codes " turns " ++ decimal x.course.turns ++ codes " commands" ++ flat_map count_text x.course.commands ++ line_feed
 
-abbrev pub ok_line : Checked → List ℕ
-ok_line (checked_replay written) = replay_line written
-ok_line (checked_run written) = run_line written
+abbrev pub ok_line : EitherScenario → List ℕ
+ok_line (replay_scenario written) = replay_line written
+ok_line (run_scenario written) = run_line written
 
 -- ---- the whole
 
-abbrev pub check_input_of : List ℕ → Result Checked AppFault
-check_input_of bytes = unless_long checked bytes
+abbrev pub check_input_of : List ℕ → Result EitherScenario AppFault
+check_input_of bytes = unless_long either_scenario bytes
 
 -- the line of a scenario that is all that a reader has, so far as that is known
 pub record IsCheckOf (known : Option (List ℕ)) (text : List ℕ) : Type 0 where
-  pub written : Checked
+  pub written : EitherScenario
   pub says : Says check_input_of known written
   pub is : text ≡ ok_line written
 

@@ -9,7 +9,7 @@ use Rattle.mencius_draw.specs.Places.{most_levels}
 use Rattle.mencius_input.specs.declared.kind.Kind.TheVariants.{Replay}
 use Rattle.mencius_trace.specs.Words.{line_feed}
 use Rattle.mencius_app.specs.declared.finding.Finding.{Finding}
-use Rattle.mencius_app.specs.Findings.{IsToldAs}
+use Rattle.mencius_app.specs.Findings.{ExplainsAs}
 use Rattle.mencius_app.specs.Input.{IsFaultOf}
 use Rattle.mencius_app.specs.Trace.{IsTraceOf}
 
@@ -38,10 +38,10 @@ too_large_words levels =
     ++ codes " levels and has at most " ++ decimal most_levels
     ++ codes ": ask for fewer events by `--from` and `--to`"
 
--- a picture's fault is told as that of a trace, or it says how many levels are too many
-abbrev pub IsToldOfPicture : Options → AppFault → List ℕ → List ℕ → Type 0
-IsToldOfPicture options fault bytes words =
-    IsToldAs Replay fault bytes words
+-- a picture's fault is explained as that of a trace, or it says how many levels are too many
+abbrev pub ExplainsPicture : Options → AppFault → List ℕ → List ℕ → Type 0
+ExplainsPicture options fault bytes words =
+    ExplainsAs Replay fault bytes words
     ⊎ ((fault ≡ BadLimit) × (levels : ℕ) × IsTooLarge options (Some bytes) levels × (words ≡ too_large_words levels))
 
 -- memory ran out, or a trace takes too many levels

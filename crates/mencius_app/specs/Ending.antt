@@ -6,18 +6,18 @@ use Rattle.clap.specs.Words.{IsAmong, Text}
 use Rattle.clap.specs.declared.error.kind.ErrorKind.{ErrorKind}
 use Rattle.mencius_ends.specs.declared.fault.AppFault.{AppFault}
 use Rattle.mencius_ends.specs.declared.fault.AppFault.TheVariants.{NotJson, BadShape, BadLimit, ReadFailed, WriteFailed, NoMemory}
-use Rattle.mencius_command_line.specs.CommandLine.{Asked, are_texts, asked, asked_check, asked_draw, asked_judge, asked_replay, asked_run, asked_trace, faults, line_of}
+use Rattle.mencius_command_line.specs.CommandLine.{TaskState, are_texts, asked_check, asked_draw, asked_judge, asked_replay, asked_run, asked_trace, faults, line_of, task_in}
 use Rattle.mencius_command_line.specs.Help.{shown_for}
 use Rattle.mencius_input.specs.declared.kind.Kind.TheVariants as input
 use Rattle.mencius_ends.specs.Fault.{fault_name, fault_number}
 use Rattle.mencius_app.specs.Input.{IsFaultOf, IsPlanFaultOf}
-use Rattle.mencius_app.specs.Judging.{IsJudgementOf, IsLogFaultOf, IsToldByLine}
+use Rattle.mencius_app.specs.Judging.{ExplainsByLine, IsJudgementOf, IsLogFaultOf}
 use Rattle.mencius_app.specs.Replay.{IsJudgedReplayOf}
 use Rattle.mencius_trace.specs.Words.{line_feed}
 use Rattle.mencius_app.specs.Check.{IsCheckFaultOf, IsCheckOf}
-use Rattle.mencius_app.specs.Findings.{AreWordsOfInput, IsToldAs, IsToldByFields, Telling}
+use Rattle.mencius_app.specs.Findings.{AreWordsOfInput, ExplainsAs, ExplainsByFields, Explanation}
 use Rattle.mencius_app.specs.Trace.{IsTraceOf}
-use Rattle.mencius_app.specs.Drawing.{IsDrawingFaultOf, IsPictureOf, IsToldOfPicture}
+use Rattle.mencius_app.specs.Drawing.{ExplainsPicture, IsDrawingFaultOf, IsPictureOf}
 use Rattle.mencius_app.specs.Run.{IsRunOf}
 use Rattle.mencius_app.specs.declared.calling.RunOptions.{RunOptions}
 use Rattle.mencius_app.specs.declared.calling.TheConstants.{NOT_TEXT}
@@ -98,23 +98,23 @@ ending_of_judgement (Ok false) = Refused
 ending_of_judgement (Err found) = ending_at found
 
 -- how a task tells of a fault
-abbrev pub telling_of : Asked → Telling
-telling_of (asked_replay is_strict) = IsToldAs input.Replay
-telling_of asked_trace = IsToldAs input.Replay
-telling_of (asked_draw (Some part)) = IsToldOfPicture part
-telling_of (asked_draw None) = IsToldAs input.Replay
-telling_of asked_check = IsToldByFields
-telling_of asked_judge = IsToldByLine
-telling_of (asked_run with_journal with_observations key) = IsToldAs input.Run
+abbrev pub explanation_of : TaskState → Explanation
+explanation_of (asked_replay is_strict) = ExplainsAs input.Replay
+explanation_of asked_trace = ExplainsAs input.Replay
+explanation_of (asked_draw (Some part)) = ExplainsPicture part
+explanation_of (asked_draw None) = ExplainsAs input.Replay
+explanation_of asked_check = ExplainsByFields
+explanation_of asked_judge = ExplainsByLine
+explanation_of (asked_run with_journal with_observations key) = ExplainsAs input.Run
 
 -- what words there are say where all that a reader has, so far as that is known, has the fault
-abbrev pub TellsOf : Asked → Option (List ℕ) → Ending → Type 0
-TellsOf asked known (Explained fault words) = AreWordsOfInput (telling_of asked) known fault (string_bytes words)
-TellsOf asked known _ = Unit {0}
+abbrev pub TellsOf : TaskState → Option (List ℕ) → Ending → Type 0
+TellsOf task known (Explained fault words) = AreWordsOfInput (explanation_of task) known fault (string_bytes words)
+TellsOf task known _ = Unit {0}
 
--- a strict replay tells of refused events
-abbrev pub tells_of_refusals : Bool → Bool → Bool
-tells_of_refusals is_strict all_accepted = is_strict && not all_accepted
+-- a strict replay reports refused events
+abbrev pub reports_refusals : Bool → Bool → Bool
+reports_refusals is_strict all_accepted = is_strict && not all_accepted
 
 -- ---- what was done, for arguments behind the program's name
 
@@ -135,50 +135,50 @@ IsComplaint arguments text =
     ⊎ ((are_texts arguments ≡ true) × (words : List ℕ) × (text ≡ codes "error: " ++ words))
 
 -- the text of a task, of all that a reader has, and whether refused events or a broken promise are told of
-abbrev pub IsTaskOf : Asked → Option (List ℕ) → Bool → List ℕ → Type 0
-IsTaskOf (asked_replay is_strict) known told text =
-    (all : Bool) × IsJudgedReplayOf known text all × (told ≡ tells_of_refusals is_strict all)
-IsTaskOf asked_trace known told text = IsTraceOf known text × (told ≡ false)
-IsTaskOf (asked_draw (Some part)) known told text = IsPictureOf part known text × (told ≡ false)
-IsTaskOf (asked_draw None) known told text = ⊥
-IsTaskOf asked_check known told text = IsCheckOf known text × (told ≡ false)
-IsTaskOf asked_judge known told text = (kept : Bool) × IsJudgementOf known text kept × (told ≡ not kept)
-IsTaskOf (asked_run with_journal with_observations key) known told text =
-    IsRunOf known with_journal with_observations key text × (told ≡ false)
+abbrev pub IsTaskOf : TaskState → Option (List ℕ) → Bool → List ℕ → Type 0
+IsTaskOf (asked_replay is_strict) known is_refused text =
+    (all : Bool) × IsJudgedReplayOf known text all × (is_refused ≡ reports_refusals is_strict all)
+IsTaskOf asked_trace known is_refused text = IsTraceOf known text × (is_refused ≡ false)
+IsTaskOf (asked_draw (Some part)) known is_refused text = IsPictureOf part known text × (is_refused ≡ false)
+IsTaskOf (asked_draw None) known is_refused text = ⊥
+IsTaskOf asked_check known is_refused text = IsCheckOf known text × (is_refused ≡ false)
+IsTaskOf asked_judge known is_refused text = (kept : Bool) × IsJudgementOf known text kept × (is_refused ≡ not kept)
+IsTaskOf (asked_run with_journal with_observations key) known is_refused text =
+    IsRunOf known with_journal with_observations key text × (is_refused ≡ false)
 
 -- the text of a task was written, whole
-abbrev pub DidTask : Asked → Option (List ℕ) → Option (List ℕ) → Option (List ℕ) → Bool → Type 0
-DidTask asked known old new told = (text : List ℕ) × IsTaskOf asked known told text × Appends old new text
+abbrev pub DidTask : TaskState → Option (List ℕ) → Option (List ℕ) → Option (List ℕ) → Bool → Type 0
+DidTask task known old new is_refused = (text : List ℕ) × IsTaskOf task known is_refused text × Appends old new text
 
 -- the text of a task, whether anything is told of or not
-abbrev pub IsTextOf : Asked → Option (List ℕ) → List ℕ → Type 0
-IsTextOf asked known text = (told : Bool) × IsTaskOf asked known told text
+abbrev pub IsTextOf : TaskState → Option (List ℕ) → List ℕ → Type 0
+IsTextOf task known text = (is_refused : Bool) × IsTaskOf task known is_refused text
 
 -- what the arguments ask for was written, whole
 abbrev pub Did : List Text → Option (List ℕ) → Option (List ℕ) → Option (List ℕ) → Bool → Type 0
-Did arguments known old new told =
-    ((told ≡ false) × (text : List ℕ) × IsShown arguments text × Appends old new text)
-    ⊎ ((faults (line_of arguments) ≡ []) × DidTask (asked (line_of arguments)) known old new told)
+Did arguments known old new is_refused =
+    ((is_refused ≡ false) × (text : List ℕ) × IsShown arguments text × Appends old new text)
+    ⊎ ((faults (line_of arguments) ≡ []) × DidTask (task_in (line_of arguments)) known old new is_refused)
 
 -- a text that the arguments ask for
 abbrev pub IsAskedFor : List Text → Option (List ℕ) → List ℕ → Type 0
 IsAskedFor arguments known text =
-    IsShown arguments text ⊎ ((faults (line_of arguments) ≡ []) × IsTextOf (asked (line_of arguments)) known text)
+    IsShown arguments text ⊎ ((faults (line_of arguments) ≡ []) × IsTextOf (task_in (line_of arguments)) known text)
 
 -- a run with these options
-abbrev pub asked_with : RunOptions → Asked
-asked_with options = asked_run options.with_journal options.with_observations (option_map string_bytes options.key)
+abbrev pub task_with : RunOptions → TaskState
+task_with options = asked_run options.with_journal options.with_observations (option_map string_bytes options.key)
 
-abbrev pub is_run : Asked → Bool
+abbrev pub is_run : TaskState → Bool
 is_run (asked_run with_journal with_observations key) = true
 is_run _ = false
 
 -- the arguments ask for a run
 abbrev pub AsksToRun : List Text → Type 0
-AsksToRun arguments = (faults (line_of arguments) ≡ []) × (is_run (asked (line_of arguments)) ≡ true)
+AsksToRun arguments = (faults (line_of arguments) ≡ []) × (is_run (task_in (line_of arguments)) ≡ true)
 
 -- the input of a task is bad in this way, where it is known
-abbrev pub IsInputFaultOf : Asked → Option (List ℕ) → AppFault → Type 0
+abbrev pub IsInputFaultOf : TaskState → Option (List ℕ) → AppFault → Type 0
 IsInputFaultOf (asked_run with_journal with_observations key) known fault = IsPlanFaultOf known fault
 IsInputFaultOf asked_check known fault = IsCheckFaultOf known fault
 IsInputFaultOf (asked_draw (Some part)) known fault = IsDrawingFaultOf part known fault
@@ -188,4 +188,4 @@ IsInputFaultOf _ known fault = IsFaultOf known fault
 -- the arguments ask for a task, whose input is bad in this way
 abbrev pub IsFaultFor : List Text → Option (List ℕ) → AppFault → Type 0
 IsFaultFor arguments known fault =
-    (faults (line_of arguments) ≡ []) × IsInputFaultOf (asked (line_of arguments)) known fault
+    (faults (line_of arguments) ≡ []) × IsInputFaultOf (task_in (line_of arguments)) known fault

@@ -3,8 +3,8 @@ use Rattle.std.specs.Prelude.{◌≡◌, ℕ, Bool, true, false, List, Option, I
 use Rattle.mencius_ends.specs.declared.fault.AppFault.{AppFault}
 use Rattle.mencius_judge.specs.declared.reading.Verdict.{Verdict}
 use Rattle.mencius_judge.specs.declared.reading.Verdict.TheVariants.{Kept, Broken}
-use Rattle.mencius_judge.specs.Reading.{AreBad, IsToldOfLine, IsVerdictOf}
-use Rattle.mencius_judge.specs.Told.{broken_line, kept_line}
+use Rattle.mencius_judge.specs.Reading.{AreBad, ExplainsLine, IsVerdictOf}
+use Rattle.mencius_judge.specs.VerdictLines.{broken_line, kept_line}
 
 -- the line that tells a verdict
 abbrev pub verdict_line : Verdict → List ℕ
@@ -34,5 +34,5 @@ abbrev pub IsLogFaultOf : Option (List ℕ) → AppFault → Type 0
 IsLogFaultOf known fault = IfSome known (λ bytes. HasBadLine bytes fault)
 
 -- the words tell of that line
-abbrev pub IsToldByLine : AppFault → List ℕ → List ℕ → Type 0
-IsToldByLine fault bytes words = (number : ℕ) × AreBad bytes fault number × IsToldOfLine number words
+abbrev pub ExplainsByLine : AppFault → List ℕ → List ℕ → Type 0
+ExplainsByLine fault bytes words = (number : ℕ) × AreBad bytes fault number × ExplainsLine number words

@@ -1,6 +1,6 @@
 -- The text of a run, and which input it is of.
 use Rattle.std.specs.Prelude.{◌≡◌, ℕ, Bool, true, if◌then◌else◌, Ok, List, [], ◌∷◌, ◌++◌, codes, Option, Some, None}
-use Rattle.mencius_model.specs.Store.{value_at}
+use Rattle.mencius_model.specs.KeyMap.{value_at}
 use Rattle.mencius_model.specs.Next.{replay}
 use Rattle.mencius_model.specs.Replying.{longest_commands}
 use Rattle.mencius_cluster.specs.State.{ClusterState, trace_of}
@@ -8,7 +8,7 @@ use Rattle.mencius_app.specs.Input.{Says, plan_input_of}
 use Rattle.mencius_app.specs.Journal.{ReadsBack, journal_text}
 use Rattle.mencius_app.specs.Plan.{IsOutcome}
 use Rattle.mencius_app.specs.Report.{report_text}
-use Rattle.mencius_judge.specs.Observed.{observed}
+use Rattle.mencius_judge.specs.Observed.{log_of}
 use Rattle.mencius_judge.specs.Written.{log_text}
 use Rattle.mencius_trace.specs.Words.{former_text, line_feed}
 use Rattle.mencius_input.specs.declared.scenario.Scenario.{Scenario}
@@ -18,11 +18,11 @@ use Rattle.mencius_base.specs.Plan.{PlanState}
 
 -- the journal, as one line, where it is asked for
 abbrev pub journal_line : Bool → ClusterState → List ℕ
-journal_line asked x = if asked then journal_text x.members x.journal ++ line_feed else []
+journal_line is_asked x = if is_asked then journal_text x.members x.journal ++ line_feed else []
 
 -- what the commands of the longest history leave at a key
-abbrev pub held_at : ClusterState → List ℕ → Option (List ℕ)
-held_at x key = value_at key (longest_commands x.members (trace_of x))
+abbrev pub text_at : ClusterState → List ℕ → Option (List ℕ)
+text_at x key = value_at key (longest_commands x.members (trace_of x))
 
 abbrev pub held_line : List ℕ → Option (List ℕ) → List ℕ
 held_line key held = codes "lookup " ++ (key ++ 32 ∷ (former_text held ++ line_feed))
@@ -35,12 +35,12 @@ found_line (Some key) found = held_line key found
 -- what the map holds at the key, where one is looked up
 abbrev pub lookup_line : Option (List ℕ) → ClusterState → List ℕ
 lookup_line None x = []
-lookup_line (Some key) x = held_line key (held_at x key)
+lookup_line (Some key) x = held_line key (text_at x key)
 
 -- what was seen of the servers, as a log, or the report
 abbrev pub body_text : Bool → ClusterState → List ℕ
 body_text with_observations x =
-    if with_observations then log_text (observed (trace_of x)) else report_text x.members (trace_of x)
+    if with_observations then log_text (log_of (trace_of x)) else report_text x.members (trace_of x)
 
 -- the journal's line, the log or the report, and the lookup
 abbrev pub run_text : Bool → Bool → Option (List ℕ) → ClusterState → List ℕ
@@ -50,7 +50,7 @@ run_text with_journal with_observations key x =
 -- what was found at the key, where one is looked up
 abbrev pub IsFound : Option (List ℕ) → ClusterState → Option (List ℕ) → Type 0
 IsFound None x found = Unit {0}
-IsFound (Some key) x found = found ≡ held_at x key
+IsFound (Some key) x found = found ≡ text_at x key
 
 -- ---- the whole
 

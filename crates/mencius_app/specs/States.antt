@@ -10,21 +10,21 @@ use Rattle.mencius_base.specs.declared.message.Vote.{Vote}
 use Rattle.mencius_server.specs.declared.glance.Glance.{Glance}
 use Rattle.mencius_cluster.specs.State.{trace_of}
 use Rattle.mencius_model.specs.Trace.{Trace}
-use Rattle.mencius_model.specs.Instance.{accepted, vote}
+use Rattle.mencius_model.specs.Instance.{accepted_ballot, vote}
 use Rattle.mencius_model.specs.Outcomes.{outcomes_from}
 use Rattle.mencius_trace.specs.Facts.{at_instance, value_text, vote_text}
-use Rattle.mencius_trace.specs.Told.{glance}
+use Rattle.mencius_trace.specs.Effects.{glance}
 use Rattle.mencius_trace.specs.Words.{line_feed}
-use Rattle.mencius_app.specs.Replay.{IsMadeOf, refused_lines, replayed}
+use Rattle.mencius_app.specs.Replay.{IsMadeOf, cluster_of_replay, refused_lines}
 use Rattle.mencius_app.specs.Report.{server_line}
 
 -- for each instance the greatest ballot that p accepted there
 abbrev pub AreAccepted : Trace → ServerId → List (Option BallotNo) → Type 0
-AreAccepted w p ballots = (i : ℕ) → i < instance_count → slice_index_or ballots i None ≡ accepted w p i
+AreAccepted w p ballots = (i : ℕ) → i < instance_count → slice_index_or ballots i None ≡ accepted_ballot w p i
 
 -- whether anything was heard or done at an instance of which this is known
-abbrev pub is_known : Glance → Option Vote → Bool
-is_known g x = nat_lt 0 g.promised || is_some x || nat_lt 0 g.trying || is_some g.proposal || is_some g.learned
+abbrev pub is_heard_of : Glance → Option Vote → Bool
+is_heard_of g x = nat_lt 0 g.promised || is_some x || nat_lt 0 g.trying || is_some g.proposal || is_some g.learned
 
 abbrev pub value_or_none : Trace → Option Value → List ℕ
 value_or_none w None = codes "none"
@@ -49,7 +49,7 @@ slot_text w g x = acceptor_text w g.promised x ++ proposer_text w g ++ learner_t
 
 abbrev pub slot_line : Trace → ServerId → Inst → Glance → Option Vote → List ℕ
 slot_line w p i g x =
-    if is_known g x then codes "slot " ++ decimal p ++ at_instance i ++ slot_text w g x ++ line_feed else []
+    if is_heard_of g x then codes "slot " ++ decimal p ++ at_instance i ++ slot_text w g x ++ line_feed else []
 
 -- what p knows of instance i, if it heard of it
 abbrev pub slot_line_at : Membership → Trace → ServerId → Inst → List ℕ
@@ -69,7 +69,8 @@ server_states m w n = flat_map (server_state m w) (range_with_len 0 n)
 -- the refused events, and then each server of the cluster after all events
 abbrev pub state_text : Membership → List Event → List ℕ
 state_text m es =
-    refused_lines (outcomes_from m [] es) ++ server_states (replayed m es).members (trace_of (replayed m es)) m.count
+    refused_lines (outcomes_from m [] es)
+    ++ server_states (cluster_of_replay m es).members (trace_of (cluster_of_replay m es)) m.count
 
 -- a text of the state of that
 abbrev pub IsStateOf : Option (List ℕ) → List ℕ → Type 0

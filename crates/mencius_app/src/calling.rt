@@ -3,11 +3,11 @@
 ghost use Rattle.std.specs.Prelude.{◌≡◌, ◌≢◌, ◌⊎◌, ◌≤◌, ◌+◌, ◌++◌, ℕ, List, codes, false, true, IfErr, IfOk, IfSome, OnErr, Some, None, []};
 ghost use Rattle.std.specs.Io.KnownBytes.{Appends};
 ghost use Rattle.clap.specs.Words.{kind_of};
-ghost use Rattle.mencius_command_line.specs.CommandLine.{are_texts, asked, asked_in, bytes_of, faults, line_of};
+ghost use Rattle.mencius_command_line.specs.CommandLine.{are_texts, bytes_of, faults, line_of, task_in, task_state};
 ghost use Rattle.mencius_command_line.specs.Help.{shown_for};
 ghost use Rattle.mencius_ends.specs.Ends.{HasFailed, WritesFront, most_failed_calls};
 ghost use Rattle.mencius_app.specs.Calls.{AsksAs, AsksLittle, IsCause};
-ghost use Rattle.mencius_app.specs.Ending.{AsksToRun, Did, DidTask, IsAskedFor, IsComplaint, IsFaultFor, IsInputFaultOf, IsMistaken, IsTextOf, TellsOf, asked_with, ending_at, ending_of, ending_of_judgement, ending_of_run, fault_in, is_explained};
+ghost use Rattle.mencius_app.specs.Ending.{AsksToRun, Did, DidTask, IsAskedFor, IsComplaint, IsFaultFor, IsInputFaultOf, IsMistaken, IsTextOf, TellsOf, ending_at, ending_of, ending_of_judgement, ending_of_run, fault_in, is_explained, task_with};
 
 use crate::checking::check;
 use crate::drawing::draw;
@@ -89,9 +89,9 @@ pub fn perform<R: Source, W: Sink, E: Sink, T: Threads + Wait + Sync>(
     ensures board { result ≡ Ending.BoardFailed
         → AsksToRun (bytes_of arguments.now) × (sink.new ≡ sink.old) }
     ensures explained { is_explained result ≡ true → faults (line_of (bytes_of arguments.now)) ≡ [] }
-    ensures words { TellsOf (asked (line_of (bytes_of arguments.now))) (R.remaining source.old)
+    ensures words { TellsOf (task_in (line_of (bytes_of arguments.now))) (R.remaining source.old)
         result }
-    ensures asked { AsksAs (asked (line_of (bytes_of arguments.now)))
+    ensures asked { AsksAs (task_in (line_of (bytes_of arguments.now)))
         (R.remaining source.old) (R.remaining source.new)
         (R.failed source.old) (R.failed source.new) (W.failed sink.old) (W.failed sink.new) }
 {
@@ -192,22 +192,22 @@ pub(crate) fn perform_alone<R: Source, W: Sink>(
     sink: &mut W,
 ) -> Result<Ending, RunOptions>
     ensures done { IfOk result (λ ending. ending ≡ Ending.Done →
-        DidTask (asked_in task) (R.remaining source.old) (W.contents sink.old)
+        DidTask (task_state task) (R.remaining source.old) (W.contents sink.old)
         (W.contents sink.new) false) }
     ensures refused { IfOk result (λ ending. ending ≡ Ending.Refused →
-        DidTask (asked_in task) (R.remaining source.old) (W.contents sink.old)
+        DidTask (task_state task) (R.remaining source.old) (W.contents sink.old)
         (W.contents sink.new) true) }
     ensures taken_words { IfOk result (λ ending. ending ≢ Ending.BadCommandLine) }
-    ensures run { IfErr result (λ options. asked_in task ≡ asked_with options) }
+    ensures run { IfErr result (λ options. task_state task ≡ task_with options) }
     ensures untouched { OnErr result ((source.new ≡ source.old) × (sink.new ≡ sink.old)) }
     ensures fault { IfOk result (λ ending. IfSome (fault_in ending)
-        (IsCause (IsInputFaultOf (asked_in task) (R.remaining source.old))
-        (IsTextOf (asked_in task) (R.remaining source.old))
+        (IsCause (IsInputFaultOf (task_state task) (R.remaining source.old))
+        (IsTextOf (task_state task) (R.remaining source.old))
         (R.failed source.old) (R.failed source.new) (W.failed sink.old) (W.failed sink.new)
         (W.contents sink.old) (W.contents sink.new))) }
     ensures no_board { IfOk result (λ ending. ending ≢ Ending.BoardFailed) }
-    ensures words { IfOk result (TellsOf (asked_in task) (R.remaining source.old)) }
-    ensures asked { AsksAs (asked_in task) (R.remaining source.old) (R.remaining source.new)
+    ensures words { IfOk result (TellsOf (task_state task) (R.remaining source.old)) }
+    ensures asked { AsksAs (task_state task) (R.remaining source.old) (R.remaining source.new)
         (R.failed source.old) (R.failed source.new) (W.failed sink.old) (W.failed sink.new) }
 {
     match task {
@@ -246,16 +246,16 @@ fn perform_run<R: Source, W: Sink, T: Threads + Wait + Sync>(
     sink: &mut W,
 ) -> Ending
     ensures done { result ≡ Ending.Done →
-        DidTask (asked_with options.now) (R.remaining source.old) (W.contents sink.old)
+        DidTask (task_with options.now) (R.remaining source.old) (W.contents sink.old)
         (W.contents sink.new) false }
     ensures no_other { (result ≢ Ending.Refused) × (result ≢ Ending.BadCommandLine) }
     ensures board { result ≡ Ending.BoardFailed → sink.new ≡ sink.old }
     ensures fault { IfSome (fault_in result)
-        (IsCause (IsInputFaultOf (asked_with options.now) (R.remaining source.old))
-        (IsTextOf (asked_with options.now) (R.remaining source.old))
+        (IsCause (IsInputFaultOf (task_with options.now) (R.remaining source.old))
+        (IsTextOf (task_with options.now) (R.remaining source.old))
         (R.failed source.old) (R.failed source.new) (W.failed sink.old) (W.failed sink.new)
         (W.contents sink.old) (W.contents sink.new)) }
-    ensures words { TellsOf (asked_with options.now) (R.remaining source.old) result }
+    ensures words { TellsOf (task_with options.now) (R.remaining source.old) result }
     ensures asked { AsksLittle (R.remaining source.old) (R.remaining source.new)
         (R.failed source.old) (R.failed source.new) (W.failed sink.old) (W.failed sink.new) }
 {

@@ -4,11 +4,11 @@ ghost use Rattle.std.specs.Prelude.{ℕ, List, ◌≡◌, ◌⊎◌, ◌++◌, m
 ghost use Rattle.std.specs.List.{flat_map};
 ghost use Rattle.std.specs.Io.KnownBytes.{Appends, IsAtEnd};
 ghost use Rattle.mencius_input.specs.Kinds.{kind_in};
-ghost use Rattle.mencius_input.specs.Explanations.{IsTold};
+ghost use Rattle.mencius_input.specs.Explanations.{Explains};
 ghost use Rattle.mencius_input.specs.Scenario.{scenario};
 ghost use Rattle.mencius_app.specs.Calls.{AsksLittle, AsksReader, IsCause, IsReadingCause};
-ghost use Rattle.mencius_app.specs.Check.{IsCheckFaultOf, IsCheckOf, Checked, checked, count_text, ok_line, replay_line, run_line};
-ghost use Rattle.mencius_app.specs.Findings.{IsFoundIn, IsToldByFields};
+ghost use Rattle.mencius_app.specs.Check.{IsCheckFaultOf, IsCheckOf, EitherScenario, either_scenario, count_text, ok_line, replay_line, run_line};
+ghost use Rattle.mencius_app.specs.Findings.{ExplainsByFields, IsFoundIn};
 ghost use Rattle.mencius_trace.specs.Words.{line_feed};
 
 use crate::finding::{Finding, misread, unread};
@@ -41,7 +41,7 @@ pub fn check<R: Source, W: Sink>(alloc: Global, source: &mut R, sink: &mut W) ->
         found.fault) }
 
     // The words, where there are any, are of the fault in these bytes.
-    ensures words { IfErr result (IsFoundIn IsToldByFields (R.remaining source.old)) }
+    ensures words { IfErr result (IsFoundIn ExplainsByFields (R.remaining source.old)) }
     ensures asked { AsksLittle (R.remaining source.old) (R.remaining source.new)
         (R.failed source.old) (R.failed source.new) (W.failed sink.old) (W.failed sink.new) }
 {
@@ -56,7 +56,7 @@ fn read_line<R: Source>(alloc: Global, source: &mut R) -> Result<String, Finding
     ensures line { IfOk result (λ s. IsCheckOf (R.remaining source.old) (string_bytes s)) }
     ensures fault { IfErr result (λ found. IsReadingCause (IsCheckFaultOf (R.remaining source.old))
         (R.failed source.old) (R.failed source.new) found.fault) }
-    ensures words { IfErr result (IsFoundIn IsToldByFields (R.remaining source.old)) }
+    ensures words { IfErr result (IsFoundIn ExplainsByFields (R.remaining source.old)) }
     ensures asked { AsksReader (R.remaining source.old) (R.remaining source.new)
         (R.failed source.old) (R.failed source.new) }
 {
@@ -69,12 +69,13 @@ fn read_line<R: Source>(alloc: Global, source: &mut R) -> Result<String, Finding
 
 // The line of the scenario that these bytes are.
 fn line_in(alloc: Global, bytes: &[u8]) -> Result<String, Finding>
-    ensures line { IfOk result (λ s. (written : Checked)
-        × (checked bytes.now ≡ Ok written) × (string_bytes s ≡ ok_line written)) }
+    ensures line { IfOk result (λ s. (written : EitherScenario)
+        × (either_scenario bytes.now ≡ Ok written) × (string_bytes s ≡ ok_line written)) }
     ensures fault { IfErr result (λ found. (found.fault ≡ AppFault.NoMemory)
-        ⊎ (checked bytes.now ≡ Err found.fault)) }
+        ⊎ (either_scenario bytes.now ≡ Err found.fault)) }
     ensures words { IfErr result (λ found. IfSome found.words (λ line. (words : List ℕ)
-        × IsToldByFields found.fault bytes.now words × (string_bytes line ≡ words ++ line_feed))) }
+        × ExplainsByFields found.fault bytes.now words
+        × (string_bytes line ≡ words ++ line_feed))) }
 {
     match read_scenario(alloc, bytes) {
         Ok(scenario) => Ok(replay_line(alloc, &scenario)?),
@@ -91,12 +92,13 @@ fn line_in(alloc: Global, bytes: &[u8]) -> Result<String, Finding>
 // The same of bytes that do not have the shape of `replay`'s.
 fn line_of_other_shape(alloc: Global, bytes: &[u8]) -> Result<String, Finding>
     requires { scenario bytes.now ≡ Err AppFault.BadShape }
-    ensures line { IfOk result (λ s. (written : Checked)
-        × (checked bytes.now ≡ Ok written) × (string_bytes s ≡ ok_line written)) }
+    ensures line { IfOk result (λ s. (written : EitherScenario)
+        × (either_scenario bytes.now ≡ Ok written) × (string_bytes s ≡ ok_line written)) }
     ensures fault { IfErr result (λ found. (found.fault ≡ AppFault.NoMemory)
-        ⊎ (checked bytes.now ≡ Err found.fault)) }
+        ⊎ (either_scenario bytes.now ≡ Err found.fault)) }
     ensures words { IfErr result (λ found. IfSome found.words (λ line. (words : List ℕ)
-        × IsToldByFields found.fault bytes.now words × (string_bytes line ≡ words ++ line_feed))) }
+        × ExplainsByFields found.fault bytes.now words
+        × (string_bytes line ≡ words ++ line_feed))) }
 {
     match kind_of(alloc, bytes)? {
         Kind::Replay => Err(misread(alloc, Kind::Replay, bytes, AppFault::BadShape)),
@@ -107,12 +109,13 @@ fn line_of_other_shape(alloc: Global, bytes: &[u8]) -> Result<String, Finding>
 // The same of bytes that are meant as a run's.
 fn line_of_run(alloc: Global, bytes: &[u8]) -> Result<String, Finding>
     requires { kind_in bytes.now ≡ Kind.Run }
-    ensures line { IfOk result (λ s. (written : Checked)
-        × (checked bytes.now ≡ Ok written) × (string_bytes s ≡ ok_line written)) }
+    ensures line { IfOk result (λ s. (written : EitherScenario)
+        × (either_scenario bytes.now ≡ Ok written) × (string_bytes s ≡ ok_line written)) }
     ensures fault { IfErr result (λ found. (found.fault ≡ AppFault.NoMemory)
-        ⊎ (checked bytes.now ≡ Err found.fault)) }
+        ⊎ (either_scenario bytes.now ≡ Err found.fault)) }
     ensures words { IfErr result (λ found. IfSome found.words (λ line. (words : List ℕ)
-        × IsToldByFields found.fault bytes.now words × (string_bytes line ≡ words ++ line_feed))) }
+        × ExplainsByFields found.fault bytes.now words
+        × (string_bytes line ≡ words ++ line_feed))) }
 {
     match read_plan(alloc, bytes) {
         Ok(scenario) => Ok(run_line(alloc, &scenario)?),

@@ -5,7 +5,7 @@ ghost use Rattle.std.specs.Io.KnownBytes.{Appends, IsAtEnd};
 ghost use Rattle.mencius_draw.specs.Picture.{IsPicture};
 ghost use Rattle.mencius_trace.specs.Words.{line_feed};
 ghost use Rattle.mencius_app.specs.Calls.{AsksLittle, IsCause};
-ghost use Rattle.mencius_app.specs.Drawing.{IsDrawingFaultOf, IsPictureOf, IsRefusedAs, IsToldOfPicture, too_large_words};
+ghost use Rattle.mencius_app.specs.Drawing.{ExplainsPicture, IsDrawingFaultOf, IsPictureOf, IsRefusedAs, too_large_words};
 ghost use Rattle.mencius_app.specs.Findings.{IsFoundIn};
 
 use crate::finding::{Finding, as_line};
@@ -38,7 +38,7 @@ pub fn draw<R: Source, W: Sink>(
         (R.failed source.new) (W.failed sink.old) (W.failed sink.new) (W.contents sink.old)
         (W.contents sink.new) found.fault) }
     ensures words { IfErr result
-        (IsFoundIn (IsToldOfPicture options.now) (R.remaining source.old)) }
+        (IsFoundIn (ExplainsPicture options.now) (R.remaining source.old)) }
     ensures asked { AsksLittle (R.remaining source.old) (R.remaining source.new)
         (R.failed source.old) (R.failed source.new) (W.failed sink.old) (W.failed sink.new) }
 {

@@ -1,8 +1,8 @@
 //! Why a task ended without doing its work.
 
 ghost use Rattle.std.specs.Prelude.{◌≡◌, ◌++◌, ℕ, List, IfSome, string_bytes, true};
-ghost use Rattle.mencius_input.specs.Explanations.{IsTold, IsToldUnread};
-ghost use Rattle.mencius_app.specs.Findings.{IsOtherKind, IsToldAs, other_kind_words};
+ghost use Rattle.mencius_input.specs.Explanations.{Explains, ExplainsUnread};
+ghost use Rattle.mencius_app.specs.Findings.{ExplainsAs, IsOtherKind, other_kind_words};
 ghost use Rattle.mencius_trace.specs.Words.{line_feed};
 
 use mencius_base::NoMemory;
@@ -55,7 +55,7 @@ impl From<NoMemory> for Finding {
 pub(crate) fn unread(alloc: Global, fault: AppFault) -> Finding
     ensures fault { result.fault ≡ fault }
     ensures words { IfSome result.words (λ line. (words : List ℕ)
-        × IsToldUnread fault words × (string_bytes line ≡ words ++ line_feed)) }
+        × ExplainsUnread fault words × (string_bytes line ≡ words ++ line_feed)) }
 {
     let words = if fault == AppFault::NoMemory {
         None
@@ -69,7 +69,7 @@ pub(crate) fn unread(alloc: Global, fault: AppFault) -> Finding
 pub(crate) fn misread(alloc: Global, kind: Kind, bytes: &[u8], fault: AppFault) -> Finding
     ensures fault { result.fault ≡ fault }
     ensures words { IfSome result.words (λ line. (words : List ℕ)
-        × IsTold kind fault bytes.now words × (string_bytes line ≡ words ++ line_feed)) }
+        × Explains kind fault bytes.now words × (string_bytes line ≡ words ++ line_feed)) }
 {
     let words = if fault == AppFault::NoMemory {
         None
@@ -83,7 +83,7 @@ pub(crate) fn misread(alloc: Global, kind: Kind, bytes: &[u8], fault: AppFault) 
 pub(crate) fn misread_as(alloc: Global, kind: Kind, bytes: &[u8], fault: AppFault) -> Finding
     ensures fault { result.fault ≡ fault }
     ensures words { IfSome result.words (λ line. (words : List ℕ)
-        × IsToldAs kind fault bytes.now words × (string_bytes line ≡ words ++ line_feed)) }
+        × ExplainsAs kind fault bytes.now words × (string_bytes line ≡ words ++ line_feed)) }
 {
     if fault == AppFault::BadShape && is_other_kind(alloc, kind, bytes) {
         let words = words_of_other(alloc, kind);
@@ -114,14 +114,14 @@ fn words_of_other(alloc: Global, kind: Kind) -> Option<String>
 
 fn words_unread(alloc: Global, fault: AppFault) -> Option<String>
     ensures { IfSome result (λ line. (words : List ℕ)
-        × IsToldUnread fault words × (string_bytes line ≡ words ++ line_feed)) }
+        × ExplainsUnread fault words × (string_bytes line ≡ words ++ line_feed)) }
 {
     as_line(explain_unread(alloc, fault).ok()?)
 }
 
 fn words_at(alloc: Global, kind: Kind, bytes: &[u8], fault: AppFault) -> Option<String>
     ensures { IfSome result (λ line. (words : List ℕ)
-        × IsTold kind fault bytes.now words × (string_bytes line ≡ words ++ line_feed)) }
+        × Explains kind fault bytes.now words × (string_bytes line ≡ words ++ line_feed)) }
 {
     as_line(explain(alloc, kind, bytes, fault).ok()?)
 }

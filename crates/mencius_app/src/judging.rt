@@ -8,7 +8,7 @@ ghost use Rattle.mencius_ends.specs.Ends.{most_failed_calls};
 ghost use Rattle.mencius_trace.specs.Words.{line_feed};
 ghost use Rattle.mencius_app.specs.Calls.{IsCause, IsReadingCause};
 ghost use Rattle.mencius_app.specs.Findings.{IsFoundIn};
-ghost use Rattle.mencius_app.specs.Judging.{IsJudgement, IsJudgementOf, IsLogFaultOf, IsToldByLine, is_kept, verdict_line};
+ghost use Rattle.mencius_app.specs.Judging.{ExplainsByLine, IsJudgement, IsJudgementOf, IsLogFaultOf, is_kept, verdict_line};
 
 use crate::finding::{Finding, as_line};
 use mencius_input::{Sink, Source, write_all};
@@ -37,7 +37,7 @@ pub fn judge<R: Source, W: Sink>(
         (IsJudgement (R.remaining source.old)) (R.failed source.old) (R.failed source.new)
         (W.failed sink.old) (W.failed sink.new) (W.contents sink.old) (W.contents sink.new)
         found.fault) }
-    ensures words { IfErr result (IsFoundIn IsToldByLine (R.remaining source.old)) }
+    ensures words { IfErr result (IsFoundIn ExplainsByLine (R.remaining source.old)) }
     ensures few_reads { R.failed source.new ≤ R.failed source.old + most_failed_calls }
     ensures few_writes { W.failed sink.new ≤ W.failed sink.old + most_failed_calls }
 {
@@ -52,7 +52,7 @@ fn read_judgement<R: Source>(alloc: Global, source: &mut R) -> Result<(String, b
         IsJudgementOf (R.remaining source.old) (string_bytes x.0) x.1) }
     ensures fault { IfErr result (λ found. IsReadingCause (IsLogFaultOf (R.remaining source.old))
         (R.failed source.old) (R.failed source.new) found.fault) }
-    ensures words { IfErr result (IsFoundIn IsToldByLine (R.remaining source.old)) }
+    ensures words { IfErr result (IsFoundIn ExplainsByLine (R.remaining source.old)) }
     ensures few { R.failed source.new ≤ R.failed source.old + most_failed_calls }
 {
     let verdict = match judge_log(alloc, source) {

@@ -4,7 +4,7 @@ ghost use Rattle.std.specs.Prelude.{ℕ, ◌≡◌, ◌<◌, ◌≤◌, ◌+◌,
 ghost use Rattle.std.specs.Io.KnownBytes.{Appends};
 ghost use Rattle.mencius_ends.specs.Ends.{HasFailed, WritesFront, most_failed_calls};
 ghost use Rattle.mencius_app.specs.Report.{counts_line, reply_line, reply_lines, reply_of_command, report_text, server_line, server_lines};
-ghost use Rattle.mencius_model.specs.Trace.{submitted};
+ghost use Rattle.mencius_model.specs.Trace.{submitted_commands};
 ghost use Rattle.mencius_cluster.specs.State.{trace_of};
 ghost use Rattle.mencius_trace.specs.Words.{spaced_ticket, tickets_text};
 
@@ -95,7 +95,7 @@ pub(crate) fn push_server(
 
 fn push_history(text: &mut String, cluster: &Cluster, tickets: &[u32]) -> Result<(), AllocError>
     requires { (n t : ℕ) → slice_get tickets.now n ≡ Some t
-        → t < length (submitted (trace_of cluster.now)) }
+        → t < length (submitted_commands (trace_of cluster.now)) }
     ensures { OnOk result (string_bytes text.new
         ≡ string_bytes text.old ++ tickets_text (trace_of cluster.now) tickets.now) }
 {
@@ -114,7 +114,7 @@ fn push_history(text: &mut String, cluster: &Cluster, tickets: &[u32]) -> Result
 
 fn push_replies(text: &mut String, cluster: &Cluster) -> Result<(), AllocError>
     ensures { OnOk result (string_bytes text.new ≡ string_bytes text.old
-        ++ reply_lines (trace_of cluster.now) (length (submitted (trace_of cluster.now)))) }
+        ++ reply_lines (trace_of cluster.now) (length (submitted_commands (trace_of cluster.now)))) }
 {
     for ticket in 0..cluster.commands() {
         push_reply(text, cluster, ticket)?;
@@ -123,7 +123,7 @@ fn push_replies(text: &mut String, cluster: &Cluster) -> Result<(), AllocError>
 }
 
 fn push_reply(text: &mut String, cluster: &Cluster, ticket: u32) -> Result<(), AllocError>
-    requires { ticket < length (submitted (trace_of cluster.now)) }
+    requires { ticket < length (submitted_commands (trace_of cluster.now)) }
     ensures { OnOk result (string_bytes text.new
         ≡ string_bytes text.old ++ reply_line (trace_of cluster.now) ticket) }
 {
@@ -133,6 +133,6 @@ fn push_reply(text: &mut String, cluster: &Cluster, ticket: u32) -> Result<(), A
     text.push_str("reply ")?;
     push_id(text, submission.command.id())?;
     text.push(' ')?;
-    push_answer(text, &submission.answer)?;
+    push_answer(text, &submission.reply)?;
     text.push('\n')
 }

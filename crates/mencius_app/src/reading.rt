@@ -3,7 +3,7 @@
 ghost use Rattle.std.specs.Prelude.{◌≡◌, IfErr, IfOk, OnOk};
 ghost use Rattle.std.specs.Io.KnownBytes.{IsAtEnd};
 ghost use Rattle.mencius_app.specs.Calls.{AsksReader, IsReadingCause};
-ghost use Rattle.mencius_app.specs.Findings.{IsFoundIn, IsToldAs};
+ghost use Rattle.mencius_app.specs.Findings.{ExplainsAs, IsFoundIn};
 ghost use Rattle.mencius_app.specs.Input.{IsFaultOf, Says, input_of};
 
 use crate::finding::{Finding, misread_as, unread};
@@ -19,7 +19,7 @@ pub(crate) fn read_input<R: Source>(
     ensures said { IfOk result (λ s. Says input_of (R.remaining source.old) s) }
     ensures fault { IfErr result (λ found. IsReadingCause (IsFaultOf (R.remaining source.old))
         (R.failed source.old) (R.failed source.new) found.fault) }
-    ensures words { IfErr result (IsFoundIn (IsToldAs Kind.Replay) (R.remaining source.old)) }
+    ensures words { IfErr result (IsFoundIn (ExplainsAs Kind.Replay) (R.remaining source.old)) }
     ensures asked { AsksReader (R.remaining source.old) (R.remaining source.new)
         (R.failed source.old) (R.failed source.new) }
 {

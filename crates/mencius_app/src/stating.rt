@@ -3,14 +3,14 @@
 ghost use Rattle.std.specs.Prelude.{ℕ, List, ◌≡◌, ◌<◌, ◌++◌, [], string_bytes, IfErr, IfOk, OnOk};
 ghost use Rattle.std.specs.Io.KnownBytes.{Appends, IsAtEnd};
 ghost use Rattle.mencius_app.specs.Calls.{AsksLittle, IsCause};
-ghost use Rattle.mencius_app.specs.Findings.{IsFoundIn, IsToldAs};
+ghost use Rattle.mencius_app.specs.Findings.{ExplainsAs, IsFoundIn};
 ghost use Rattle.mencius_app.specs.Input.{IsFaultOf};
 ghost use Rattle.mencius_app.specs.Replay.{salt_of_events};
-ghost use Rattle.mencius_app.specs.States.{IsStateOf, acceptor_text, is_known, learner_text, proposer_text, server_state, server_states, slot_line, slot_line_at, slot_lines, slot_text, state_text, value_or_none};
+ghost use Rattle.mencius_app.specs.States.{IsStateOf, acceptor_text, is_heard_of, learner_text, proposer_text, server_state, server_states, slot_line, slot_line_at, slot_lines, slot_text, state_text, value_or_none};
 ghost use Rattle.mencius_base.specs.Limits.{instance_count};
 ghost use Rattle.mencius_cluster.specs.Salt.{salted};
 ghost use Rattle.mencius_cluster.specs.State.{trace_of};
-ghost use Rattle.mencius_model.specs.Instance.{accepted};
+ghost use Rattle.mencius_model.specs.Instance.{accepted_ballot};
 ghost use Rattle.mencius_trace.specs.Facts.{vote_text, value_text};
 
 use crate::finding::Finding;
@@ -42,7 +42,7 @@ pub fn state<R: Source, W: Sink>(alloc: Global, source: &mut R, sink: &mut W) ->
         (IsStateOf (R.remaining source.old)) (R.failed source.old) (R.failed source.new)
         (W.failed sink.old) (W.failed sink.new) (W.contents sink.old) (W.contents sink.new)
         found.fault) }
-    ensures words { IfErr result (IsFoundIn (IsToldAs Kind.Replay) (R.remaining source.old)) }
+    ensures words { IfErr result (IsFoundIn (ExplainsAs Kind.Replay) (R.remaining source.old)) }
     ensures asked { AsksLittle (R.remaining source.old) (R.remaining source.new)
         (R.failed source.old) (R.failed source.new) (W.failed sink.old) (W.failed sink.new) }
 {
@@ -135,7 +135,7 @@ fn push_slot_at(
 ) -> Result<(), AllocError>
     requires member { server < cluster.now.members.count }
     requires small { inst < instance_count }
-    requires ballot { ballot ≡ accepted (trace_of cluster.now) server inst }
+    requires ballot { ballot ≡ accepted_ballot (trace_of cluster.now) server inst }
     ensures { OnOk result (string_bytes text.new ≡ string_bytes text.old
         ++ slot_line_at cluster.now.members (trace_of cluster.now) server inst) }
 {
@@ -157,7 +157,7 @@ fn push_slot(
     ensures { OnOk result (string_bytes text.new ≡ string_bytes text.old
         ++ slot_line (trace_of cluster.now) server inst glance.now vote) }
 {
-    if !is_known(glance, &vote) {
+    if !is_heard_of(glance, &vote) {
         return Ok(());
     }
     write!(text, "slot {server} instance {inst}")?;
@@ -166,8 +166,8 @@ fn push_slot(
 }
 
 // Whether anything was heard or done at an instance of which this is known.
-fn is_known(glance: &Glance, vote: &Option<Vote>) -> bool
-    ensures { result ≡ is_known glance.now vote.now }
+fn is_heard_of(glance: &Glance, vote: &Option<Vote>) -> bool
+    ensures { result ≡ is_heard_of glance.now vote.now }
 {
     glance.promised > Ballot::OWNER
         || vote.is_some()
@@ -213,7 +213,7 @@ fn push_proposer(text: &mut String, cluster: &Cluster, glance: &Glance) -> Resul
     let promises = glance.promise_count;
     let acceptances = glance.acceptance_count;
     write!(text, " tries {tried} promises {promises} proposed ")?;
-    push_known_value(text, cluster, glance.proposal)?;
+    push_value_or_none(text, cluster, glance.proposal)?;
     write!(text, " acceptances {acceptances}")
 }
 
@@ -226,7 +226,7 @@ fn push_learner(
         ≡ string_bytes text.old ++ learner_text (trace_of cluster.now) learned) }
 {
     text.push_str(" learned ")?;
-    push_known_value(text, cluster, learned)
+    push_value_or_none(text, cluster, learned)
 }
 
 fn push_vote(text: &mut String, cluster: &Cluster, vote: Option<Vote>) -> Result<(), AllocError>
@@ -241,7 +241,7 @@ fn push_vote(text: &mut String, cluster: &Cluster, vote: Option<Vote>) -> Result
     push_value(text, cluster, vote.value)
 }
 
-fn push_known_value(
+fn push_value_or_none(
     text: &mut String,
     cluster: &Cluster,
     value: Option<Value>,

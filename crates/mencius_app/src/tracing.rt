@@ -3,13 +3,13 @@
 ghost use Rattle.std.specs.Prelude.{ℕ, List, ◌≡◌, ◌++◌, [], string_bytes, IfErr, IfOk, OnOk};
 ghost use Rattle.std.specs.Io.KnownBytes.{Appends, IsAtEnd};
 ghost use Rattle.mencius_app.specs.Calls.{AsksLittle, IsCause};
-ghost use Rattle.mencius_app.specs.Findings.{IsFoundIn, IsToldAs};
+ghost use Rattle.mencius_app.specs.Findings.{ExplainsAs, IsFoundIn};
 ghost use Rattle.mencius_app.specs.Input.{IsFaultOf};
 ghost use Rattle.mencius_app.specs.Replay.{salt_of_events};
 ghost use Rattle.mencius_app.specs.Trace.{IsTraceOf};
 ghost use Rattle.mencius_cluster.specs.Salt.{salted};
 ghost use Rattle.mencius_cluster.specs.State.{trace_of};
-ghost use Rattle.mencius_trace.specs.Closing.{told_from, trace_text};
+ghost use Rattle.mencius_trace.specs.Closing.{events_text, trace_text};
 
 use crate::finding::Finding;
 use crate::reading::read_input;
@@ -34,7 +34,7 @@ pub fn trace<R: Source, W: Sink>(alloc: Global, source: &mut R, sink: &mut W) ->
         (IsTraceOf (R.remaining source.old)) (R.failed source.old) (R.failed source.new)
         (W.failed sink.old) (W.failed sink.new) (W.contents sink.old) (W.contents sink.new)
         found.fault) }
-    ensures words { IfErr result (IsFoundIn (IsToldAs Kind.Replay) (R.remaining source.old)) }
+    ensures words { IfErr result (IsFoundIn (ExplainsAs Kind.Replay) (R.remaining source.old)) }
     ensures asked { AsksLittle (R.remaining source.old) (R.remaining source.new)
         (R.failed source.old) (R.failed source.new) (W.failed sink.old) (W.failed sink.new) }
 {
@@ -83,7 +83,7 @@ fn push_events(
     events: Events,
 ) -> Result<(), NoMemory>
     ensures { OnOk result (string_bytes text.new ≡ string_bytes text.old
-        ++ told_from cluster.old.members (trace_of cluster.old) 0 events) }
+        ++ events_text cluster.old.members (trace_of cluster.old) 0 events) }
 {
     let count = events.len();
     let mut place = 0usize;

@@ -2,10 +2,10 @@
 
 ghost use Rattle.std.specs.Prelude.{◌≡◌, ◌≢◌, ◌⊎◌, ℕ, List, false, true, IfSome, []};
 ghost use Rattle.std.specs.Io.KnownBytes.{Appends};
-ghost use Rattle.mencius_command_line.specs.CommandLine.{are_texts, asked, bytes_of, faults, line_of};
+ghost use Rattle.mencius_command_line.specs.CommandLine.{are_texts, bytes_of, faults, line_of, task_in};
 ghost use Rattle.mencius_ends.specs.Ends.{HasFailed, WritesFront};
 ghost use Rattle.mencius_app.specs.Calls.{AsksAs, AsksLittle, IsCause};
-ghost use Rattle.mencius_app.specs.Ending.{Did, DidTask, IsAskedFor, IsComplaint, IsFaultFor, IsInputFaultOf, IsMistaken, IsTextOf, TellsOf, asked_with, fault_in, is_explained};
+ghost use Rattle.mencius_app.specs.Ending.{Did, DidTask, IsAskedFor, IsComplaint, IsFaultFor, IsInputFaultOf, IsMistaken, IsTextOf, TellsOf, fault_in, is_explained, task_with};
 
 use crate::calling::{NOT_TEXT, RunOptions, answer_command_line, ending_of, perform_alone};
 use crate::ending::Ending;
@@ -55,9 +55,9 @@ pub fn perform_in_turns<R: Source, W: Sink, E: Sink>(
         (W.contents sink.old) (W.contents sink.new)) }
     ensures no_board { result ≢ Ending.BoardFailed }
     ensures explained { is_explained result ≡ true → faults (line_of (bytes_of arguments.now)) ≡ [] }
-    ensures words { TellsOf (asked (line_of (bytes_of arguments.now))) (R.remaining source.old)
+    ensures words { TellsOf (task_in (line_of (bytes_of arguments.now))) (R.remaining source.old)
         result }
-    ensures asked { AsksAs (asked (line_of (bytes_of arguments.now)))
+    ensures asked { AsksAs (task_in (line_of (bytes_of arguments.now)))
         (R.remaining source.old) (R.remaining source.new)
         (R.failed source.old) (R.failed source.new) (W.failed sink.old) (W.failed sink.new) }
 {
@@ -83,16 +83,16 @@ fn perform_run_in_turns<R: Source, W: Sink>(
     sink: &mut W,
 ) -> Ending
     ensures done { result ≡ Ending.Done →
-        DidTask (asked_with options.now) (R.remaining source.old) (W.contents sink.old)
+        DidTask (task_with options.now) (R.remaining source.old) (W.contents sink.old)
         (W.contents sink.new) false }
     ensures no_other { (result ≢ Ending.Refused) × (result ≢ Ending.BadCommandLine) }
     ensures no_board { result ≢ Ending.BoardFailed }
     ensures fault { IfSome (fault_in result)
-        (IsCause (IsInputFaultOf (asked_with options.now) (R.remaining source.old))
-        (IsTextOf (asked_with options.now) (R.remaining source.old))
+        (IsCause (IsInputFaultOf (task_with options.now) (R.remaining source.old))
+        (IsTextOf (task_with options.now) (R.remaining source.old))
         (R.failed source.old) (R.failed source.new) (W.failed sink.old) (W.failed sink.new)
         (W.contents sink.old) (W.contents sink.new)) }
-    ensures words { TellsOf (asked_with options.now) (R.remaining source.old) result }
+    ensures words { TellsOf (task_with options.now) (R.remaining source.old) result }
     ensures asked { AsksLittle (R.remaining source.old) (R.remaining source.new)
         (R.failed source.old) (R.failed source.new) (W.failed sink.old) (W.failed sink.new) }
 {

@@ -3,7 +3,7 @@
 ghost use Rattle.std.specs.Prelude.{ℕ, ◌≡◌, ◌<◌, IfOk, None, Some, slice_index_or, vec_len};
 ghost use Rattle.mencius_base.specs.Limits.{instance_count};
 ghost use Rattle.mencius_cluster.specs.State.{trace_of};
-ghost use Rattle.mencius_model.specs.Instance.{accepted_by, greater, proposed, proposed_by, vote_of};
+ghost use Rattle.mencius_model.specs.Instance.{accepted_by, greater_ballot, proposal, proposal_by, vote_of};
 ghost use Rattle.mencius_model.specs.Trace.{Sent};
 ghost use Rattle.mencius_app.specs.States.{AreAccepted};
 
@@ -49,7 +49,7 @@ fn raise(ballots: &mut Vec<Option<Ballot>>, server: u8, message: &Message)
     requires { vec_len ballots.old ≡ instance_count }
     ensures len { vec_len ballots.new ≡ instance_count }
     ensures greater { (i : ℕ) → i < instance_count → slice_index_or ballots.new.items i None
-        ≡ greater (slice_index_or ballots.old.items i None) (accepted_by server i (Sent message.now)) }
+        ≡ greater_ballot (slice_index_or ballots.old.items i None) (accepted_by server i (Sent message.now)) }
 {
     if let Message::Accepted {
         from,
@@ -60,13 +60,13 @@ fn raise(ballots: &mut Vec<Option<Ballot>>, server: u8, message: &Message)
     {
         if from == server && inst < INSTANCES {
             let place = inst as usize;
-            ballots[place] = Some(greater(ballots[place], ballot));
+            ballots[place] = Some(greater_ballot(ballots[place], ballot));
         }
     }
 }
 
-fn greater(former: Option<Ballot>, ballot: Ballot) -> Ballot
-    ensures { Some result ≡ greater former (Some ballot) }
+fn greater_ballot(former: Option<Ballot>, ballot: Ballot) -> Ballot
+    ensures { Some result ≡ greater_ballot former (Some ballot) }
 {
     match former {
         Some(former) if ballot <= former => former,
@@ -79,13 +79,13 @@ pub(crate) fn vote_of(cluster: &Cluster, inst: u32, ballot: Option<Ballot>) -> O
     ensures { result ≡ vote_of (trace_of cluster.now) inst ballot }
 {
     let ballot = ballot?;
-    let value = proposed(cluster, inst, ballot)?;
+    let value = proposal(cluster, inst, ballot)?;
     Some(Vote { ballot, value })
 }
 
 // What was proposed at a ballot of an instance, if anything.
-fn proposed(cluster: &Cluster, inst: u32, ballot: Ballot) -> Option<Value>
-    ensures { result ≡ proposed (trace_of cluster.now) inst ballot }
+fn proposal(cluster: &Cluster, inst: u32, ballot: Ballot) -> Option<Value>
+    ensures { result ≡ proposal (trace_of cluster.now) inst ballot }
 {
     // For the proof: a type inside a message.
     let _inside: Option<Vote> = None;
@@ -93,7 +93,7 @@ fn proposed(cluster: &Cluster, inst: u32, ballot: Ballot) -> Option<Value>
         let Some(message) = cluster.message(number) else {
             unreachable!();
         };
-        if let Some(value) = proposed_by(&message, inst, ballot) {
+        if let Some(value) = proposal_by(&message, inst, ballot) {
             return Some(value);
         }
     }
@@ -101,8 +101,8 @@ fn proposed(cluster: &Cluster, inst: u32, ballot: Ballot) -> Option<Value>
 }
 
 // What a message proposes at a ballot of an instance, if anything.
-fn proposed_by(message: &Message, at: u32, tried: Ballot) -> Option<Value>
-    ensures { result ≡ proposed_by at tried (Sent message.now) }
+fn proposal_by(message: &Message, at: u32, tried: Ballot) -> Option<Value>
+    ensures { result ≡ proposal_by at tried (Sent message.now) }
 {
     match *message {
         Message::Suggest { inst, ticket, .. } if inst == at && tried == Ballot::OWNER => {

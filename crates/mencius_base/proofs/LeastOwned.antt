@@ -21,8 +21,8 @@ record IsPlace (n p turn rest place : ℕ) : Type 0 where
   pub is : place ≡ n * round + p
   pub which : ((round ≡ turn) × (rest ≤ p)) ⊎ ((round ≡ turn + 1) × (p < rest))
 
-place_of : (n p turn rest : ℕ) → p < n → rest < n → IsPlace n p turn rest (n * turn + rest + (p + n - rest) % n)
-place_of n p turn rest member small =
+first_owned_is : (n p turn rest : ℕ) → p < n → rest < n → IsPlace n p turn rest (n * turn + rest + (p + n - rest) % n)
+first_owned_is n p turn rest member small =
     elim (cases_lt p rest) [
       | inl less ↦ record {
         round = turn + 1;
@@ -40,7 +40,7 @@ placed : (m : Membership) (p from : ℕ) → p < m.count
     → IsPlace m.count p (from / m.count) (from % m.count) (first_owned m p from)
 placed m p from member =
     let some : 0 < m.count = omega arith in
-    let there = place_of m.count p (from / m.count) (from % m.count) member (mod-lt from some) in
+    let there = first_owned_is m.count p (from / m.count) (from % m.count) member (mod-lt from some) in
     subst (λ (n : ℕ). IsPlace m.count p (from / m.count) (from % m.count)
     (n + (p + m.count - from % m.count) % m.count)) (div-add-mod from m.count) there
 

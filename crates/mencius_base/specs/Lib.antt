@@ -1,7 +1,7 @@
 pub mod Numbers
 pub mod Limits
 pub mod Members
-pub mod Request
+pub mod CommandState
 pub mod Command
 pub mod Message
 pub mod Refusal

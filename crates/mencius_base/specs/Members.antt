@@ -2,7 +2,7 @@
 use Rattle.std.specs.Prelude.{ℕ, Bool, nat_le, ◌+◌, ◌-◌, ◌*◌, ◌/◌, ◌%◌, List, [], ◌∷◌, Option, Some, None, if◌then◌else◌, ◌==◌}
 use Rattle.std.specs.List.{range_with_len}
 use Rattle.mencius_base.specs.Numbers.{ServerId, Inst, BallotNo}
-use Rattle.mencius_base.specs.Limits.{event_limit, greatest_round, instance_count, message_limit}
+use Rattle.mencius_base.specs.Limits.{event_limit, instance_count, message_limit}
 
 -- the servers of a cluster, and what sets how far past the own front a suspicion looks
 pub record Membership : Type 0 where
@@ -57,6 +57,3 @@ most_messages = message_limit
 
 unfoldable pub most_events : ℕ
 most_events = event_limit
-
-unfoldable pub most_rounds : ℕ
-most_rounds = greatest_round

@@ -5,7 +5,7 @@ use Rattle.mencius_base.specs.declared.refusal.Refusal.TheVariants.{MessagesFull
 use Rattle.mencius_base.specs.declared.message.Message.{Message}
 
 -- the messages, how many there may be, and for how many more there is room already
-pub record Outgoing : Type 0 where
+pub record OutboxState : Type 0 where
   pub messages : List Message
   pub limit : ℕ
   pub room : ℕ
@@ -15,5 +15,5 @@ abbrev pub is_too_many : ℕ → ℕ → ℕ → Bool
 is_too_many limit count extra = nat_lt limit (count + extra)
 
 -- that many more would be too many
-abbrev pub outbox_full : Outgoing → ℕ → Option Refusal
+abbrev pub outbox_full : OutboxState → ℕ → Option Refusal
 outbox_full o extra = if is_too_many o.limit (length o.messages) extra then Some MessagesFull else None

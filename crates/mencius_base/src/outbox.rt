@@ -18,9 +18,9 @@ pub struct Outbox {
 impl Model for Outbox {
     ghost use Rattle.std.specs.Prelude.{◌-◌, ◌≤◌, min, vec_len};
     ghost use Rattle.std.specs.Vec.{vec_capacity};
-    ghost use Rattle.mencius_base.specs.Outbox.{Outgoing};
+    ghost use Rattle.mencius_base.specs.Outbox.{OutboxState};
 
-    ghost Value = { Outgoing };
+    ghost Value = { OutboxState };
 
     ghost view = { λ o. record {
       messages = o.messages.items;

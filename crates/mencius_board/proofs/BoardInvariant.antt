@@ -7,8 +7,8 @@ use Rattle.mencius_cluster.specs.State.{ClusterState}
 use Rattle.mencius_board.specs.declared.version.Operation.{Operation}
 use Rattle.mencius_board.specs.Marks.{MarkState, VersionState, mark_of}
 use Rattle.mencius_board.specs.Shown.{book_of}
-use Rattle.mencius_board.specs.Pending.{AreHanded, added}
-use Rattle.mencius_board.specs.Boards.{IsSound, IsSteady, longest}
+use Rattle.mencius_board.specs.Pending.{AreHanded, added_commands}
+use Rattle.mencius_board.specs.Boards.{IsBoardInside, IsSteady, longest_of}
 use Rattle.mencius_model.proofs.trace.Prefixes.{prefix_empty, prefix_trans, prefix_length, take_begins}
 
 -- the first commands of a list are the first of each of which it is a prefix
@@ -21,22 +21,22 @@ handed_grows shown os n xs ys prefix h = record {
 
 -- a board stays sound where its cluster's longest history grows
 pub sound_grows : (x y : ClusterState) (log opening : MarkState) (seen : Option MarkState) (shown : VersionState)
-    (os : List Operation) (n : ℕ) → IsSteady y × IsPrefix (longest x) (longest y)
-    → IsSound x log opening seen shown os n → IsSound y log opening seen shown os n
+    (os : List Operation) (n : ℕ) → IsSteady y × IsPrefix (longest_of x) (longest_of y)
+    → IsBoardInside x log opening seen shown os n → IsBoardInside y log opening seen shown os n
 sound_grows x y log opening seen shown os n also s = record {
   steady = also.0;
   marked = s.marked;
-  handed_is = handed_grows shown.list os n (longest x) (longest y) also.1 s.handed_is;
-  begins = prefix_trans log.log (longest x) (longest y) s.begins also.1;
+  handed_is = handed_grows shown.list os n (longest_of x) (longest_of y) also.1 s.handed_is;
+  begins = prefix_trans log.log (longest_of x) (longest_of y) s.begins also.1;
   opening_is = s.opening_is;
   seen_is = s.seen_is;
 }
 
 -- what is shown and what is pending are a prefix of the longest history
 pub shown_first : (x : ClusterState) (shown : List Command) (os : List Operation) (n : ℕ)
-    → AreHanded shown os n (longest x) → IsPrefix (shown ++ added os) (longest x)
-shown_first x shown os n h = subst (λ (l : List Command). IsPrefix l (longest x)) (sym h.first)
-    (take_begins n (longest x))
+    → AreHanded shown os n (longest_of x) → IsPrefix (shown ++ added_commands os) (longest_of x)
+shown_first x shown os n h = subst (λ (l : List Command). IsPrefix l (longest_of x)) (sym h.first)
+    (take_begins n (longest_of x))
 
 -- a list begins with all of itself
 pub all_begins : (xs ys : List Command) → xs ≡ ys → IsPrefix xs ys
@@ -45,8 +45,8 @@ all_begins xs ys same = ([], append-nil xs ∙ same)
 -- nothing is shown yet
 pub sound_new : (x : ClusterState) (log opening : MarkState) (seen : Option MarkState) (shown : VersionState)
     (os : List Operation) → IsSteady x → log.log ≡ [] → opening ≡ log
-    → book_of seen ≡ Some opening.book → shown ≡ record { mark = opening; list = opening.log } → added os ≡ []
-    → IsSound x log opening seen shown os 0
+    → book_of seen ≡ Some opening.book → shown ≡ record { mark = opening; list = opening.log } → added_commands os ≡ []
+    → IsBoardInside x log opening seen shown os 0
 sound_new x log opening seen shown os steady empty same seen_is is none =
     let empty_mark : opening.log ≡ [] = ap (λ (m : MarkState). m.log) same ∙ empty in
     let list : shown.list ≡ [] = ap (λ (s : VersionState). s.list) is ∙ empty_mark in
@@ -58,8 +58,8 @@ sound_new x log opening seen shown os steady empty same seen_is is none =
         log_is = ap (λ (s : VersionState). s.mark.log) is
             ∙ sym (ap (λ (s : VersionState). s.list) is);
       };
-      handed_is = record { many = omega arith; first = ap (λ (l : List Command). l ++ added os) list ∙ none };
-      begins = subst (λ (l : List Command). IsPrefix l (longest x)) (sym empty) (prefix_empty (longest x));
+      handed_is = record { many = omega arith; first = ap (λ (l : List Command). l ++ added_commands os) list ∙ none };
+      begins = subst (λ (l : List Command). IsPrefix l (longest_of x)) (sym empty) (prefix_empty (longest_of x));
       opening_is = same ∙ ap (λ (l : List Command). mark_of log.book l) empty;
       seen_is = seen_is ∙ ap (λ (m : MarkState). Some m.book) same;
     }
@@ -67,9 +67,9 @@ sound_new x log opening seen shown os steady empty same seen_is is none =
 -- all of the longest history is shown
 pub sound_shown : (x : ClusterState) (log opening mark : MarkState) (seen : Option MarkState) (shown : VersionState)
     (os : List Operation) (n : ℕ) (list was : List Command) (waiting : List Operation) → IsSteady x
-    → opening ≡ mark_of log.book [] → mark ≡ log → log.log ≡ list → list ≡ longest x → AreHanded was waiting n list
-    → was ++ added waiting ≡ list → shown ≡ record { mark = mark; list = mark.log } → added os ≡ []
-    → book_of seen ≡ Some mark.book → IsSound x log opening seen shown os n
+    → opening ≡ mark_of log.book [] → mark ≡ log → log.log ≡ list → list ≡ longest_of x → AreHanded was waiting n list
+    → was ++ added_commands waiting ≡ list → shown ≡ record { mark = mark; list = mark.log } → added_commands os ≡ []
+    → book_of seen ≡ Some mark.book → IsBoardInside x log opening seen shown os n
 sound_shown x log opening mark seen shown os n list was waiting steady opening_is same whole all h handed is none
     seen_is =
     let list_is : shown.list ≡ list = ap (λ (s : VersionState). s.list) is
@@ -86,7 +86,7 @@ sound_shown x log opening mark seen shown os n list was waiting steady opening_i
             ∙ (append-nil shown.list
             ∙ (list_is ∙ (sym handed ∙ (h.first ∙ ap (λ (l : List Command). take n l) all))));
       };
-      begins = all_begins log.log (longest x) (whole ∙ all);
+      begins = all_begins log.log (longest_of x) (whole ∙ all);
       opening_is = opening_is;
       seen_is = seen_is ∙ ap (λ (m : MarkState). Some m.book) same;
     }

@@ -8,7 +8,7 @@ use Rattle.mencius_model.specs.Next.{replay}
 use Rattle.mencius_cluster.specs.declared.cluster.Effect.{Effect}
 use Rattle.mencius_model.specs.Replying.{longest_commands}
 use Rattle.mencius_cluster.specs.State.{ClusterState, IsStepped, trace_of}
-use Rattle.mencius_board.specs.Boards.{IsSteady, longest}
+use Rattle.mencius_board.specs.Boards.{IsSteady, longest_of}
 use Rattle.mencius_model.proofs.trace.Prefixes.{prefix_self}
 
 -- what a board relies on holds of the cluster that an event leaves
@@ -22,8 +22,8 @@ steady_next x y e f s step = record {
 
 -- and the former longest history is a prefix of its longest one
 longest_grows : (x y : ClusterState) (e : Event) (f : Effect) → IsSteady x
-    → IsStepped x y e f → IsPrefix (longest x) (longest y)
-unfolding longest
+    → IsStepped x y e f → IsPrefix (longest_of x) (longest_of y)
+unfolding longest_of
 longest_grows x y e f s step =
     let now = subst (λ (m : Membership). replay m y.journal ≡ Ok (trace_of y)) step.members step.replays in
     let all = subst (λ (es : List Event). replay x.members es ≡ Ok (trace_of y)) step.journal now in
@@ -36,8 +36,9 @@ longest_grows x y e f s step =
 -- an event is accepted, or nothing changes
 pub answer_grows : (x y : ClusterState) (e : Event) (r : Result Effect Refusal) → IsSteady x
     → IfOk r (IsStepped x y e) → OnErr r (y ≡ x)
-    → IsSteady y × IsPrefix (longest x) (longest y)
+    → IsSteady y × IsPrefix (longest_of x) (longest_of y)
 answer_grows x y e (Ok f) s step none =
     (steady_next x y e f s step, longest_grows x y e f s step)
 answer_grows x y e (Err r) s step none =
-    subst (λ (z : ClusterState). IsSteady z × IsPrefix (longest x) (longest z)) (sym none) (s, prefix_self (longest x))
+    subst (λ (z : ClusterState). IsSteady z × IsPrefix (longest_of x) (longest_of z)) (sym none)
+    (s, prefix_self (longest_of x))

@@ -25,8 +25,8 @@ abbrev pub new_board : Origin → ClusterState → ℕ → BoardState
 new_board book x readers = record { book = book; cluster = x; shown = []; pending = []; places = readers }
 
 -- the commands of the cluster's longest history, in order
-unfoldable pub longest : ClusterState → List Command
-longest x = longest_commands x.members (trace_of x)
+unfoldable pub longest_of : ClusterState → List Command
+longest_of x = longest_commands x.members (trace_of x)
 
 -- what a board relies on of its cluster: there are servers, the journal replays, and the longest history only grows
 pub record IsSteady (x : ClusterState) : Type 0 where
@@ -37,11 +37,12 @@ pub record IsSteady (x : ClusterState) : Type 0 where
 -- what every board keeps: what is shown and then what is pending is a prefix of the longest history. The log has the
 -- commands that were ever to be shown, the opening is its mark when it was empty, and n commands were handed to the
 -- writer
-pub record IsSound (cluster : ClusterState) (log opening : MarkState) (seen : Option MarkState) (shown : VersionState)
+pub record IsBoardInside (cluster : ClusterState) (log opening : MarkState) (seen : Option MarkState)
+    (shown : VersionState)
     (pending : List Operation) (n : ℕ) : Type 0 where
   pub steady : IsSteady cluster
   pub marked : IsMarked log.book shown
-  pub handed_is : AreHanded shown.list pending n (longest cluster)
-  pub begins : IsPrefix log.log (longest cluster)
+  pub handed_is : AreHanded shown.list pending n (longest_of cluster)
+  pub begins : IsPrefix log.log (longest_of cluster)
   pub opening_is : opening ≡ mark_of log.book []
   pub seen_is : book_of seen ≡ Some log.book

@@ -35,22 +35,22 @@ HasEnded plan worker (Ok d) =
 HasEnded plan worker (Err f) = IsWorkerFault worker plan.turns f
 
 -- this worker of a plan took its turns, or its thread could not be started
-abbrev pub IsEndOf : PlanState → ℕ → EndState → Type 0
-IsEndOf plan worker end = HasEnded plan worker end ⊎ (end ≡ Err NoWorker)
+abbrev pub IsWorkerEnd : PlanState → ℕ → EndState → Type 0
+IsWorkerEnd plan worker end = HasEnded plan worker end ⊎ (end ≡ Err NoWorker)
 
 -- each of n workers ended so, by number
 abbrev pub HaveEnded : List EndState → PlanState → ℕ → Type 0
-HaveEnded xs plan n = (worker : ℕ) (d : EndState) → worker < n → IsEndOf plan worker (slice_index_or xs worker d)
+HaveEnded xs plan n = (worker : ℕ) (d : EndState) → worker < n → IsWorkerEnd plan worker (slice_index_or xs worker d)
 
 -- what workers that ended so give, behind those that came before: their choosers, or the first fault
-abbrev pub settled_behind : PlanState → List ChooserState → List EndState → Result (List ChooserState) BoardFault
-settled_behind plan done [] = Ok done
-settled_behind plan done (Err f ∷ rest) = Err f
-settled_behind plan done (Ok d ∷ rest) = settled_behind plan (done ++ chooser_at plan d ∷ []) rest
+abbrev pub choosers_behind : PlanState → List ChooserState → List EndState → Result (List ChooserState) BoardFault
+choosers_behind plan done [] = Ok done
+choosers_behind plan done (Err f ∷ rest) = Err f
+choosers_behind plan done (Ok d ∷ rest) = choosers_behind plan (done ++ chooser_at plan d ∷ []) rest
 
 -- the choosers of workers by number, or the fault of the first that has one
-abbrev pub settled : PlanState → List EndState → Result (List ChooserState) BoardFault
-settled plan ends = settled_behind plan [] ends
+abbrev pub choosers_or_fault : PlanState → List EndState → Result (List ChooserState) BoardFault
+choosers_or_fault plan ends = choosers_behind plan [] ends
 
 -- each chooser of the plan, by worker number, has taken all turns
 abbrev pub HaveTurned : List ChooserState → PlanState → Type 0
@@ -64,4 +64,4 @@ abbrev pub HaveFailed : PlanState → BoardFault → Type 0
 HaveFailed plan f =
     (f ≡ NoMemory)
     ⊎ ((ends : List EndState) × (length ends ≡ plan.workers) × HaveEnded ends plan plan.workers
-    × (settled plan ends ≡ Err f))
+    × (choosers_or_fault plan ends ≡ Err f))

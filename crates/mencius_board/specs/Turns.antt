@@ -7,9 +7,9 @@ use Rattle.mencius_cluster.specs.declared.cluster.Effect.{Effect}
 use Rattle.mencius_cluster.specs.State.{IsRefusal, IsStepped}
 use Rattle.mencius_board.specs.declared.fault.BoardFault.{BoardFault}
 use Rattle.mencius_board.specs.declared.fault.BoardFault.TheVariants.{NoMemory as No_memory}
-use Rattle.mencius_board.specs.Boards.{BoardState, longest}
+use Rattle.mencius_board.specs.Boards.{BoardState, longest_of}
 use Rattle.mencius_board.specs.Faults.{IsShowFault, turns_a_show}
-use Rattle.mencius_choices.specs.Choices.{ChooserState, IsChosen, IsPutOff}
+use Rattle.mencius_choices.specs.Choices.{ChooserState, IsChoice, IsPutOff}
 
 -- the cluster accepted the event, and the rest of the board stayed
 pub record IsAccepted (before after : BoardState) (e : Event) : Type 0 where
@@ -27,14 +27,14 @@ pub record IsRefusedBy (before after : BoardState) (e : Event) : Type 0 where
 -- a turn that ends well: an event was chosen, and accepted or refused
 pub record IsTurn (old new : ChooserState) (before after : BoardState) : Type 0 where
   pub event : Event
-  pub chosen : IsChosen old before.cluster event new
+  pub chosen : IsChoice old before.cluster event new
   pub stepped : IsAccepted before after event ⊎ IsRefusedBy before after event
 
 -- memory ran out: for the choice, or for the step of the event that was chosen
 abbrev pub HasNoMemory : ChooserState → ChooserState → BoardState → Type 0
 HasNoMemory old new board =
     IsPutOff old board.cluster new
-    ⊎ ((e : Event) × IsChosen old board.cluster e new × IsRefusal board.cluster e NoMemory)
+    ⊎ ((e : Event) × IsChoice old board.cluster e new × IsRefusal board.cluster e NoMemory)
 
 -- what a turn answers, and what it leaves of chooser and board
 abbrev pub EndsTurn : ChooserState → ChooserState → BoardState → BoardState → Result (Unit {0}) BoardFault → Type 0
@@ -43,7 +43,7 @@ EndsTurn old new before after (Err f) = (f ≡ No_memory) × (after ≡ before) 
 
 -- what showing answers, and what it leaves of the board
 abbrev pub EndsShow : BoardState → BoardState → Result (Unit {0}) BoardFault → Type 0
-EndsShow before after (Ok _) = after ≡ record before { shown = longest before.cluster; pending = [] }
+EndsShow before after (Ok _) = after ≡ record before { shown = longest_of before.cluster; pending = [] }
 EndsShow before after (Err f) = IsShowFault f × (after ≡ record before { pending = after.pending })
 
 -- what follows a turn that answered so: the longest history is shown where it is to be and the turn ended well

@@ -3,7 +3,7 @@ ghost use mathlib.Core.List.{IsPrefix};
 ghost use Rattle.mencius_cluster.specs.State.{IsRefusal, IsStepped};
 ghost use Rattle.mencius_board.specs.declared.fault.BoardFault.TheVariants.{NoMemory, NoReader};
 ghost use Rattle.mencius_board.specs.Marks.{mark_of};
-ghost use Rattle.mencius_board.specs.Boards.{longest, new_board};
+ghost use Rattle.mencius_board.specs.Boards.{longest_of, new_board};
 ghost use Rattle.mencius_board.specs.Faults.{IsShowFault};
 ghost use Rattle.mencius_base.specs.Limits.{most_readers};
 
@@ -12,7 +12,7 @@ use crate::longest::copy_longest;
 use crate::news::News;
 use crate::pending::{hand_over, record};
 use crate::reader::Reader;
-use crate::shown::{Notes, Showing, open_writer, publish};
+use crate::shown::{SeatNotes, Showing, open_writer, publish};
 use crate::shown_log::{Mark, ShownLog};
 use core::mem::replace_with;
 use mencius_base::{Event, Refusal};
@@ -45,8 +45,8 @@ pub struct Board {
 impl Model for Board {
     ghost use Rattle.std.specs.Prelude.{drop};
     ghost use Rattle.left_right.specs.Sides.{view as known};
-    ghost use Rattle.mencius_board.specs.Pending.{added};
-    ghost use Rattle.mencius_board.specs.Boards.{BoardState, IsSound};
+    ghost use Rattle.mencius_board.specs.Pending.{added_commands};
+    ghost use Rattle.mencius_board.specs.Boards.{BoardState, IsBoardInside};
 
     ghost Value = { BoardState };
 
@@ -54,11 +54,11 @@ impl Model for Board {
       book = x.log.book;
       cluster = x.cluster;
       shown = x.writer.desk.shown.value.list;
-      pending = added (drop x.writer.behind x.writer.log.items);
+      pending = added_commands (drop x.writer.behind x.writer.log.items);
       places = x.places;
     } };
 
-    ghost invariant = { λ x. IsSound x.cluster x.log x.opening (known x.writer.desk.place)
+    ghost invariant = { λ x. IsBoardInside x.cluster x.log x.opening (known x.writer.desk.place)
         x.writer.desk.shown.value (drop x.writer.behind x.writer.log.items) x.handed };
 }
 
@@ -107,7 +107,7 @@ impl Board {
     /// The cluster. What is shown, and then what is to be shown next, is a prefix of its longest history.
     pub fn cluster(&self) -> &Cluster
         ensures cluster { result.now ≡ self.now.cluster }
-        ensures begins { IsPrefix (self.now.shown ++ self.now.pending) (longest self.now.cluster) }
+        ensures begins { IsPrefix (self.now.shown ++ self.now.pending) (longest_of self.now.cluster) }
     {
         &self.cluster
     }
@@ -121,8 +121,8 @@ impl Board {
     #[tactic(auto, using(crate::proofs::BoardInvariant::all_begins))]
     pub fn show<R: Wait>(&mut self, rt: &R, alloc: Global) -> Result<News, BoardFault>
         ensures shown { OnOk result (self.new
-            ≡ record self.old { shown = longest self.old.cluster; pending = [] }) }
-        ensures news { IfOk result (λ n. n ≡ mark_of self.old.book (longest self.old.cluster)) }
+            ≡ record self.old { shown = longest_of self.old.cluster; pending = [] }) }
+        ensures news { IfOk result (λ n. n ≡ mark_of self.old.book (longest_of self.old.cluster)) }
         ensures err { OnErr result (self.new ≡ record self.old { pending = self.new.pending }) }
         ensures fault { IfErr result IsShowFault }
     {
@@ -154,7 +154,7 @@ impl Board {
             return Err(BoardFault::NoReader);
         };
         self.places -= 1;
-        home.learn::<Notes>(self.writer.tell::<Notes>());
+        home.learn::<SeatNotes>(self.writer.tell::<SeatNotes>());
         Ok(Reader::new(home, self.opening.again()))
     }
 
@@ -163,7 +163,7 @@ impl Board {
     /// exchange of a word.
     pub fn bounds(&mut self, reader: &Reader)
         requires { reader.now.book ≡ self.old.book }
-        ensures begins { IsPrefix reader.now.log (longest self.old.cluster) }
+        ensures begins { IsPrefix reader.now.log (longest_of self.old.cluster) }
         ensures same { self.new ≡ self.old }
     {
         self.log.covers(reader.floor());

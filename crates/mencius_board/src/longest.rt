@@ -1,8 +1,8 @@
 ghost use Rattle.std.specs.Prelude.{◌≡◌, ◌<◌, ◌^◌, ◌++◌, IfOk, OnOk, length};
-ghost use Rattle.mencius_model.specs.Trace.{option_to_list, submitted};
+ghost use Rattle.mencius_model.specs.Trace.{option_to_list, submitted_commands};
 ghost use Rattle.mencius_model.specs.Replying.{command_at};
 ghost use Rattle.mencius_cluster.specs.State.{trace_of};
-ghost use Rattle.mencius_board.specs.Boards.{longest};
+ghost use Rattle.mencius_board.specs.Boards.{longest_of};
 
 use mencius_base::{Command, NoMemory};
 use mencius_cluster::{Cluster, laws};
@@ -10,7 +10,7 @@ use std::alloc::Global;
 
 /// A copy of the commands of the longest history, in order.
 pub fn copy_longest(alloc: Global, cluster: &Cluster) -> Result<Vec<Command>, NoMemory>
-    ensures list { IfOk result (λ x. x.items ≡ longest cluster.now) }
+    ensures list { IfOk result (λ x. x.items ≡ longest_of cluster.now) }
     ensures limit { IfOk result (λ x. length x.items < 2 ^ 32) }
 {
     // For the proof: what a server executed was submitted.
@@ -29,7 +29,7 @@ pub fn copy_longest(alloc: Global, cluster: &Cluster) -> Result<Vec<Command>, No
 
 // Adds a copy of the command of a ticket.
 fn push_command(list: &mut Vec<Command>, cluster: &Cluster, ticket: u32) -> Result<(), NoMemory>
-    requires { ticket < length (submitted (trace_of cluster.now)) }
+    requires { ticket < length (submitted_commands (trace_of cluster.now)) }
     ensures { OnOk result (list.new.items
         ≡ list.old.items ++ option_to_list (command_at (trace_of cluster.now) ticket)) }
 {

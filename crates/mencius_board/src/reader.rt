@@ -3,7 +3,7 @@ ghost use Rattle.std.specs.String.{string_bytes};
 ghost use mathlib.Core.List.{IsPrefix};
 ghost use Rattle.left_right.specs.Sides.{view};
 ghost use Rattle.mencius_model.specs.Executed.{IsComparable};
-ghost use Rattle.mencius_model.specs.Store.{value_at};
+ghost use Rattle.mencius_model.specs.KeyMap.{value_at};
 ghost use Rattle.mencius_board.specs.Faults.{IsLookupFault};
 ghost use Rattle.mencius_board.specs.Shown.{book_of};
 

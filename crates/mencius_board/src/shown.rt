@@ -4,10 +4,10 @@ ghost use Rattle.std.specs.Prelude.{drop, MatchResult, [], option_copied, option
 ghost use Rattle.std.specs.String.{string_bytes};
 ghost use Rattle.left_right.specs.Sides.{view};
 ghost use Rattle.mencius_board.specs.Faults.{IsLookupFault};
-ghost use Rattle.mencius_model.specs.Store.{value_at};
+ghost use Rattle.mencius_model.specs.KeyMap.{value_at};
 ghost use Rattle.mencius_board.specs.Marks.{Origin};
 ghost use Rattle.mencius_board.specs.Shown.{Follows, book_of};
-ghost use Rattle.mencius_board.specs.Pending.{IsMarked, added};
+ghost use Rattle.mencius_board.specs.Pending.{IsMarked, added_commands};
 ghost use Rattle.mencius_base.specs.Limits.{most_readers};
 
 use crate::fault::BoardFault;
@@ -42,15 +42,15 @@ impl Outcome<Version, Option<Mark>> for Sees {
 }
 
 /// Notes are copies of what the writer has seen.
-pub struct Notes;
+pub struct SeatNotes;
 
-impl Split<Option<Mark>> for Notes {
+impl Split<Option<Mark>> for SeatNotes {
     ghost left = { λ x. x };
 
     ghost right = { λ x. x };
 }
 
-impl Join<Option<Mark>> for Notes {
+impl Join<Option<Mark>> for SeatNotes {
     ghost use Rattle.std.specs.Prelude.{None};
 
     ghost both = { λ x y. y };
@@ -124,7 +124,7 @@ pub fn publish<R: Wait>(
 ) -> (Showing, Result<(), AllocError>)
     requires marked { IsMarked log.now.book writer.desk.shown.value }
     requires whole { writer.desk.shown.value.list
-        ++ added (drop writer.behind writer.log.items) ≡ log.now.log }
+        ++ added_commands (drop writer.behind writer.log.items) ≡ log.now.log }
     requires limit { length log.now.log < 2 ^ 32 }
     ensures seen { MatchResult result.1 (λ _.
         book_of (view result.0.desk.place) ≡ Some log.now.book)
@@ -132,9 +132,9 @@ pub fn publish<R: Wait>(
     ensures shown { MatchResult result.1
         (λ _. result.0.desk.shown.value ≡ record { mark = log.now; list = log.now.log })
         (λ _. result.0.desk.shown.value ≡ writer.desk.shown.value) }
-    ensures pending { let after = added (drop result.0.behind result.0.log.items) in
+    ensures pending { let after = added_commands (drop result.0.behind result.0.log.items) in
         MatchResult result.1 (λ _. after ≡ [])
-        (λ _. after ≡ added (drop writer.behind writer.log.items)) }
+        (λ _. after ≡ added_commands (drop writer.behind writer.log.items)) }
 {
     let Ok(()) = writer.append(Operation::Stamp(log.again())) else {
         return (writer, Err(AllocError));
@@ -154,7 +154,7 @@ pub fn open_writer<R: Wait>(
     ensures seen { IfOk result (λ x. book_of (view x.desk.place) ≡ Some opening.now.book) }
     ensures shown { IfOk result
         (λ x. x.desk.shown.value ≡ record { mark = opening.now; list = opening.now.log }) }
-    ensures pending { IfOk result (λ x. added (drop x.behind x.log.items) ≡ []) }
+    ensures pending { IfOk result (λ x. added_commands (drop x.behind x.log.items) ≡ []) }
 {
     let first = Version::new(alloc, opening.again());
     let second = Version::new(alloc, opening.again());

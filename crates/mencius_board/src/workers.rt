@@ -1,10 +1,10 @@
 //! Workers that step one board in threads of their own.
 ghost use Rattle.std.specs.Prelude.{◌≡◌, ◌<◌, ◌≤◌, ◌+◌, ◌^◌, ℕ, Err, IfErr, IfOk, MatchOption, MatchResult, vec_len, vec_capacity, slice_index_or};
 ghost use Rattle.std.specs.Fn.{FnOnceReturnsAtMut};
-ghost use Rattle.mencius_choices.specs.Choices.{chooser_at, drawn};
+ghost use Rattle.mencius_choices.specs.Choices.{after_words, chooser_at};
 ghost use Rattle.mencius_board.specs.Turns.{EndsTurn, IsAfterTurn, TakesTurn, is_to_show};
 ghost use Rattle.mencius_board.specs.Faults.{IsRunFault, IsTurnFault};
-ghost use Rattle.mencius_board.specs.Running.{Answers, HasEnded, HaveEnded, HaveFailed, HaveTurned, settled};
+ghost use Rattle.mencius_board.specs.Running.{Answers, HasEnded, HaveEnded, HaveFailed, HaveTurned, choosers_or_fault};
 ghost use Rattle.mencius_board.specs.declared.fault.BoardFault.TheVariants.{NoWorker};
 
 use crate::board::Board;
@@ -23,7 +23,7 @@ use std::thread::{Promise, PromisedHandle, Scope, Threads};
 /// the chooser as the choice left it.
 pub fn worker_turn(board: &mut Board, chooser: &mut Chooser) -> Result<(), BoardFault>
     ensures turn { EndsTurn chooser.old chooser.new board.old board.new result }
-    ensures drawn { chooser.new.drawing ≡ drawn chooser.old.drawing }
+    ensures drawn { chooser.new.drawing ≡ after_words chooser.old.drawing }
 {
     let event = chooser.choose(board.cluster())?;
     match board.step(event) {
@@ -91,7 +91,7 @@ fn work<R: Wait, G: Gate>(
             |board| -> (Progress, Result<(), BoardFault>)
                 ensures { TakesTurn (chooser_at plan.entry.now progress)
                     (chooser_at plan.entry.now result.0) board.old board.new shows result.1
-                    × (result.0.drawing ≡ drawn progress.drawing)
+                    × (result.0.drawing ≡ after_words progress.drawing)
                     × IfErr result.1 (IsTurnFault shows) }
             { go_on(rt, alloc, board, plan, progress, shows) },
         );
@@ -112,7 +112,7 @@ fn go_on<R: Wait>(
 ) -> (Progress, Result<(), BoardFault>)
     ensures turn { TakesTurn (chooser_at plan.now progress) (chooser_at plan.now result.0)
         board.old board.new shows result.1 }
-    ensures drawn { result.0.drawing ≡ drawn progress.drawing }
+    ensures drawn { result.0.drawing ≡ after_words progress.drawing }
     ensures fault { IfErr result.1 (IsTurnFault shows) }
 {
     let mut chooser = Chooser::of(plan, progress);
@@ -129,7 +129,7 @@ pub(crate) fn take_turn<R: Wait>(
     shows: bool,
 ) -> Result<(), BoardFault>
     ensures turn { TakesTurn chooser.old chooser.new board.old board.new shows result }
-    ensures drawn { chooser.new.drawing ≡ drawn chooser.old.drawing }
+    ensures drawn { chooser.new.drawing ≡ after_words chooser.old.drawing }
     ensures fault { IfErr result (IsTurnFault shows) }
 {
     let turned = worker_turn(board, chooser);
@@ -243,8 +243,8 @@ fn settle<'p>(
 ) -> Result<Vec<Chooser<'p>>, BoardFault>
     requires empty { vec_len choosers ≡ 0 }
     requires room { vec_len ends ≤ vec_capacity choosers }
-    ensures { MatchResult result (λ x. settled plan.now ends.items ≡ Ok x.items)
-        (λ f. settled plan.now ends.items ≡ Err f) }
+    ensures { MatchResult result (λ x. choosers_or_fault plan.now ends.items ≡ Ok x.items)
+        (λ f. choosers_or_fault plan.now ends.items ≡ Err f) }
 {
     for end in ends {
         let progress = end?;

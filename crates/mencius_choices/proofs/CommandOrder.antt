@@ -3,11 +3,11 @@ use Rattle.std.proofs.Common.{◌≡◌, ℕ, suc, ◌+◌, ◌-◌, ◌<◌, �
 use Rattle.std.proofs.Common.{length, refl, sym, ap, ◌∙◌, arith, filter_map}
 use Rattle.std.specs.List.{cons_option, flat_map, range_with_len}
 use Rattle.mencius_base.specs.declared.command.Command.{Command}
-use Rattle.mencius_choices.specs.declared.order.Place.{Place}
+use Rattle.mencius_choices.specs.declared.order.CommandPlace.{CommandPlace}
 use Rattle.mencius_base.specs.Plan.{PlanState}
-use Rattle.mencius_choices.specs.Order.{IsFound, IsLed, after_place, from_to, own_command, row_count, row_from}
+use Rattle.mencius_choices.specs.Order.{BeginsWith, IsNextPlace, after_place, from_to, own_command, row_count, row_from}
 use Rattle.mencius_choices.specs.Order.{rows_from}
-use Rattle.mencius_choices.specs.Choices.{left_at, led_by}
+use Rattle.mencius_choices.specs.Choices.{left_at, behind_first}
 
 from_to-more : (first stop : ℕ) → first < stop → from_to first stop ≡ first ∷ from_to (first + 1) stop
 from_to-more first stop h =
@@ -56,22 +56,22 @@ rows_from-skip plan worker row h none =
     rows_from-more plan worker row h ∙ ap (λ xs. xs ++ rows_from plan worker (row + 1)) none
 
 -- what leads the first part of a list leads the whole
-pub led_more : (plan : PlanState) (worker : ℕ) (place : Place) (all rest more : List (ℕ × Command))
-    → IsLed plan worker place all rest → IsLed plan worker place (all ++ more) (rest ++ more)
+pub led_more : (plan : PlanState) (worker : ℕ) (place : CommandPlace) (all rest more : List (ℕ × Command))
+    → BeginsWith plan worker place all rest → BeginsWith plan worker place (all ++ more) (rest ++ more)
 led_more plan worker place all rest more h =
     record { first = h.first; there = h.there; is = ap (λ xs. xs ++ more) h.is }
 
 -- what is left from the first place that is found on is all of the list that was searched
-pub left_found : (plan : PlanState) (worker : ℕ) (o : Option Place) (all : List (ℕ × Command))
-    → IsFound plan worker o all → left_at plan worker o ≡ all
+pub left_found : (plan : PlanState) (worker : ℕ) (o : Option CommandPlace) (all : List (ℕ × Command))
+    → IsNextPlace plan worker o all → left_at plan worker o ≡ all
 left_found plan worker None all h = sym h
-left_found plan worker (Some place) all h = ap (λ x. led_by x (after_place plan worker place)) h.there ∙ sym h.is
+left_found plan worker (Some place) all h = ap (λ x. behind_first x (after_place plan worker place)) h.there ∙ sym h.is
 
 -- the first command of a row leads that row and all later ones
-pub led_row : (plan : PlanState) (worker : ℕ) (place : Place) (start row : ℕ) → row < row_count plan.commands
+pub led_row : (plan : PlanState) (worker : ℕ) (place : CommandPlace) (start row : ℕ) → row < row_count plan.commands
     → rows_from plan worker start ≡ rows_from plan worker row → place.row ≡ row
-    → IsLed plan worker place (row_from plan worker row 0) (row_from plan worker row (place.server + 1))
-    → IsLed plan worker place (rows_from plan worker start) (after_place plan worker place)
+    → BeginsWith plan worker place (row_from plan worker row 0) (row_from plan worker row (place.server + 1))
+    → BeginsWith plan worker place (rows_from plan worker start) (after_place plan worker place)
 led_row plan worker place start row lt same at h = record {
   first = h.first;
   there = h.there;

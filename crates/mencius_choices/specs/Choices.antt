@@ -8,7 +8,7 @@ use Rattle.mencius_base.specs.declared.event.Event.{Event}
 use Rattle.mencius_base.specs.declared.event.Event.TheVariants.{Submit}
 use Rattle.mencius_choices.specs.declared.choice.Pick.{Pick}
 use Rattle.mencius_choices.specs.declared.choice.Pick.TheVariants.{NextCommand, Is}
-use Rattle.mencius_choices.specs.declared.order.Place.{Place}
+use Rattle.mencius_choices.specs.declared.order.CommandPlace.{CommandPlace}
 use Rattle.mencius_cluster.specs.State.{ClusterState}
 use Rattle.mencius_choices.specs.Picks.{pick_of}
 use Rattle.mencius_base.specs.Plan.{PlanState}
@@ -22,7 +22,7 @@ pub record Drawing : Type 0 where
 -- how far a worker's choices have come: what it draws from, and where its next command stands, if one is left
 pub record ProgressState : Type 0 where
   pub drawing : Drawing
-  pub next : Option Place
+  pub next : Option CommandPlace
 
 -- a worker's choices: its plan, what it draws from, and its commands that are left, each with its server
 pub record ChooserState : Type 0 where
@@ -33,23 +33,23 @@ pub record ChooserState : Type 0 where
 -- ---- words
 
 -- the generator after one word
-abbrev pub one_on : Lcg → Lcg
-one_on g = next 64 multiplier_64 g
+abbrev pub after_one_word : Lcg → Lcg
+after_one_word g = next 64 multiplier_64 g
 
 -- and after three
-abbrev pub three_on : Lcg → Lcg
-three_on g = one_on (one_on (one_on g))
+abbrev pub after_three_words : Lcg → Lcg
+after_three_words g = after_one_word (after_one_word (after_one_word g))
 
 -- three words are drawn
-abbrev pub drawn : Drawing → Drawing
-drawn d = record { worker = d.worker; generator = three_on d.generator }
+abbrev pub after_words : Drawing → Drawing
+after_words d = record { worker = d.worker; generator = after_three_words d.generator }
 
 abbrev pub word_of : Lcg → ℕ
 word_of g = output_xsh_rr g.state
 
 -- the next three words
 abbrev pub words_of : Lcg → List ℕ
-words_of g = word_of g ∷ word_of (one_on g) ∷ word_of (one_on (one_on g)) ∷ []
+words_of g = word_of g ∷ word_of (after_one_word g) ∷ word_of (after_one_word (after_one_word g)) ∷ []
 
 -- a worker of this seed before its first turn, and after so many turns
 abbrev pub first_drawing : ℕ → ℕ → Drawing
@@ -67,15 +67,15 @@ drawing_after seed worker turns = record {
 -- ---- commands
 
 -- a list behind its first item, where there is one
-abbrev pub led_by : {A : Type 0} → Option A → List A → List A
-led_by None rest = []
-led_by (Some x) rest = x ∷ rest
+abbrev pub behind_first : {A : Type 0} → Option A → List A → List A
+behind_first None rest = []
+behind_first (Some x) rest = x ∷ rest
 
 -- the worker's commands from its next one on
-abbrev pub left_at : PlanState → ℕ → Option Place → List (ServerId × Command)
+abbrev pub left_at : PlanState → ℕ → Option CommandPlace → List (ServerId × Command)
 left_at plan worker None = []
 left_at plan worker (Some place) =
-    led_by (own_command plan worker place.row place.server) (after_place plan worker place)
+    behind_first (own_command plan worker place.row place.server) (after_place plan worker place)
 
 abbrev pub is_any : {A : Type 0} → List A → Bool
 is_any [] = false
@@ -101,8 +101,8 @@ pub record HasTurned (x : ChooserState) (own : PlanState) (worker turns : ℕ) :
 -- ---- choices
 
 -- what the next words of a worker pick on this cluster
-abbrev pub picked : ChooserState → ClusterState → Pick
-picked chooser x = pick_of x chooser.plan.loss (is_any chooser.left) (words_of chooser.drawing.generator)
+abbrev pub pick_at : ChooserState → ClusterState → Pick
+pick_at chooser x = pick_of x chooser.plan.loss (is_any chooser.left) (words_of chooser.drawing.generator)
 
 -- the event that a pick is, and the commands that it leaves
 abbrev pub IsTaken : Pick → List (ServerId × Command) → Event → List (ServerId × Command) → Type 0
@@ -111,12 +111,12 @@ IsTaken NextCommand [] e rest = ⊥
 IsTaken NextCommand (first ∷ others) e rest = (e ≡ Submit first.0 first.1) × (rest ≡ others)
 
 -- a choice: three words are drawn, and the event is what they pick. A command that is chosen is no longer left
-pub record IsChosen (old : ChooserState) (x : ClusterState) (e : Event) (new : ChooserState) : Type 0 where
+pub record IsChoice (old : ChooserState) (x : ClusterState) (e : Event) (new : ChooserState) : Type 0 where
   pub plan : new.plan ≡ old.plan
-  pub drawing : new.drawing ≡ drawn old.drawing
-  pub taken : IsTaken (picked old x) old.left e new.left
+  pub drawing : new.drawing ≡ after_words old.drawing
+  pub taken : IsTaken (pick_at old x) old.left e new.left
 
 -- a choice that is refused when out of memory: the words are drawn, and the command that they pick stays the next one
 pub record IsPutOff (old : ChooserState) (x : ClusterState) (new : ChooserState) : Type 0 where
-  pub picks : picked old x ≡ NextCommand
-  pub same : new ≡ record old { drawing = drawn old.drawing }
+  pub picks : pick_at old x ≡ NextCommand
+  pub same : new ≡ record old { drawing = after_words old.drawing }

@@ -6,7 +6,7 @@ use Rattle.std.specs.Option.{option_and_then, option_map}
 use Rattle.mencius_base.specs.Numbers.{ServerId}
 use Rattle.mencius_base.specs.Plan.{PlanState}
 use Rattle.mencius_base.specs.declared.command.Command.{Command}
-use Rattle.mencius_choices.specs.declared.order.Place.{Place}
+use Rattle.mencius_choices.specs.declared.order.CommandPlace.{CommandPlace}
 
 -- the numbers from one on that are below another, rising
 abbrev pub from_to : ℕ → ℕ → List ℕ
@@ -37,18 +37,19 @@ abbrev pub commands_of_worker : PlanState → ℕ → List (ServerId × Command)
 commands_of_worker plan worker = rows_from plan worker 0
 
 -- the worker's commands that come after this place
-abbrev pub after_place : PlanState → ℕ → Place → List (ServerId × Command)
+abbrev pub after_place : PlanState → ℕ → CommandPlace → List (ServerId × Command)
 after_place plan worker place =
     row_from plan worker place.row (place.server + 1) ++ rows_from plan worker (place.row + 1)
 
 -- the list is the worker's command at this place, and then these
-pub record IsLed (plan : PlanState) (worker : ℕ) (place : Place) (all rest : List (ServerId × Command)) : Type 0 where
+pub record BeginsWith (plan : PlanState) (worker : ℕ) (place : CommandPlace)
+    (all rest : List (ServerId × Command)) : Type 0 where
   pub first : ServerId × Command
   pub there : own_command plan worker place.row place.server ≡ Some first
   pub is : all ≡ first ∷ rest
 
 -- the place is the first of the worker's commands in this list, which is what is left from there on; none where it is
 -- empty
-abbrev pub IsFound : PlanState → ℕ → Option Place → List (ServerId × Command) → Type 0
-IsFound plan worker o all =
-    MatchOption o (all ≡ []) (λ place. IsLed plan worker place all (after_place plan worker place))
+abbrev pub IsNextPlace : PlanState → ℕ → Option CommandPlace → List (ServerId × Command) → Type 0
+IsNextPlace plan worker o all =
+    MatchOption o (all ≡ []) (λ place. BeginsWith plan worker place all (after_place plan worker place))

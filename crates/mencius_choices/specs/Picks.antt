@@ -5,7 +5,7 @@ use Rattle.mencius_base.specs.Numbers.{ServerId, MessageNo}
 use Rattle.mencius_base.specs.declared.event.Event.TheVariants.{Deliver, Execute, Lose, Retry, Suspect}
 use Rattle.mencius_base.specs.declared.message.Message.{Message}
 use Rattle.mencius_base.specs.declared.message.Message.TheVariants.{Accepted, Promise}
-use Rattle.mencius_model.specs.Trace.{sent}
+use Rattle.mencius_model.specs.Trace.{sent_messages}
 use Rattle.mencius_cluster.specs.State.{ClusterState, trace_of}
 use Rattle.mencius_choices.specs.declared.choice.Pick.{Pick}
 use Rattle.mencius_choices.specs.declared.choice.Pick.TheVariants.{NextCommand, Is}
@@ -24,14 +24,14 @@ addressee_or (Some (Promise from to inst ballot vote)) p = to
 addressee_or _ p = p
 
 -- what stands in the first line of a table whose bound is above the row, and x where no bound is
-abbrev pub line_of : {A : Type 0} → ℕ → List (ℕ × A) → A → A
-line_of row [] x = x
-line_of row (line ∷ lines) x = if nat_lt row line.0 then line.1 else line_of row lines x
+abbrev pub row_of_table : {A : Type 0} → ℕ → List (ℕ × A) → A → A
+row_of_table row [] x = x
+row_of_table row (line ∷ lines) x = if nat_lt row line.0 then line.1 else row_of_table row lines x
 
 -- the table of choices, which has 64 rows: each line is for the rows below its bound that no line above takes
 abbrev pub pick_by : (row loss : ℕ) (left : Bool) (message : MessageNo) (server second third : ServerId) → Pick
 pick_by row loss left message server second third =
-    line_of row (
+    row_of_table row (
     (6, if left then NextCommand else Is (Deliver message server))
     ∷ (18, Is (Execute third))
     ∷ (21, Is (Retry third))
@@ -44,7 +44,7 @@ pick_by row loss left message server second third =
 abbrev pub pick_of : ClusterState → ℕ → Bool → List ℕ → Pick
 pick_of x loss left words =
     let n = x.members.count in
-    let messages = sent (trace_of x) in
+    let messages = sent_messages (trace_of x) in
     let message = message_named (slice_index words 1) (length messages) in
     let server = addressee_or (slice_get messages message) (slice_index words 2 % n) in
     pick_by (slice_index words 0 % 64) loss left message server (slice_index words 1 % n) (slice_index words 2 % n)

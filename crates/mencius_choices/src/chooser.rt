@@ -3,10 +3,10 @@ ghost use Rattle.std.specs.Prelude.{◌≡◌, ◌+◌, ◌<◌, ◌^◌, ◌∷
 ghost use Rattle.mencius_base.specs.Limits.{most_servers};
 ghost use Rattle.mencius_base.specs.declared.event.Event.TheVariants.{Submit};
 ghost use Rattle.mencius_choices.specs.Order.{after_place};
-ghost use Rattle.mencius_choices.specs.Choices.{IsChosen, IsPutOff, chooser_at, drawn, first_chooser, words_of};
+ghost use Rattle.mencius_choices.specs.Choices.{IsChoice, IsPutOff, after_words, chooser_at, first_chooser, words_of};
 
 use crate::choice::Pick;
-use crate::order::{Place, find_after, find_from_row, own_command};
+use crate::order::{CommandPlace, find_after, find_from_row, own_command};
 use crate::table::pick;
 use mencius_base::{Command, Event, NoMemory, Plan};
 use mencius_cluster::Cluster;
@@ -20,7 +20,7 @@ pub struct Progress {
     worker: u8,
     generator: Lcg64Xsh32,
     // Where the worker's next command stands, if one is left.
-    next: Option<Place>,
+    next: Option<CommandPlace>,
 }
 
 impl Model for Progress {
@@ -90,7 +90,7 @@ impl<'a> Chooser<'a> {
     /// `NoMemory` comes only where the words pick the next command: a copy of it was refused. The
     /// words are drawn then too, and the command stays the next one.
     pub fn choose(&mut self, cluster: &Cluster) -> Result<Event, NoMemory>
-        ensures { MatchResult result (λ e. IsChosen self.old cluster.now e self.new)
+        ensures { MatchResult result (λ e. IsChoice self.old cluster.now e self.new)
             (λ _. IsPutOff self.old cluster.now self.new) }
     {
         let words = self.draw();
@@ -105,7 +105,7 @@ impl<'a> Chooser<'a> {
     }
 
     // Submits a command, the worker's next one, and moves on to the one after it.
-    fn submit(&mut self, place: Place, command: &Command) -> Result<Event, NoMemory>
+    fn submit(&mut self, place: CommandPlace, command: &Command) -> Result<Event, NoMemory>
         requires server { place.server < most_servers }
         requires row { place.row + 1 < 2 ^ 64 }
         requires next { self.old.left
@@ -124,7 +124,7 @@ impl<'a> Chooser<'a> {
     }
 
     // The worker's next command, and where it stands.
-    fn find_command(&self) -> Option<(Place, &'a Command)>
+    fn find_command(&self) -> Option<(CommandPlace, &'a Command)>
         ensures next { MatchOption result (self.now.left ≡ [])
             (λ x. self.now.left
             ≡ (x.0.server, x.1.now) ∷ after_place self.now.plan self.now.drawing.worker x.0) }
@@ -139,7 +139,7 @@ impl<'a> Chooser<'a> {
     // The next three words.
     fn draw(&mut self) -> [u32; 3]
         ensures words { result ≡ words_of self.old.drawing.generator }
-        ensures drawn { self.new ≡ record self.old { drawing = drawn self.old.drawing } }
+        ensures drawn { self.new ≡ record self.old { drawing = after_words self.old.drawing } }
     {
         let first = self.progress.generator.next_word();
         let second = self.progress.generator.next_word();

@@ -1,19 +1,19 @@
 //! The order in which the commands of a worker come.
 ghost use Rattle.std.specs.Prelude.{◌≡◌, ◌+◌, ◌<◌, ◌^◌, [], IfSome, OnSome, MatchOption, map, option_map, option_copied};
 ghost use Rattle.mencius_base.specs.Limits.{most_servers};
-ghost use Rattle.mencius_choices.specs.Order.{IsFound, IsLed, after_place, own_command, row_count, row_from, rows_from};
+ghost use Rattle.mencius_choices.specs.Order.{BeginsWith, IsNextPlace, after_place, own_command, row_count, row_from, rows_from};
 
 use mencius_base::{Command, Plan};
 
 // Where a command stands: in the list of which server, and at which row of it.
 #[derive(Clone, Copy, Debug)]
-pub struct Place {
+pub struct CommandPlace {
     pub server: u8,
     pub row: usize,
 }
 
 // The command at a place, where it is one of the worker's.
-pub(crate) fn own_command(plan: &Plan, worker: u8, place: Place) -> Option<&Command>
+pub(crate) fn own_command(plan: &Plan, worker: u8, place: CommandPlace) -> Option<&Command>
     ensures command { option_map (λ x. (place.server, x)) (option_copied result)
         ≡ own_command plan.now worker place.row place.server }
     ensures server { OnSome result (place.server < most_servers) }
@@ -31,8 +31,8 @@ pub(crate) fn own_command(plan: &Plan, worker: u8, place: Place) -> Option<&Comm
 }
 
 // The first place of a command of the worker's at a row or at a later one.
-pub(crate) fn find_from_row(plan: &Plan, worker: u8, row: usize) -> Option<Place>
-    ensures { IsFound plan.now worker result (rows_from plan.now worker row) }
+pub(crate) fn find_from_row(plan: &Plan, worker: u8, row: usize) -> Option<CommandPlace>
+    ensures { IsNextPlace plan.now worker result (rows_from plan.now worker row) }
 {
     let lists = plan.commands();
     let rows = count_rows(lists);
@@ -45,10 +45,10 @@ pub(crate) fn find_from_row(plan: &Plan, worker: u8, row: usize) -> Option<Place
 }
 
 // The first place of a command of the worker's that comes after this place.
-pub(crate) fn find_after(plan: &Plan, worker: u8, place: Place) -> Option<Place>
+pub(crate) fn find_after(plan: &Plan, worker: u8, place: CommandPlace) -> Option<CommandPlace>
     requires server { place.server < most_servers }
     requires row { place.row + 1 < 2 ^ 64 }
-    ensures { IsFound plan.now worker result (after_place plan.now worker place) }
+    ensures { IsNextPlace plan.now worker result (after_place plan.now worker place) }
 {
     if let Some(next) = find_in_row(plan, worker, place.row, place.server + 1) {
         return Some(next);
@@ -57,15 +57,15 @@ pub(crate) fn find_after(plan: &Plan, worker: u8, place: Place) -> Option<Place>
 }
 
 // The first place of a command of the worker's at this row, of the servers from this one on.
-fn find_in_row(plan: &Plan, worker: u8, row: usize, first: u8) -> Option<Place>
+fn find_in_row(plan: &Plan, worker: u8, row: usize, first: u8) -> Option<CommandPlace>
     ensures led { MatchOption result (row_from plan.now worker row first ≡ [])
-        (λ place. IsLed plan.now worker place (row_from plan.now worker row first)
+        (λ place. BeginsWith plan.now worker place (row_from plan.now worker row first)
         (row_from plan.now worker row (place.server + 1))) }
     ensures row { IfSome result (λ place. place.row ≡ row) }
 {
     let lists = plan.commands();
     for server in first..lists.len() as u8 {
-        let place = Place { server, row };
+        let place = CommandPlace { server, row };
         if own_command(plan, worker, place).is_some() {
             return Some(place);
         }

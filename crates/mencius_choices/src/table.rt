@@ -1,6 +1,6 @@
 //! The table by which three words pick an event.
 ghost use Rattle.std.specs.Prelude.{◌≡◌, ◌<◌, ◌%◌, length, slice_get, slice_index};
-ghost use Rattle.mencius_model.specs.Trace.{sent};
+ghost use Rattle.mencius_model.specs.Trace.{sent_messages};
 ghost use Rattle.mencius_cluster.specs.State.{trace_of};
 ghost use Rattle.mencius_choices.specs.Picks.{addressee_or, message_named, pick_by, pick_of};
 
@@ -95,7 +95,7 @@ fn find_message(word: u32, many: u32) -> u32
 // The server that a message is for, where it is for one alone, and else the one that the word names.
 fn find_server(cluster: &Cluster, message: u32, word: u32) -> u8
     ensures { result
-        ≡ addressee_or (slice_get (sent (trace_of cluster.now)) message)
+        ≡ addressee_or (slice_get (sent_messages (trace_of cluster.now)) message)
         (word % cluster.now.members.count) }
 {
     match cluster.message(message) {

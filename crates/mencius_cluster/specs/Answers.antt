@@ -4,19 +4,19 @@ use Rattle.std.specs.Option.{option_map}
 use Rattle.mencius_base.specs.declared.command.Command.{Command}
 use Rattle.mencius_base.specs.Members.{Membership}
 use Rattle.mencius_base.specs.Numbers.{ServerId}
-use Rattle.mencius_model.specs.Replying.{Reply, NotYet, Is, commands_of}
-use Rattle.mencius_cluster.specs.declared.submission.Answered.{Answered}
-use Rattle.mencius_cluster.specs.declared.submission.Answered.TheVariants.{Pending, Given}
+use Rattle.mencius_model.specs.Replying.{Reply, Pending, Given, commands_of}
+use Rattle.mencius_cluster.specs.declared.submission.Reply.{Reply as StoredReply}
+use Rattle.mencius_cluster.specs.declared.submission.Reply.TheVariants.{Pending as Pending_stored, Given as Given_stored}
 use Rattle.mencius_cluster.specs.declared.submission.Submission.{Submission}
 use Rattle.mencius_model.specs.Trace.{Trace}
-use Rattle.mencius_model.specs.Executed.{executed}
-use Rattle.mencius_model.specs.Store.{store_after}
+use Rattle.mencius_model.specs.Executed.{history}
+use Rattle.mencius_model.specs.KeyMap.{map_after}
 use Rattle.map_exec.specs.State.{ExecutorState}
 
 -- a stored reply, its text as bytes
-abbrev pub bytes_in : Answered → Reply
-bytes_in Pending = NotYet
-bytes_in (Given text) = Is (option_map string_bytes text)
+abbrev pub bytes_in : StoredReply → Reply
+bytes_in Pending_stored = Pending
+bytes_in (Given_stored text) = Given (option_map string_bytes text)
 
 -- a stored command, and the server that it was submitted at
 abbrev pub submitted_in : Submission → Command × ServerId
@@ -32,4 +32,4 @@ if_member m p x = of_member m p (Some x)
 
 -- the executor of a server
 abbrev pub executor_at : Trace → ServerId → ExecutorState
-executor_at w p = record { store = store_after (commands_of w (executed w p)); history = executed w p }
+executor_at w p = record { store = map_after (commands_of w (history w p)); history = history w p }

@@ -1,6 +1,6 @@
 -- How the fields of a cluster are seen.
 use Rattle.mencius_cluster.specs.declared.cluster.Cluster.TheInside.{Inside}
-use Rattle.mencius_cluster.specs.Marks.{mark_in}
+use Rattle.mencius_cluster.specs.MessageBits.{bit_in}
 use Rattle.mencius_cluster.specs.State.{ClusterState}
 use Rattle.mencius_cluster.specs.Tables.{Tables, IsCluster, journal_of}
 
@@ -12,7 +12,7 @@ tables_in x = record {
   done = x.done.items;
   messages = x.messages;
   rows = x.submissions.entries;
-  is_lost = mark_in x.lost;
+  is_lost = bit_in x.lost;
   entries = x.journal.items;
 }
 
@@ -25,5 +25,5 @@ state_in x = record {
 }
 
 -- what every cluster keeps
-abbrev pub IsSound : Inside → Type 0
-IsSound x = IsCluster x.members (journal_of x.submissions.entries x.journal.items) (tables_in x)
+abbrev pub IsClusterInside : Inside → Type 0
+IsClusterInside x = IsCluster x.members (journal_of x.submissions.entries x.journal.items) (tables_in x)

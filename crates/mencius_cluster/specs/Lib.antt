@@ -2,7 +2,7 @@ pub mod Answers
 pub mod State
 pub mod Submissions
 pub mod Tables
-pub mod Marks
+pub mod MessageBits
 pub mod Inside
 pub mod Performed
 pub mod Salt

@@ -5,7 +5,7 @@ use Rattle.mencius_base.specs.Numbers.{ServerId, TicketNo}
 use Rattle.mencius_base.specs.declared.message.Value.{Value}
 use Rattle.mencius_base.specs.declared.message.Value.TheVariants.{Noop, Ticket}
 use Rattle.map_exec.specs.State.{ExecutorState, after_execution}
-use Rattle.mencius_model.specs.Store.{key_of}
+use Rattle.mencius_model.specs.KeyMap.{key_of}
 use Rattle.mencius_cluster.specs.declared.submission.Submission.{Submission}
 use Rattle.mencius_cluster.specs.Answers.{bytes_in}
 use Rattle.indexmap.specs.IndexMap.{set_value_at}
@@ -21,8 +21,8 @@ pub record IsExecution (p : ServerId) (t : TicketNo) (x y : ExecutorState) (old 
   pub rows : new ≡ set_value_at old t submission
   pub command : submission.command ≡ row.1.command
   pub home : submission.home ≡ row.1.home
-  pub answer : bytes_in submission.answer
-      ≡ first_reply (row.1.home == p) (bytes_in row.1.answer) (finite.get x.store (key_of row.1.command.op))
+  pub reply : bytes_in submission.reply
+      ≡ first_reply (row.1.home == p) (bytes_in row.1.reply) (finite.get x.store (key_of row.1.command.op))
 
 -- server p executed a value
 abbrev pub IsPerformed : ServerId → Value → ExecutorState → ExecutorState → List Row → List Row → Type 0

@@ -7,8 +7,8 @@ use Rattle.mencius_base.specs.declared.command.Command.{Command}
 use Rattle.mencius_base.specs.declared.command.CommandId.{CommandId}
 
 -- an identity as one word, below 2 ^ 64
-abbrev pub word_of : CommandId → ℕ
-word_of id = id.client * 2 ^ 32 + id.number
+abbrev pub identity_word : CommandId → ℕ
+identity_word id = id.client * 2 ^ 32 + id.number
 
 -- a hasher that has hashed a salt
 abbrev pub salted : ℕ → DefaultHasher
@@ -16,11 +16,11 @@ salted salt = fold sip.write sip.initial (fed.u64 salt)
 
 -- the hash of an identity, by a hasher that has hashed what comes before it
 abbrev pub hash_by : DefaultHasher → CommandId → ℕ
-hash_by hasher id = sip.finish (fold sip.write hasher (fed.u64 (word_of id)))
+hash_by hasher id = sip.finish (fold sip.write hasher (fed.u64 (identity_word id)))
 
 -- a hasher that writes so, after the identity of one more command
 abbrev pub after_identity : {H : Type 0} → (H → List ℕ → H) → H → Command → H
-after_identity write hasher command = fold write hasher (fed.u64 (word_of command.id))
+after_identity write hasher command = fold write hasher (fed.u64 (identity_word command.id))
 
 -- the hash of a salt and of the identities of commands
 abbrev pub salt_after : ℕ → List Command → ℕ

@@ -7,8 +7,8 @@ use Rattle.mencius_base.specs.declared.event.Event.{Event}
 use Rattle.mencius_base.specs.Limits.{most_servers}
 use Rattle.mencius_base.specs.Members.{Membership, below, most_events, most_messages}
 use Rattle.mencius_base.specs.Numbers.{ServerId, TicketNo, MessageNo}
-use Rattle.mencius_base.specs.Outbox.{Outgoing}
-use Rattle.mencius_model.specs.Trace.{Trace, events, sent, submitted}
+use Rattle.mencius_base.specs.Outbox.{OutboxState}
+use Rattle.mencius_model.specs.Trace.{Trace, events, sent_messages, submitted_commands}
 use Rattle.mencius_model.specs.Server.{done}
 use Rattle.mencius_model.specs.Next.{is_loss, replay, trace_or_none}
 use Rattle.mencius_server.specs.State.{ServerState}
@@ -20,27 +20,27 @@ use Rattle.mencius_cluster.specs.Answers.{executor_at, bytes_in, submitted_in}
 use Rattle.mencius_model.specs.Replying.{reply_at}
 
 -- the command of a row
-abbrev pub command_of : Row → Command
-command_of r = r.1.command
+abbrev pub command_in_row : Row → Command
+command_in_row r = r.1.command
 
 -- the command and its home
 abbrev pub submission_of : Row → Command × ServerId
 submission_of r = submitted_in r.1
 
 -- the event of a stored entry, among these commands
-abbrev pub event_of : List Command → Entry → Option Event
-event_of commands = event_by (slice_get commands)
+abbrev pub event_of_entry : List Command → Entry → Option Event
+event_of_entry commands = event_by (slice_get commands)
 
 -- the events of the stored entries
 abbrev pub journal_of : List Row → List Entry → List Event
-journal_of rows entries = filter_map (event_of (map command_of rows)) entries
+journal_of rows entries = filter_map (event_of_entry (map command_in_row rows)) entries
 
 -- every table of a cluster, as contracts see it
 pub record Tables : Type 0 where
   pub servers : List ServerState
   pub executors : List ExecutorState
   pub done : List ℕ
-  pub messages : Outgoing
+  pub messages : OutboxState
   pub rows : List Row
   pub is_lost : MessageNo → ServerId → Bool
   pub entries : List Entry
@@ -50,12 +50,12 @@ pub record AreTables (m : Membership) (w : Trace) (x : Tables) : Type 0 where
   pub servers : x.servers ≡ map (server_at m w) (below m.count)
   pub executors : x.executors ≡ map (executor_at w) (below m.count)
   pub done : x.done ≡ map (done w) (below m.count)
-  pub messages : x.messages.messages ≡ sent w
+  pub messages : x.messages.messages ≡ sent_messages w
   pub limit : x.messages.limit ≡ most_messages
-  pub commands : map submission_of x.rows ≡ submitted w
-  pub ids : map (λ row. row.0) x.rows ≡ map (λ x. x.0.id) (submitted w)
+  pub commands : map submission_of x.rows ≡ submitted_commands w
+  pub ids : map (λ row. row.0) x.rows ≡ map (λ x. x.0.id) (submitted_commands w)
   pub replies : (t : TicketNo) (row : Row) → slice_get x.rows t ≡ Some row
-      → bytes_in row.1.answer ≡ reply_at w t row.1.command row.1.home
+      → bytes_in row.1.reply ≡ reply_at w t row.1.command row.1.home
   pub lost : (k : MessageNo) (p : ServerId) → x.is_lost k p ≡ list_any (is_loss k p) w
   pub events : length x.entries ≡ events w
 

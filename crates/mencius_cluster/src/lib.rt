@@ -5,14 +5,14 @@
 #![tactic(auto)]
 
 mod cluster;
-mod marks;
+mod message_bits;
 mod salt;
 mod submission;
 mod submissions;
 
 pub use cluster::{Cluster, Effect};
-pub use marks::Marks;
 pub use mencius_model::laws;
 pub use mencius_server::Glance;
+pub use message_bits::MessageBits;
 pub use salt::salt_after;
-pub use submission::{Answered, Submission};
+pub use submission::{Reply, Submission};

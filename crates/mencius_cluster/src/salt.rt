@@ -2,7 +2,7 @@ ghost use Rattle.std.specs.Prelude.{◌≡◌};
 ghost use Rattle.std.proofs.Common.{rules};
 ghost use Rattle.std.specs.Cmp.Rules.{hashing};
 ghost use Rattle.std.specs.Hash as fed;
-ghost use Rattle.mencius_cluster.specs.Salt.{salt_after, salted, word_of};
+ghost use Rattle.mencius_cluster.specs.Salt.{identity_word, salt_after, salted};
 
 use mencius_base::{Command, CommandId};
 use std::hash::{BuildHasher, DefaultHasher, Hash, Hasher};
@@ -11,8 +11,8 @@ use std::hash::{BuildHasher, DefaultHasher, Hash, Hasher};
 const NUMBER_COUNT: u64 = 1 << 32;
 
 // An identity as one word, which takes a third of the instructions to hash that its two numbers take.
-fn word_of(id: CommandId) -> u64
-    ensures { result ≡ word_of id }
+fn identity_word(id: CommandId) -> u64
+    ensures { result ≡ identity_word id }
 {
     u64::from(id.client) * NUMBER_COUNT + u64::from(id.number)
 }
@@ -25,12 +25,12 @@ pub struct Identity {
 }
 
 impl Hash for Identity {
-    ghost hash_input = { λ x. fed.u64 (word_of x.id) };
+    ghost hash_input = { λ x. fed.u64 (identity_word x.id) };
 
     ghost respects_eq = { Prim.search (hashing, rules) };
 
     fn hash<H: Hasher>(&self, state: &mut H) {
-        state.write_u64(word_of(self.id));
+        state.write_u64(identity_word(self.id));
     }
 }
 
@@ -45,7 +45,7 @@ pub fn salt_after(salt: u64, commands: &[Command]) -> u64
     let mut hasher = DefaultHasher::new();
     hasher.write_u64(salt);
     for command in commands {
-        hasher.write_u64(word_of(command.id()));
+        hasher.write_u64(identity_word(command.id()));
     }
     hasher.finish()
 }

@@ -1,20 +1,20 @@
 ghost use Rattle.std.specs.Prelude.{◌≡◌, ◌==◌, OnOk, OnErr};
 ghost use Rattle.std.specs.FinMap as finite;
 ghost use Rattle.map_exec.specs.State.{after_execution};
-ghost use Rattle.mencius_model.specs.Store.{key_of};
+ghost use Rattle.mencius_model.specs.KeyMap.{key_of};
 ghost use Rattle.mencius_cluster.specs.Answers.{bytes_in};
 ghost use Rattle.mencius_model.specs.Replying.{first_reply};
 
-use map_exec::{Executor, Reply};
+use map_exec::{Executor, FormerText};
 use mencius_base::{Command, NoMemory};
 
 /// Whether a submitted command has its reply.
 #[derive(Debug, Drop)]
-pub enum Answered {
+pub enum Reply {
     /// The server that it was submitted at has not executed it yet.
     Pending,
     /// What the map of that server held at the command's key when it first executed the command.
-    Given(Reply),
+    Given(FormerText),
 }
 
 /// A command that was submitted, as a cluster keeps it.
@@ -25,7 +25,7 @@ pub struct Submission {
     /// The server that it was submitted at.
     pub home: u8,
     /// Whether it has its reply, and which.
-    pub answer: Answered,
+    pub reply: Reply,
 }
 
 impl Submission {
@@ -40,17 +40,17 @@ impl Submission {
             ≡ after_execution executor.old self.old.command ticket) }
         ensures command { self.new.command ≡ self.old.command }
         ensures home { self.new.home ≡ self.old.home }
-        ensures answer { OnOk result (bytes_in self.new.answer
-            ≡ first_reply (self.old.home == server) (bytes_in self.old.answer)
+        ensures answer { OnOk result (bytes_in self.new.reply
+            ≡ first_reply (self.old.home == server) (bytes_in self.old.reply)
             (finite.get executor.old.store (key_of self.old.command.op))) }
         ensures executor { OnErr result (executor.new ≡ executor.old) }
         ensures submission { OnErr result (self.new ≡ self.old) }
     {
         let reply = executor.execute(&self.command, ticket)?;
         if self.home == server
-            && let Answered::Pending = self.answer
+            && let Reply::Pending = self.reply
         {
-            self.answer = Answered::Given(reply);
+            self.reply = Reply::Given(reply);
         }
         Ok(())
     }

@@ -1,13 +1,13 @@
 ghost use Rattle.std.specs.Prelude.{◌≡◌, ◌<◌, [], ◌∷◌, ◌++◌, None, OnOk, OnErr, length, option_copied, option_map, slice_get};
 ghost use Rattle.std.specs.Map.{lookup};
 ghost use Rattle.mencius_base.specs.Command.{is_same_id};
-ghost use Rattle.mencius_cluster.specs.declared.submission.Answered.TheVariants.{Pending};
+ghost use Rattle.mencius_cluster.specs.declared.submission.Reply.TheVariants.{Pending};
 ghost use Rattle.mencius_cluster.specs.Performed.{IsExecution, IsPerformed};
 ghost use Rattle.mencius_cluster.specs.Salt.{hash_by, salted};
 ghost use Rattle.mencius_model.specs.WithinLimits.{IsTicketBelow};
 
 use crate::salt::{BuildSaltedHasher, Identity};
-use crate::submission::{Answered, Submission};
+use crate::submission::{Reply, Submission};
 use indexmap::IndexMap;
 use map_exec::Executor;
 use mencius_base::{Command, CommandId, INSTANCES, NoMemory, Value};
@@ -102,14 +102,14 @@ impl Submissions {
         requires room { 0 < self.old.room }
         requires new { lookup (is_same_id command.id) self.old.entries ≡ None }
         ensures entries { self.new.entries ≡ self.old.entries
-            ++ (command.id, record { command = command; home = home; answer = Pending }) ∷ [] }
+            ++ (command.id, record { command = command; home = home; reply = Pending }) ∷ [] }
         ensures hasher { self.new.hasher ≡ self.old.hasher }
     {
         let identity = Identity { id: command.id() };
         let submission = Submission {
             command,
             home,
-            answer: Answered::Pending,
+            reply: Reply::Pending,
         };
         let Ok(_) = self.rows.insert(identity, submission) else {
             unreachable!();

@@ -18,7 +18,7 @@ use Rattle.clap.proofs.OnLiterals.{clap_on_literals}
 use Rattle.clap.proofs.WalkLemmas.{first_value-rows}
 use Rattle.mencius_base.specs.Command.{is_name}
 use Rattle.mencius_format.specs.Words.{number_of}
-use Rattle.mencius_command_line.specs.CommandLine.{Asked, asked, asked_replay, asked_draw, asked_run, faults, program, with_joined_key}
+use Rattle.mencius_command_line.specs.CommandLine.{TaskState, task_in, asked_replay, asked_draw, asked_run, faults, program, with_joined_key}
 use Rattle.mencius_command_line.specs.Flags.{has_flag}
 use Rattle.mencius_draw.specs.declared.options.Scheme.TheVariants.{Both, Light, Dark}
 
@@ -73,8 +73,8 @@ kinds_next kinds next h = ap (λ ks. or_else ks next) h
 abbrev fault_at : List Text → Kinds
 fault_at words = faults (codes "mencius" ∷ words)
 
-abbrev asked_at : List Text → Asked
-asked_at words = asked (codes "mencius" ∷ words)
+abbrev asked_at : List Text → TaskState
+asked_at words = task_in (codes "mencius" ∷ words)
 
 replay-taken : fault_at (codes "replay" ∷ []) ≡ []
 unfolding clap_on_literals

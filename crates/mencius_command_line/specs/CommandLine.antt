@@ -67,18 +67,18 @@ program = with_subcommand (with_subcommand with_replays judge_task.top) run_task
 
 -- a replay, strict or not; a trace; a picture of this part, or of one whose places are none; a check; a judgement; or a
 -- run, with its journal or not, with its observations or its report, and with a key to look up or none
-pub data Asked : Type 0 where
-  asked_replay : (is_strict : Bool) → Asked
-  asked_trace : Asked
-  asked_draw : (part : Option Options) → Asked
-  asked_check : Asked
-  asked_judge : Asked
-  asked_run : (with_journal with_observations : Bool) (key : Option Text) → Asked
+pub data TaskState : Type 0 where
+  asked_replay : (is_strict : Bool) → TaskState
+  asked_trace : TaskState
+  asked_draw : (part : Option Options) → TaskState
+  asked_check : TaskState
+  asked_judge : TaskState
+  asked_run : (with_journal with_observations : Bool) (key : Option Text) → TaskState
 
 -- the task of this name, with what was found of its options
-abbrev pub asked_by : Option (Text × List Row) → Asked
-asked_by None = asked_replay false
-asked_by (Some (name, rows)) =
+abbrev pub task_by_name : Option (Text × List Row) → TaskState
+task_by_name None = asked_replay false
+task_by_name (Some (name, rows)) =
     if bytes_eq name (codes "run")
     then asked_run (has_flag (codes "journal") rows) (has_flag (codes "observations") rows) (first_of (codes "lookup") rows)
     else if bytes_eq name (codes "trace") then asked_trace
@@ -99,17 +99,17 @@ abbrev pub words_read : List Text → List Text
 words_read [] = []
 words_read (name ∷ words) = name ∷ with_joined_key words
 
-abbrev pub asked : List Text → Asked
-asked words = asked_by (subcommand_of program (words_read words))
+abbrev pub task_in : List Text → TaskState
+task_in words = task_by_name (subcommand_of program (words_read words))
 
 -- the same, of a task
-abbrev pub asked_in : Task → Asked
-asked_in (task.Replay is_strict) = asked_replay is_strict
-asked_in task.Trace = asked_trace
-asked_in (task.Draw options) = asked_draw (Some options)
-asked_in task.Check = asked_check
-asked_in task.Judge = asked_judge
-asked_in (task.Run with_journal with_observations key) =
+abbrev pub task_state : Task → TaskState
+task_state (task.Replay is_strict) = asked_replay is_strict
+task_state task.Trace = asked_trace
+task_state (task.Draw options) = asked_draw (Some options)
+task_state task.Check = asked_check
+task_state task.Judge = asked_judge
+task_state (task.Run with_journal with_observations key) =
     asked_run with_journal with_observations (option_map string_bytes key)
 
 -- ---- what is wrong with it
@@ -124,7 +124,7 @@ bad_key_faults None = []
 bad_key_faults (Some key) = kind.ValueValidation ∷ []
 
 -- what is wrong with the value of an option
-abbrev pub value_faults : Asked → Kinds
+abbrev pub value_faults : TaskState → Kinds
 value_faults (asked_replay is_strict) = []
 value_faults asked_trace = []
 value_faults (asked_draw part) = part_faults part
@@ -135,7 +135,7 @@ value_faults (asked_run with_journal with_observations (Some key)) = bad_key_fau
 
 -- what `clap` has against the words, and else what is wrong with a value
 abbrev pub faults : List Text → Kinds
-faults words = or_else (fault_of program (words_read words)) (value_faults (asked words))
+faults words = or_else (fault_of program (words_read words)) (value_faults (task_in words))
 
 -- ---- arguments, which are bytes
 

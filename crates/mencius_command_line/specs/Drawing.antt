@@ -4,7 +4,7 @@ use Rattle.clap.specs.Words.{App, Kinds, Row, Rule, Text, first_of, new_app, new
 use Rattle.clap.specs.declared.builder.action.ArgAction.TheVariants.{Set, SetTrue}
 use Rattle.clap.specs.declared.error.kind.ErrorKind.TheVariants as kind
 use Rattle.mencius_ends.specs.declared.fault.AppFault.{AppFault}
-use Rattle.mencius_format.specs.Judged.{judged}
+use Rattle.mencius_format.specs.ValuesOrFaults.{value_or_fault}
 use Rattle.mencius_format.specs.Words.{is_u32, number_of}
 use Rattle.mencius_draw.specs.declared.options.Options.{Options}
 use Rattle.mencius_draw.specs.declared.options.Scheme.{Scheme}
@@ -38,7 +38,7 @@ last_place = 2 ^ 32 - 1
 -- the place that a word is, as events write numbers, and another one where there is no word
 abbrev pub place_in : ℕ → Option Text → Result ℕ AppFault
 place_in other None = Ok other
-place_in other (Some word) = judged is_u32 (number_of word)
+place_in other (Some word) = value_or_fault is_u32 (number_of word)
 
 -- both schemes where both are asked for, or neither is
 abbrev pub scheme_by : Bool → Bool → Scheme

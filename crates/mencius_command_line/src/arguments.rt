@@ -3,7 +3,7 @@
 ghost use Rattle.std.specs.Prelude.{◌≡◌, IfOk, map, string_bytes, true};
 ghost use Rattle.std.specs.Str.{is_utf8};
 ghost use Rattle.clap.specs.Words.{FailsBy};
-ghost use Rattle.mencius_command_line.specs.CommandLine.{are_texts, asked, asked_in, bytes_of, faults, line_of, lossy_of};
+ghost use Rattle.mencius_command_line.specs.CommandLine.{are_texts, bytes_of, faults, line_of, lossy_of, task_in, task_state};
 
 use crate::line::{Task, read_command_line};
 use clap::Error;
@@ -43,7 +43,8 @@ fn is_text(bytes: &[u8]) -> bool
 /// Those of [`read_command_line`].
 pub fn read_arguments(alloc: Global, arguments: &[Vec<u8>]) -> Result<Task, Error>
     requires { are_texts (bytes_of arguments.now) ≡ true }
-    ensures task { IfOk result (λ task. asked_in task ≡ asked (line_of (bytes_of arguments.now))) }
+    ensures task { IfOk result
+        (λ task. task_state task ≡ task_in (line_of (bytes_of arguments.now))) }
     ensures faults { FailsBy (faults (line_of (bytes_of arguments.now))) result }
 {
     let words = words_in(alloc, arguments)?;

@@ -3,7 +3,7 @@
 ghost use Rattle.std.specs.Prelude.{◌≡◌, ◌≤◌, ◌∷◌, false, IfErr, IfOk, Some, codes, length, map, option_copied, option_map, string_bytes};
 ghost use Rattle.clap.specs.declared.builder.command.Command.TheViews.{out-Command as fields_of};
 ghost use Rattle.clap.specs.Words.{FailsBy, HasKind, app_of, first_of, found_of, kind_of, rows_of, rule_of, subcommand_rows_of};
-ghost use Rattle.mencius_command_line.specs.CommandLine.{asked, asked_by, asked_in, bad_key_faults, faults, check_task, is_key, journal_option, judge_task, lookup_option, observations_option, program, replay_task, run_task, strict_option, trace_task, value_faults, with_joined_key, with_replays, without_tasks, words_read};
+ghost use Rattle.mencius_command_line.specs.CommandLine.{task_in, task_by_name, task_state, bad_key_faults, faults, check_task, is_key, journal_option, judge_task, lookup_option, observations_option, program, replay_task, run_task, strict_option, trace_task, value_faults, with_joined_key, with_replays, without_tasks, words_read};
 ghost use Rattle.mencius_command_line.specs.Flags.{has_flag};
 
 use crate::drawing::{draw_command, options_of};
@@ -232,10 +232,10 @@ fn key_of(alloc: Global, options: &ArgMatches) -> Result<Option<String>, AllocEr
 
 // The task of this name, with its options.
 fn task_named(alloc: Global, name: &str, options: &ArgMatches) -> Result<Task, Error>
-    ensures task { IfOk result (λ task. asked_in task
-        ≡ asked_by (Some (name.now, rows_of (found_of options.now)))) }
+    ensures task { IfOk result (λ task. task_state task
+        ≡ task_by_name (Some (name.now, rows_of (found_of options.now)))) }
     ensures faults { IfErr result
-        (HasKind (value_faults (asked_by (Some (name.now, rows_of (found_of options.now)))))) }
+        (HasKind (value_faults (task_by_name (Some (name.now, rows_of (found_of options.now)))))) }
 {
     if name == "run" {
         let with_journal = has_flag(options, "journal");
@@ -265,9 +265,10 @@ fn task_named(alloc: Global, name: &str, options: &ArgMatches) -> Result<Task, E
 
 // The task that was asked for.
 fn task_of(alloc: Global, matches: &ArgMatches) -> Result<Task, Error>
-    ensures task { IfOk result (λ task. asked_in task ≡ asked_by (subcommand_rows_of matches.now)) }
+    ensures task { IfOk result
+        (λ task. task_state task ≡ task_by_name (subcommand_rows_of matches.now)) }
     ensures faults { IfErr result
-        (HasKind (value_faults (asked_by (subcommand_rows_of matches.now)))) }
+        (HasKind (value_faults (task_by_name (subcommand_rows_of matches.now)))) }
 {
     match matches.subcommand() {
         Some((name, options)) => task_named(alloc, name, options),
@@ -284,7 +285,7 @@ fn is_key(word: &str) -> bool
 
 // The key that is to be looked up, where it is none.
 fn bad_key(task: &Task) -> Option<&str>
-    ensures { value_faults (asked_in task.now) ≡ bad_key_faults (option_copied result) }
+    ensures { value_faults (task_state task.now) ≡ bad_key_faults (option_copied result) }
 {
     match task {
         Task::Run { key: Some(key), .. } if !is_key(key.as_str()) => Some(key.as_str()),
@@ -294,8 +295,8 @@ fn bad_key(task: &Task) -> Option<&str>
 
 // The task, unless its key is none.
 fn with_good_key(alloc: Global, task: Task) -> Result<Task, Error>
-    ensures task { IfOk result (λ x. asked_in x ≡ asked_in task) }
-    ensures faults { FailsBy (value_faults (asked_in task)) result }
+    ensures task { IfOk result (λ x. task_state x ≡ task_state task) }
+    ensures faults { FailsBy (value_faults (task_state task)) result }
 {
     match bad_key(&task) {
         Some(key) => Err(key_error(alloc, key)?),
@@ -324,7 +325,7 @@ fn key_error(alloc: Global, key: &str) -> Result<Error, AllocError>
 /// 0 where help or the version was asked for, and 2 for a bad command line. Its kind is `ValueValidation` for a KEY
 /// or an EVENT that is none, and `OutOfMemory` where memory ran out, whatever the words.
 pub fn read_command_line(alloc: Global, words: &[String]) -> Result<Task, Error>
-    ensures task { IfOk result (λ task. asked_in task ≡ asked (map string_bytes words.now)) }
+    ensures task { IfOk result (λ task. task_state task ≡ task_in (map string_bytes words.now)) }
     ensures faults { FailsBy (faults (map string_bytes words.now)) result }
 {
     let words = words_read(alloc, words)?;

@@ -8,10 +8,10 @@ use Rattle.mencius_base.specs.declared.refusal.Refusal.TheVariants.{EventsFull}
 use Rattle.mencius_base.specs.Refusal.{IsRefusedFor}
 use Rattle.mencius_base.specs.Members.{Membership, most_events, most_messages}
 use Rattle.mencius_base.specs.Message.{is_for}
-use Rattle.mencius_base.specs.Outbox.{Outgoing, outbox_full}
-use Rattle.mencius_model.specs.Trace.{Trace, events, messages_of, sent}
-use Rattle.mencius_model.specs.Next.{IsReached, early_cause, first_cause, found_by_cluster, found_by_server, lines, refused, with_event}
-use Rattle.mencius_model.proofs.events.EventLines.{sent-event}
+use Rattle.mencius_base.specs.Outbox.{OutboxState, outbox_full}
+use Rattle.mencius_model.specs.Trace.{Trace, events, messages_of, sent_messages}
+use Rattle.mencius_model.specs.Next.{IsReached, cluster_cause, cluster_causes, first_cause, lines, refusal_cause, server_causes, with_event}
+use Rattle.mencius_model.proofs.events.EventLines.{sent_messages-event}
 use Rattle.mencius_model.proofs.rights.Journals.{next-accepted, reached_next}
 use Rattle.mencius_server.specs.Laws.{HearIsEvent, LeavesOthers}
 use Rattle.mencius_server.specs.Machine.{after_hearing, sent_on}
@@ -32,7 +32,7 @@ both_none (cause ∷ causes) ds h none =
 
 -- a server that heard nothing is at the longer trace too
 stays : LeavesOthers → (m : Membership) (w : Trace) (k p : ℕ) (s : ServerState) → IsAt w s → s.members ≡ m
-    → refused m w (Deliver k p) ≡ None → (p ≡ s.id → ⊥) → IsAt (with_event m w (Deliver k p)) s
+    → refusal_cause m w (Deliver k p) ≡ None → (p ≡ s.id → ⊥) → IsAt (with_event m w (Deliver k p)) s
 stays law m w k p s at same fine ne =
     let e = Deliver k p in
     let r = subst (λ (x : Membership). IsReached x w) same at.reached in
@@ -46,30 +46,30 @@ stays law m w k p s at same fine ne =
     }
 
 -- the message is what the receiver heard, and this is what the call left
-pub record IsHeard (k : ℕ) (x : Message) (w : Trace) (r after : ServerState) (o sends : Outgoing) : Type 0 where
+pub record IsHeard (k : ℕ) (x : Message) (w : Trace) (r after : ServerState) (o sends : OutboxState) : Type 0 where
   pub addressed : IsTrue (is_for r.members r.id x)
-  pub number : slice_get (sent w) k ≡ Some x
-  pub early : early_cause r.members w (Deliver k r.id) ≡ None
+  pub number : slice_get (sent_messages w) k ≡ Some x
+  pub early : cluster_cause r.members w (Deliver k r.id) ≡ None
   pub state : after ≡ after_hearing r x
   pub messages : sends.messages ≡ o.messages ++ sent_on r x
   pub limit : sends.limit ≡ o.limit
   pub room : outbox_full o (length (sent_on r x)) ≡ None
 
 pub delivered : HearIsEvent → LeavesOthers → (w : Trace) (k : ℕ) (x : Message) (r after s z : ServerState)
-    (o sends : Outgoing) → AreAt w r s z o → IsHeard k x w r after o sends → s.members ≡ r.members
+    (o sends : OutboxState) → AreAt w r s z o → IsHeard k x w r after o sends → s.members ≡ r.members
     → z.members ≡ r.members
     → (r.id ≡ s.id → ⊥) → (r.id ≡ z.id → ⊥) → AreAt (with_event r.members w (Deliver k r.id)) after s z sends
 delivered hear law w k x r after s z o sends at h ms mt ns nt =
     let m = r.members in
     let e = Deliver k r.id in
     let part = hear w r k x at.first h.addressed h.number in
-    let late : first_cause (found_by_server m w e (length (sent w)) most_messages) ≡ None =
-    ap (λ (xs : List Message). first_cause (found_by_server m w e (length xs) most_messages)) (sym at.messages)
-    ∙ ap (λ (n : ℕ). first_cause (found_by_server m w e (length o.messages) n)) (sym at.limit)
+    let late : first_cause (server_causes m w e (length (sent_messages w)) most_messages) ≡ None =
+    ap (λ (xs : List Message). first_cause (server_causes m w e (length xs) most_messages)) (sym at.messages)
+    ∙ ap (λ (n : ℕ). first_cause (server_causes m w e (length o.messages) n)) (sym at.limit)
     ∙ sym (part.refusal o) ∙ h.room in
-    let fine : refused m w e ≡ None =
-    both_none ((leb most_events (events w), EventsFull) ∷ found_by_cluster m w e)
-    (found_by_server m w e (length (sent w)) most_messages) h.early late in
+    let fine : refusal_cause m w e ≡ None =
+    both_none ((leb most_events (events w), EventsFull) ∷ cluster_causes m w e)
+    (server_causes m w e (length (sent_messages w)) most_messages) h.early late in
     let longer = reached_next m w (with_event m w e) e at.first.reached (next-accepted m w e fine) in
     let is : after ≡ server_at m (with_event m w e) r.id = h.state ∙ part.state in
     record {
@@ -77,19 +77,19 @@ delivered hear law w k x r after s z o sends at h ms mt ns nt =
           (record { reached = longer; state = refl });
       second = stays law m w k r.id s at.second ms fine ns;
       third = stays law m w k r.id z at.third mt fine nt;
-      messages = h.messages ∙ ap (λ xs. xs ++ sent_on r x) at.messages ∙ ap (λ ys. sent w ++ ys) part.sent
-          ∙ sym (sent-event m w e);
+      messages = h.messages ∙ ap (λ xs. xs ++ sent_on r x) at.messages ∙ ap (λ ys. sent_messages w ++ ys) part.sent
+          ∙ sym (sent_messages-event m w e);
       limit = h.limit ∙ at.limit;
     }
 
 -- so it is after a call that was not refused
 pub delivered_then : HearIsEvent → LeavesOthers → (result : Result ℕ Refusal) (x : Message)
-    (r after s y : ServerState) (o z : Outgoing) → IsTrue (is_for r.members r.id x)
+    (r after s y : ServerState) (o z : OutboxState) → IsTrue (is_for r.members r.id x)
     → OnOk result (z.messages ≡ o.messages ++ sent_on r x) → OnOk result (after ≡ after_hearing r x)
     → IsRefusedFor (outbox_full o (length (sent_on r x))) result → z.limit ≡ o.limit
     → s.members ≡ r.members → y.members ≡ r.members → (r.id ≡ s.id → ⊥) × (r.id ≡ y.id → ⊥)
-    → OnOk result ((w : Trace) (k : ℕ) → AreAt w r s y o → slice_get (sent w) k ≡ Some x
-    → early_cause r.members w (Deliver k r.id) ≡ None
+    → OnOk result ((w : Trace) (k : ℕ) → AreAt w r s y o → slice_get (sent_messages w) k ≡ Some x
+    → cluster_cause r.members w (Deliver k r.id) ≡ None
     → AreAt (with_event r.members w (Deliver k r.id)) after s y z)
 delivered_then hear law (Err f) x r after s y o z addressed sends becomes room limit ms mt apart = tt
 delivered_then hear law (Ok n) x r after s y o z addressed sends becomes room limit ms mt apart = λ w k at number early.

@@ -4,7 +4,7 @@ use Rattle.mencius_base.specs.declared.event.Event.{Event}
 use Rattle.mencius_base.specs.Members.{Membership}
 use Rattle.mencius_model.specs.Trace.{Trace}
 use Rattle.mencius_model.specs.Next.{replay}
-use Rattle.mencius_model.specs.Executed.{executed, IsPrefix, IsComparable}
+use Rattle.mencius_model.specs.Executed.{history, IsPrefix, IsComparable}
 use Rattle.mencius_model.specs.Laws.{HistoriesComparable, HistoriesGrow, IsMoment}
 
 -- the end of a journal is one of its moments
@@ -14,14 +14,14 @@ whole m journal w h = record { before = journal; after = []; splits = sym (appen
 -- of two histories, after a prefix of a journal and after the whole, one is a prefix of the other
 pub comparable : HistoriesComparable → (m : Membership) (old new since : List Event) (w v : Trace) (p q : ℕ)
     → 1 ≤ m.count
-    → new ≡ old ++ since → replay m old ≡ Ok w → replay m new ≡ Ok v → IsComparable (executed w p) (executed v q)
+    → new ≡ old ++ since → replay m old ≡ Ok w → replay m new ≡ Ok v → IsComparable (history w p) (history v q)
 comparable law m old new since w v p q some grown before after =
     law m new v w v (record { some_server = some; replays = after })
     (record { before = old; after = since; splits = grown; replays = before }) (whole m new v after) p q
 
 -- the former is a prefix of the latter where both are one server's
 pub grows : HistoriesGrow → (m : Membership) (old new since : List Event) (w v : Trace) (p : ℕ) → 1 ≤ m.count
-    → new ≡ old ++ since → replay m old ≡ Ok w → replay m new ≡ Ok v → IsPrefix (executed w p) (executed v p)
+    → new ≡ old ++ since → replay m old ≡ Ok w → replay m new ≡ Ok v → IsPrefix (history w p) (history v p)
 grows law m old new since w v p some grown before after =
     law m new v w (record { some_server = some; replays = after })
     (record { before = old; after = since; splits = grown; replays = before }) p

@@ -6,8 +6,8 @@ use Rattle.mencius_base.specs.declared.message.Message.{Message}
 use Rattle.mencius_base.specs.declared.message.Message.TheVariants.{Suggest, Skip, Accepted, Prepare, Promise, Propose, Learn}
 use Rattle.mencius_base.specs.declared.message.Value.{Value}
 use Rattle.mencius_base.specs.declared.message.Vote.{Vote}
-use Rattle.mencius_model.specs.Trace.{Sent, Trace, sent}
-use Rattle.mencius_model.specs.Instance.{proposed}
+use Rattle.mencius_model.specs.Trace.{Sent, Trace, sent_messages}
+use Rattle.mencius_model.specs.Instance.{proposal}
 use Rattle.mencius_model.proofs.trace.AnswersLast.{proposal_in, sent_in}
 use Rattle.mencius_model.proofs.rights.Journals.{reached_grown, some_server_of}
 use Rattle.mencius_model.proofs.rights.LineRights.{IsGrown}
@@ -25,7 +25,7 @@ led_round m b i p some above own = elim (cases_Bool (eqb b 0)) [
 ]
 
 module _ (m : Membership) (w : Trace) (some : 1 ≤ m.count) (grown : IsGrown m w) where
-  proposed_ballot : (i b : ℕ) (z : Value) → proposed w i b ≡ Some z → IsBallot m b
+  proposed_ballot : (i b : ℕ) (z : Value) → proposal w i b ≡ Some z → IsBallot m b
   proposed_ballot i b z e = elim (cases_lt 0 b) [
     | inl lt ↦ let r = proposal_in w i b z lt e in inr (propose_ballot m w grown r.0 i b z r.1).0
     | inr ge ↦ inl (omega arith)
@@ -64,5 +64,5 @@ module _ (m : Membership) (w : Trace) (some : 1 ≤ m.count) (grown : IsGrown m 
 
 pub messages_led : MessagesLed
 messages_led m w r k x e =
-    let there = sent_in x w (get_in (sent w) k x e) in
+    let there = sent_in x w (get_in (sent_messages w) k x e) in
     led_message m w (some_server_of m w r (Sent x) there) (reached_grown m w r) x there

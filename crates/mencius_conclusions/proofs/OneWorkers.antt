@@ -9,9 +9,9 @@ use Rattle.mencius_base.specs.declared.command.Command.{Command}
 use Rattle.mencius_base.specs.declared.event.Event.{Event}
 use Rattle.mencius_base.specs.declared.refusal.Refusal.{Refusal}
 use Rattle.mencius_model.specs.Trace.{Trace}
-use Rattle.mencius_model.specs.Next.{refused, step_or, with_event}
+use Rattle.mencius_model.specs.Next.{refusal_cause, step_or, with_event}
 use Rattle.mencius_cluster.specs.State.{ClusterState, trace_of}
-use Rattle.mencius_choices.specs.Choices.{ChooserState, IsChosen, IsTaken, first_chooser, picked}
+use Rattle.mencius_choices.specs.Choices.{ChooserState, IsChoice, IsTaken, first_chooser, pick_at}
 use Rattle.mencius_choices.specs.declared.choice.Pick.{Pick}
 use Rattle.mencius_choices.specs.declared.choice.Pick.TheVariants.{NextCommand, Is}
 use Rattle.mencius_board.specs.declared.fault.BoardFault.{BoardFault}
@@ -33,7 +33,7 @@ after_cause x e None = record { members = x.members; hasher = x.hasher; journal 
 after_cause x e (Some r) = x
 
 abbrev after_event : ClusterState → Event → ClusterState
-after_event x e = after_cause x e (refused x.members (trace_of x) e)
+after_event x e = after_cause x e (refusal_cause x.members (trace_of x) e)
 
 no_cause : (w v : Trace) (o : Option Refusal) → step_or w o ≡ Ok v → o ≡ None
 no_cause w v None e = refl
@@ -50,7 +50,7 @@ left_by : (before after : BoardState) (e : Event) → IsAccepted before after e 
 left_by before after e (inl is) =
     let x : ClusterState = before.cluster in
     let none = no_cause (with_event x.members (trace_of x) e) (trace_of after.cluster)
-    (refused x.members (trace_of x) e) is.stepped.trace in
+    (refusal_cause x.members (trace_of x) e) is.stepped.trace in
     same_cluster after.cluster (after_cause x e None) is.stepped.members is.stepped.hasher is.stepped.journal
     ∙ ap (after_cause x e) (sym none)
 left_by before after e (inr is) = elim is.is [
@@ -72,15 +72,15 @@ same_chooser c d plan drawing left =
     ∙ (ap (λ x. record { plan = d.plan; drawing = x; left = c.left }) drawing
     ∙ ap (λ xs. record { plan = d.plan; drawing = d.drawing; left = xs }) left)
 
-one_choice : (old new new' : ChooserState) (x : ClusterState) (e e' : Event) → IsChosen old x e new
-    → IsChosen old x e' new' → (e ≡ e') × (new ≡ new')
+one_choice : (old new new' : ChooserState) (x : ClusterState) (e e' : Event) → IsChoice old x e new
+    → IsChoice old x e' new' → (e ≡ e') × (new ≡ new')
 one_choice old new new' x e e' h h' =
-    let taken = one_taken (picked old x) old.left new.left new'.left e e' h.taken h'.taken in
+    let taken = one_taken (pick_at old x) old.left new.left new'.left e e' h.taken h'.taken in
     (taken.0, same_chooser new new' (h.plan ∙ sym h'.plan) (h.drawing ∙ sym h'.drawing) taken.1)
 
 -- a turn that ends well takes this chooser and this cluster here
 abbrev TakesOne : ChooserState → ClusterState → ChooserState → ClusterState → Type 0
-TakesOne c x d y = (e : Event) × IsChosen c x e d × (y ≡ after_event x e)
+TakesOne c x d y = (e : Event) × IsChoice c x e d × (y ≡ after_event x e)
 
 one_turn : (c d d' : ChooserState) (x y y' : ClusterState) → TakesOne c x d y → TakesOne c x d' y'
     → (d ≡ d') × (y ≡ y')

@@ -6,7 +6,7 @@ use Rattle.mencius_base.specs.declared.message.Message.{Message}
 use Rattle.mencius_base.specs.declared.message.Message.TheVariants.{Suggest, Accepted, Prepare, Promise, Propose}
 use Rattle.mencius_base.specs.declared.message.Vote.{Vote}
 use Rattle.mencius_model.specs.Next.{IsReached}
-use Rattle.mencius_model.specs.Trace.{Trace, sent}
+use Rattle.mencius_model.specs.Trace.{Trace, sent_messages}
 
 -- the owner's ballot, or one of a round of 1 or more: none of 1 to n - 1
 abbrev pub IsBallot : Membership → BallotNo → Type 0
@@ -31,4 +31,4 @@ IsLed m _ = Unit {0}
 -- every message of a trace that some journal makes
 abbrev pub MessagesLed : Type 0
 MessagesLed = (m : Membership) (w : Trace) → IsReached m w
-    → (k : MessageNo) (x : Message) → slice_get (sent w) k ≡ Some x → IsLed m x
+    → (k : MessageNo) (x : Message) → slice_get (sent_messages w) k ≡ Some x → IsLed m x

@@ -6,7 +6,7 @@
 
 ghost use Rattle.std.specs.Prelude.{List, ◌≡◌, ◌≤◌, ◌<◌, ◌⊎◌, ◌++◌, ◌↔◌, OnOk, OnErr, IfOk, IfErr, IfSome, IsErrOf, IsSome};
 ghost use Rattle.mencius_base.specs.declared.event.Event.{Event};
-ghost use Rattle.mencius_model.specs.Executed.{IsComparable, IsPrefix, executed};
+ghost use Rattle.mencius_model.specs.Executed.{IsComparable, IsPrefix, history};
 ghost use Rattle.mencius_cluster.specs.State.{trace_of};
 ghost use Rattle.mencius_model.specs.Outcomes.{accepted_from};
 
@@ -16,7 +16,7 @@ use std::alloc::Global;
 
 /// The history of a server, and the history of the same or another server after some more events.
 #[derive(Debug, Drop)]
-pub struct Noted {
+pub struct TwoHistories {
     /// The tickets that the first server had executed before the events, in order.
     pub earlier: Vec<u32>,
     /// The tickets that the second server had executed after them, in order.
@@ -35,12 +35,12 @@ pub fn note_across(
     server: u8,
     events: Vec<Event>,
     other: u8,
-) -> Result<Noted, Refusal>
+) -> Result<TwoHistories, Refusal>
     // Which histories were noted, and what became of the cluster.
     ensures inside { OnOk result ((server < cluster.old.members.count)
         × (other < cluster.old.members.count)) }
-    ensures earlier { IfOk result (λ n. n.earlier.items ≡ executed (trace_of cluster.old) server) }
-    ensures later { IfOk result (λ n. n.later.items ≡ executed (trace_of cluster.new) other) }
+    ensures earlier { IfOk result (λ n. n.earlier.items ≡ history (trace_of cluster.old) server) }
+    ensures later { IfOk result (λ n. n.later.items ≡ history (trace_of cluster.new) other) }
     ensures journal { OnOk result (cluster.new.journal ≡ cluster.old.journal
         ++ accepted_from cluster.old.members (trace_of cluster.old) events.items) }
     ensures members { cluster.new.members ≡ cluster.old.members }
@@ -70,7 +70,7 @@ pub fn note_across(
     step_all(cluster, events)?;
     cluster.replays();
     let later = cluster.history(other).unwrap().to_vec(alloc)?;
-    Ok(Noted { earlier, later })
+    Ok(TwoHistories { earlier, later })
 }
 
 /// The histories of two servers at one moment, of which one is a prefix of the other, or `None` where
@@ -78,8 +78,8 @@ pub fn note_across(
 pub fn histories(cluster: &Cluster, first: u8, second: u8) -> Option<(&[u32], &[u32])>
     ensures some { IsSome result
         ↔ ((first < cluster.now.members.count) × (second < cluster.now.members.count)) }
-    ensures first { IfSome result (λ h. h.0.now ≡ executed (trace_of cluster.now) first) }
-    ensures second { IfSome result (λ h. h.1.now ≡ executed (trace_of cluster.now) second) }
+    ensures first { IfSome result (λ h. h.0.now ≡ history (trace_of cluster.now) first) }
+    ensures second { IfSome result (λ h. h.1.now ≡ history (trace_of cluster.now) second) }
     ensures comparable { IfSome result (λ h. IsComparable h.0.now h.1.now) }
 {
     // Called for their promises alone.

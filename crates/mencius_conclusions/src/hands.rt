@@ -7,8 +7,8 @@ ghost use Rattle.mencius_base.specs.Message.{is_for};
 ghost use Rattle.mencius_base.specs.Outbox.{outbox_full};
 ghost use Rattle.mencius_base.specs.Refusal.{IsRefusedFor};
 ghost use Rattle.mencius_base.specs.declared.event.Event.TheVariants.{Deliver};
-ghost use Rattle.mencius_model.specs.Next.{early_cause, with_event};
-ghost use Rattle.mencius_model.specs.Trace.{Trace, sent};
+ghost use Rattle.mencius_model.specs.Next.{cluster_cause, with_event};
+ghost use Rattle.mencius_model.specs.Trace.{Trace, sent_messages};
 ghost use Rattle.mencius_server.specs.Machine.{IsUndone, learned_on, sent_on};
 ghost use Rattle.mencius_conclusions.specs.Hands.{AreAt};
 ghost use Rattle.std.specs.Prelude.{IfOk, IsTrue, None, OnErr, OnOk, Some, length, slice_get, ◌≡◌, ◌≢◌, ℕ};
@@ -40,8 +40,8 @@ pub fn deliver(
     requires others { (receiver.old.id ≢ second.now.id) × (receiver.old.id ≢ third.now.id) }
     ensures delivery { OnOk result ((w : Trace) (k : ℕ)
         → AreAt w receiver.old second.now third.now out.old
-        → slice_get (sent w) k ≡ Some message.now
-        → early_cause receiver.old.members w (Deliver k receiver.old.id) ≡ None
+        → slice_get (sent_messages w) k ≡ Some message.now
+        → cluster_cause receiver.old.members w (Deliver k receiver.old.id) ≡ None
         → AreAt (with_event receiver.old.members w (Deliver k receiver.old.id))
         receiver.new second.now third.now out.new) }
     ensures learned { IfOk result (λ n. n ≡ learned_on receiver.old message.now) }

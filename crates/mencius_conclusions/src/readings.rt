@@ -4,9 +4,9 @@
 ghost use Rattle.std.specs.Prelude.{◌≡◌, ◌⊎◌, IfErr, IfOk, OnOk, length, option_map};
 ghost use Rattle.std.specs.String.{string_bytes};
 ghost use mathlib.Core.List.{IsPrefix};
-ghost use Rattle.mencius_board.specs.Boards.{longest};
+ghost use Rattle.mencius_board.specs.Boards.{longest_of};
 ghost use Rattle.mencius_board.specs.Faults.{IsLookupFault, IsShowFault};
-ghost use Rattle.mencius_model.specs.Store.{value_at};
+ghost use Rattle.mencius_model.specs.KeyMap.{value_at};
 
 use mencius_board::{Board, BoardFault, News, Reader};
 use std::alloc::Global;
@@ -48,7 +48,7 @@ pub fn look_up_within(
     key: &str,
 ) -> Result<Reading, BoardFault>
     requires { reader.old.book ≡ board.old.book }
-    ensures begins { IsPrefix reader.new.log (longest board.old.cluster) }
+    ensures begins { IsPrefix reader.new.log (longest_of board.old.cluster) }
     ensures grows { IsPrefix reader.old.log reader.new.log }
     ensures text { IfOk result (λ x. option_map string_bytes x.text
         ≡ value_at key.now reader.new.log) }
@@ -73,9 +73,9 @@ pub fn look_up_shown<R: Wait>(
     key: &str,
 ) -> Result<Reading, BoardFault>
     requires { reader.old.book ≡ board.old.book }
-    ensures shown { OnOk result (reader.new.log ≡ longest board.old.cluster) }
+    ensures shown { OnOk result (reader.new.log ≡ longest_of board.old.cluster) }
     ensures text { IfOk result (λ x. option_map string_bytes x.text
-        ≡ value_at key.now (longest board.old.cluster)) }
+        ≡ value_at key.now (longest_of board.old.cluster)) }
     ensures board { (reader.new.book ≡ reader.old.book) × (board.new.book ≡ board.old.book) }
     ensures cluster { board.new.cluster ≡ board.old.cluster }
     ensures fault { IfErr result (λ f. IsShowFault f ⊎ IsLookupFault f) }

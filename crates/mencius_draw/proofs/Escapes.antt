@@ -4,10 +4,11 @@ use Rattle.std.proofs.lemmas.List.Elements.{All-map}
 use Rattle.std.specs.List.{All}
 use Rattle.std.specs.Prelude.{slice_index_or}
 use Rattle.mencius_draw.specs.Laws.{IsHarmless}
-use Rattle.mencius_draw.specs.Words.{is_plain, plain, plain_byte}
+use Rattle.mencius_draw.specs.Words.{is_plain, plain_byte, plain_text}
 
 other_than : (b c : ℕ) → is_plain b ≡ true → is_plain c ≡ false → b ≢ c
-other_than b c plain reserved = λ same. let both : true ≡ false = sym plain ∙ ap is_plain same ∙ reserved in absurd (cc)
+other_than b c allowed reserved = λ same. let both : true ≡ false = sym allowed ∙ ap is_plain same ∙ reserved in
+    absurd (cc)
 
 harmless_if : (b : ℕ) (t : Bool) → is_plain b ≡ t → IsHarmless (if t then b else 63)
 harmless_if b true e = record {
@@ -29,6 +30,6 @@ harmless_byte : (b : ℕ) → IsHarmless (plain_byte b)
 unfolding plain_byte
 harmless_byte b = harmless_if b (is_plain b) refl
 
-pub all_harmless : (bytes : List ℕ) → All IsHarmless (plain bytes)
+pub all_harmless : (bytes : List ℕ) → All IsHarmless (plain_text bytes)
 all_harmless bytes =
     All-map IsHarmless plain_byte bytes (λ k d below. harmless_byte (slice_index_or bytes k d))

@@ -14,7 +14,7 @@ use Rattle.mencius_draw.specs.Feet.{executed_by, executed_in, foot_at, foot_in, 
 use Rattle.mencius_draw.specs.Frame.{fact_rule, head, key_text, lanes, rule_text}
 use Rattle.mencius_draw.specs.Layout.{Outline, end_of, is_needed, is_told_below, lines_of, if_needed, sent_as, sent_here, sents_of, shapes_of, start}
 use Rattle.mencius_draw.specs.Marks.{fact_reach, fact_text, greatest_reach, reach_of, shape_text}
-use Rattle.mencius_draw.specs.Picture.{painted, picture_of, servers_of}
+use Rattle.mencius_draw.specs.Picture.{picture_of, picture_text, servers_of}
 use Rattle.mencius_draw.specs.Places.{width_of}
 use Rattle.mencius_draw.specs.Ways.{way_by, way_of, way_text}
 
@@ -170,14 +170,14 @@ pieces scheme servers levels width rules ways shapes feet =
     head scheme servers width levels ++ rules ++ lanes servers levels ++ ways ++ shapes ++ feet ++ key_text levels
 
 pub same_picture : (scheme : Scheme) (servers levels : ℕ) (xs : List Outline)
-    → painted scheme servers levels (sents_of (flat_map if_needed xs)) (flat_map if_needed xs)
-    ≡ painted scheme servers levels (sents_of xs) xs
+    → picture_text scheme servers levels (sents_of (flat_map if_needed xs)) (flat_map if_needed xs)
+    ≡ picture_text scheme servers levels (sents_of xs) xs
 same_picture scheme servers levels xs =
     let ys = flat_map if_needed xs in
     let all = sents_of xs in
     let width = width_of servers (greatest_reach servers xs) in
     let put = pieces scheme servers levels in
-    ap (λ ss. painted scheme servers levels ss ys) (sents xs)
+    ap (λ ss. picture_text scheme servers levels ss ys) (sents xs)
     ∙ ap (λ n.
     put (width_of servers n) (flat_map (rule_text (width_of servers n)) ys) (flat_map (way_text servers all) ys)
     (flat_map (shape_text servers all) ys) (flat_map (foot_text servers levels ys) ys)) (reach servers xs)
@@ -197,13 +197,14 @@ same_picture scheme servers levels xs =
 pub is_picture : (o : Options) (trace text : List ℕ) (servers : ℕ) (end : Spot) (ys : List Outline)
     → servers ≡ servers_of (lines_of trace) → end ≡ end_of o start (lines_of trace)
     → ys ≡ flat_map if_needed (shapes_of o start (lines_of trace))
-    → text ≡ painted o.scheme servers end.next (sents_of ys) ys → text ≡ picture_of o trace
+    → text ≡ picture_text o.scheme servers end.next (sents_of ys) ys → text ≡ picture_of o trace
 unfolding picture_of
 is_picture o trace text servers end ys few last made got =
-    got ∙ ap (λ zs. painted o.scheme servers end.next (sents_of zs) zs) made
+    got ∙ ap (λ zs. picture_text o.scheme servers end.next (sents_of zs) zs) made
     ∙ same_picture o.scheme servers end.next (shapes_of o start (lines_of trace))
     ∙ ap (λ n.
-    painted o.scheme n end.next (sents_of (shapes_of o start (lines_of trace))) (shapes_of o start (lines_of trace))) few
+    picture_text o.scheme n end.next (sents_of (shapes_of o start (lines_of trace)))
+    (shapes_of o start (lines_of trace))) few
     ∙ ap (λ (spot : Spot).
-    painted o.scheme (servers_of (lines_of trace)) spot.next (sents_of (shapes_of o start (lines_of trace)))
+    picture_text o.scheme (servers_of (lines_of trace)) spot.next (sents_of (shapes_of o start (lines_of trace)))
     (shapes_of o start (lines_of trace))) last

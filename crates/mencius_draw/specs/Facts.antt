@@ -72,12 +72,12 @@ note_of name inst =
     else (if bytes_eq name (codes "executed") then Some (Executed inst)
     else None)))))
 
-abbrev pub outcome : Option Note → Fact
-outcome None = Other
-outcome (Some note) = Outcome note
+abbrev pub outcome_fact : Option Note → Fact
+outcome_fact None = Other
+outcome_fact (Some note) = Outcome note
 
 abbrev pub outcome_of : List ℕ → Fact
-outcome_of line = outcome (note_of (word 0 line) (number (word 3 line)))
+outcome_of line = outcome_fact (note_of (word 0 line) (number (word 3 line)))
 
 -- what a line says that stands before the next one
 unfoldable pub fact_of : List ℕ → List ℕ → Fact

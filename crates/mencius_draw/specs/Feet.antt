@@ -6,8 +6,8 @@ use Rattle.mencius_draw.specs.declared.facts.Note.TheVariants.{Executed}
 use Rattle.mencius_draw.specs.declared.facts.Fact.{Fact}
 use Rattle.mencius_draw.specs.declared.facts.Fact.TheVariants.{Closing, Outcome, Unheard}
 use Rattle.mencius_draw.specs.Layout.{Outline}
-use Rattle.mencius_draw.specs.Places.{moved_below}
-use Rattle.mencius_draw.specs.Words.{fixed, number, plain, plain_word, rest, word}
+use Rattle.mencius_draw.specs.Places.{transform_below}
+use Rattle.mencius_draw.specs.Words.{fixed_text, number, plain_text, plain_word, rest, word}
 
 -- a server's command behind a space, and nothing for no-op or another server's
 abbrev pub command_of : ℕ → List ℕ → List ℕ
@@ -45,13 +45,13 @@ list_text (b ∷ bs) = b ∷ bs
 -- the foot of a server, with the line of how far it is, its history and what it did not hear
 abbrev pub foot_at : ℕ → ℕ → List ℕ → ℕ → List ℕ → List ℕ → List ℕ
 foot_at servers levels line server history unheard =
-    fixed (codes "<g class='foot' ") ++ moved_below servers server levels 4
-    ++ fixed (codes "><rect class='card' x='-96' width='192' height='92' rx='8'/><text x='-86' y='20'>front ")
-    ++ plain_word 3 line ++ fixed (codes ", executed ") ++ plain_word 5 line
-    ++ fixed (codes "</text><text x='-86' y='39'>history") ++ list_text history
-    ++ fixed (codes "</text><text x='-86' y='58'>") ++ plain (rest 8 line)
-    ++ fixed (codes "</text><text x='-86' y='77'>unheard") ++ list_text unheard
-    ++ fixed (codes "</text><rect x='64' y='6' width='28' height='80' fill='url(#fading)'/></g>\n")
+    fixed_text (codes "<g class='foot' ") ++ transform_below servers server levels 4
+    ++ fixed_text (codes "><rect class='card' x='-96' width='192' height='92' rx='8'/><text x='-86' y='20'>front ")
+    ++ plain_word 3 line ++ fixed_text (codes ", executed ") ++ plain_word 5 line
+    ++ fixed_text (codes "</text><text x='-86' y='39'>history") ++ list_text history
+    ++ fixed_text (codes "</text><text x='-86' y='58'>") ++ plain_text (rest 8 line)
+    ++ fixed_text (codes "</text><text x='-86' y='77'>unheard") ++ list_text unheard
+    ++ fixed_text (codes "</text><rect x='64' y='6' width='28' height='80' fill='url(#fading)'/></g>\n")
 
 abbrev pub foot_in : ℕ → ℕ → List Outline → List ℕ → Fact → List ℕ
 foot_in servers levels xs line (Closing server) =

@@ -8,7 +8,7 @@ use Rattle.mencius_draw.specs.declared.facts.Fact.{Fact}
 use Rattle.mencius_draw.specs.declared.facts.Fact.TheVariants.{Event}
 use Rattle.mencius_draw.specs.Layout.{Outline}
 use Rattle.mencius_draw.specs.Places.{lane_of, y_of}
-use Rattle.mencius_draw.specs.Words.{between, fixed}
+use Rattle.mencius_draw.specs.Words.{fixed_text, number_between}
 
 abbrev pub scheme_text : Scheme → List ℕ
 scheme_text Both = codes "svg{color-scheme:light dark}\n"
@@ -22,23 +22,26 @@ colours Dark = DARK_COLOURS.now
 
 abbrev pub size_text : ℕ → ℕ → List ℕ
 size_text width levels =
-    between (codes "width='") width (codes "' height='") ++ decimal (y_of levels + 250)
+    number_between (codes "width='") width (codes "' height='") ++ decimal (y_of levels + 250)
 
 abbrev pub svg_text : ℕ → ℕ → ℕ → List ℕ
 svg_text servers width levels =
-    fixed (codes "<svg xmlns='http://www.w3.org/2000/svg' ") ++ size_text width levels
-    ++ between (codes "' viewBox='0 0 ") width (codes " ") ++ decimal (y_of levels + 250)
-    ++ between (codes "' role='img'>\n<title>Space-time diagram of a schedule; servers: ") servers (codes "</title>\n")
+    fixed_text (codes "<svg xmlns='http://www.w3.org/2000/svg' ") ++ size_text width levels
+    ++ number_between (codes "' viewBox='0 0 ") width (codes " ") ++ decimal (y_of levels + 250)
+    ++ number_between (codes "' role='img'>\n<title>Space-time diagram of a schedule; servers: ") servers
+    (codes "</title>\n")
 
 -- all that comes before the first rule
 abbrev pub head : Scheme → ℕ → ℕ → ℕ → List ℕ
 head scheme servers width levels =
-    svg_text servers width levels ++ fixed (codes "<style>\n") ++ scheme_text scheme ++ RULES.now ++ colours scheme
-    ++ fixed (codes "</style>\n") ++ DEFINITIONS.now ++ fixed (codes "<rect class='paper' ") ++ size_text width levels ++ fixed (codes "'/>\n")
+    svg_text servers width levels ++ fixed_text (codes "<style>\n") ++ scheme_text scheme ++ RULES.now ++ colours scheme
+    ++ fixed_text (codes "</style>\n") ++ DEFINITIONS.now ++ fixed_text (codes "<rect class='paper' ")
+    ++ size_text width levels ++ fixed_text (codes "'/>\n")
 
 abbrev pub rule_at : ℕ → ℕ → List ℕ
 rule_at width level =
-    between (codes "<path class='rule' d='M0 ") (y_of level - 12) (codes "H") ++ decimal width ++ fixed (codes "'/>\n")
+    number_between (codes "<path class='rule' d='M0 ") (y_of level - 12) (codes "H") ++ decimal width
+    ++ fixed_text (codes "'/>\n")
 
 abbrev pub fact_rule : ℕ → ℕ → Fact → List ℕ
 fact_rule width level (Event place act server is_refused) = rule_at width level
@@ -50,12 +53,14 @@ rule_text width x = if x.spot.is_shown then fact_rule width x.spot.level x.fact 
 
 abbrev pub lane_text : ℕ → ℕ → ℕ → List ℕ
 lane_text servers levels server =
-    between (codes "<g class='lane' transform='translate(") (lane_of servers server) (codes " 0)'><path class='line' d='M0 56V")
+    number_between (codes "<g class='lane' transform='translate(") (lane_of servers server)
+    (codes " 0)'><path class='line' d='M0 56V")
     ++ decimal (y_of levels + 0)
-    ++ between (codes "'/><rect class='t") server (codes " s") ++ decimal server
-    ++ between (codes "' x='-62' y='14' width='124' height='44' rx='9'/><text class='name f") server (codes "' y='33'>server ")
-    ++ decimal server ++ between (codes "</text><text class='owns' y='49'>owns ") server (codes ", ")
-    ++ decimal (server + servers) ++ fixed (codes ", ..</text></g>\n")
+    ++ number_between (codes "'/><rect class='t") server (codes " s") ++ decimal server
+    ++ number_between (codes "' x='-62' y='14' width='124' height='44' rx='9'/><text class='name f") server
+    (codes "' y='33'>server ")
+    ++ decimal server ++ number_between (codes "</text><text class='owns' y='49'>owns ") server (codes ", ")
+    ++ decimal (server + servers) ++ fixed_text (codes ", ..</text></g>\n")
 
 -- a lane for each server
 abbrev pub lanes : ℕ → ℕ → List ℕ
@@ -63,5 +68,6 @@ lanes servers levels = flat_map (lane_text servers levels) (range_with_len 0 ser
 
 abbrev pub key_text : ℕ → List ℕ
 key_text levels =
-    fixed (codes "<g class='key' transform='translate(16 ") ++ decimal (y_of levels + 136) ++ fixed (codes ")'>\n") ++ KEY.now
-    ++ fixed (codes "</g>\n</svg>\n")
+    fixed_text (codes "<g class='key' transform='translate(16 ") ++ decimal (y_of levels + 136)
+    ++ fixed_text (codes ")'>\n") ++ KEY.now
+    ++ fixed_text (codes "</g>\n</svg>\n")

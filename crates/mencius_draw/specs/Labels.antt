@@ -1,7 +1,7 @@
 -- The short texts beside marks, by the words of their lines.
 use Rattle.std.specs.Prelude.{ℕ, List, ◌∷◌, ◌++◌, codes, decimal, if◌then◌else◌}
 use Rattle.std.specs.Str.{bytes_eq}
-use Rattle.mencius_draw.specs.Words.{plain, plain_word, rest, word}
+use Rattle.mencius_draw.specs.Words.{plain_text, plain_word, rest, word}
 use Rattle.mencius_draw.specs.Facts.{kind_name}
 use Rattle.mencius_draw.specs.declared.facts.Kind.{Kind}
 use Rattle.mencius_draw.specs.declared.facts.Kind.TheVariants.{Suggest, Skip, Accepted, Prepare, Promise, Propose, Learn}
@@ -9,7 +9,7 @@ use Rattle.mencius_draw.specs.declared.facts.Note.{Note}
 use Rattle.mencius_draw.specs.declared.facts.Note.TheVariants.{Refused, Ignored, Count, Reply, Learned, Executed}
 
 abbrev pub at_ballot : List ℕ → List ℕ → List ℕ
-at_ballot inst ballot = codes " i" ++ plain inst ++ codes " b" ++ plain ballot
+at_ballot inst ballot = codes " i" ++ plain_text inst ++ codes " b" ++ plain_text ballot
 
 abbrev pub vote_label : List ℕ → List ℕ
 vote_label line =
@@ -38,14 +38,14 @@ abbrev pub learned_label : List ℕ → List ℕ
 learned_label line = plain_word 0 line ++ codes " i" ++ plain_word 3 line ++ codes " = " ++ plain_word 5 line
 
 -- a word of ours, and what the line says behind its first word
-abbrev pub about : List ℕ → List ℕ → List ℕ
-about name line = name ++ plain (rest 1 line)
+abbrev pub label_about : List ℕ → List ℕ → List ℕ
+label_about name line = name ++ plain_text (rest 1 line)
 
 abbrev pub note_label : Note → List ℕ → List ℕ
-note_label Refused line = about (codes "refused: ") line
-note_label Ignored line = about (codes "ignored: ") line
+note_label Refused line = label_about (codes "refused: ") line
+note_label Ignored line = label_about (codes "ignored: ") line
 note_label Count line = count_label line
-note_label Reply line = about (codes "reply ") line
+note_label Reply line = label_about (codes "reply ") line
 note_label (Learned inst) line = learned_label line
 note_label (Executed inst) line = learned_label line
 

@@ -7,7 +7,7 @@ use Rattle.mencius_draw.specs.declared.facts.Fact.TheVariants.{Event, Sent, Outc
 use Rattle.mencius_draw.specs.declared.options.Options.{Options}
 use Rattle.mencius_draw.specs.Layout.{Outline, lines_of, shapes_of, start}
 use Rattle.mencius_draw.specs.Picture.{levels_of}
-use Rattle.mencius_draw.specs.Words.{plain}
+use Rattle.mencius_draw.specs.Words.{plain_text}
 
 -- none of `<`, `>`, `&`, `'` and `"`
 pub record IsHarmless (b : ℕ) : Type 0 where
@@ -18,7 +18,7 @@ pub record IsHarmless (b : ℕ) : Type 0 where
   pub quote : b ≢ 34
 
 abbrev pub ReservesNothing : Type 0
-ReservesNothing = (bytes : List ℕ) → All IsHarmless (plain bytes)
+ReservesNothing = (bytes : List ℕ) → All IsHarmless (plain_text bytes)
 
 -- ---- levels
 

@@ -12,9 +12,9 @@ use Rattle.mencius_draw.specs.declared.ways.Way.{Way}
 use Rattle.mencius_draw.specs.Facts.{kind_name}
 use Rattle.mencius_draw.specs.Labels.{note_class, note_label, sent_label}
 use Rattle.mencius_draw.specs.Layout.{Outline}
-use Rattle.mencius_draw.specs.Places.{lane_of, moved_to, y_of}
+use Rattle.mencius_draw.specs.Places.{lane_of, transform_at, y_of}
 use Rattle.mencius_draw.specs.Ways.{fate_of, heard_by, is_near, owner_of, way_of}
-use Rattle.mencius_draw.specs.Words.{between, fixed, plain, rest}
+use Rattle.mencius_draw.specs.Words.{fixed_text, number_between, plain_text, rest}
 
 -- ---- events
 
@@ -27,7 +27,7 @@ act_name Retry = codes "retry"
 act_name Execute = codes "execute"
 
 abbrev pub from_event : Spot → List ℕ
-from_event sent = fixed (codes " from event ") ++ decimal sent.place
+from_event sent = fixed_text (codes " from event ") ++ decimal sent.place
 
 -- the event that sent the message, where the arrow does not begin at it
 abbrev pub origin : Bool → Spot → List ℕ
@@ -36,9 +36,9 @@ origin is_near sent = if is_near then [] else from_event sent
 -- which message was heard or lost
 abbrev pub message_cause : ℕ → SentMessage → Bool → Spot → List ℕ
 message_cause servers sent is_lost spot =
-    between (codes "<text class='cause f") (owner_of servers sent.inst) (codes "' x='-24' y='4'>")
-    ++ fate_of is_lost ++ between (codes " ") sent.number (codes " ") ++ kind_name sent.kind
-    ++ origin (is_near sent.spot spot) sent.spot ++ fixed (codes "</text>")
+    number_between (codes "<text class='cause f") (owner_of servers sent.inst) (codes "' x='-24' y='4'>")
+    ++ fate_of is_lost ++ number_between (codes " ") sent.number (codes " ") ++ kind_name sent.kind
+    ++ origin (is_near sent.spot spot) sent.spot ++ fixed_text (codes "</text>")
 
 abbrev pub act_words : Act → List ℕ
 act_words Submit = codes "client asks"
@@ -49,7 +49,7 @@ act_words Retry = codes "retries"
 act_words Execute = codes "executes"
 
 abbrev pub act_cause : Act → List ℕ
-act_cause act = fixed (codes "<text class='cause' x='-24' y='4'>") ++ act_words act ++ fixed (codes "</text>")
+act_cause act = fixed_text (codes "<text class='cause' x='-24' y='4'>") ++ act_words act ++ fixed_text (codes "</text>")
 
 abbrev pub cause_of_sent : ℕ → Act → Way → Spot → Option SentMessage → List ℕ
 cause_of_sent servers act way spot None = act_cause act
@@ -76,17 +76,18 @@ mark_text act is_refused =
 
 -- at the left edge
 abbrev pub edge_at : ℕ → List ℕ
-edge_at level = fixed (codes "transform='translate(0 ") ++ decimal (y_of level + 0) ++ fixed (codes ")'")
+edge_at level = fixed_text (codes "transform='translate(0 ") ++ decimal (y_of level + 0) ++ fixed_text (codes ")'")
 
 -- an event: its place and its text at the left edge, and its mark on the lane of its server
 abbrev pub event_text : ℕ → List SentMessage → Outline → Act → Bool → List ℕ
 event_text servers sents x act is_refused =
-    between (codes "<g id='e") x.spot.place (codes "' class='event ") ++ act_name act
-    ++ between (codes "' data-e='") x.spot.place (codes "'><g ") ++ edge_at x.spot.level
-    ++ between (codes "><text class='place' x='44' y='4'>") x.spot.place (codes "</text><text class='what' x='54' y='4'>")
-    ++ plain (rest 2 x.line)
-    ++ fixed (codes "</text></g><g ") ++ moved_to servers x.spot.server x.spot.level ++ fixed (codes ">")
-    ++ cause_text servers sents x.fact act x.spot ++ mark_text act is_refused ++ fixed (codes "</g></g>\n")
+    number_between (codes "<g id='e") x.spot.place (codes "' class='event ") ++ act_name act
+    ++ number_between (codes "' data-e='") x.spot.place (codes "'><g ") ++ edge_at x.spot.level
+    ++ number_between (codes "><text class='place' x='44' y='4'>") x.spot.place
+    (codes "</text><text class='what' x='54' y='4'>")
+    ++ plain_text (rest 2 x.line)
+    ++ fixed_text (codes "</text></g><g ") ++ transform_at servers x.spot.server x.spot.level ++ fixed_text (codes ">")
+    ++ cause_text servers sents x.fact act x.spot ++ mark_text act is_refused ++ fixed_text (codes "</g></g>\n")
 
 -- ---- outcomes
 
@@ -114,19 +115,21 @@ greatest_reach servers (x ∷ xs) = max (reach_of servers x) (greatest_reach ser
 -- a box, up to the class of the label in it
 abbrev pub label_box : List ℕ → List ℕ
 label_box label =
-    between (codes "' x='24' y='-10' width='") (box_width label) (codes "' height='20' rx='4'/><text class='says ")
+    number_between (codes "' x='24' y='-10' width='") (box_width label)
+    (codes "' height='20' rx='4'/><text class='says ")
 
 -- a label in a box that is tinted, with a border, in the colour of an owner
 abbrev pub tinted_box : ℕ → List ℕ → List ℕ
 tinted_box owner label =
-    between (codes "<rect class='t") owner (codes " s") ++ decimal owner ++ label_box label
-    ++ between (codes "f") owner (codes "' x='31' y='4'>") ++ label ++ fixed (codes "</text>")
+    number_between (codes "<rect class='t") owner (codes " s") ++ decimal owner ++ label_box label
+    ++ number_between (codes "f") owner (codes "' x='31' y='4'>") ++ label ++ fixed_text (codes "</text>")
 
 -- in a box that is filled with it
 abbrev pub filled_box : ℕ → List ℕ → List ℕ
 filled_box owner label =
-    fixed (codes "<rect class='f") ++ decimal owner ++ label_box label ++ fixed (codes "on' x='31' y='4'>") ++ label
-    ++ fixed (codes "</text>")
+    fixed_text (codes "<rect class='f") ++ decimal owner ++ label_box label
+    ++ fixed_text (codes "on' x='31' y='4'>") ++ label
+    ++ fixed_text (codes "</text>")
 
 -- from a lane to a box, beside a mark from its right edge on
 abbrev pub tick_of : Spot → List ℕ
@@ -139,23 +142,23 @@ sent_box servers sent line = tinted_box (owner_of servers sent.inst) (sent_label
 -- a message that was sent
 abbrev pub sent_text : ℕ → Outline → SentMessage → List ℕ
 sent_text servers x sent =
-    between (codes "<g id='m") sent.number (codes "' class='sent ") ++ kind_name sent.kind
-    ++ between (codes "' data-e='") x.spot.place (codes "' ") ++ moved_to servers x.spot.server x.spot.level
-    ++ between (codes "><path class='tick s") (owner_of servers sent.inst) (codes "' d='")
-    ++ tick_of x.spot ++ fixed (codes "'/>")
+    number_between (codes "<g id='m") sent.number (codes "' class='sent ") ++ kind_name sent.kind
+    ++ number_between (codes "' data-e='") x.spot.place (codes "' ") ++ transform_at servers x.spot.server x.spot.level
+    ++ number_between (codes "><path class='tick s") (owner_of servers sent.inst) (codes "' d='")
+    ++ tick_of x.spot ++ fixed_text (codes "'/>")
     ++ sent_box servers sent x.line
-    ++ fixed (codes "</g>\n")
+    ++ fixed_text (codes "</g>\n")
 
 -- a filled path that stands on the mark of an event
 abbrev pub over_at : ℕ → ℕ → Spot → List ℕ → List ℕ
 over_at servers inst spot path =
-    between (codes "<path class='f") (owner_of servers inst) (codes "' ")
-    ++ moved_to servers spot.server spot.top ++ path
+    number_between (codes "<path class='f") (owner_of servers inst) (codes "' ")
+    ++ transform_at servers spot.server spot.top ++ path
 
 -- diamond: learned; square: executed
 abbrev pub over_text : ℕ → Note → Spot → List ℕ
-over_text servers (Learned inst) spot = over_at servers inst spot (fixed (codes " d='M0 -9L9 0L0 9L-9 0z'/>"))
-over_text servers (Executed inst) spot = over_at servers inst spot (fixed (codes " d='M-7 -7H7V7H-7z'/>"))
+over_text servers (Learned inst) spot = over_at servers inst spot (fixed_text (codes " d='M0 -9L9 0L0 9L-9 0z'/>"))
+over_text servers (Executed inst) spot = over_at servers inst spot (fixed_text (codes " d='M-7 -7H7V7H-7z'/>"))
 over_text servers _ spot = []
 
 abbrev pub bare_words : List ℕ → List ℕ
@@ -170,10 +173,10 @@ note_words servers _ label = bare_words label
 -- any other outcome
 abbrev pub note_text : ℕ → Outline → Note → List ℕ
 note_text servers x note =
-    fixed (codes "<g class='") ++ note_class note ++ between (codes "' data-e='") x.spot.place (codes "'>")
-    ++ over_text servers note x.spot ++ fixed (codes "<g ") ++ moved_to servers x.spot.server x.spot.level
-    ++ fixed (codes ">")
-    ++ note_words servers note (note_label note x.line) ++ fixed (codes "</g></g>\n")
+    fixed_text (codes "<g class='") ++ note_class note ++ number_between (codes "' data-e='") x.spot.place (codes "'>")
+    ++ over_text servers note x.spot ++ fixed_text (codes "<g ") ++ transform_at servers x.spot.server x.spot.level
+    ++ fixed_text (codes ">")
+    ++ note_words servers note (note_label note x.line) ++ fixed_text (codes "</g></g>\n")
 
 -- ---- each line
 

@@ -23,8 +23,8 @@ abbrev pub levels_of : Options → List (List ℕ) → ℕ
 levels_of o lines = (end_of o start lines).next
 
 -- the texts of the shapes, one after the other: rules and lanes lie under arrows, and arrows under labels
-abbrev pub painted : Scheme → ℕ → ℕ → List SentMessage → List Outline → List ℕ
-painted scheme servers levels sents xs =
+abbrev pub picture_text : Scheme → ℕ → ℕ → List SentMessage → List Outline → List ℕ
+picture_text scheme servers levels sents xs =
     let width = width_of servers (greatest_reach servers xs) in
     head scheme servers width levels ++ flat_map (rule_text width) xs ++ lanes servers levels
     ++ flat_map (way_text servers sents) xs ++ flat_map (shape_text servers sents) xs
@@ -33,7 +33,7 @@ painted scheme servers levels sents xs =
 abbrev pub picture_of_lines : Options → List (List ℕ) → List ℕ
 picture_of_lines o lines =
     let xs = shapes_of o start lines in
-    painted o.scheme (servers_of lines) (levels_of o lines) (sents_of xs) xs
+    picture_text o.scheme (servers_of lines) (levels_of o lines) (sents_of xs) xs
 
 -- the picture of a trace
 unfoldable pub picture_of : Options → List ℕ → List ℕ

@@ -1,6 +1,6 @@
 -- Where levels and lanes are, in the picture's units.
 use Rattle.std.specs.Prelude.{ℕ, ◌+◌, ◌*◌, List, ◌++◌, codes, decimal, min, max, nat_lt, if◌then◌else◌}
-use Rattle.mencius_draw.specs.Words.{between, fixed}
+use Rattle.mencius_draw.specs.Words.{fixed_text, number_between}
 
 abbrev pub most_levels : ℕ
 most_levels = 50_000
@@ -18,11 +18,11 @@ abbrev pub width_of : ℕ → ℕ → ℕ
 width_of servers reach = max (max (reach + 16) (min servers 7 * 204 + 360)) 860
 
 -- on the lane of a server, so far below a level
-abbrev pub moved_below : ℕ → ℕ → ℕ → ℕ → List ℕ
-moved_below servers server level by =
-    between (codes "transform='translate(") (lane_of servers server) (codes " ") ++ decimal (y_of level + by)
-    ++ fixed (codes ")'")
+abbrev pub transform_below : ℕ → ℕ → ℕ → ℕ → List ℕ
+transform_below servers server level by =
+    number_between (codes "transform='translate(") (lane_of servers server) (codes " ") ++ decimal (y_of level + by)
+    ++ fixed_text (codes ")'")
 
 -- at a level
-abbrev pub moved_to : ℕ → ℕ → ℕ → List ℕ
-moved_to servers server level = moved_below servers server level 0
+abbrev pub transform_at : ℕ → ℕ → ℕ → List ℕ
+transform_at servers server level = transform_below servers server level 0

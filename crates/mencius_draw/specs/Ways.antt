@@ -11,7 +11,7 @@ use Rattle.mencius_draw.specs.declared.ways.Way.{Way}
 use Rattle.mencius_draw.specs.Facts.{kind_name}
 use Rattle.mencius_draw.specs.Layout.{Outline}
 use Rattle.mencius_draw.specs.Places.{lane_of, y_of}
-use Rattle.mencius_draw.specs.Words.{between, fixed}
+use Rattle.mencius_draw.specs.Words.{fixed_text, number_between}
 
 -- the server in whose colour an instance is drawn: its owner
 abbrev pub owner_of : ℕ → ℕ → ℕ
@@ -51,28 +51,31 @@ point_of Propose = codes "full"
 point_of Learn = codes "full"
 
 -- a command of a path, or the next point of one: its letter or a space, and the place to which it goes
-unfoldable pub command : List ℕ → ℕ → ℕ → List ℕ
-command letter x y = between letter x (codes " ") ++ decimal y
+unfoldable pub path_command : List ℕ → ℕ → ℕ → List ℕ
+path_command letter x y = number_between letter x (codes " ") ++ decimal y
 
 -- so far beside a lane, on the side where the sender's lane is, and left of it where it is the same
-abbrev pub beside : ℕ → ℕ → ℕ → ℕ
-beside from to by = if nat_lt to from then to + by else to - by
+abbrev pub place_beside : ℕ → ℕ → ℕ → ℕ
+place_beside from to by = if nat_lt to from then to + by else to - by
 
 -- from a lane to just before the mark on another one
 abbrev pub straight_path : ℕ → ℕ → ℕ → ℕ → List ℕ
-straight_path from start to end = command (codes "M") from start ++ command (codes "L") (beside from to 10) (end - 3)
+straight_path from start to end = path_command (codes "M") from start
+    ++ path_command (codes "L") (place_beside from to 10) (end - 3)
 
 -- from a lane back to it, further out by the place of the event
 abbrev pub loop_path : ℕ → ℕ → ℕ → ℕ → List ℕ
 loop_path lane start end place =
     let side = lane - (place % 8 * 9 + 52) in
-    command (codes "M") lane start ++ command (codes "C") side (start + 10) ++ command (codes " ") side (end - 14)
-    ++ command (codes " ") (lane - 10) (end - 3)
+    path_command (codes "M") lane start ++ path_command (codes "C") side (start + 10)
+    ++ path_command (codes " ") side (end - 14)
+    ++ path_command (codes " ") (lane - 10) (end - 3)
 
 -- the end of an arrow alone, from the side where the sender's lane is
 abbrev pub stub_path : ℕ → ℕ → ℕ → List ℕ
 stub_path from to end =
-    command (codes "M") (beside from to 30) (end - 12) ++ command (codes "L") (beside from to 9) (end - 4)
+    path_command (codes "M") (place_beside from to 30) (end - 12)
+    ++ path_command (codes "L") (place_beside from to 9) (end - 4)
 
 -- from the lane of the sender to that of the server, and from the level where it was sent to that of the event
 abbrev pub way_path : ℕ → SentMessage → ℕ → Spot → List ℕ
@@ -88,24 +91,25 @@ way_path servers sent server spot =
 -- the point of a message that was heard, in its owner's colour
 abbrev pub heard_end : ℕ → Kind → ℕ → List ℕ
 heard_end servers kind inst =
-    fixed (codes "' marker-end='url(#") ++ point_of kind ++ decimal (owner_of servers inst) ++ fixed (codes ")'")
+    fixed_text (codes "' marker-end='url(#") ++ point_of kind ++ decimal (owner_of servers inst)
+    ++ fixed_text (codes ")'")
 
 -- which a lost message has not
 abbrev pub way_end : ℕ → SentMessage → Bool → List ℕ
-way_end servers sent true = fixed (codes "'")
+way_end servers sent true = fixed_text (codes "'")
 way_end servers sent false = heard_end servers sent.kind sent.inst
 
 abbrev pub way_title : SentMessage → Way → List ℕ
 way_title sent way =
-    between (codes "><title>message ") sent.number (codes ": ") ++ kind_name sent.kind
-    ++ between (codes " from ") sent.from (codes " to ") ++ decimal way.server
-    ++ fixed (codes ", ") ++ fate_of way.is_lost ++ fixed (codes "</title></path>\n")
+    number_between (codes "><title>message ") sent.number (codes ": ") ++ kind_name sent.kind
+    ++ number_between (codes " from ") sent.from (codes " to ") ++ decimal way.server
+    ++ fixed_text (codes ", ") ++ fate_of way.is_lost ++ fixed_text (codes "</title></path>\n")
 
 abbrev pub arrow_text : ℕ → SentMessage → Way → Spot → List ℕ
 arrow_text servers sent way spot =
-    fixed (codes "<path class='way ") ++ fate_of way.is_lost ++ fixed (codes " ") ++ kind_name sent.kind
-    ++ between (codes " s") (owner_of servers sent.inst) (codes "' data-e='") ++ decimal spot.place
-    ++ between (codes "' data-m='") sent.number (codes "' d='")
+    fixed_text (codes "<path class='way ") ++ fate_of way.is_lost ++ fixed_text (codes " ") ++ kind_name sent.kind
+    ++ number_between (codes " s") (owner_of servers sent.inst) (codes "' data-e='") ++ decimal spot.place
+    ++ number_between (codes "' data-m='") sent.number (codes "' d='")
     ++ way_path servers sent way.server spot ++ way_end servers sent way.is_lost
     ++ way_title sent way
 

@@ -11,8 +11,8 @@ cut_before line None = line
 cut_before line (Some place) = take place line
 
 -- what stands behind the first space
-abbrev pub behind : List ℕ → List ℕ
-behind line = cut_behind line (position (λ b. b == 32) line)
+abbrev pub behind_first_word : List ℕ → List ℕ
+behind_first_word line = cut_behind line (position (λ b. b == 32) line)
 
 -- what stands before it
 abbrev pub first_word : List ℕ → List ℕ
@@ -21,18 +21,18 @@ first_word line = cut_before line (position (λ b. b == 32) line)
 -- what stands behind so many words
 abbrev pub rest : ℕ → List ℕ → List ℕ
 rest zero line = line
-rest (suc n) line = behind (rest n line)
+rest (suc n) line = behind_first_word (rest n line)
 
 -- the word at a place
 unfoldable pub word : ℕ → List ℕ → List ℕ
 word place line = first_word (rest place line)
 
-abbrev pub greatest : ℕ
-greatest = 2 ^ 32 - 1
+abbrev pub greatest_number : ℕ
+greatest_number = 2 ^ 32 - 1
 
 abbrev pub number_from : ℕ → List ℕ → ℕ
 number_from n [] = n
-number_from n (b ∷ bs) = number_from (min (min (n * 10) greatest + (b - 48)) greatest) bs
+number_from n (b ∷ bs) = number_from (min (min (n * 10) greatest_number + (b - 48)) greatest_number) bs
 
 -- the number that digits are, at most the greatest of 32 bits
 unfoldable pub number : List ℕ → ℕ
@@ -51,17 +51,17 @@ is_plain b =
 unfoldable pub plain_byte : ℕ → ℕ
 plain_byte b = if is_plain b then b else 63
 
-abbrev pub plain : List ℕ → List ℕ
-plain bytes = map plain_byte bytes
+abbrev pub plain_text : List ℕ → List ℕ
+plain_text bytes = map plain_byte bytes
 
 -- a word of a line, as a picture has it
 abbrev pub plain_word : ℕ → List ℕ → List ℕ
-plain_word place line = plain (word place line)
+plain_word place line = plain_text (word place line)
 
 -- a text that is always the same
-unfoldable pub fixed : List ℕ → List ℕ
-fixed text = text
+unfoldable pub fixed_text : List ℕ → List ℕ
+fixed_text text = text
 
 -- a number between two such texts
-unfoldable pub between : List ℕ → ℕ → List ℕ → List ℕ
-between before number after = fixed before ++ decimal number ++ fixed after
+unfoldable pub number_between : List ℕ → ℕ → List ℕ → List ℕ
+number_between before number after = fixed_text before ++ decimal number ++ fixed_text after

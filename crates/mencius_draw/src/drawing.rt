@@ -6,7 +6,7 @@ ghost use Rattle.mencius_draw.specs.Feet.{foot_text};
 ghost use Rattle.mencius_draw.specs.Frame.{rule_text};
 ghost use Rattle.mencius_draw.specs.Layout.{lines_of, outline, sents_of};
 ghost use Rattle.mencius_draw.specs.Marks.{greatest_reach, shape_text};
-ghost use Rattle.mencius_draw.specs.Picture.{IsPicture, painted, servers_of};
+ghost use Rattle.mencius_draw.specs.Picture.{IsPicture, picture_text, servers_of};
 ghost use Rattle.mencius_draw.specs.Ways.{way_text};
 
 use crate::feet::push_foot;
@@ -95,7 +95,7 @@ fn servers_of(trace: &str) -> u32
     number(word(first_line(trace), 1)).min(7)
 }
 
-fn painted(
+fn picture_text(
     alloc: Global,
     options: &Options,
     servers: u32,
@@ -103,7 +103,7 @@ fn painted(
     shapes: &[Shape],
 ) -> Result<String, AllocError>
     requires { servers ≤ 7 }
-    ensures { IfOk result (λ text. string_bytes text ≡ painted options.now.scheme servers levels
+    ensures { IfOk result (λ text. string_bytes text ≡ picture_text options.now.scheme servers levels
         (sents_of (map outline shapes.now)) (map outline shapes.now)) }
 {
     let sents = sents_of(alloc, shapes)?;
@@ -143,5 +143,5 @@ pub fn picture(
     }
     let shapes = shapes_of(alloc, options, trace)?;
     let servers = servers_of(trace);
-    Ok(Ok(painted(alloc, options, servers, end.next, shapes.as_slice())?))
+    Ok(Ok(picture_text(alloc, options, servers, end.next, shapes.as_slice())?))
 }

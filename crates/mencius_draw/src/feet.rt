@@ -6,7 +6,7 @@ ghost use Rattle.mencius_draw.specs.Feet.{executed_by, foot_at, foot_text, histo
 
 use crate::facts::{Fact, Note};
 use crate::layout::Shape;
-use crate::places::push_moved_below;
+use crate::places::push_transform_below;
 use crate::words::{is, number, push_fixed, push_plain, push_rest, push_word, word};
 use std::alloc::{AllocError, Global};
 
@@ -106,7 +106,7 @@ fn push_foot_at(
         (unheard_text server (map outline shapes.now))) }
 {
     push_fixed(text, "<g class='foot' ")?;
-    push_moved_below(text, servers, server, levels, 4)?;
+    push_transform_below(text, servers, server, levels, 4)?;
     push_fixed(
         text,
         "><rect class='card' x='-96' width='192' height='92' rx='8'/><text x='-86' y='20'>front ",

@@ -1,7 +1,7 @@
 //! The short texts beside marks.
 
 ghost use Rattle.std.specs.Prelude.{◌≡◌, ◌++◌, IfOk, OnOk, string_bytes};
-ghost use Rattle.mencius_draw.specs.Labels.{about, at_ballot, count_label, content_label, learned_label, note_class, note_label, sent_label, vote_label};
+ghost use Rattle.mencius_draw.specs.Labels.{label_about, at_ballot, count_label, content_label, learned_label, note_class, note_label, sent_label, vote_label};
 
 use crate::facts::{Kind, Note};
 use crate::words::{is, push_plain, rest, word};
@@ -100,7 +100,7 @@ fn push_learned(label: &mut String, line: &[u8]) -> Result<(), AllocError>
 
 // A word of ours, and what the line says behind its first word.
 fn push_about(label: &mut String, name: &str, line: &[u8]) -> Result<(), AllocError>
-    ensures { OnOk result (string_bytes label.new ≡ string_bytes label.old ++ about name.now line.now) }
+    ensures { OnOk result (string_bytes label.new ≡ string_bytes label.old ++ label_about name.now line.now) }
 {
     label.push_str(name)?;
     push_plain(label, rest(line, 1))

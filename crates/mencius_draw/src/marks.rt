@@ -4,13 +4,13 @@ ghost use Rattle.std.specs.Prelude.{◌≡◌, ◌++◌, ◌<◌, IfOk, OnOk, st
 ghost use Rattle.mencius_draw.specs.Labels.{note_class, note_label};
 ghost use Rattle.mencius_draw.specs.Layout.{outline};
 ghost use Rattle.mencius_draw.specs.Ways.{is_near};
-ghost use Rattle.mencius_draw.specs.Words.{fixed};
+ghost use Rattle.mencius_draw.specs.Words.{fixed_text};
 ghost use Rattle.mencius_draw.specs.Marks.{act_cause, act_name, act_words, box_width, cause_text, edge_at, event_text, filled_box, from_event, label_box, mark_text, message_cause, note_text, note_words, origin, over_at, over_text, reach_at, reach_of, sent_box, sent_text, shape_text, tick_of, tinted_box};
 
 use crate::facts::{Act, Fact, Note};
 use crate::labels::{note_class, note_label, sent_label};
 use crate::layout::{SentMessage, Shape, Spot};
-use crate::places::{lane_of, push_moved_to, push_y_below};
+use crate::places::{lane_of, push_transform_at, push_y_below};
 use crate::ways::{heard_by, is_near, owner_of, push_fate, push_kind, push_owner_between, way_of};
 use crate::words::{push_between, push_fixed, push_number, push_rest};
 use std::alloc::{AllocError, Global};
@@ -173,7 +173,7 @@ fn push_event(
     )?;
     push_rest(text, shape.line, 2)?;
     push_fixed(text, "</text></g><g ")?;
-    push_moved_to(text, servers, shape.spot.server, shape.spot.level)?;
+    push_transform_at(text, servers, shape.spot.server, shape.spot.level)?;
     push_fixed(text, ">")?;
     push_cause(text, servers, sents, shape.fact, act, shape.spot)?;
     push_mark(text, act, is_refused)?;
@@ -296,7 +296,7 @@ fn push_sent(
     push_between(text, "<g id='m", sent.number as usize, "' class='sent ")?;
     push_kind(text, sent.kind)?;
     push_between(text, "' data-e='", shape.spot.place as usize, "' ")?;
-    push_moved_to(text, servers, shape.spot.server, shape.spot.level)?;
+    push_transform_at(text, servers, shape.spot.server, shape.spot.level)?;
     push_owner_between(text, "><path class='tick s", servers, sent.inst, "' d='")?;
     push_tick(text, shape.spot)?;
     push_fixed(text, "'/>")?;
@@ -313,10 +313,10 @@ fn push_over_at(
     path: &str,
 ) -> Result<(), AllocError>
     ensures { OnOk result (string_bytes text.new
-        ≡ string_bytes text.old ++ over_at servers inst spot (fixed path.now)) }
+        ≡ string_bytes text.old ++ over_at servers inst spot (fixed_text path.now)) }
 {
     push_owner_between(text, "<path class='f", servers, inst, "' ")?;
-    push_moved_to(text, servers, spot.server, spot.top)?;
+    push_transform_at(text, servers, spot.server, spot.top)?;
     push_fixed(text, path)
 }
 
@@ -384,7 +384,7 @@ fn push_note(
     push_between(text, "' data-e='", shape.spot.place as usize, "'>")?;
     push_over(text, servers, note, shape.spot)?;
     push_fixed(text, "<g ")?;
-    push_moved_to(text, servers, shape.spot.server, shape.spot.level)?;
+    push_transform_at(text, servers, shape.spot.server, shape.spot.level)?;
     push_fixed(text, ">")?;
     push_note_label(alloc, text, servers, note, shape.line)?;
     push_fixed(text, "</g></g>\n")

@@ -1,7 +1,7 @@
 //! Where levels and lanes are, in the picture's units.
 
 ghost use Rattle.std.specs.Prelude.{◌≡◌, ◌++◌, ◌+◌, ◌<◌, ◌≤◌, OnOk, decimal, string_bytes};
-ghost use Rattle.mencius_draw.specs.Places.{lane_of, moved_below, moved_to, width_of, y_of};
+ghost use Rattle.mencius_draw.specs.Places.{lane_of, transform_at, transform_below, width_of, y_of};
 
 use crate::options::MOST_LEVELS;
 use crate::words::{push_between, push_fixed, push_number};
@@ -47,7 +47,7 @@ pub(crate) fn push_y_below(text: &mut String, level: usize, by: usize) -> Result
 }
 
 /// Adds that something stands on the lane of a server, so far below a level.
-pub(crate) fn push_moved_below(
+pub(crate) fn push_transform_below(
     text: &mut String,
     servers: u32,
     server: u32,
@@ -56,7 +56,7 @@ pub(crate) fn push_moved_below(
 ) -> Result<(), AllocError>
     requires { by < 1000 }
     ensures { OnOk result (string_bytes text.new
-        ≡ string_bytes text.old ++ moved_below servers server level by) }
+        ≡ string_bytes text.old ++ transform_below servers server level by) }
 {
     let lane = lane_of(servers, server) as usize;
     push_between(text, "transform='translate(", lane, " ")?;
@@ -65,14 +65,14 @@ pub(crate) fn push_moved_below(
 }
 
 /// Adds that something stands on the lane of a server, at a level.
-pub(crate) fn push_moved_to(
+pub(crate) fn push_transform_at(
     text: &mut String,
     servers: u32,
     server: u32,
     level: usize,
 ) -> Result<(), AllocError>
     ensures { OnOk result (string_bytes text.new
-        ≡ string_bytes text.old ++ moved_to servers server level) }
+        ≡ string_bytes text.old ++ transform_at servers server level) }
 {
-    push_moved_below(text, servers, server, level, 0)
+    push_transform_below(text, servers, server, level, 0)
 }

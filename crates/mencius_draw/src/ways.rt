@@ -3,8 +3,8 @@
 ghost use Rattle.std.specs.Prelude.{◌≡◌, ◌++◌, ◌<◌, OnOk, decimal, string_bytes};
 ghost use Rattle.mencius_draw.specs.Facts.{kind_name};
 ghost use Rattle.mencius_draw.specs.Layout.{outline};
-ghost use Rattle.mencius_draw.specs.Ways.{arrow_text, beside, command, fate_of, heard_by, heard_end, is_near, longest_way, loop_path, owner_of, point_of, straight_path, stub_path, way_end, way_of, way_path, way_text, way_title};
-ghost use Rattle.mencius_draw.specs.Words.{between};
+ghost use Rattle.mencius_draw.specs.Ways.{arrow_text, fate_of, heard_by, heard_end, is_near, longest_way, loop_path, owner_of, path_command, place_beside, point_of, straight_path, stub_path, way_end, way_of, way_path, way_text, way_title};
+ghost use Rattle.mencius_draw.specs.Words.{number_between};
 
 use crate::facts::{Act, Fact, Kind};
 use crate::layout::{SentMessage, Shape, Spot};
@@ -101,7 +101,7 @@ pub(crate) fn push_owner_between(
     after: &str,
 ) -> Result<(), AllocError>
     ensures { OnOk result (string_bytes text.new
-        ≡ string_bytes text.old ++ between before.now (owner_of servers inst) after.now) }
+        ≡ string_bytes text.old ++ number_between before.now (owner_of servers inst) after.now) }
 {
     push_between(text, before, owner_of(servers, inst) as usize, after)
 }
@@ -124,10 +124,10 @@ fn point_of(kind: Kind) -> &'static str
 }
 
 // So far beside a lane, on the side where the sender's lane is, and left of it where it is the same.
-fn beside(from: u32, to: u32, by: u32) -> u32
+fn place_beside(from: u32, to: u32, by: u32) -> u32
     requires lane { to < 2000 }
     requires near { by < 100 }
-    ensures { result ≡ beside from to by }
+    ensures { result ≡ place_beside from to by }
 {
     if to < from {
         to + by
@@ -139,7 +139,7 @@ fn beside(from: u32, to: u32, by: u32) -> u32
 // A command of a path, or the next point of one: its letter or a space, and the place to which it goes.
 fn push_command(text: &mut String, letter: &str, x: u32, y: usize) -> Result<(), AllocError>
     ensures { OnOk result (string_bytes text.new
-        ≡ string_bytes text.old ++ command letter.now x y) }
+        ≡ string_bytes text.old ++ path_command letter.now x y) }
 {
     push_between(text, letter, x as usize, " ")?;
     push_number(text, y)
@@ -157,7 +157,7 @@ fn push_straight(
     ensures { OnOk result (string_bytes text.new
         ≡ string_bytes text.old ++ straight_path from start to end) }
 {
-    let near = beside(from, to, 10);
+    let near = place_beside(from, to, 10);
     let before = end.saturating_sub(3);
     push_command(text, "M", from, start)?;
     push_command(text, "L", near, before)
@@ -191,8 +191,8 @@ fn push_stub(text: &mut String, from: u32, to: u32, end: usize) -> Result<(), Al
     requires { to < 2000 }
     ensures { OnOk result (string_bytes text.new ≡ string_bytes text.old ++ stub_path from to end) }
 {
-    let far = beside(from, to, 30);
-    let near = beside(from, to, 9);
+    let far = place_beside(from, to, 30);
+    let near = place_beside(from, to, 9);
     let above = end.saturating_sub(12);
     let before = end.saturating_sub(4);
     push_command(text, "M", far, above)?;

@@ -3,7 +3,7 @@
 ghost use Rattle.std.specs.Prelude.{◌≡◌, ◌++◌, ◌==◌, ◌<◌, OnOk, decimal, string_bytes};
 ghost use Rattle.std.specs.List.{position};
 ghost use Rattle.std.specs.Str.{bytes_eq};
-ghost use Rattle.mencius_draw.specs.Words.{behind, between, first_word, fixed, is_plain, number, plain, plain_byte, plain_word, rest, word};
+ghost use Rattle.mencius_draw.specs.Words.{behind_first_word, first_word, fixed_text, is_plain, number, number_between, plain_byte, plain_text, plain_word, rest, word};
 
 use std::alloc::AllocError;
 
@@ -15,8 +15,8 @@ fn first_space(line: &[u8]) -> Option<usize>
 }
 
 // What stands behind the first space.
-fn behind(line: &[u8]) -> &[u8]
-    ensures { result.now ≡ behind line.now }
+fn behind_first_word(line: &[u8]) -> &[u8]
+    ensures { result.now ≡ behind_first_word line.now }
 {
     match first_space(line) {
         Some(place) if place < line.len() => &line[place + 1..],
@@ -40,7 +40,7 @@ pub(crate) fn rest(line: &[u8], words: usize) -> &[u8]
 {
     let mut left = line;
     for _passed in 0..words {
-        left = behind(left);
+        left = behind_first_word(left);
     }
     left
 }
@@ -102,7 +102,7 @@ fn plain_byte(byte: u8) -> char
 
 /// Adds bytes of a trace to the text of a picture.
 pub(crate) fn push_plain(text: &mut String, bytes: &[u8]) -> Result<(), AllocError>
-    ensures { OnOk result (string_bytes text.new ≡ string_bytes text.old ++ plain bytes.now) }
+    ensures { OnOk result (string_bytes text.new ≡ string_bytes text.old ++ plain_text bytes.now) }
 {
     for byte in bytes {
         text.push(plain_byte(*byte))?;
@@ -120,15 +120,15 @@ pub(crate) fn push_word(text: &mut String, line: &[u8], place: usize) -> Result<
 /// Adds what stands behind so many words of a line.
 pub(crate) fn push_rest(text: &mut String, line: &[u8], words: usize) -> Result<(), AllocError>
     ensures { OnOk result (string_bytes text.new
-        ≡ string_bytes text.old ++ plain (rest words line.now)) }
+        ≡ string_bytes text.old ++ plain_text (rest words line.now)) }
 {
     push_plain(text, rest(line, words))
 }
 
 /// Adds a text that is always the same.
-#[tactic(auto, unfolding(crate::specs::Words::fixed))]
+#[tactic(auto, unfolding(crate::specs::Words::fixed_text))]
 pub(crate) fn push_fixed(text: &mut String, part: &str) -> Result<(), AllocError>
-    ensures { OnOk result (string_bytes text.new ≡ string_bytes text.old ++ fixed part.now) }
+    ensures { OnOk result (string_bytes text.new ≡ string_bytes text.old ++ fixed_text part.now) }
 {
     text.push_str(part)
 }
@@ -148,7 +148,7 @@ pub(crate) fn push_between(
     after: &str,
 ) -> Result<(), AllocError>
     ensures { OnOk result (string_bytes text.new
-        ≡ string_bytes text.old ++ between before.now number after.now) }
+        ≡ string_bytes text.old ++ number_between before.now number after.now) }
 {
     push_fixed(text, before)?;
     push_number(text, number)?;

@@ -3,7 +3,7 @@ use Rattle.std.specs.Prelude.{IfSome}
 use Rattle.std.specs.Io.KnownBytes.{Appends}
 use Rattle.std.proofs.Common.{◌≡◌, ◌≢◌, ◌⊎◌, ◌≤◌, ◌++◌, ◌∙◌, ℕ, Bool, true, false, List, [], Some, ap, subst, sym, arith, append-nil, inl, inr}
 use Rattle.clap.specs.Words.{Text}
-use Rattle.mencius_command_line.specs.CommandLine.{are_texts, asked, faults, line_of}
+use Rattle.mencius_command_line.specs.CommandLine.{are_texts, faults, line_of, task_in}
 use Rattle.mencius_ends.specs.Ends.{HasFailed, WritesFront}
 use Rattle.mencius_app.specs.Calls.{IsCause}
 use Rattle.mencius_app.specs.Ending.{Did, IsAskedFor, IsComplaint, IsFaultFor, IsMistaken, TellsOf, fault_in, is_explained, lines_of_ending}
@@ -46,7 +46,7 @@ module _ (arguments args : List Text) (input before out err_0 err_1 err : List �
       (Some before) (Some out))
       → ending ≢ BoardFailed
       → (is_explained ending ≡ true → faults (line_of args) ≡ [])
-      → TellsOf (asked (line_of args)) (Some input) ending
+      → TellsOf (task_in (line_of args)) (Some input) ending
       → Appends (Some err_1) (Some err) (lines_of_ending ending) ⊎ HasFailed e_1 e_2
       → IsEndOf arguments input ending out err is_asked
   call_ended done refused not_text misused complaint quiet unread fault no_board explained words lines =
@@ -77,6 +77,6 @@ module _ (arguments args : List Text) (input before out err_0 err_1 err : List �
             (IsAskedFor args (Some input)) 0 0 n w_1 (Some before) (Some out))) w_none fault));
         no_board = no_board;
         explained = λ e. ap (λ a. faults (line_of a)) (sym args_is) ∙ explained e;
-        words = subst (λ a. TellsOf (asked (line_of a)) (Some input) ending) args_is words;
+        words = subst (λ a. TellsOf (task_in (line_of a)) (Some input) ending) args_is words;
         told = λ other. lines_said quiet other last;
       }

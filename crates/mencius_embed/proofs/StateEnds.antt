@@ -7,7 +7,7 @@ use Rattle.mencius_command_line.specs.CommandLine.{asked_trace}
 use Rattle.mencius_input.specs.declared.kind.Kind.TheVariants.{Replay}
 use Rattle.mencius_app.specs.Calls.{IsCause}
 use Rattle.mencius_app.specs.Ending.{ending_at, ending_of, ending_with, fault_in, lines_of_ending}
-use Rattle.mencius_app.specs.Findings.{IsFoundIn, IsToldAs}
+use Rattle.mencius_app.specs.Findings.{ExplainsAs, IsFoundIn}
 use Rattle.mencius_app.specs.Input.{IsFaultOf}
 use Rattle.mencius_app.specs.States.{IsStateOf}
 use Rattle.mencius_app.specs.declared.ending.Ending.{Ending}
@@ -41,7 +41,7 @@ pub state_ended : (input before out err_0 err : List ℕ) (w_0 w_1 e_1 e_2 : ℕ
     → OnOk done ((text : List ℕ) × IsStateOf (Some input) text × Appends (Some before) (Some out) text)
     → IfErr done (λ found. IsCause (IsFaultOf (Some input)) (IsStateOf (Some input)) 0 0 w_0 w_1 (Some before)
     (Some out) found.fault)
-    → IfErr done (IsFoundIn (IsToldAs Replay) (Some input))
+    → IfErr done (IsFoundIn (ExplainsAs Replay) (Some input))
     → Appends (Some err_0) (Some err) (lines_of_ending ending) ⊎ HasFailed e_1 e_2
     → IsEndOfState input ending out err
 state_ended input before out err_0 err w_0 w_1 e_1 e_2 done ending before_is err_is w_none w_still e_last ends text fault words

@@ -1,7 +1,7 @@
 -- A call of the program over bytes in memory: what it prints, says and answers.
 use Rattle.std.specs.Prelude.{◌≡◌, ◌≢◌, ◌⊎◌, ◌<◌, ◌≤◌, ◌==◌, ℕ, Bool, true, false, List, [], ◌∷◌, ◌++◌, length, drop, if◌then◌else◌, Some, IfSome}
 use Rattle.clap.specs.Words.{Text}
-use Rattle.mencius_command_line.specs.CommandLine.{are_texts, asked, asked_trace, faults, line_of}
+use Rattle.mencius_command_line.specs.CommandLine.{are_texts, asked_trace, faults, line_of, task_in}
 use Rattle.mencius_app.specs.declared.ending.Ending.{Ending}
 use Rattle.mencius_app.specs.declared.ending.Ending.TheVariants.{Done, Refused, BadCommandLine, BoardFailed}
 use Rattle.mencius_app.specs.Calls.{IsCause}
@@ -41,7 +41,7 @@ pub record IsEndOf (arguments : List Text) (input : List ℕ) (ending : Ending) 
       0 0 0 0 (Some []) (Some printed))
   pub no_board : ending ≢ BoardFailed
   pub explained : is_explained ending ≡ true → faults (line_of arguments) ≡ []
-  pub words : TellsOf (asked (line_of arguments)) (Some input) ending
+  pub words : TellsOf (task_in (line_of arguments)) (Some input) ending
   pub told : ending ≢ BadCommandLine → said ≡ lines_of_ending ending
 
 -- and this is its status

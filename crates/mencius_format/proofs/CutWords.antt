@@ -12,7 +12,7 @@ use Rattle.std.proofs.lemmas.List.Quantifiers.{position-Some}
 use Rattle.std.proofs.lemmas.List.Sums.{fails_before_first}
 use Rattle.std.proofs.lemmas.List.Splits.{slice_split_first, slice_split-cons_no}
 use Rattle.mencius_base.specs.Command.{is_name, is_name_byte}
-use Rattle.mencius_format.specs.Words.{parts, is_number, number_of, name_of, only}
+use Rattle.mencius_format.specs.Words.{parts, is_number, number_of, name_of, single_word}
 use Rattle.mencius_format.proofs.NumberWords.{number_digits}
 
 -- ---- a cut
@@ -108,13 +108,13 @@ one_or_more test mark lacks (byte ∷ bytes) =
         )
 
 -- a reader that takes no byte at which the text is cut reads the whole rest
-only_rest : {X : Type 0} (test : ℕ → Bool) (read : List ℕ → Option X)
+single_rest : {X : Type 0} (test : ℕ → Bool) (read : List ℕ → Option X)
     → ((word : List ℕ) → list_all test word ≡ false → read word ≡ None) → (mark : ℕ) → test mark ≡ false
     → (text : List ℕ)
-    → only read (parts mark text) ≡ read text
-only_rest test read none mark lacks text = elim (one_or_more test mark lacks text) [
-  | inl one ↦ ap (only read) one
-  | inr more ↦ ap (only read) more.3 ∙ sym (none text more.4)
+    → single_word read (parts mark text) ≡ read text
+single_rest test read none mark lacks text = elim (one_or_more test mark lacks text) [
+  | inl one ↦ ap (single_word read) one
+  | inr more ↦ ap (single_word read) more.3 ∙ sym (none text more.4)
 ]
 
 number_none : (word : List ℕ) → list_all is_ascii_digit word ≡ false → number_of word ≡ None
@@ -128,12 +128,12 @@ name_none : (word : List ℕ) → list_all is_name_byte word ≡ false → name_
 unfolding name_of is_name
 name_none word lacks = rw lacks refl
 
-pub only_number : (mark : ℕ) → is_ascii_digit mark ≡ false → (text : List ℕ)
-    → only number_of (parts mark text) ≡ number_of text
-only_number = only_rest is_ascii_digit number_of number_none
+pub single_number : (mark : ℕ) → is_ascii_digit mark ≡ false → (text : List ℕ)
+    → single_word number_of (parts mark text) ≡ number_of text
+single_number = single_rest is_ascii_digit number_of number_none
 
-pub only_name : (text : List ℕ) → only name_of (parts 32 text) ≡ name_of text
-only_name = only_rest is_name_byte name_of name_none 32 refl
+pub single_name : (text : List ℕ) → single_word name_of (parts 32 text) ≡ name_of text
+single_name = single_rest is_name_byte name_of name_none 32 refl
 
 -- ---- a word at the start
 

@@ -1,5 +1,5 @@
 pub mod NumberWords
-pub mod JudgedParts
+pub mod ValuesOfParts
 pub mod CutWords
 pub mod WrittenWords
 pub mod PlainWords

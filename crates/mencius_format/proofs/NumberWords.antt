@@ -8,7 +8,7 @@ use Rattle.std.proofs.lemmas.Str.Parse.{numerals_by_value, tells_digits, parse_d
 use Rattle.std.proofs.lemmas.Bool.{and_from, and_parts, le-ltb}
 use Rattle.std.proofs.lemmas.Bool.Decides.{nat_tests}
 use Rattle.mencius_ends.specs.declared.fault.AppFault.TheVariants.{BadLimit}
-use Rattle.mencius_format.specs.Judged.{judged}
+use Rattle.mencius_format.specs.ValuesOrFaults.{value_or_fault}
 use Rattle.mencius_format.specs.Words.{is_number, number_of}
 
 zero_digit : (byte : ℕ) → true ≡ (byte == 48) → is_ascii_digit byte ≡ true
@@ -55,7 +55,7 @@ parsed bits word r h e =
 -- and else the number is past the limit
 pub past_limit : {E : Type 0} (bits : ℕ) (word : List ℕ) (e : E) → ParsesUnsigned bits 10 word (Err e)
     → is_number word ≡ true
-    → judged (λ n. nat_lt n (2 ^ bits)) (number_of word) ≡ Err BadLimit
+    → value_or_fault (λ n. nat_lt n (2 ^ bits)) (number_of word) ≡ Err BadLimit
 unfolding number_of
 past_limit bits word e h n =
     rw (

@@ -3,7 +3,7 @@ use Rattle.std.proofs.Common.{◌≡◌, ℕ, ◌+◌, ◌==◌, List, [], ◌�
 use Rattle.std.specs.Option.{option_zip}
 use Rattle.std.specs.List.{position}
 use Rattle.std.specs.Str.{bytes_eq}
-use Rattle.mencius_base.specs.Request.{Request}
+use Rattle.mencius_base.specs.CommandState.{CommandState}
 use Rattle.mencius_base.specs.declared.command.CommandId.{CommandId}
 use Rattle.mencius_base.specs.declared.command.Op.{Op}
 use Rattle.mencius_base.specs.declared.event.Event.{Event}
@@ -86,7 +86,7 @@ no_submission text none = by_place (position (λ byte. byte == 32) text) refl
 
 -- ---- what is read in the newest version needs the version of the word in its place
 
-pub command_needs : (ws : List (List ℕ)) (x : Request) → command_of newest_version ws ≡ Some x
+pub command_needs : (ws : List (List ℕ)) (x : CommandState) → command_of newest_version ws ≡ Some x
     → command_version ws ≡ op_version x.op
 unfolding command_of
 command_needs [] x e = absurd (cc)
@@ -98,16 +98,16 @@ command_needs (id ∷ ws) x e = made (id_of id) (op_of newest_version ws) refl e
     made None s is e = absurd (cc)
     made (Some i) None is e = absurd (cc)
     made (Some i) (Some op) is e =
-        let same : ◌≡◌ {A = Request} (record { id = i; op = op }) x = cc in
-        op_read ws op is ∙ ap (λ (y : Request). op_version y.op) same
+        let same : ◌≡◌ {A = CommandState} (record { id = i; op = op }) x = cc in
+        op_read ws op is ∙ ap (λ (y : CommandState). op_version y.op) same
 
-pub submit_needs : (ws : List (List ℕ)) (s : ℕ) (x : Request) → submit_of newest_version ws ≡ Some (Submit s x)
+pub submit_needs : (ws : List (List ℕ)) (s : ℕ) (x : CommandState) → submit_of newest_version ws ≡ Some (Submit s x)
     → submit_version ws ≡ op_version x.op
 unfolding submit_of
 submit_needs [] s x e = absurd (cc)
 submit_needs (server ∷ ws) s x e = made (number_of server) (command_of newest_version ws) refl e
   where
-    made : (o : Option ℕ) (r : Option Request) → command_of newest_version ws ≡ r
+    made : (o : Option ℕ) (r : Option CommandState) → command_of newest_version ws ≡ r
         → option_map (λ pair. Submit pair.0 pair.1) (option_zip o r) ≡ Some (Submit s x)
         → command_version ws ≡ op_version x.op
     made None r is e = absurd (cc)
@@ -115,4 +115,4 @@ submit_needs (server ∷ ws) s x e = made (number_of server) (command_of newest_
     made (Some n) (Some y) is e =
         let both : Submit n y ≡ Submit s x = cc in
         let same : y ≡ x = cc in
-        command_needs ws y is ∙ ap (λ (z : Request). op_version z.op) same
+        command_needs ws y is ∙ ap (λ (z : CommandState). op_version z.op) same

@@ -1,6 +1,6 @@
 -- What is written is read again.
 use Rattle.std.specs.Prelude.{ℕ, ◌≡◌, Some, true}
-use Rattle.mencius_base.specs.Request.{Request}
+use Rattle.mencius_base.specs.CommandState.{CommandState}
 use Rattle.mencius_base.specs.declared.event.Event.{Event}
 use Rattle.mencius_format.specs.Grammar.{command_of, command_within, event_of, event_within}
 use Rattle.mencius_format.specs.Operations.{op_version}
@@ -17,5 +17,5 @@ EventsReadBack = (version : ℕ) → (e : Event) → IsSayable e → may_stand_i
 
 -- and so it is with a command
 abbrev pub CommandsReadBack : Type 0
-CommandsReadBack = (version : ℕ) → (x : Request) → IsCommand x → may_stand_in (op_version x.op) version ≡ true
+CommandsReadBack = (version : ℕ) → (x : CommandState) → IsCommand x → may_stand_in (op_version x.op) version ≡ true
     → (command_of version (words (command_text x)) ≡ Some x) × (command_within x ≡ true)

@@ -1,10 +1,10 @@
-pub mod Judged
+pub mod ValuesOrFaults
 pub mod Words
 pub mod Versions
 pub mod Operations
 pub mod Grammar
-pub mod Spelled
-pub mod Steps
+pub mod BadBytes
+pub mod BareEvents
 pub mod TextVersions
 pub mod Texts
 pub mod Sayable

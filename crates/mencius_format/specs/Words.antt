@@ -26,9 +26,9 @@ unfoldable pub name_of : List ℕ → Option (List ℕ)
 name_of word = if is_name word then Some word else None
 
 -- one word, which the test reads, and no other
-abbrev pub only : {X : Type 0} → (List ℕ → Option X) → List (List ℕ) → Option X
-only read (word ∷ []) = read word
-only read _ = None
+abbrev pub single_word : {X : Type 0} → (List ℕ → Option X) → List (List ℕ) → Option X
+single_word read (word ∷ []) = read word
+single_word read _ = None
 
 -- the numbers that a byte and four bytes hold
 abbrev pub is_u8 : ℕ → Bool

@@ -7,23 +7,24 @@
 //! the crates above.
 #![tactic(auto)]
 
-mod judged;
+mod bare_event;
+mod both_or_fault;
 pub mod laws;
 mod operations;
 mod part;
 mod reading;
-mod step;
 mod text_version;
 mod version;
 mod words;
 mod writing;
 
+pub use bare_event::BareEvent;
 pub use operations::{NO_OPERATION, operands_of, version_of_command};
 pub use part::Part;
 pub use reading::{
-    behind_submit, fault_of, parse_command, parse_event, parse_id, parse_step, parse_submission,
+    behind_submit, fault_of, parse_bare_event, parse_command, parse_event, parse_id,
+    parse_submission,
 };
-pub use step::Step;
 pub use text_version::{command_version, event_version, submit_version};
 pub use version::{FIRST_VERSION, NEWEST_VERSION, may_stand_in};
 pub use words::{cut_at_dot, cut_at_space, parse_u8, parse_u32};

@@ -3,7 +3,7 @@
 ghost use Rattle.std.specs.Prelude.{ℕ, List, ◌≡◌, ◌≢◌, ◌∷◌, ◌++◌, [], ◌<◌, ◌==◌, IfSome, MatchOption, MatchResult, Some};
 ghost use Rattle.std.specs.List.{list_all, position};
 ghost use Rattle.std.specs.Char.{is_ascii_digit};
-ghost use Rattle.mencius_format.specs.Judged.{judged};
+ghost use Rattle.mencius_format.specs.ValuesOrFaults.{value_or_fault};
 ghost use Rattle.mencius_format.specs.Words.{is_number, is_u8, is_u32, number_of, parts, words};
 
 use mencius_ends::AppFault;
@@ -110,7 +110,7 @@ fn read_u32(word: &str) -> Option<u32>
 /// digit. Another word is a bad shape, and a greater number is past a limit.
 #[tactic(auto, using(crate::proofs::NumberWords::parsed), unfolding(crate::specs::Words::number_of))]
 pub fn parse_u8(word: &str) -> Result<u8, AppFault>
-    ensures { result ≡ judged is_u8 (number_of word.now) }
+    ensures { result ≡ value_or_fault is_u8 (number_of word.now) }
 {
     if let Some(digit) = one_digit(word) {
         return Ok(digit);
@@ -128,7 +128,7 @@ pub fn parse_u8(word: &str) -> Result<u8, AppFault>
 /// the one digit. Another word is a bad shape, and a greater number is past a limit.
 #[tactic(auto, using(crate::proofs::NumberWords::parsed), unfolding(crate::specs::Words::number_of))]
 pub fn parse_u32(word: &str) -> Result<u32, AppFault>
-    ensures { result ≡ judged is_u32 (number_of word.now) }
+    ensures { result ≡ value_or_fault is_u32 (number_of word.now) }
 {
     if let Some(digit) = one_digit(word) {
         return Ok(digit as u32);

@@ -56,24 +56,25 @@ unknown_words kind =
     ++ codes " and " ++ field_name (list_field kind)
 
 -- of an item that is a string its text comes first
-abbrev pub IsItemTold : Option (List ℕ) → List ℕ → Type 0
-IsItemTold None words = words ≡ codes "is no string"
-IsItemTold (Some text) words = (said : List ℕ) × (words ≡ shown_text text ++ 58 ∷ 32 ∷ said)
+abbrev pub ExplainsItem : Option (List ℕ) → List ℕ → Type 0
+ExplainsItem None words = words ≡ codes "is no string"
+ExplainsItem (Some text) words = (said : List ℕ) × (words ≡ shown_text text ++ 58 ∷ 32 ∷ said)
 
-abbrev pub IsToldBy : Kind → AppFault → PlaceState → List ℕ → Type 0
-IsToldBy kind fault place.no_object words = words ≡ codes "the text is no JSON object"
-IsToldBy kind fault (place.unknown_field name) words = words ≡ shown_text name ++ unknown_words kind
-IsToldBy kind fault (place.missing_field field) words = words ≡ field_words field (codes "missing")
-IsToldBy kind fault (place.bad_number field) words = words ≡ field_words field (number_words fault field)
-IsToldBy kind fault (place.great_number field) words = words ≡ field_words field (limit_words field)
-IsToldBy kind fault (place.no_list field) words = words ≡ field_words field (codes "no list")
-IsToldBy kind fault (place.event_item index version text) words =
-    (said : List ℕ) × (words ≡ codes "event " ++ decimal index ++ 32 ∷ said) × IsItemTold text said
-IsToldBy kind fault (place.no_sublist n) words = words ≡ codes "item " ++ decimal n ++ codes " of the field \"commands\" is no list"
-IsToldBy kind fault (place.command_item n index version text) words =
+abbrev pub ExplainsPlace : Kind → AppFault → PlaceState → List ℕ → Type 0
+ExplainsPlace kind fault place.no_object words = words ≡ codes "the text is no JSON object"
+ExplainsPlace kind fault (place.unknown_field name) words = words ≡ shown_text name ++ unknown_words kind
+ExplainsPlace kind fault (place.missing_field field) words = words ≡ field_words field (codes "missing")
+ExplainsPlace kind fault (place.bad_number field) words = words ≡ field_words field (number_words fault field)
+ExplainsPlace kind fault (place.great_number field) words = words ≡ field_words field (limit_words field)
+ExplainsPlace kind fault (place.no_list field) words = words ≡ field_words field (codes "no list")
+ExplainsPlace kind fault (place.event_item index version text) words =
+    (said : List ℕ) × (words ≡ codes "event " ++ decimal index ++ 32 ∷ said) × ExplainsItem text said
+ExplainsPlace kind fault (place.no_sublist n) words =
+    words ≡ codes "item " ++ decimal n ++ codes " of the field \"commands\" is no list"
+ExplainsPlace kind fault (place.command_item n index version text) words =
     (said : List ℕ) × (words ≡ codes "command " ++ decimal index ++ codes " of list " ++ decimal n ++ 32 ∷ said)
-    × IsItemTold text said
-IsToldBy kind fault (place.list_count count servers) words =
+    × ExplainsItem text said
+ExplainsPlace kind fault (place.list_count count servers) words =
     words ≡ field_words Commands (codes "not one list for each server: " ++ counts_words count servers)
 
 -- what is said where no place is looked for
@@ -91,20 +92,21 @@ unplaced_words fault = codes "the text is no scenario"
 abbrev pub IsPlaced : Kind → AppFault → List ℕ → List ℕ → Type 0
 IsPlaced kind fault bytes words =
     MatchOption (crowd_in bytes)
-    (MatchOption (first_place kind fault bytes) (words ≡ unplaced_words fault) (λ place. IsToldBy kind fault place words))
+    (MatchOption (first_place kind fault bytes) (words ≡ unplaced_words fault)
+    (λ place. ExplainsPlace kind fault place words))
     (λ crowd. words ≡ crowd_words crowd)
 
 -- what is said of a fault of bytes that were read
-abbrev pub IsTold : Kind → AppFault → List ℕ → List ℕ → Type 0
-IsTold kind NotJson bytes words = IsStop bytes words
-IsTold kind BadShape bytes words = IsPlaced kind BadShape bytes words
-IsTold kind BadLimit bytes words = IsPlaced kind BadLimit bytes words
-IsTold kind fault bytes words = Unit {0}
+abbrev pub Explains : Kind → AppFault → List ℕ → List ℕ → Type 0
+Explains kind NotJson bytes words = IsStop bytes words
+Explains kind BadShape bytes words = IsPlaced kind BadShape bytes words
+Explains kind BadLimit bytes words = IsPlaced kind BadLimit bytes words
+Explains kind fault bytes words = Unit {0}
 
 -- what is said of a fault of bytes that were not read to their end
 abbrev pub too_long_words : List ℕ
 too_long_words = codes "the scenario is longer than 16,777,216 bytes"
 
-abbrev pub IsToldUnread : AppFault → List ℕ → Type 0
-IsToldUnread BadLimit words = words ≡ too_long_words
-IsToldUnread fault words = Unit {0}
+abbrev pub ExplainsUnread : AppFault → List ℕ → Type 0
+ExplainsUnread BadLimit words = words ≡ too_long_words
+ExplainsUnread fault words = Unit {0}

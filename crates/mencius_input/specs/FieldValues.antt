@@ -8,11 +8,11 @@ use Rattle.mencius_base.specs.Limits.{most_servers}
 use Rattle.mencius_base.specs.declared.command.Command.{Command}
 use Rattle.mencius_base.specs.declared.event.Event.{Event}
 use Rattle.mencius_base.specs.Plan.{PlanState, plan_of}
-use Rattle.mencius_base.specs.Request.{Request}
+use Rattle.mencius_base.specs.CommandState.{CommandState}
 use Rattle.mencius_ends.specs.declared.fault.AppFault.{AppFault}
 use Rattle.mencius_ends.specs.declared.fault.AppFault.TheVariants.{BadLimit, BadShape, NoMemory, NotJson}
 use Rattle.mencius_format.specs.Grammar.{command_within, event_within, newest_version}
-use Rattle.mencius_format.specs.Judged.{judged, seen}
+use Rattle.mencius_format.specs.ValuesOrFaults.{map_ok, value_or_fault}
 use Rattle.mencius_input.specs.declared.field.Field.{Field}
 use Rattle.mencius_input.specs.declared.fields.FieldValues as code
 use Rattle.mencius_input.specs.declared.fields.KeptList as code_list
@@ -25,7 +25,7 @@ use Rattle.mencius_input.specs.declared.scenario.Shared.{Shared}
 use Rattle.mencius_input.specs.FieldsOf.{field_name, list_field, names, whole_fields}
 use Rattle.mencius_input.specs.Newest.{command_item_version, event_item_version, in_version, list_version}
 use Rattle.mencius_input.specs.Noted.{list_in}
-use Rattle.mencius_input.specs.Plan.{commands_of, numbers_within}
+use Rattle.mencius_input.specs.Plan.{commands_read, numbers_within}
 use Rattle.mencius_input.specs.Scenario.{◌>>=◌, all_in, cluster_within, has_only, number_of}
 
 -- ---- the lists
@@ -33,33 +33,33 @@ use Rattle.mencius_input.specs.Scenario.{◌>>=◌, all_in, cluster_within, has_
 -- what is read of the events
 abbrev pub events_said : Data → Newest (List Event)
 events_said d = record {
-  said = judged (list_all event_within) (list_in d);
+  said = value_or_fault (list_all event_within) (list_in d);
   version = list_version event_item_version d;
 }
 
 -- a list of lists of texts, in the newest version
-abbrev pub lists_of : Data → Option (List (List Request))
-lists_of d = all_in (commands_of newest_version) d
+abbrev pub lists_of : Data → Option (List (List CommandState))
+lists_of d = all_in (commands_read newest_version) d
 
 -- no command past a limit, and no more lists than there may be servers
-abbrev pub lists_within : List (List Request) → Bool
+abbrev pub lists_within : List (List CommandState) → Bool
 lists_within lists = list_all (list_all command_within) lists && nat_le (length lists) most_servers
 
 -- what is read of the commands
-abbrev pub lists_said : Data → Newest (List (List Request))
+abbrev pub lists_said : Data → Newest (List (List CommandState))
 lists_said d = record {
-  said = judged lists_within (lists_of d);
+  said = value_or_fault lists_within (lists_of d);
   version = list_version (list_version command_item_version) d;
 }
 
 -- the same of the lists that were kept
-abbrev pub lists_kept : Newest (Vec (Vec Command Global) Global) → Newest (List (List Request))
-lists_kept x = record { said = seen (λ lists. map (λ list. list.items) lists.items) x.said; version = x.version }
+abbrev pub lists_kept : Newest (Vec (Vec Command Global) Global) → Newest (List (List CommandState))
+lists_kept x = record { said = map_ok (λ lists. map (λ list. list.items) lists.items) x.said; version = x.version }
 
 -- what is read of the list of a kind
 pub data SaidList : Type 0 where
   of_events : Newest (List Event) → SaidList
-  of_lists : Newest (List (List Request)) → SaidList
+  of_lists : Newest (List (List CommandState)) → SaidList
 
 abbrev pub list_said : Kind → Data → SaidList
 list_said Replay d = of_events (events_said d)
@@ -125,15 +125,15 @@ with_course shared course = record {
 abbrev pub shared_within : Shared → Bool
 shared_within shared = cluster_within shared.version (record { count = shared.servers; beta = shared.beta })
 
-abbrev pub fitted : {X : Type 0} → Shared → Result X AppFault → Result (Scenario X) AppFault
-fitted shared (Ok course) = if shared_within shared then Ok (with_course shared course) else Err BadLimit
-fitted shared (Err fault) = Err fault
+abbrev pub scenario_or_fault : {X : Type 0} → Shared → Result X AppFault → Result (Scenario X) AppFault
+scenario_or_fault shared (Ok course) = if shared_within shared then Ok (with_course shared course) else Err BadLimit
+scenario_or_fault shared (Err fault) = Err fault
 
 -- what the numbers say, and a course that is read by them
 abbrev pub said_of : {X : Type 0} → (Shared → List (Option ℕ) → Result X AppFault)
     → Option (Shared × List (Option ℕ)) → Result (Scenario X) AppFault
 said_of course_said None = Err BadShape
-said_of course_said (Some (shared, own)) = fitted shared (course_said shared own)
+said_of course_said (Some (shared, own)) = scenario_or_fault shared (course_said shared own)
 
 -- ---- a scenario of `replay`
 
@@ -148,13 +148,13 @@ abbrev pub plan_fits : ℕ → PlanState → Bool
 plan_fits servers plan =
     (numbers_within plan && (length plan.commands == servers)) && nat_le (length plan.commands) most_servers
 
-abbrev pub fitted_plan : ℕ → (List (List Request) → PlanState) → Result (List (List Request)) AppFault
+abbrev pub plan_or_fault : ℕ → (List (List CommandState) → PlanState) → Result (List (List CommandState)) AppFault
     → Result PlanState AppFault
-fitted_plan servers of (Ok lists) = if plan_fits servers (of lists) then Ok (of lists) else Err BadLimit
-fitted_plan servers of (Err fault) = Err fault
+plan_or_fault servers of (Ok lists) = if plan_fits servers (of lists) then Ok (of lists) else Err BadLimit
+plan_or_fault servers of (Err fault) = Err fault
 
 -- what the numbers of a run alone and its lists say
 abbrev pub plan_said : Shared → List (Option ℕ) → Option SaidList → Result PlanState AppFault
 plan_said shared (Some workers ∷ Some seed ∷ Some turns ∷ Some loss ∷ []) (Some (of_lists lists)) =
-    fitted_plan shared.servers (plan_of workers seed turns loss) (in_version shared.version lists)
+    plan_or_fault shared.servers (plan_of workers seed turns loss) (in_version shared.version lists)
 plan_said shared _ _ = Err BadShape

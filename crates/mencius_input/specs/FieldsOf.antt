@@ -83,8 +83,8 @@ abbrev pub names : Kind → List (List ℕ)
 names kind = map field_name (fields kind)
 
 -- the fields that must be there
-abbrev pub needed : Kind → List Field
-needed kind = filter (λ field. not (is_some (default_of field))) (fields kind)
+abbrev pub required_fields : Kind → List Field
+required_fields kind = filter (λ field. not (is_some (default_of field))) (fields kind)
 
 abbrev pub is_one_of : List ℕ → List (List ℕ) → Bool
 is_one_of name names = list_any (bytes_eq name) names

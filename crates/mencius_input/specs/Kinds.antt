@@ -12,16 +12,16 @@ use Rattle.mencius_input.specs.FieldsOf.{field_name, run_fields}
 use Rattle.mencius_input.specs.Scenario.{json_of}
 
 -- a field is there
-abbrev pub has : Field → Data → Bool
-has field d = is_some (get (field_name field) d)
+abbrev pub has_field : Field → Data → Bool
+has_field field d = is_some (get (field_name field) d)
 
 -- one that only the scenario of a run has
 unfoldable pub has_run_field : Data → Bool
-has_run_field d = list_any (λ field. has field d) run_fields || has Commands d
+has_run_field d = list_any (λ field. has_field field d) run_fields || has_field Commands d
 
 -- what has events is meant for `replay`, whatever else it has
 abbrev pub kind_of : Data → Kind
-kind_of d = if not (has Events d) && has_run_field d then Run else Replay
+kind_of d = if not (has_field Events d) && has_run_field d then Run else Replay
 
 abbrev pub kind_said : Option Data → Kind
 kind_said None = Replay

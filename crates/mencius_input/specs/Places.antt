@@ -73,8 +73,8 @@ is_fault fault (Some found) = false
 -- ---- items: events of a schedule, or commands of a run
 
 -- the version in which they are judged: that of the scenario, and where it says none, the newest
-abbrev pub version_of : Data → ℕ
-version_of d = unwrap_or (number_of Version d) newest_version
+abbrev pub version_in : Data → ℕ
+version_in d = unwrap_or (number_of Version d) newest_version
 
 abbrev pub item_fault : Kind → ℕ → Data → Option AppFault
 item_fault Replay version d = result_err (item_said version d)
@@ -120,9 +120,10 @@ count_place fault count (Some servers) =
 
 -- in the items that the field of a kind has in this scenario
 abbrev pub items_place : Kind → AppFault → Data → Items → Option PlaceState
-items_place Replay fault d items = events_place fault (version_of d) items
+items_place Replay fault d items = events_place fault (version_in d) items
 items_place Run fault d items =
-    option_or (first_of (list_place fault (version_of d)) 0 items) (count_place fault (items_len items) (number_of Servers d))
+    option_or (first_of (list_place fault (version_in d)) 0 items)
+    (count_place fault (items_len items) (number_of Servers d))
 
 abbrev pub course_place : Kind → AppFault → Data → Option Items → Option PlaceState
 course_place kind fault d None = if is_shape fault then Some (no_list (list_field kind)) else None

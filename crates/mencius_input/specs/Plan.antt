@@ -5,12 +5,12 @@ use Rattle.serde_json.specs.Data.{Data}
 use Rattle.serde_json.specs.Find.{as_array, get}
 use Rattle.mencius_base.specs.Members.{Membership}
 use Rattle.mencius_base.specs.Plan.{PlanState}
-use Rattle.mencius_base.specs.Request.{Request}
+use Rattle.mencius_base.specs.CommandState.{CommandState}
 use Rattle.mencius_ends.specs.declared.fault.AppFault.{AppFault}
 use Rattle.mencius_input.specs.declared.field.Field.TheVariants.{Workers, Seed, Turns, Loss, Commands}
 use Rattle.mencius_input.specs.declared.kind.Kind.TheVariants.{Run}
 use Rattle.mencius_input.specs.declared.scenario.Scenario.{Scenario}
-use Rattle.mencius_format.specs.Judged.{judged}
+use Rattle.mencius_format.specs.ValuesOrFaults.{value_or_fault}
 use Rattle.mencius_format.specs.Grammar.{command_of, command_within}
 use Rattle.mencius_input.specs.FieldsOf.{field_name, field_within}
 use Rattle.mencius_input.specs.Scenario.{◌>>=◌, all_in, all_of, number_of, said_by, scenario_in}
@@ -18,8 +18,8 @@ use Rattle.mencius_input.specs.Scenario.{◌>>=◌, all_in, all_of, number_of, s
 -- ---- the shape
 
 -- a list of texts, each a command's, as a version has them
-abbrev pub commands_of : ℕ → Data → Option (List Request)
-commands_of version d = all_in (said_by (command_of version)) d
+abbrev pub commands_read : ℕ → Data → Option (List CommandState)
+commands_read version d = all_in (said_by (command_of version)) d
 
 -- the plan, by the fields of a run alone
 unfoldable pub plan_read : ℕ → Data → Option PlanState
@@ -29,7 +29,7 @@ plan_read version d = do
   turns ← number_of Turns d
   loss ← number_of Loss d
   lists ← option_and_then as_array (get (field_name Commands) d)
-  commands ← all_of (commands_of version) lists
+  commands ← all_of (commands_read version) lists
   Some (record { workers = workers; seed = seed; turns = turns; loss = loss; commands = commands })
 
 -- ---- the limits
@@ -46,8 +46,8 @@ plan_within members plan =
     (numbers_within plan && (length plan.commands == members.count)) && list_all (list_all command_within) plan.commands
 
 -- what an item of a list of commands says in a version, or its fault
-abbrev pub command_said : ℕ → Data → Result Request AppFault
-command_said version d = judged command_within (said_by (command_of version) d)
+abbrev pub command_said : ℕ → Data → Result CommandState AppFault
+command_said version d = value_or_fault command_within (said_by (command_of version) d)
 
 -- ---- the bytes
 

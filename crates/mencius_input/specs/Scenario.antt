@@ -14,7 +14,7 @@ use Rattle.mencius_input.specs.declared.field.Field.TheVariants.{Version, Server
 use Rattle.mencius_input.specs.declared.kind.Kind.{Kind}
 use Rattle.mencius_input.specs.declared.kind.Kind.TheVariants.{Replay}
 use Rattle.mencius_input.specs.declared.scenario.Scenario.{Scenario}
-use Rattle.mencius_format.specs.Judged.{judged}
+use Rattle.mencius_format.specs.ValuesOrFaults.{value_or_fault}
 use Rattle.mencius_format.specs.Words.{words}
 use Rattle.mencius_format.specs.Grammar.{event_of, event_within}
 use Rattle.mencius_input.specs.FieldsOf.{default_of, field_name, field_within, is_one_of, names}
@@ -102,12 +102,12 @@ scenario_within fits x = cluster_within x.version x.members && fits x.members x.
 abbrev pub schedule_within : Membership → List Event → Bool
 schedule_within members events = list_all event_within events
 
-abbrev pub within : Scenario (List Event) → Bool
-within x = scenario_within schedule_within x
+abbrev pub is_within_limits : Scenario (List Event) → Bool
+is_within_limits x = scenario_within schedule_within x
 
 -- what an item of the events says in a version, or its fault
 abbrev pub item_said : ℕ → Data → Result Event AppFault
-item_said version d = judged event_within (said_by (event_of version) d)
+item_said version d = value_or_fault event_within (said_by (event_of version) d)
 
 -- ---- the bytes
 
@@ -128,7 +128,7 @@ read_there read (Ok d) = read d
 abbrev pub scenario_in : {X : Type 0} → Kind → (ℕ → Data → Option X) → (Membership → X → Bool) → List ℕ
     → Result (Scenario X) AppFault
 scenario_in kind course_of fits bytes =
-    read_there (λ d. judged (scenario_within fits) (scenario_of kind course_of d)) (or_not_json (json_of bytes))
+    read_there (λ d. value_or_fault (scenario_within fits) (scenario_of kind course_of d)) (or_not_json (json_of bytes))
 
 -- as one of `replay`
 abbrev pub scenario : List ℕ → Result (Scenario (List Event)) AppFault

@@ -2,7 +2,7 @@
 
 ghost use Rattle.std.specs.Prelude.{◌≡◌, ◌∷◌, ◌++◌, IfOk, OnOk, codes, decimal, option_map, string_bytes};
 ghost use Rattle.mencius_input.specs.Places.{place_state};
-ghost use Rattle.mencius_input.specs.Explanations.{IsItemTold, IsPlaced, IsTold, IsToldBy, IsToldUnread, counts_words, crowd_words, field_words, kind_name, limit_words, number_words, range_words, unknown_words, unplaced_words};
+ghost use Rattle.mencius_input.specs.Explanations.{Explains, ExplainsItem, ExplainsPlace, ExplainsUnread, IsPlaced, counts_words, crowd_words, field_words, kind_name, limit_words, number_words, range_words, unknown_words, unplaced_words};
 ghost use Rattle.mencius_input.specs.Shown.{shown_text};
 
 use crate::field::{Field, Shape, list_field, whole_fields};
@@ -110,7 +110,7 @@ fn of_item(
     text: &Option<String>,
     fault: AppFault,
 ) -> Result<String, NoMemory>
-    ensures { IfOk result (λ s. IsItemTold (option_map string_bytes text.now) (string_bytes s)) }
+    ensures { IfOk result (λ s. ExplainsItem (option_map string_bytes text.now) (string_bytes s)) }
 {
     match text {
         Some(text) => {
@@ -169,7 +169,7 @@ fn wrong_place(
     place: &Place,
     fault: AppFault,
 ) -> Result<String, NoMemory>
-    ensures { IfOk result (λ s. IsToldBy kind fault (place_state place.now) (string_bytes s)) }
+    ensures { IfOk result (λ s. ExplainsPlace kind fault (place_state place.now) (string_bytes s)) }
 {
     match place {
         Place::NoObject => Ok(String::from_str(alloc, "the text is no JSON object")?),
@@ -258,7 +258,7 @@ fn tell_place(alloc: Global, kind: Kind, bytes: &[u8], fault: AppFault) -> Resul
 ///
 /// `NoMemory` where memory ran out.
 pub fn explain(alloc: Global, kind: Kind, bytes: &[u8], fault: AppFault) -> Result<String, NoMemory>
-    ensures { IfOk result (λ s. IsTold kind fault bytes.now (string_bytes s)) }
+    ensures { IfOk result (λ s. Explains kind fault bytes.now (string_bytes s)) }
 {
     match fault {
         AppFault::NotJson => stop_in(alloc, bytes),
@@ -275,7 +275,7 @@ pub fn explain(alloc: Global, kind: Kind, bytes: &[u8], fault: AppFault) -> Resu
 ///
 /// `NoMemory` where memory ran out.
 pub fn explain_unread(alloc: Global, fault: AppFault) -> Result<String, NoMemory>
-    ensures { IfOk result (λ s. IsToldUnread fault (string_bytes s)) }
+    ensures { IfOk result (λ s. ExplainsUnread fault (string_bytes s)) }
 {
     match fault {
         AppFault::BadLimit => Ok(String::from_str(

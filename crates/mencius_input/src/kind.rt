@@ -3,7 +3,7 @@
 ghost use Rattle.std.specs.Prelude.{◌≡◌, IfOk, option_map};
 ghost use Rattle.serde_json.specs.Read.{read};
 ghost use Rattle.serde_json.specs.View.{view};
-ghost use Rattle.mencius_input.specs.Kinds.{has, has_run_field, kind_in, kind_of};
+ghost use Rattle.mencius_input.specs.Kinds.{has_field, has_run_field, kind_in, kind_of};
 
 use crate::field::{Field, run_fields};
 use mencius_base::NoMemory;
@@ -32,8 +32,8 @@ pub(crate) fn tree_of(alloc: Global, text: &str) -> Result<Option<Value>, NoMemo
 }
 
 // Whether a field is there.
-fn has(field: Field, value: &Value) -> bool
-    ensures { result ≡ has field (view value.now) }
+fn has_field(field: Field, value: &Value) -> bool
+    ensures { result ≡ has_field field (view value.now) }
 {
     value.get(field.name()).is_some()
 }
@@ -44,18 +44,18 @@ fn has_run_field(value: &Value) -> bool
     ensures { result ≡ has_run_field (view value.now) }
 {
     for field in run_fields() {
-        if has(*field, value) {
+        if has_field(*field, value) {
             return true;
         }
     }
-    has(Field::Commands, value)
+    has_field(Field::Commands, value)
 }
 
 // The kind that a value is meant as.
 fn kind_of_value(value: &Value) -> Kind
     ensures { result ≡ kind_of (view value.now) }
 {
-    if !has(Field::Events, value) && has_run_field(value) {
+    if !has_field(Field::Events, value) && has_run_field(value) {
         Kind::Run
     } else {
         Kind::Replay

@@ -6,7 +6,7 @@ ghost use Rattle.serde_json.specs.Read.{read};
 ghost use Rattle.serde_json.specs.View.{items_view, view};
 ghost use Rattle.mencius_input.specs.FieldsOf.{fields};
 ghost use Rattle.mencius_input.specs.declared.field.Field.TheVariants.{Servers};
-ghost use Rattle.mencius_input.specs.Places.{count_place, field_named, field_place, first_in, first_item, first_of, first_place, is_great_number, is_lacking, is_limit, is_shape, items_place, lack_place, list_field_place, list_place, names_in, not_whole, number_place, place_in, place_state, version_of};
+ghost use Rattle.mencius_input.specs.Places.{count_place, field_named, field_place, first_in, first_item, first_of, first_place, is_great_number, is_lacking, is_limit, is_shape, items_place, lack_place, list_field_place, list_place, names_in, not_whole, number_place, place_in, place_state, version_in};
 ghost use Rattle.mencius_input.specs.Scenario.{number_of};
 
 use crate::faulty_items::{first_item, is_limit, is_shape};
@@ -82,8 +82,8 @@ fn said_number(scenario: &Value, field: Field) -> Option<u64>
 
 // The version in which events and commands are judged: that of the scenario, and where it says none,
 // the newest.
-fn version_of(scenario: &Value) -> u64
-    ensures { result ≡ version_of (view scenario.now) }
+fn version_in(scenario: &Value) -> u64
+    ensures { result ≡ version_in (view scenario.now) }
 {
     said_number(scenario, Field::Version).unwrap_or(NEWEST_VERSION)
 }
@@ -157,7 +157,7 @@ fn place_in_commands(
     ensures { IfOk result (λ o. option_map place_state o
         ≡ items_place Kind.Run fault (view scenario.now) (items_view lists.now)) }
 {
-    let place = first_in_lists(alloc, version_of(scenario), lists, fault)?;
+    let place = first_in_lists(alloc, version_in(scenario), lists, fault)?;
     if place.is_some() {
         return Ok(place);
     }
@@ -174,7 +174,7 @@ fn place_in_events(
     ensures { IfOk result (λ o. option_map place_state o
         ≡ items_place Kind.Replay fault (view scenario.now) (items_view events.now)) }
 {
-    let version = version_of(scenario);
+    let version = version_in(scenario);
     match first_item(alloc, Kind::Replay, version, events, fault)? {
         Some((index, text)) => Ok(Some(Place::Event {
             index,

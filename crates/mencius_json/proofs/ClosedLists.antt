@@ -9,7 +9,7 @@ use Rattle.json.specs.Word.{after_number, ends_word, head, is_operator, is_space
 use Rattle.json.specs.Ascii.{true_text, false_text, null_text}
 use Rattle.mencius_json.specs.declared.plain.Position.{Position}
 use Rattle.mencius_json.specs.declared.plain.Position.TheVariants.{Fresh, AfterValue, AfterComma, Failed}
-use Rattle.mencius_json.specs.Tokens.{first, refused_at, tokens_at}
+use Rattle.mencius_json.specs.Tokens.{first_or_zero, refused_at, tokens_at}
 use Rattle.mencius_json.specs.Tokens as at
 use Rattle.mencius_json.proofs.FirstBytes.{class_by, eqb_false, operator_by}
 
@@ -209,8 +209,8 @@ apart : (s : Bool) {A : Type 0} → s ≡ false → s ≡ true → A
 apart true e holds = absurd (cc)
 apart false e holds = absurd (cc)
 
-pub no_end_array : (place : Position) (text : List ℕ) → is_space (first text) ≡ false
-    → (at.may_close place ≡ true → first text ≢ 93)
+pub no_end_array : (place : Position) (text : List ℕ) → is_space (first_or_zero text) ≡ false
+    → (at.may_close place ≡ true → first_or_zero text ≢ 93)
     → after_end_array (tokens_at place text) ≡ None
 unfolding lex punctuate
 no_end_array Fresh [] e each = refl

@@ -4,19 +4,19 @@ use Rattle.std.proofs.lemmas.Bool.{and_parts, eqb-true, or_cases}
 use Rattle.json.specs.Token.{begin_array, begin_object, end_array, end_object}
 use Rattle.json.specs.Lex.{Class, Lexeme, Mode, between, class, colon, comma, lex, token, in_string, in_word, quote, backslash, operator, space, other, lex_byte}
 use Rattle.json.specs.Word.{is_operator, is_space}
-use Rattle.mencius_json.specs.Tokens.{first, is_delimiter, is_plain}
+use Rattle.mencius_json.specs.Tokens.{first_or_zero, is_delimiter, is_plain}
 
 -- ---- the first byte
 
-pub begins_by : (text : List ℕ) (mark : ℕ) → first text ≡ mark → 0 < mark → text ≡ mark ∷ drop 1 text
+pub begins_by : (text : List ℕ) (mark : ℕ) → first_or_zero text ≡ mark → 0 < mark → text ≡ mark ∷ drop 1 text
 begins_by [] mark e h = absurd (omega arith)
 begins_by (x ∷ xs) mark e h = ap (λ (byte : ℕ). byte ∷ xs) e
 
-pub some_first : (text : List ℕ) → 0 < length text → text ≡ first text ∷ drop 1 text
+pub some_first : (text : List ℕ) → 0 < length text → text ≡ first_or_zero text ∷ drop 1 text
 some_first [] h = absurd (omega arith)
 some_first (x ∷ xs) h = refl
 
-pub length_first : (text : List ℕ) → 0 < first text → 0 < length text
+pub length_first : (text : List ℕ) → 0 < first_or_zero text → 0 < length text
 length_first [] h = absurd (omega arith)
 length_first (x ∷ xs) h = omega arith
 

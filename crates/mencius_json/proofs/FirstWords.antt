@@ -9,7 +9,7 @@ use Rattle.json.specs.Lex.{between, class, in_word, lex, lex_byte, other, punctu
 use Rattle.json.specs.Token.{Token, bad, boolean, null, number}
 use Rattle.json.specs.Word.{after_number, ends_word, head, is_operator, is_space, literal, word}
 use Rattle.json.specs.Ascii.{true_text, false_text, null_text}
-use Rattle.mencius_json.specs.Tokens.{first, is_delimiter, is_spelled, is_word}
+use Rattle.mencius_json.specs.Tokens.{first_or_zero, is_delimiter, is_spelled, is_word}
 use Rattle.mencius_json.proofs.FirstBytes.{class_by, eqb_false, last_of_four, word_ends, word_passes}
 use Rattle.mencius_json.proofs.Punctuation.{as_word, bad_token}
 use Rattle.mencius_json.proofs.NumeralEnds.{is_one_delimiter, no_number, number_word}
@@ -85,7 +85,7 @@ first_word : (x : ℕ) (xs : List ℕ) → class x ≡ other → lex between (x 
 unfolding lex
 first_word x xs e = ap (λ kind. lex_byte between kind x xs (λ n. lex n xs)) e
 
-at_word : (text : List ℕ) → class (first text) ≡ other → 0 < length text
+at_word : (text : List ℕ) → class (first_or_zero text) ≡ other → 0 < length text
     → lex between text ≡ token (word text) ∷ lex between (drop (position_or_len is_delimiter text) text)
 at_word [] e some = absurd (omega arith)
 at_word (x ∷ xs) e some =
@@ -93,8 +93,8 @@ at_word (x ∷ xs) e some =
     first_word x xs e
     ∙ ap (λ ls. token (word (x ∷ xs)) ∷ ls) (sym (word_passes x xs inside) ∙ (parted (x ∷ xs)).rest)
 
-pub word_read : (place : Place) (text : List ℕ) (symbol : Token) → may_begin place ≡ true → class (first text) ≡ other
-    → 0 < length text
+pub word_read : (place : Place) (text : List ℕ) (symbol : Token) → may_begin place ≡ true
+    → class (first_or_zero text) ≡ other → 0 < length text
     → word text ≡ symbol → is_word symbol ≡ true
     → punctuate place (lex between text)
     ≡ symbol ∷ punctuate after_value (lex between (drop (position_or_len is_delimiter text) text))
@@ -102,8 +102,8 @@ word_read place text symbol may e some is good =
     let rest = lex between (drop (position_or_len is_delimiter text) text) in
     ap (punctuate place) (at_word text e some ∙ ap (λ read. token read ∷ rest) is) ∙ as_word place symbol rest may good
 
-pub no_word_read : (place : Place) (text : List ℕ) → class (first text) ≡ other → 0 < length text → word text ≡ bad
-    → punctuate place (lex between text) ≡ bad ∷ []
+pub no_word_read : (place : Place) (text : List ℕ) → class (first_or_zero text) ≡ other → 0 < length text
+    → word text ≡ bad → punctuate place (lex between text) ≡ bad ∷ []
 no_word_read place text e some is =
     let rest = lex between (drop (position_or_len is_delimiter text) text) in
     ap (punctuate place) (at_word text e some ∙ ap (λ read. token read ∷ rest) is) ∙ bad_token place rest

@@ -6,7 +6,7 @@ use Rattle.json.specs.Token.{Token, begin_object, end_object, begin_array, end_a
 use Rattle.json.specs.Word.{is_operator, is_space}
 use Rattle.mencius_json.specs.declared.plain.Position.{Position}
 use Rattle.mencius_json.specs.declared.plain.Position.TheVariants.{Fresh, AfterValue, AfterComma, Failed}
-use Rattle.mencius_json.specs.Tokens.{first, is_word, refused_at, tokens_at}
+use Rattle.mencius_json.specs.Tokens.{first_or_zero, is_word, refused_at, tokens_at}
 use Rattle.mencius_json.specs.Tokens as at
 use Rattle.mencius_json.proofs.FirstBytes.{class_by, eqb_false, operator_by}
 
@@ -70,7 +70,8 @@ no_colon_byte false false true s x xs onward e each = each refl
 no_colon_byte false false false true x xs onward e each = absurd (cc)
 no_colon_byte false false false false x xs onward e each = refl
 
-no_colon : (text : List ℕ) → is_space (first text) ≡ false → first text ≢ 58 → begins_colon (lex between text) ≡ false
+no_colon : (text : List ℕ) → is_space (first_or_zero text) ≡ false → first_or_zero text ≢ 58
+    → begins_colon (lex between text) ≡ false
 unfolding lex
 no_colon [] e unlike = refl
 no_colon (x ∷ xs) e unlike =
@@ -109,7 +110,7 @@ key_read place xs s rest behind may e same is =
     ∙ as_key place s (lex between behind) may
 
 pub text_read : (place : Place) (xs s rest : List ℕ) → may_begin place ≡ true → content plain xs ≡ Some s
-    → lex in_string xs ≡ lex between rest → is_space (first rest) ≡ false → first rest ≢ 58
+    → lex in_string xs ≡ lex between rest → is_space (first_or_zero rest) ≡ false → first_or_zero rest ≢ 58
     → punctuate place (lex between (34 ∷ xs)) ≡ string s ∷ punctuate after_value (lex between rest)
 text_read place xs s rest may e same solid none =
     ap (punctuate place) (string_read xs s rest e same)

@@ -44,8 +44,8 @@ pub record IsLeft (text : List ℕ) : Type 0 where
   pub utf8 : IsUtf8 text
 
 -- the first byte, or 0 where there is none
-abbrev pub first : List ℕ → ℕ
-first text = get_or text 0 0
+abbrev pub first_or_zero : List ℕ → ℕ
+first_or_zero text = get_or text 0 0
 
 -- the text of a string ends here: at its quote, or at a byte that may not stand in it
 abbrev pub ends_string : ℕ → Bool

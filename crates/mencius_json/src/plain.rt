@@ -12,7 +12,7 @@ ghost use Rattle.json.specs.Token.{Token as SpecToken, bad};
 ghost use Rattle.json.specs.Word.{ends_word, is_space};
 ghost use Rattle.json.specs.Word as spec;
 ghost use Rattle.mencius_json.specs.Steps.{Begins, Takes};
-ghost use Rattle.mencius_json.specs.Tokens.{first, is_delimiter, is_plain, is_spelled, ends_string, is_word, may_begin, may_close, refused_at, tokens_at};
+ghost use Rattle.mencius_json.specs.Tokens.{first_or_zero, is_delimiter, is_plain, is_spelled, ends_string, is_word, may_begin, may_close, refused_at, tokens_at};
 
 use json::{Token, is_number};
 use std::marker::Model;
@@ -41,8 +41,8 @@ pub(crate) struct TokenStep<'a> {
 
 // The first byte, or 0 where there is none.
 #[inline(always)]
-fn first(text: &str) -> u8
-    ensures { result ≡ first text.now }
+fn first_or_zero(text: &str) -> u8
+    ensures { result ≡ first_or_zero text.now }
 {
     if text.is_empty() {
         0
@@ -54,10 +54,10 @@ fn first(text: &str) -> u8
 // The text behind its first byte.
 #[inline(always)]
 fn behind_first(text: &str) -> &str
-    requires some { 0 < first text.now }
-    requires ascii { first text.now < 128 }
+    requires some { 0 < first_or_zero text.now }
+    requires ascii { first_or_zero text.now < 128 }
     requires plain { is_plain text.now ≡ true }
-    ensures value { text.now ≡ first text.now ∷ result.now }
+    ensures value { text.now ≡ first_or_zero text.now ∷ result.now }
     ensures plain { is_plain result.now ≡ true }
 {
     &text[1..]
@@ -76,11 +76,11 @@ pub(crate) fn is_blank(byte: u8) -> bool
 fn past_blanks(text: &str) -> &str
     requires { is_plain text.now ≡ true }
     ensures same { lex between result.now ≡ lex between text.now }
-    ensures solid { is_space (first result.now) ≡ false }
+    ensures solid { is_space (first_or_zero result.now) ≡ false }
     ensures plain { is_plain result.now ≡ true }
 {
     let mut rest = text;
-    'blanks: while is_blank(first(rest)) {
+    'blanks: while is_blank(first_or_zero(rest)) {
         rest = behind_first(rest);
     }
     rest
@@ -180,7 +180,7 @@ fn string<'a>(inside: &'a str) -> TokenStep<'a>
         return failed(inside);
     };
     let rest = past_blanks(behind);
-    if first(rest) == b':' {
+    if first_or_zero(rest) == b':' {
         TokenStep {
             token: Some(Token::Key(text)),
             rest: behind_first(rest),
@@ -248,7 +248,7 @@ fn word_token(word: &str) -> Option<Token<'_>>
 // The word that a text begins with.
 fn pass_word<'a>(text: &'a str) -> TokenStep<'a>
     requires some { 0 < length text.now }
-    requires other { class (first text.now) ≡ other }
+    requires other { class (first_or_zero text.now) ≡ other }
     requires plain { is_plain text.now ≡ true }
     ensures value { Begins text.now result }
     ensures plain { is_plain result.rest.now ≡ true }
@@ -377,13 +377,13 @@ fn close<'a>(text: &'a str, byte: u8, place: Position) -> TokenStep<'a>
 fn past_comma<'a>(text: &'a str, place: Position) -> (&'a str, Position)
     requires { is_plain text.now ≡ true }
     ensures same { tokens_at result.1 result.0.now ≡ tokens_at place text.now }
-    ensures solid { is_space (first result.0.now) ≡ false }
-    ensures no_comma { result.1 ≡ Position.AfterValue → first result.0.now ≢ 44 }
+    ensures solid { is_space (first_or_zero result.0.now) ≡ false }
+    ensures no_comma { result.1 ≡ Position.AfterValue → first_or_zero result.0.now ≢ 44 }
     ensures plain { is_plain result.0.now ≡ true }
 {
     let rest = past_blanks(text);
     if let Position::AfterValue = place {
-        if first(rest) == b',' {
+        if first_or_zero(rest) == b',' {
             return (past_blanks(behind_first(rest)), Position::AfterComma);
         }
     }
@@ -401,7 +401,7 @@ fn read<'a>(text: &'a str, place: Position) -> TokenStep<'a>
     if text.is_empty() {
         return ended(text, place);
     }
-    let byte = first(text);
+    let byte = first_or_zero(text);
     if byte == b']' || byte == b'}' {
         return close(text, byte, place);
     }
@@ -463,7 +463,7 @@ impl<'a> Plain<'a> {
             ((after_end_array self.old ≡ None) × (self.new ≡ self.old)) }
     {
         let rest = past_blanks(self.rest);
-        if first(rest) != b']' || !self.place.may_close() {
+        if first_or_zero(rest) != b']' || !self.place.may_close() {
             return false;
         }
         self.rest = behind_first(rest);

@@ -4,7 +4,7 @@ use Rattle.std.specs.List.{count_by}
 use Rattle.mencius_base.specs.Numbers.{ServerId}
 use Rattle.mencius_judge.specs.declared.counts.Counts.{Counts}
 use Rattle.mencius_judge.specs.declared.observation.Observation.TheVariants.{Submit, Execute, Reply, Lookup, Tell}
-use Rattle.mencius_judge.specs.Log.{Log, command_of, has, history, with_reply}
+use Rattle.mencius_judge.specs.Log.{Log, command_of, has_id, history, with_reply}
 
 -- the identities that commands were submitted under
 abbrev pub command_count : Log → ℕ
@@ -39,5 +39,5 @@ pub record AreCounts (w : Log) (c : Counts) : Type 0 where
   pub executed : c.executed ≡ length (history w longest)
   pub replies : c.replies ≡ length (with_reply w)
   -- the commands with a reply that do not stand there
-  pub open_replies : c.open_replies ≡ count_by (λ id. not (has (history w longest) id)) (with_reply w)
+  pub open_replies : c.open_replies ≡ count_by (λ id. not (has_id (history w longest) id)) (with_reply w)
   pub lookups : c.lookups ≡ lookup_count w

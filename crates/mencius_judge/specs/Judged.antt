@@ -8,10 +8,10 @@ use Rattle.mencius_judge.specs.Log.{Log, commands_of}
 use Rattle.mencius_judge.specs.Promises.{AreOneCommand, AreOneReply, Holds, WereSubmitted}
 use Rattle.mencius_judge.specs.Tables.{AreExecutions, AreFloors, AreHistories, AreReplies, AreSettled, AreSubmissions, IsOrder}
 use Rattle.mencius_judge.specs.Timelines.{AreTimelines}
-use Rattle.mencius_judge.specs.Violations.{Shows, promise_of}
+use Rattle.mencius_judge.specs.Violations.{IsShownBy, promise_of}
 
 -- the judge has seen this log, which keeps all promises
-pub record IsAt (j : Judge) (w : Log) : Type 0 where
+pub record HasSeenLog (j : Judge) (w : Log) : Type 0 where
   pub one_command : AreOneCommand w
   pub were_submitted : WereSubmitted w
   pub one_reply : AreOneReply w
@@ -28,9 +28,9 @@ pub record IsAt (j : Judge) (w : Log) : Type 0 where
 
 -- the observation breaks a promise, in this way
 abbrev pub Breaks : Log → Observation → Violation → Type 0
-Breaks w o violation = Shows w o violation × (Holds (promise_of violation) (o ∷ w) → ⊥)
+Breaks w o violation = IsShownBy w o violation × (Holds (promise_of violation) (o ∷ w) → ⊥)
 
 -- of an observation behind a log: no promise is broken, and the judge has seen one more; or this is how it breaks one
 abbrev pub IsJudged : Log → Observation → Option Violation → Judge → Type 0
-IsJudged w o None j = IsAt j (o ∷ w)
+IsJudged w o None j = HasSeenLog j (o ∷ w)
 IsJudged w o (Some violation) j = Breaks w o violation

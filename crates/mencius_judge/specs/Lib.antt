@@ -8,7 +8,7 @@ pub mod Laws
 pub mod Observed
 pub mod Lines
 pub mod Counts
-pub mod Told
+pub mod VerdictLines
 pub mod Reading
 pub mod Written
 pub mod Taken

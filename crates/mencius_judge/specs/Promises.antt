@@ -4,11 +4,11 @@ use Rattle.mencius_base.specs.Numbers.{ServerId}
 use Rattle.mencius_base.specs.declared.command.Command.{Command}
 use Rattle.mencius_base.specs.declared.command.CommandId.{CommandId}
 use Rattle.mencius_model.specs.Executed.{IsComparable}
-use Rattle.mencius_model.specs.Store.{out}
+use Rattle.mencius_model.specs.KeyMap.{out}
 use Rattle.mencius_judge.specs.declared.observation.Observation.TheVariants.{Submit, Execute, Reply, Lookup, Tell}
 use Rattle.mencius_judge.specs.declared.violation.Promise.{Promise}
 use Rattle.mencius_judge.specs.declared.violation.Promise.TheVariants.{OneCommand, Submitted, Once, SameOrder, RealTime, OneReply, RightReply, RightLookup}
-use Rattle.mencius_judge.specs.Log.{Log, MaySee, command_of, commands_of, has, history, with_reply_before}
+use Rattle.mencius_judge.specs.Log.{Log, MaySee, command_of, commands_of, has_id, history, with_reply_before}
 
 -- two commands of one identity are one command
 abbrev pub AreOneCommand : Log → Type 0
@@ -38,7 +38,7 @@ AreComparable w = (p q : ServerId) → IsComparable (history w p) (history w q)
 abbrev pub StandBehindReplies : Log → Type 0
 StandBehindReplies w =
     (p : ServerId) (front back : List CommandId) (id x : CommandId) → history w p ≡ front ++ id ∷ back
-    → IsTrue (has (with_reply_before w id) x) → IsTrue (has front x)
+    → IsTrue (has_id (with_reply_before w id) x) → IsTrue (has_id front x)
 
 -- two replies of a command are the same
 abbrev pub AreOneReply : Log → Type 0
@@ -69,7 +69,7 @@ Holds RightReply w = AreRightReplies w
 Holds RightLookup w = AreRightLookups w
 
 -- all promises are kept
-pub record Keeps (w : Log) : Type 0 where
+pub record KeepsAll (w : Log) : Type 0 where
   pub one_command : AreOneCommand w
   pub submitted : WereSubmitted w
   pub once : StandOnce w

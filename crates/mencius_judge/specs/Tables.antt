@@ -10,8 +10,8 @@ use Rattle.mencius_judge.specs.declared.histories.Next.TheVariants.{Follows, Dif
 use Rattle.mencius_judge.specs.declared.judge.Execution.{Execution}
 use Rattle.mencius_judge.specs.declared.judge.Submission.{Submission}
 use Rattle.mencius_judge.specs.declared.observation.Observation.TheVariants.{Reply}
-use Rattle.mencius_model.specs.Store.{out}
-use Rattle.mencius_judge.specs.Log.{Log, MaySee, command_of, commands_of, has, history, with_reply, with_reply_before, reply_of}
+use Rattle.mencius_model.specs.KeyMap.{out}
+use Rattle.mencius_judge.specs.Log.{Log, MaySee, command_of, commands_of, has_id, history, with_reply, with_reply_before, reply_of}
 
 -- how many commands a client may number
 abbrev pub number_count : ℕ
@@ -41,7 +41,7 @@ pub record IsOrder (w : Log) (order : List CommandId) : Type 0 where
   pub once : (n m : ℕ) (id : CommandId) → slice_get order n ≡ Some id → slice_get order m ≡ Some id → n ≡ m
   -- behind those that had a reply when it was submitted
   pub behind : (front back : List CommandId) (id x : CommandId) → order ≡ front ++ id ∷ back
-      → has (with_reply_before w id) x ≡ true → has front x ≡ true
+      → has_id (with_reply_before w id) x ≡ true → has_id front x ≡ true
   -- and with the right reply
   pub right : (front back : List CommandId) (id : CommandId) (c : Command) (x : Option (List ℕ))
       → order ≡ front ++ id ∷ back → command_of w id ≡ Some c → Contains w (Reply id x)
@@ -68,7 +68,8 @@ pub record AreReplies (w : Log) (replies : Replies) (ids : List CommandId) : Typ
 
 -- where the commands of the longest history stand, and what a map answers there, by identity
 pub record AreExecutions (w : Log) (order : List CommandId) (executions : Executions) : Type 0 where
-  pub all : (id : CommandId) → id.number < number_count → is_some (get nat_cmp executions (identity_key id)) ≡ has order id
+  pub all : (id : CommandId) → id.number < number_count
+      → is_some (get nat_cmp executions (identity_key id)) ≡ has_id order id
   pub right : (id : CommandId) (x : Execution) (front back : List CommandId) (c : Command)
       → id.number < number_count → get nat_cmp executions (identity_key id) ≡ Some x → order ≡ front ++ id ∷ back
       → command_of w id ≡ Some c → (x.reply ≡ out (commands_of w front) c) × (x.place ≡ length front)
@@ -85,8 +86,8 @@ IsSettledAt ids executions n =
     (id : CommandId) × (slice_get ids n ≡ Some id) × (is_some (get nat_cmp executions (identity_key id)) ≡ true)
 
 -- the command is not of the longest history
-abbrev pub is_open : Executions → CommandId → Bool
-is_open executions id = not (is_some (get nat_cmp executions (identity_key id)))
+abbrev pub has_no_place : Executions → CommandId → Bool
+has_no_place executions id = not (is_some (get nat_cmp executions (identity_key id)))
 
 -- a map has no other text than this at a number
 abbrev pub IsNoOther : Replies → ℕ → Option (List ℕ) → Type 0

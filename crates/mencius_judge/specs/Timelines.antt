@@ -5,7 +5,7 @@ use Rattle.std.specs.BTreeMap.{BTreeMap, get_by_text}
 use Rattle.std.specs.FinMap as finite
 use Rattle.mencius_base.specs.declared.command.Command.{Command}
 use Rattle.mencius_base.specs.declared.command.Op.{Op}
-use Rattle.mencius_model.specs.Store.{Store, apply, key_of, value_at}
+use Rattle.mencius_model.specs.KeyMap.{KeyMap, apply, key_of, value_at}
 use Rattle.mencius_judge.specs.declared.timeline.Period.{Period}
 use Rattle.mencius_judge.specs.declared.timeline.Timeline.{Timeline}
 
@@ -15,7 +15,8 @@ held_by commands key n = value_at key (take n commands)
 
 -- the key of an operation holds this text after it, in each map that held that one there before
 abbrev pub Becomes : Option (List ℕ) → Op → Option (List ℕ) → Type 0
-Becomes held op text = (store : Store) → finite.get store (key_of op) ≡ held → text ≡ finite.get (apply store op) (key_of op)
+Becomes held op text =
+    (store : KeyMap) → finite.get store (key_of op) ≡ held → text ≡ finite.get (apply store op) (key_of op)
 
 -- ---- the first number of commands
 

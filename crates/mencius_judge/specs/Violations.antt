@@ -3,14 +3,14 @@ use Rattle.std.specs.Prelude.{◌≡◌, ◌≢◌, ◌≤◌, ◌⊎◌, ℕ, t
 use Rattle.mencius_base.specs.Numbers.{ServerId}
 use Rattle.mencius_base.specs.declared.command.Command.{Command}
 use Rattle.mencius_base.specs.declared.command.CommandId.{CommandId}
-use Rattle.mencius_model.specs.Store.{out, value_at}
+use Rattle.mencius_model.specs.KeyMap.{out, value_at}
 use Rattle.mencius_judge.specs.declared.observation.Observation.{Observation}
 use Rattle.mencius_judge.specs.declared.observation.Observation.TheVariants.{Submit, Execute, Reply, Lookup}
 use Rattle.mencius_judge.specs.declared.violation.Promise.{Promise}
 use Rattle.mencius_judge.specs.declared.violation.Promise.TheVariants as promise
 use Rattle.mencius_judge.specs.declared.violation.Violation.{Violation}
 use Rattle.mencius_judge.specs.declared.violation.Violation.TheVariants as violation
-use Rattle.mencius_judge.specs.Log.{Log, MaySee, command_of, commands_of, has, history, reply_of, with_reply_before}
+use Rattle.mencius_judge.specs.Log.{Log, MaySee, command_of, commands_of, has_id, history, reply_of, with_reply_before}
 
 -- the promise that is broken
 abbrev pub promise_of : Violation → Promise
@@ -46,30 +46,30 @@ pub record IsNowhere (w : Log) (key : List ℕ) (text : Option (List ℕ)) (from
   pub other : (n : ℕ) → from ≤ n → n ≤ to → value_at key (commands_of w (take n (history w server))) ≢ text
 
 -- an observation shows a violation, where w was observed before it
-abbrev pub Shows : Log → Observation → Violation → Type 0
+abbrev pub IsShownBy : Log → Observation → Violation → Type 0
 -- another command of this identity was submitted
-Shows w o (violation.OneCommand id) =
+IsShownBy w o (violation.OneCommand id) =
     (c d : Command) × (o ≡ Submit d) × (d.id ≡ id) × (command_of w id ≡ Some c) × (c ≢ d)
 -- the command is executed or answered, and was never submitted
-Shows w o (violation.Submitted id) =
+IsShownBy w o (violation.Submitted id) =
     (((p : ServerId) × (o ≡ Execute p id)) ⊎ ((x : Option (List ℕ)) × (o ≡ Reply id x))) × (command_of w id ≡ None)
 -- the server executes the command at this place, and it stands in the server's history
-Shows w o (violation.Once server place id) =
-    (o ≡ Execute server id) × (place ≡ length (history w server)) × (has (history w server) id ≡ true)
+IsShownBy w o (violation.Once server place id) =
+    (o ≡ Execute server id) × (place ≡ length (history w server)) × (has_id (history w server) id ≡ true)
 -- the server executes a command at this place, where another stands in some history
-Shows w o (violation.SameOrder server place expected found) =
+IsShownBy w o (violation.SameOrder server place expected found) =
     (o ≡ Execute server found) × (place ≡ length (history w server))
     × (q : ServerId) × (slice_get (history w q) place ≡ Some expected) × (expected ≢ found)
 -- the server executes the command at this place, and has not executed one that had a reply when it was submitted
-Shows w o (violation.RealTime server place id behind) =
-    (o ≡ Execute server id) × (place ≡ length (history w server)) × (has (with_reply_before w id) behind ≡ true)
-    × (has (history w server) behind ≡ false)
+IsShownBy w o (violation.RealTime server place id behind) =
+    (o ≡ Execute server id) × (place ≡ length (history w server)) × (has_id (with_reply_before w id) behind ≡ true)
+    × (has_id (history w server) behind ≡ false)
 -- the command has this reply, and had another one first
-Shows w o (violation.OneReply id expected found) =
+IsShownBy w o (violation.OneReply id expected found) =
     (o ≡ Reply id found) × (reply_of w id ≡ Some expected) × (expected ≢ found)
 -- the command stands at this place, where a map answers something else than its reply
-Shows w o (violation.RightReply id place expected found) =
+IsShownBy w o (violation.RightReply id place expected found) =
     Contains (o ∷ w) (Reply id found) × IsAnswerAt (o ∷ w) id place expected × (expected ≢ found)
 -- the reader finds what stands nowhere behind what it has seen
-Shows w o (violation.RightLookup reader key from to found) =
+IsShownBy w o (violation.RightLookup reader key from to found) =
     (o ≡ Lookup reader key found) × IsFloor w reader from × IsNowhere w key found from to

@@ -5,9 +5,9 @@ ghost use Rattle.std.specs.Ordering.{nat_cmp};
 ghost use Rattle.mencius_judge.specs.declared.observation.Observation.TheVariants.{Execute, Lookup, Reply, Submit, Tell};
 ghost use Rattle.mencius_base.specs.declared.command.CommandId.{CommandId};
 ghost use Rattle.mencius_judge.specs.Log.{Log};
-ghost use Rattle.mencius_judge.specs.Promises.{Keeps};
+ghost use Rattle.mencius_judge.specs.Promises.{KeepsAll};
 ghost use Rattle.mencius_judge.specs.declared.histories.Next.TheVariants.{Differs, Leads};
-ghost use Rattle.mencius_judge.specs.Tables.{AreSettled, IsNext, IsNoOther, IsNoOtherExecution, IsSettledAt, floor_of, is_open, identity_key};
+ghost use Rattle.mencius_judge.specs.Tables.{AreSettled, IsNext, IsNoOther, IsNoOtherExecution, IsSettledAt, floor_of, has_no_place, identity_key};
 
 use crate::counts::{Counts, one_more};
 use crate::histories::{Histories, Next};
@@ -82,11 +82,11 @@ pub struct Judge {
 
 impl Judge {
     ghost use Rattle.mencius_judge.specs.Counts.{AreCounts};
-    ghost use Rattle.mencius_judge.specs.Judged.{Breaks, IsAt, IsJudged};
+    ghost use Rattle.mencius_judge.specs.Judged.{Breaks, HasSeenLog, IsJudged};
 
     /// Nothing was seen yet.
     pub fn new(alloc: Global) -> Result<Judge, NoMemory>
-        ensures { IfOk result (λ j. IsAt j []) }
+        ensures { IfOk result (λ j. HasSeenLog j []) }
     {
         Ok(Judge {
             histories: Histories::new(alloc)?,
@@ -108,17 +108,17 @@ impl Judge {
     /// the violation is shown by the observation, and its promise is broken. Of a judge that found a
     /// violation, or had no memory, nothing is known.
     pub fn observe(&mut self, observation: &Observation) -> Result<Option<Violation>, NoMemory>
-        ensures judged { IfOk result (λ x. (w : Log) → IsAt self.old w
+        ensures judged { IfOk result (λ x. (w : Log) → HasSeenLog self.old w
             → IsJudged w observation.now x self.new) }
-        ensures kept { IfOk result (λ x. (w : Log) → IsAt self.old w
-            → (IsNone x ↔ Keeps (observation.now ∷ w))) }
+        ensures kept { IfOk result (λ x. (w : Log) → HasSeenLog self.old w
+            → (IsNone x ↔ KeepsAll (observation.now ∷ w))) }
     {
         self.step(observation)
     }
 
     /// What was seen, in numbers. It goes through the commands that had a reply.
     pub fn counts(&self) -> Counts
-        ensures { (w : Log) → IsAt self.now w → AreCounts w result }
+        ensures { (w : Log) → HasSeenLog self.now w → AreCounts w result }
     {
         let with_reply = self.with_reply.as_slice();
         Counts {
@@ -132,7 +132,7 @@ impl Judge {
     }
 
     fn step(&mut self, observation: &Observation) -> Result<Option<Violation>, NoMemory>
-        ensures { IfOk result (λ x. (w : Log) → IsAt self.old w
+        ensures { IfOk result (λ x. (w : Log) → HasSeenLog self.old w
             → IsJudged w observation.now x self.new) }
     {
         match observation {
@@ -145,7 +145,7 @@ impl Judge {
     }
 
     fn submit(&mut self, command: &Command) -> Result<Option<Violation>, NoMemory>
-        ensures { IfOk result (λ x. (w : Log) → IsAt self.old w
+        ensures { IfOk result (λ x. (w : Log) → HasSeenLog self.old w
             → IsJudged w (Submit command.now) x self.new) }
     {
         let id = command.id();
@@ -163,7 +163,7 @@ impl Judge {
     }
 
     fn execute(&mut self, server: u8, id: CommandId) -> Result<Option<Violation>, NoMemory>
-        ensures { IfOk result (λ x. (w : Log) → IsAt self.old w
+        ensures { IfOk result (λ x. (w : Log) → HasSeenLog self.old w
             → IsJudged w (Execute server id) x self.new) }
     {
         match self.histories.next(server, id) {
@@ -178,7 +178,7 @@ impl Judge {
 
     // How it breaks a promise that a server executes a command where another one was expected.
     fn differing(&self, server: u8, id: CommandId, expected: CommandId) -> Violation
-        ensures { (w : Log) → IsAt self.now w
+        ensures { (w : Log) → HasSeenLog self.now w
             → IsNext self.now.histories.order.items (get_or self.now.histories.counts.items server 0) id
             (Differs expected)
             → Breaks w (Execute server id) result }
@@ -196,7 +196,7 @@ impl Judge {
 
     // A server executes a command at a place that no server had reached.
     fn lead(&mut self, server: u8, id: CommandId) -> Result<Option<Violation>, NoMemory>
-        ensures { IfOk result (λ x. (w : Log) → IsAt self.old w
+        ensures { IfOk result (λ x. (w : Log) → HasSeenLog self.old w
             → IsNext self.old.histories.order.items (get_or self.old.histories.counts.items server 0) id Leads
             → IsJudged w (Execute server id) x self.new) }
     {
@@ -235,7 +235,7 @@ impl Judge {
     }
 
     fn reply(&mut self, id: CommandId, text: &Option<Text>) -> Result<Option<Violation>, NoMemory>
-        ensures { IfOk result (λ x. (w : Log) → IsAt self.old w
+        ensures { IfOk result (λ x. (w : Log) → HasSeenLog self.old w
             → IsJudged w (Reply id text.now) x self.new) }
     {
         let key = identity_key(id);
@@ -274,7 +274,7 @@ impl Judge {
         key: &Key,
         text: &Option<Text>,
     ) -> Result<Option<Violation>, NoMemory>
-        ensures { IfOk result (λ x. (w : Log) → IsAt self.old w
+        ensures { IfOk result (λ x. (w : Log) → HasSeenLog self.old w
             → IsJudged w (Lookup reader key.now text.now) x self.new) }
     {
         let from = floor_of(&self.floors, reader);
@@ -294,7 +294,7 @@ impl Judge {
     }
 
     fn tell(&mut self, reader: u32, server: u8) -> Result<Option<Violation>, NoMemory>
-        ensures { IfOk result (λ x. (w : Log) → IsAt self.old w
+        ensures { IfOk result (λ x. (w : Log) → HasSeenLog self.old w
             → IsJudged w (Tell reader server) x self.new) }
     {
         let floor = floor_of(&self.floors, reader).max(self.histories.count(server));
@@ -394,7 +394,7 @@ fn is_settled(executions: &BTreeMap<u64, Execution>, with_reply: &[CommandId], p
 
 // How many commands with a reply were not executed.
 fn open_count(executions: &BTreeMap<u64, Execution>, with_reply: &[CommandId]) -> usize
-    ensures { result ≡ count_by (is_open executions.now) with_reply.now }
+    ensures { result ≡ count_by (has_no_place executions.now) with_reply.now }
 {
     with_reply
         .iter()

@@ -1,7 +1,7 @@
 //! All that tells one operation on the map from another.
 
 ghost use Rattle.std.specs.Prelude.{◌≡◌, ◌↔◌, IfOk, IsTrue};
-ghost use Rattle.mencius_model.specs.Store.{is_held, key_of};
+ghost use Rattle.mencius_model.specs.KeyMap.{has_text, key_of};
 ghost use Rattle.mencius_judge.specs.Timelines.{Becomes};
 
 use crate::texts::copy_of;
@@ -22,15 +22,19 @@ pub fn is_same_op(first: &Op, second: &Op) -> bool
         (Op::Get { key }, Op::Get { key: other }) => key.as_str() == other.as_str(),
         (Op::Del { key }, Op::Del { key: other }) => key.as_str() == other.as_str(),
         (
-            Op::Cas { key, held, text },
+            Op::Cas {
+                key,
+                expected,
+                text,
+            },
             Op::Cas {
                 key: other,
-                held: former,
+                expected: former,
                 text: value,
             },
         ) => {
             key.as_str() == other.as_str()
-                && held.as_str() == former.as_str()
+                && expected.as_str() == former.as_str()
                 && text.as_str() == value.as_str()
         }
         _ => false,
@@ -56,18 +60,14 @@ pub fn text_after(held: &Option<Text>, op: &Op) -> Result<Option<Text>, NoMemory
         Op::Set { text, .. } => Ok(Some(text.clone()?)),
         Op::Get { .. } => copy_of(held),
         Op::Del { .. } => Ok(None),
-        Op::Cas {
-            held: expected,
-            text,
-            ..
-        } if is_held(held, expected) => Ok(Some(text.clone()?)),
+        Op::Cas { expected, text, .. } if has_text(held, expected) => Ok(Some(text.clone()?)),
         Op::Cas { .. } => copy_of(held),
     }
 }
 
 // Whether a text is held, and it is exactly this one.
-fn is_held(held: &Option<Text>, expected: &Text) -> bool
-    ensures { result ≡ is_held held.now expected.now }
+fn has_text(held: &Option<Text>, expected: &Text) -> bool
+    ensures { result ≡ has_text held.now expected.now }
 {
     match held {
         Some(held) => held.as_str() == expected.as_str(),

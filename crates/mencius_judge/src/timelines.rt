@@ -1,7 +1,7 @@
 ghost use Rattle.std.specs.Prelude.{◌≡◌, ◌≢◌, ◌++◌, ◌∷◌, ℕ, ◌+◌, ◌≤◌, List, [], IfOk, OnOk, MatchOption, Option, length};
 ghost use Rattle.std.specs.BTreeMap.{get_by_text};
 ghost use Rattle.mencius_base.specs.declared.command.Command.{Command};
-ghost use Rattle.mencius_model.specs.Store.{out};
+ghost use Rattle.mencius_model.specs.KeyMap.{out};
 ghost use Rattle.mencius_judge.specs.Timelines.{AreTimelines, HasNone, IsFirstCount, IsTimelineOf, held_by, text_of};
 
 use crate::operations::{key_of, text_after};

@@ -3,14 +3,14 @@ use Rattle.std.proofs.Common.{List, []}
 use Rattle.mencius_base.specs.declared.event.Event.{Event}
 use Rattle.mencius_base.specs.Members.{Membership}
 use Rattle.mencius_model.specs.Trace.{Trace}
-use Rattle.mencius_model.specs.Executed.{executed}
+use Rattle.mencius_model.specs.Executed.{history}
 use Rattle.mencius_model.specs.Replying.{longest_at}
 use Rattle.mencius_model.specs.Laws.{IsCourse, DecidedValuesAgree, LearnedIsDecided, HistoriesComparable, ExecutedWasSubmitted, ExecutedOnce, LaterCommandsStandBehind, NoReplyWhereNotSubmitted, ReplyWhereExecuted, PendingWhereNotExecuted, AtMostOneReply, HistoriesGrow, LongestHistoryGrows, LongestCommandsGrow}
 use Rattle.mencius_model.proofs.trace.Lists.{get_in}
 use Rattle.mencius_model.proofs.rights.LineRights.{IsGrown}
 use Rattle.mencius_model.proofs.rights.Journals.{grown_from}
 use Rattle.mencius_model.proofs.replies.RepliesAfterEvents.{history-below}
-use Rattle.mencius_model.proofs.reached.ClusterFacts.{told}
+use Rattle.mencius_model.proofs.reached.ClusterFacts.{cluster_facts}
 use Rattle.mencius_model.proofs.histories.Moments.{moment_past}
 use Rattle.mencius_model.proofs.paxos.Decisions.{learned_decided}
 use Rattle.mencius_model.proofs.paxos.Tickets.{identity_once}
@@ -39,7 +39,7 @@ comparing m journal end w other course a d =
 pub submitting : ExecutedWasSubmitted
 submitting m journal w course p place t h =
     histories.history_submitted m course.some_server w (course_grown m journal w course) p t
-    (get_in (executed w p) place t h)
+    (get_in (history w p) place t h)
 
 pub once : ExecutedOnce
 once m journal w course p place other t u x y h l a d e =
@@ -78,4 +78,4 @@ pub longest_commands_growing : LongestCommandsGrow
 longest_commands_growing m journal end w course a =
     longest.longest_commands_grow m w end course.some_server (moment_past m journal w end a course.replays)
     (course_grown m journal end course)
-    (history-below m w (longest_at m w) (told m w (record { journal = a.before; replays = a.replays })))
+    (history-below m w (longest_at m w) (cluster_facts m w (record { journal = a.before; replays = a.replays })))

@@ -5,5 +5,5 @@ pub mod NumberLists
 pub mod OneMoreLine
 pub mod AnswersLast
 pub mod QuietLines
-pub mod Tallies
+pub mod ServerSets
 pub mod Reports

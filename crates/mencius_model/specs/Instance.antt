@@ -9,7 +9,7 @@ use Rattle.mencius_base.specs.declared.message.Value.{Value}
 use Rattle.mencius_base.specs.declared.message.Value.TheVariants.{Noop, Ticket}
 use Rattle.mencius_base.specs.declared.message.Vote.{Vote}
 use Rattle.mencius_base.specs.Members.{Membership, is_majority, below}
-use Rattle.mencius_model.specs.Trace.{Line, Sent, Learned, Trace, greatest, oldest, heard, sent}
+use Rattle.mencius_model.specs.Trace.{Line, Sent, Learned, Trace, greatest_by, oldest_by, heard_messages, sent_messages}
 
 -- the ballot that a line commits p to at i: promised or accepted
 abbrev pub promised_by : ServerId → Inst → Line → BallotNo
@@ -18,19 +18,19 @@ promised_by p i (Sent (Accepted from to inst ballot)) = if from == p && inst == 
 promised_by p i _ = 0
 
 -- the greatest ballot that p promised or accepted at i, 0 if there is none
-abbrev pub promised : Trace → ServerId → Inst → BallotNo
-promised w p i = greatest (promised_by p i) w
+abbrev pub promised_ballot : Trace → ServerId → Inst → BallotNo
+promised_ballot w p i = greatest_by (promised_by p i) w
 
 -- the value that a line proposes at ballot b of i: at ballot 0 by a Suggest, and else by a Propose
-abbrev pub proposed_by : Inst → BallotNo → Line → Option Value
-proposed_by i b (Sent (Suggest from inst ticket)) = if inst == i && b == 0 then Some (Ticket ticket) else None
-proposed_by i b (Sent (Propose from inst ballot value)) =
+abbrev pub proposal_by : Inst → BallotNo → Line → Option Value
+proposal_by i b (Sent (Suggest from inst ticket)) = if inst == i && b == 0 then Some (Ticket ticket) else None
+proposal_by i b (Sent (Propose from inst ballot value)) =
     if (inst == i && ballot == b) && nat_lt 0 b then Some value else None
-proposed_by i b _ = None
+proposal_by i b _ = None
 
 -- the value proposed at ballot b of i: the first stands
-abbrev pub proposed : Trace → Inst → BallotNo → Option Value
-proposed w i b = oldest (proposed_by i b) w
+abbrev pub proposal : Trace → Inst → BallotNo → Option Value
+proposal w i b = oldest_by (proposal_by i b) w
 
 -- the ballot that a line accepts for p at i
 abbrev pub accepted_by : ServerId → Inst → Line → Option BallotNo
@@ -38,15 +38,15 @@ accepted_by p i (Sent (Accepted from to inst ballot)) = if from == p && inst == 
 accepted_by p i _ = None
 
 -- the greater of two ballots that may be absent
-abbrev pub greater : Option BallotNo → Option BallotNo → Option BallotNo
-greater None o = o
-greater (Some b) None = Some b
-greater (Some b) (Some c) = if nat_lt b c then Some c else Some b
+abbrev pub greater_ballot : Option BallotNo → Option BallotNo → Option BallotNo
+greater_ballot None o = o
+greater_ballot (Some b) None = Some b
+greater_ballot (Some b) (Some c) = if nat_lt b c then Some c else Some b
 
 -- the greatest ballot that p accepted at i, if there is one
-abbrev pub accepted : Trace → ServerId → Inst → Option BallotNo
-accepted [] p i = None
-accepted (l ∷ w) p i = greater (accepted w p i) (accepted_by p i l)
+abbrev pub accepted_ballot : Trace → ServerId → Inst → Option BallotNo
+accepted_ballot [] p i = None
+accepted_ballot (l ∷ w) p i = greater_ballot (accepted_ballot w p i) (accepted_by p i l)
 
 -- a ballot with the value proposed at it
 abbrev pub vote_at : BallotNo → Option Value → Option Vote
@@ -55,11 +55,11 @@ vote_at b (Some x) = Some (record { ballot = b; value = x })
 
 abbrev pub vote_of : Trace → Inst → Option BallotNo → Option Vote
 vote_of w i None = None
-vote_of w i (Some b) = vote_at b (proposed w i b)
+vote_of w i (Some b) = vote_at b (proposal w i b)
 
 -- the greatest ballot that p accepted at i, with the value proposed at it
 abbrev pub vote : Trace → ServerId → Inst → Option Vote
-vote w p i = vote_of w i (accepted w p i)
+vote w p i = vote_of w i (accepted_ballot w p i)
 
 -- the value that a line says that p learned at i
 abbrev pub learned_by : ServerId → Inst → Line → Option Value
@@ -67,8 +67,8 @@ learned_by p i (Learned server inst value) = if server == p && inst == i then So
 learned_by p i _ = None
 
 -- the value that p learned at i: the first stands
-abbrev pub learned : Trace → ServerId → Inst → Option Value
-learned w p i = oldest (learned_by p i) w
+abbrev pub learned_value : Trace → ServerId → Inst → Option Value
+learned_value w p i = oldest_by (learned_by p i) w
 
 -- the ballot that a line says that p tries at i
 abbrev pub tried_by : ServerId → Inst → Line → BallotNo
@@ -76,8 +76,8 @@ tried_by p i (Sent (Prepare from inst ballot)) = if from == p && inst == i then 
 tried_by p i _ = 0
 
 -- the greatest ballot that p tried at i, 0 if there is none
-abbrev pub trying : Trace → ServerId → Inst → BallotNo
-trying w p i = greatest (tried_by p i) w
+abbrev pub tried_ballot : Trace → ServerId → Inst → BallotNo
+tried_ballot w p i = greatest_by (tried_by p i) w
 
 -- whether a message is q's promise of ballot b of i
 abbrev pub is_promise : Inst → BallotNo → ServerId → Message → Bool
@@ -86,7 +86,7 @@ is_promise i b q _ = false
 
 -- whether p heard q's promise of ballot b of i
 abbrev pub promisers : Trace → ServerId → Inst → BallotNo → ServerId → Bool
-promisers w p i b q = list_any (is_promise i b q) (heard w p)
+promisers w p i b q = list_any (is_promise i b q) (heard_messages w p)
 
 -- whether a message is q's acceptance at ballot b of i
 abbrev pub is_acceptance : Inst → BallotNo → ServerId → Message → Bool
@@ -95,7 +95,7 @@ is_acceptance i b q _ = false
 
 -- whether p heard q's acceptance at ballot b of i
 abbrev pub accepters : Trace → ServerId → Inst → BallotNo → ServerId → Bool
-accepters w p i b q = list_any (is_acceptance i b q) (heard w p)
+accepters w p i b q = list_any (is_acceptance i b q) (heard_messages w p)
 
 -- the vote of the greater ballot, and of equal ballots the first
 abbrev pub higher_vote : Option Vote → Option Vote → Option Vote
@@ -113,12 +113,12 @@ abbrev pub highest_vote : List (Option Vote) → Option Vote
 highest_vote votes = fold higher_vote None votes
 
 -- the vote of the greatest ballot in the promises of ballot b of i that p heard
-abbrev pub reported : Trace → ServerId → Inst → BallotNo → Option Vote
-reported w p i b = highest_vote (map (vote_reported i b) (heard w p))
+abbrev pub reported_vote : Trace → ServerId → Inst → BallotNo → Option Vote
+reported_vote w p i b = highest_vote (map (vote_reported i b) (heard_messages w p))
 
 -- whether q sent an acceptance at ballot b of i, heard or not
 abbrev pub has_accepted : Trace → Inst → BallotNo → ServerId → Bool
-has_accepted w i b q = list_any (is_acceptance i b q) (sent w)
+has_accepted w i b q = list_any (is_acceptance i b q) (sent_messages w)
 
 -- whether a majority of the servers is in the set
 abbrev pub are_majority : Membership → (ServerId → Bool) → Bool
@@ -131,10 +131,10 @@ value_or_noop (Some x) = x.value
 
 -- what p accepted at i had been proposed, as in every trace that comes about
 pub record IsVoted (w : Trace) (p : ServerId) (i : Inst) : Type 0 where
-  pub proposal : (b : BallotNo) → accepted w p i ≡ Some b → (z : Value) × (proposed w i b ≡ Some z)
+  pub proposal : (b : BallotNo) → accepted_ballot w p i ≡ Some b → (z : Value) × (proposal w i b ≡ Some z)
 
 -- nothing came yet of ballot b of i: p heard no promise of it and no acceptance, and nothing is proposed at it
 pub record IsUntried (w : Trace) (p : ServerId) (i : Inst) (b : BallotNo) : Type 0 where
   pub unpromised : (q : ServerId) → promisers w p i b q ≡ false
   pub unaccepted : (q : ServerId) → accepters w p i b q ≡ false
-  pub unsaid : proposed w i b ≡ None
+  pub unsaid : proposal w i b ≡ None

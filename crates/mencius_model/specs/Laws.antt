@@ -9,17 +9,18 @@ use Rattle.mencius_base.specs.declared.refusal.Refusal.TheVariants.{BadServer, E
 use Rattle.mencius_base.specs.declared.command.Command.{Command}
 use Rattle.mencius_base.specs.declared.command.CommandId.{CommandId}
 use Rattle.mencius_base.specs.declared.message.Value.{Value}
-use Rattle.mencius_base.specs.Members.{Membership, first_item, instances, most_events, most_messages, most_rounds, owner}
+use Rattle.mencius_base.specs.Limits.{greatest_round}
+use Rattle.mencius_base.specs.Members.{Membership, first_item, instances, most_events, most_messages, owner}
 use Rattle.mencius_base.specs.Outbox.{is_too_many}
-use Rattle.mencius_model.specs.Trace.{Line, Trace, events, submitted, sent, heard}
-use Rattle.mencius_model.specs.Instance.{learned, reported}
-use Rattle.mencius_model.specs.Store.{out}
+use Rattle.mencius_model.specs.Trace.{Line, Trace, events, submitted_commands, sent_messages, heard_messages}
+use Rattle.mencius_model.specs.Instance.{learned_value, reported_vote}
+use Rattle.mencius_model.specs.KeyMap.{out}
 use Rattle.mencius_model.specs.Server.{front}
-use Rattle.mencius_model.specs.Next.{first_cause, lines, next_round, preparation, refused, replay, IsReached}
+use Rattle.mencius_model.specs.Next.{first_cause, lines, next_round, preparation, refusal_cause, replay, IsReached}
 use Rattle.mencius_base.specs.Command.{is_same_id}
 use Rattle.mencius_model.specs.Decided.{IsDecided}
-use Rattle.mencius_model.specs.Executed.{executed, IsPrefix, IsComparable}
-use Rattle.mencius_model.specs.Replying.{NotYet, Is, commands_of, longest_at, longest_commands, reply_of}
+use Rattle.mencius_model.specs.Executed.{history, IsPrefix, IsComparable}
+use Rattle.mencius_model.specs.Replying.{Pending, Given, commands_of, longest_at, longest_commands, reply_of}
 use Rattle.mencius_base.specs.declared.message.Message.{Message}
 use Rattle.mencius_base.specs.declared.message.Message.TheVariants.{Suggest, Propose, Promise}
 use Rattle.mencius_base.specs.declared.message.Vote.{Vote}
@@ -49,14 +50,14 @@ DecidedValuesAgree =
 abbrev pub LearnedIsDecided : Type 0
 LearnedIsDecided =
     (m : Membership) (journal : List Event) (w : Trace) → IsCourse m journal w
-    → (p : ServerId) (i : Inst) (z : Value) → learned w p i ≡ Some z → IsDecided m w i z
+    → (p : ServerId) (i : Inst) (z : Value) → learned_value w p i ≡ Some z → IsDecided m w i z
 
 -- of the histories of any two servers, at any two moments, one is a prefix of the other
 abbrev pub HistoriesComparable : Type 0
 HistoriesComparable =
     (m : Membership) (journal : List Event) (end w v : Trace) → IsCourse m journal end → IsMoment m journal w
     → IsMoment m journal v
-    → (p q : ServerId) → IsComparable (executed w p) (executed v q)
+    → (p q : ServerId) → IsComparable (history w p) (history v q)
 
 -- ---- once
 
@@ -64,15 +65,17 @@ HistoriesComparable =
 abbrev pub ExecutedWasSubmitted : Type 0
 ExecutedWasSubmitted =
     (m : Membership) (journal : List Event) (w : Trace) → IsCourse m journal w
-    → (p : ServerId) (place : ℕ) (t : TicketNo) → slice_get (executed w p) place ≡ Some t → t < length (submitted w)
+    → (p : ServerId) (place : ℕ) (t : TicketNo) → slice_get (history w p) place ≡ Some t
+    → t < length (submitted_commands w)
 
 -- no identity stands twice in a history
 abbrev pub ExecutedOnce : Type 0
 ExecutedOnce =
     (m : Membership) (journal : List Event) (w : Trace) → IsCourse m journal w
     → (p : ServerId) (place other : ℕ) (t u : TicketNo) (x y : Command × ServerId)
-    → slice_get (executed w p) place ≡ Some t → slice_get (executed w p) other ≡ Some u
-    → slice_get (submitted w) t ≡ Some x → slice_get (submitted w) u ≡ Some y → IsTrue (is_same_id x.0.id y.0.id)
+    → slice_get (history w p) place ≡ Some t → slice_get (history w p) other ≡ Some u
+    → slice_get (submitted_commands w) t ≡ Some x → slice_get (submitted_commands w) u ≡ Some y
+    → IsTrue (is_same_id x.0.id y.0.id)
     → place ≡ other
 
 -- ---- order
@@ -82,9 +85,9 @@ ExecutedOnce =
 abbrev pub LaterCommandsStandBehind : Type 0
 LaterCommandsStandBehind =
     (m : Membership) (journal : List Event) (end w : Trace) → IsCourse m journal end → IsMoment m journal w
-    → (p q : ServerId) (t : TicketNo) (front back : List TicketNo) → length (submitted w) ≤ t
-    → executed end q ≡ front ++ t ∷ back
-    → IsPrefix (executed w p) front
+    → (p q : ServerId) (t : TicketNo) (front back : List TicketNo) → length (submitted_commands w) ≤ t
+    → history end q ≡ front ++ t ∷ back
+    → IsPrefix (history w p) front
 
 -- ---- replies
 
@@ -95,24 +98,24 @@ pub record IsReply (w : Trace) (id : CommandId) (reply : Option (List ℕ)) : Ty
   pub command : Command
   pub home : ServerId
   pub place : ℕ
-  pub given : slice_get (submitted w) ticket ≡ Some (command, home)
+  pub given : slice_get (submitted_commands w) ticket ≡ Some (command, home)
   pub same : IsTrue (is_same_id command.id id)
-  pub there : slice_get (executed w home) place ≡ Some ticket
-  pub first : (other : ℕ) → slice_get (executed w home) other ≡ Some ticket → place ≤ other
-  pub is : reply ≡ out (commands_of w (take place (executed w home))) command
+  pub there : slice_get (history w home) place ≡ Some ticket
+  pub first : (other : ℕ) → slice_get (history w home) other ≡ Some ticket → place ≤ other
+  pub is : reply ≡ out (commands_of w (take place (history w home))) command
 
 -- the command of this identity stands nowhere in its home's history
 pub record IsPending (w : Trace) (id : CommandId) : Type 0 where
   pub ticket : TicketNo
   pub command : Command
   pub home : ServerId
-  pub given : slice_get (submitted w) ticket ≡ Some (command, home)
+  pub given : slice_get (submitted_commands w) ticket ≡ Some (command, home)
   pub same : IsTrue (is_same_id command.id id)
-  pub absent : (place : ℕ) → slice_get (executed w home) place ≡ Some ticket → ⊥
+  pub absent : (place : ℕ) → slice_get (history w home) place ≡ Some ticket → ⊥
 
 -- a command of this identity was submitted
 abbrev pub IsSubmitted : Trace → CommandId → Type 0
-IsSubmitted w id = IsTrue (list_any (λ (x : Command × ServerId). is_same_id x.0.id id) (submitted w))
+IsSubmitted w id = IsTrue (list_any (λ (x : Command × ServerId). is_same_id x.0.id id) (submitted_commands w))
 
 -- there is no reply exactly for an identity that was never submitted
 abbrev pub NoReplyWhereNotSubmitted : Type 0
@@ -124,13 +127,13 @@ NoReplyWhereNotSubmitted =
 abbrev pub ReplyWhereExecuted : Type 0
 ReplyWhereExecuted =
     (m : Membership) (journal : List Event) (w : Trace) → IsCourse m journal w
-    → (id : CommandId) (reply : Option (List ℕ)) → (reply_of w id ≡ Some (Is reply)) ↔ IsReply w id reply
+    → (id : CommandId) (reply : Option (List ℕ)) → (reply_of w id ≡ Some (Given reply)) ↔ IsReply w id reply
 
 -- and is pending exactly where the command was submitted, and its home has not executed it
 abbrev pub PendingWhereNotExecuted : Type 0
 PendingWhereNotExecuted =
     (m : Membership) (journal : List Event) (w : Trace) → IsCourse m journal w
-    → (id : CommandId) → (reply_of w id ≡ Some NotYet) ↔ IsPending w id
+    → (id : CommandId) → (reply_of w id ≡ Some Pending) ↔ IsPending w id
 
 -- a command has at most one reply
 abbrev pub AtMostOneReply : Type 0
@@ -144,13 +147,13 @@ AtMostOneReply =
 abbrev pub HistoriesGrow : Type 0
 HistoriesGrow =
     (m : Membership) (journal : List Event) (end w : Trace) → IsCourse m journal end → IsMoment m journal w
-    → (p : ServerId) → IsPrefix (executed w p) (executed end p)
+    → (p : ServerId) → IsPrefix (history w p) (history end p)
 
 -- the longest history is a prefix of each later longest one
 abbrev pub LongestHistoryGrows : Type 0
 LongestHistoryGrows =
     (m : Membership) (journal : List Event) (end w : Trace) → IsCourse m journal end → IsMoment m journal w
-    → IsPrefix (executed w (longest_at m w)) (executed end (longest_at m end))
+    → IsPrefix (history w (longest_at m w)) (history end (longest_at m end))
 
 -- and so do its commands
 abbrev pub LongestCommandsGrow : Type 0
@@ -171,40 +174,42 @@ is_proposal_at i b _ = false
 -- an instance has at most one Suggest
 abbrev pub AtMostOneSuggest : Type 0
 AtMostOneSuggest = (m : Membership) (w : Trace) → IsReached m w → (i : Inst)
-    → count_by (is_suggestion_at i) (sent w) ≤ 1
+    → count_by (is_suggestion_at i) (sent_messages w) ≤ 1
 
 -- an instance has at most one Propose at a ballot
 abbrev pub AtMostOnePropose : Type 0
 AtMostOnePropose = (m : Membership) (w : Trace) → IsReached m w → (i : Inst) (b : BallotNo)
-    → count_by (is_proposal_at i b) (sent w) ≤ 1
+    → count_by (is_proposal_at i b) (sent_messages w) ≤ 1
 
 -- ---- the vote reported, in every trace whatever
 
 -- p heard a promise of ballot b of i that reports the vote x
 abbrev pub HearsReport : Trace → ServerId → Inst → BallotNo → Vote → Type 0
-HearsReport w p i b x = (from : ServerId) × (to : ServerId) × Contains (heard w p) (Promise from to i b (Some x))
+HearsReport w p i b x =
+    (from : ServerId) × (to : ServerId) × Contains (heard_messages w p) (Promise from to i b (Some x))
 
 -- the vote reported is one of those in the promises heard, and none of them has a greater ballot
 abbrev pub ReportedWasHeard : Type 0
 ReportedWasHeard =
-    (w : Trace) (p : ServerId) (i : Inst) (b : BallotNo) (z : Vote) → reported w p i b ≡ Some z
+    (w : Trace) (p : ServerId) (i : Inst) (b : BallotNo) (z : Vote) → reported_vote w p i b ≡ Some z
     → HearsReport w p i b z
 
 abbrev pub ReportedIsGreatest : Type 0
 ReportedIsGreatest =
-    (w : Trace) (p : ServerId) (i : Inst) (b : BallotNo) (z x : Vote) → reported w p i b ≡ Some z
+    (w : Trace) (p : ServerId) (i : Inst) (b : BallotNo) (z x : Vote) → reported_vote w p i b ≡ Some z
     → HearsReport w p i b x → x.ballot ≤ z.ballot
 
 -- where a vote was heard, one is reported
 abbrev pub ReportedWhereHeard : Type 0
 ReportedWhereHeard =
-    (w : Trace) (p : ServerId) (i : Inst) (b : BallotNo) (z : Vote) → HearsReport w p i b z → reported w p i b ≢ None
+    (w : Trace) (p : ServerId) (i : Inst) (b : BallotNo) (z : Vote) → HearsReport w p i b z
+    → reported_vote w p i b ≢ None
 
 -- ---- suspicions where beta is 0
 
 -- an instance of q up to p's own front that p has not learned
 abbrev pub is_open_to_front : Membership → Trace → ServerId → ServerId → Inst → Bool
-is_open_to_front m w p q i = (owner m i == q && nat_le i (front m w p)) && is_none (learned w p i)
+is_open_to_front m w p q i = (owner m i == q && nat_le i (front m w p)) && is_none (learned_value w p i)
 
 abbrev pub open_to_front : Membership → Trace → ServerId → ServerId → List Inst
 open_to_front m w p q = filter (is_open_to_front m w p q) instances
@@ -220,16 +225,16 @@ causes_to_front m w p q =
     ∷ (nat_le m.count p || nat_le m.count q, BadServer)
     ∷ (p == q, SelfSuspect)
     ∷ (is_none (first_item (open_to_front m w p q)), NothingToRevoke)
-    ∷ (list_any (λ i. nat_lt most_rounds (next_round m w p i)) (open_to_front m w p q), RoundsFull)
-    ∷ (is_too_many most_messages (length (sent w)) (length (open_to_front m w p q)), MessagesFull) ∷ []
+    ∷ (list_any (λ i. nat_lt greatest_round (next_round m w p i)) (open_to_front m w p q), RoundsFull)
+    ∷ (is_too_many most_messages (length (sent_messages w)) (length (open_to_front m w p q)), MessagesFull) ∷ []
 
 -- with a beta of 0 a suspicion covers what lies up to the own front, and nothing is refused otherwise
 abbrev pub BetaZeroRefuses : Type 0
 BetaZeroRefuses =
     (m : Membership) (w : Trace) → m.beta ≡ 0 → IsReached m w
-    → (p q : ServerId) → refused m w (Suspect p q) ≡ first_cause (causes_to_front m w p q)
+    → (p q : ServerId) → refusal_cause m w (Suspect p q) ≡ first_cause (causes_to_front m w p q)
 
 abbrev pub BetaZeroSends : Type 0
 BetaZeroSends =
     (m : Membership) (w : Trace) → m.beta ≡ 0 → IsReached m w
-    → (p q : ServerId) → refused m w (Suspect p q) ≡ None → lines m w (Suspect p q) ≡ lines_to_front m w p q
+    → (p q : ServerId) → refusal_cause m w (Suspect p q) ≡ None → lines m w (Suspect p q) ≡ lines_to_front m w p q

@@ -5,7 +5,7 @@ pub mod Server
 pub mod Next
 pub mod Decided
 pub mod Executed
-pub mod Store
+pub mod KeyMap
 pub mod Held
 pub mod Replying
 pub mod Laws

@@ -6,48 +6,48 @@ use Rattle.mencius_base.specs.Numbers.{ServerId, TicketNo}
 use Rattle.mencius_base.specs.declared.command.Command.{Command}
 use Rattle.mencius_base.specs.declared.command.CommandId.{CommandId}
 use Rattle.mencius_base.specs.Members.{Membership, below}
-use Rattle.mencius_model.specs.Trace.{Trace, submitted}
+use Rattle.mencius_model.specs.Trace.{Trace, submitted_commands}
 use Rattle.mencius_base.specs.Command.{is_same_id}
-use Rattle.mencius_model.specs.Executed.{executed}
-use Rattle.mencius_model.specs.Store.{out}
+use Rattle.mencius_model.specs.Executed.{history}
+use Rattle.mencius_model.specs.KeyMap.{out}
 
 -- the command of a ticket
 abbrev pub command_at : Trace → TicketNo → Option Command
-command_at w t = option_map (λ x. x.0) (slice_get (submitted w) t)
+command_at w t = option_map (λ x. x.0) (slice_get (submitted_commands w) t)
 
 abbrev pub commands_of : Trace → List TicketNo → List Command
 commands_of w ts = filter_map (command_at w) ts
 
 -- the reply of a command that was submitted: none yet, or the text that stood at its key, if one did
 pub data Reply : Type 0 where
-  NotYet : Reply
-  Is : (text : Option (List ℕ)) → Reply
+  Pending : Reply
+  Given : (text : Option (List ℕ)) → Reply
 
 -- the place of the first item that passes
-abbrev pub place_of : {A : Type 0} → (A → Bool) → List A → Option ℕ
-place_of test [] = None
-place_of test (x ∷ xs) = if test x then Some 0 else option_map suc (place_of test xs)
+abbrev pub index_of_first : {A : Type 0} → (A → Bool) → List A → Option ℕ
+index_of_first test [] = None
+index_of_first test (x ∷ xs) = if test x then Some 0 else option_map suc (index_of_first test xs)
 
 -- the reply of a command that stands at this place of its home's history: what the commands before it leave at its key
 abbrev pub reply_from : Trace → Command → ServerId → Option ℕ → Reply
-reply_from w command home None = NotYet
-reply_from w command home (Some place) = Is (out (commands_of w (take place (executed w home))) command)
+reply_from w command home None = Pending
+reply_from w command home (Some place) = Given (out (commands_of w (take place (history w home))) command)
 
 -- what the home's map held when the home first executed the ticket
 abbrev pub reply_at : Trace → TicketNo → Command → ServerId → Reply
-reply_at w t command home = reply_from w command home (place_of (λ u. u == t) (executed w home))
+reply_at w t command home = reply_from w command home (index_of_first (λ u. u == t) (history w home))
 
 abbrev pub reply_of_place : Trace → Option TicketNo → Option Reply
 reply_of_place w None = None
-reply_of_place w (Some t) = option_map (λ x. reply_at w t x.0 x.1) (slice_get (submitted w) t)
+reply_of_place w (Some t) = option_map (λ x. reply_at w t x.0 x.1) (slice_get (submitted_commands w) t)
 
 -- the reply of an identity, where it was submitted
 abbrev pub reply_of : Trace → CommandId → Option Reply
-reply_of w id = reply_of_place w (place_of (λ x. is_same_id x.0.id id) (submitted w))
+reply_of w id = reply_of_place w (index_of_first (λ x. is_same_id x.0.id id) (submitted_commands w))
 
 -- of two servers the second, where its history is longer
 abbrev pub longest_below : Trace → ServerId → ServerId → ServerId
-longest_below w best p = if nat_lt (length (executed w best)) (length (executed w p)) then p else best
+longest_below w best p = if nat_lt (length (history w best)) (length (history w p)) then p else best
 
 -- the least server whose history is the longest
 abbrev pub longest_at : Membership → Trace → ServerId
@@ -55,10 +55,10 @@ longest_at m w = fold (longest_below w) 0 (below m.count)
 
 -- the commands of the longest history, in order
 abbrev pub longest_commands : Membership → Trace → List Command
-longest_commands m w = commands_of w (executed w (longest_at m w))
+longest_commands m w = commands_of w (history w (longest_at m w))
 
 -- the reply that stays: the first one that the home gave
 abbrev pub first_reply : Bool → Reply → Option (List ℕ) → Reply
-first_reply true NotYet text = Is text
-first_reply true (Is old) text = Is old
+first_reply true Pending text = Given text
+first_reply true (Given old) text = Given old
 first_reply false reply text = reply

@@ -4,7 +4,7 @@ use Rattle.std.specs.Prelude.{ℕ, ◌+◌, ◌*◌, max, Bool, false, List, [],
 use Rattle.mencius_base.specs.Numbers.{ServerId, Inst, BallotNo, TicketNo}
 use Rattle.mencius_base.specs.Members.{Membership, owner, first_owned, round}
 use Rattle.mencius_base.specs.declared.message.Answer.{Answer}
-use Rattle.mencius_base.specs.declared.message.Answer.TheVariants.{Promise as Promised, Known, Silent}
+use Rattle.mencius_base.specs.declared.message.Answer.TheVariants.{Promise as Promised, Learn as Learn_answer, Silent}
 use Rattle.mencius_base.specs.declared.message.Message.{Message}
 use Rattle.mencius_base.specs.declared.message.Message.TheVariants.{Suggest, Skip, Accepted, Promise, Propose, Learn}
 use Rattle.mencius_base.specs.declared.message.Value.{Value}
@@ -57,8 +57,8 @@ abbrev pub front_past : Membership → ServerId → Inst → Inst
 front_past m p i = first_owned m p (i + 1)
 
 -- it gives up the own instances below it, whether or not it is accepted then
-abbrev pub skip_lines : Membership → ServerId → Inst → Inst → List Line
-skip_lines m p front i = if is_past front i then Sent (Skip p front (front_past m p i)) ∷ [] else []
+abbrev pub own_skip_lines : Membership → ServerId → Inst → Inst → List Line
+own_skip_lines m p front i = if is_past front i then Sent (Skip p front (front_past m p i)) ∷ [] else []
 
 -- a ballot is accepted unless a greater one was promised
 abbrev pub is_acceptable : BallotNo → BallotNo → Bool
@@ -71,33 +71,33 @@ acceptance_lines p q i b promised = if is_acceptable promised b then Sent (Accep
 -- ---- a Skip
 
 -- it gives up the instances of its sender in its range
-abbrev pub gives_up : Membership → Inst → Message → Bool
-gives_up m i (Skip from first stop) = (from == owner m i && nat_le first i) && nat_lt i stop
-gives_up m i _ = false
+abbrev pub is_skipped_by : Membership → Inst → Message → Bool
+is_skipped_by m i (Skip from first stop) = (from == owner m i && nat_le first i) && nat_lt i stop
+is_skipped_by m i _ = false
 
 -- where an instance is given up and nothing is learned, no-op is learned at once, without a majority
-abbrev pub is_given_up_from : Membership → Inst → Message → Option Value → Bool
-is_given_up_from m i x learned = gives_up m i x && may_learn learned
+abbrev pub is_newly_skipped_from : Membership → Inst → Message → Option Value → Bool
+is_newly_skipped_from m i x learned = is_skipped_by m i x && may_learn learned
 
 -- ---- a Prepare
 
 -- what is learned is told; else a ballot above all promised ones is promised, with the vote
-abbrev pub acceptor_answer : BallotNo → Option Vote → BallotNo → Option Value → Answer
-acceptor_answer promised vote b (Some x) = Known x
-acceptor_answer promised vote b None = if nat_lt promised b then Promised vote else Silent
+abbrev pub prepare_answer_from : BallotNo → Option Vote → BallotNo → Option Value → Answer
+prepare_answer_from promised vote b (Some x) = Learn_answer x
+prepare_answer_from promised vote b None = if nat_lt promised b then Promised vote else Silent
 
 -- p answers the Prepare of q at (i, b)
 abbrev pub answer_lines : ServerId → ServerId → Inst → BallotNo → Answer → List Line
 answer_lines p q i b (Promised vote) = Sent (Promise p q i b vote) ∷ []
-answer_lines p q i b (Known x) = Sent (Learn p i x) ∷ []
+answer_lines p q i b (Learn_answer x) = Sent (Learn p i x) ∷ []
 answer_lines p q i b Silent = []
 
 -- ---- a Promise
 
 -- once a majority promised, the value of the greatest vote that was reported is proposed, or no-op: where nothing is
 -- learned, and nothing was proposed yet
-abbrev pub proposal_due : Option Value → Option Value → Bool → Option Vote → Option Value
-proposal_due learned proposed majority reported =
+abbrev pub due_proposal_from : Option Value → Option Value → Bool → Option Vote → Option Value
+due_proposal_from learned proposed majority reported =
     if (is_none learned && is_none proposed) && majority then Some (value_or_noop reported) else None
 
 -- p proposes a value at (i, b), if one is due
@@ -108,8 +108,8 @@ proposal_lines p i b (Some x) = Sent (Propose p i b x) ∷ []
 -- ---- an Accepted
 
 -- once a majority accepted, what was proposed is decided: where nothing is learned
-abbrev pub decision_due : Option Value → Option Value → Bool → Option Value
-decision_due learned proposed majority = if is_none learned && majority then proposed else None
+abbrev pub due_decision_from : Option Value → Option Value → Bool → Option Value
+due_decision_from learned proposed majority = if is_none learned && majority then proposed else None
 
 -- p learns the value, and tells everybody, if one is decided
 abbrev pub decision_lines : ServerId → Inst → Option Value → List Line
@@ -139,5 +139,5 @@ abbrev pub is_covered_from : Membership → ServerId → Inst → Inst → Optio
 is_covered_from m q stop i learned = (owner m i == q && nat_lt i stop) && is_none learned
 
 -- one above the rounds of the ballots tried and promised
-abbrev pub round_above : Membership → BallotNo → BallotNo → ℕ
-round_above m tried promised = max (round m tried) (round m promised) + 1
+abbrev pub next_round_from : Membership → BallotNo → BallotNo → ℕ
+next_round_from m tried promised = max (round m tried) (round m promised) + 1

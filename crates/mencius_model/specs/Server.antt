@@ -6,8 +6,8 @@ use Rattle.mencius_base.specs.declared.message.Message.TheVariants.{Suggest, Ski
 use Rattle.mencius_base.specs.declared.message.Value.{Value}
 use Rattle.mencius_base.specs.declared.message.Value.TheVariants.{Ticket}
 use Rattle.mencius_base.specs.Members.{Membership, instances}
-use Rattle.mencius_model.specs.Trace.{Line, Executed, Sent, Trace, greatest, oldest}
-use Rattle.mencius_model.specs.Instance.{learned}
+use Rattle.mencius_model.specs.Trace.{Line, Executed, Sent, Trace, greatest_by, oldest_by}
+use Rattle.mencius_model.specs.Instance.{learned_value}
 use Rattle.mencius_model.specs.Rules.{is_covered_from, is_free_from, is_open_from, reach_from, waiting_ticket}
 
 -- how far a line takes p's front
@@ -18,37 +18,37 @@ front_by m p _ = 0
 
 -- p's next own instance: past all that it suggested or skipped, and p at the start
 abbrev pub front : Membership → Trace → ServerId → Inst
-front m w p = max p (greatest (front_by m p) w)
+front m w p = max p (greatest_by (front_by m p) w)
 
 abbrev pub suggested_by : ServerId → Inst → Line → Option TicketNo
 suggested_by p i (Sent (Suggest from inst ticket)) = if from == p && inst == i then Some ticket else None
 suggested_by p i _ = None
 
 -- the ticket that p suggested at i
-abbrev pub suggested : Trace → ServerId → Inst → Option TicketNo
-suggested w p i = oldest (suggested_by p i) w
+abbrev pub suggested_ticket : Trace → ServerId → Inst → Option TicketNo
+suggested_ticket w p i = oldest_by (suggested_by p i) w
 
 -- p suggested t at an instance past i
-abbrev pub is_suggestion_past : ServerId → TicketNo → Inst → Line → Bool
-is_suggestion_past p t i (Sent (Suggest from inst ticket)) = (from == p && ticket == t) && nat_lt i inst
-is_suggestion_past p t i _ = false
+abbrev pub is_suggested_again_by : ServerId → TicketNo → Inst → Line → Bool
+is_suggested_again_by p t i (Sent (Suggest from inst ticket)) = (from == p && ticket == t) && nat_lt i inst
+is_suggested_again_by p t i _ = false
 
 -- the ticket that p suggested at i waits where p learned no-op there and suggested it at no greater instance
-abbrev pub waits : Trace → ServerId → Inst → Option TicketNo → Option TicketNo
-waits w p i None = None
-waits w p i (Some t) = waiting_ticket (learned w p i) (list_any (is_suggestion_past p t i) w) t
+abbrev pub waiting_of : Trace → ServerId → Inst → Option TicketNo → Option TicketNo
+waiting_of w p i None = None
+waiting_of w p i (Some t) = waiting_ticket (learned_value w p i) (list_any (is_suggested_again_by p t i) w) t
 
 -- the ticket that waits at p since it lost instance i
 abbrev pub waiting_at : Trace → ServerId → Inst → Option TicketNo
-waiting_at w p i = waits w p i (suggested w p i)
+waiting_at w p i = waiting_of w p i (suggested_ticket w p i)
 
 -- by rising instance, each ticket that p suggested where it learned no-op, and suggested nowhere further on
-abbrev pub waiting : Trace → ServerId → List TicketNo
-waiting w p = filter_map (waiting_at w p) instances
+abbrev pub waiting_tickets : Trace → ServerId → List TicketNo
+waiting_tickets w p = filter_map (waiting_at w p) instances
 
 -- an own instance from the front on that p has not learned
 abbrev pub is_free : Membership → Trace → ServerId → Inst → Bool
-is_free m w p i = is_free_from m p (front m w p) i (learned w p i)
+is_free m w p i = is_free_from m p (front m w p) i (learned_value w p i)
 
 -- the least of them
 abbrev pub free_instance : Membership → Trace → ServerId → Option Inst
@@ -56,7 +56,7 @@ free_instance m w p = find (is_free m w p) instances
 
 -- an instance of q that p has not learned
 abbrev pub is_open : Membership → Trace → ServerId → ServerId → Inst → Bool
-is_open m w p q i = is_open_from m q i (learned w p i)
+is_open m w p q i = is_open_from m q i (learned_value w p i)
 
 -- the least of them
 abbrev pub first_open : Membership → Trace → ServerId → ServerId → Option Inst
@@ -68,11 +68,11 @@ reach m w p q = reach_from m (front m w p) (first_open m w p q)
 
 -- an instance of q so far that p has not learned: a suspicion of q by p covers it
 abbrev pub is_covered : Membership → Trace → ServerId → ServerId → Inst → Bool
-is_covered m w p q i = is_covered_from m q (reach m w p q) i (learned w p i)
+is_covered m w p q i = is_covered_from m q (reach m w p q) i (learned_value w p i)
 
 -- all that it covers
-abbrev pub covered_by : Membership → Trace → ServerId → ServerId → List Inst
-covered_by m w p q = filter (is_covered m w p q) instances
+abbrev pub covered_instances : Membership → Trace → ServerId → ServerId → List Inst
+covered_instances m w p q = filter (is_covered m w p q) instances
 
 abbrev pub done_by : ServerId → Line → ℕ
 done_by p (Executed server) = if server == p then 1 else 0

@@ -10,10 +10,10 @@ use Rattle.mencius_base.specs.declared.command.Command.{Command}
 use Rattle.mencius_base.specs.declared.event.Event.{Event}
 use Rattle.mencius_base.specs.declared.event.Event.TheVariants.{Deliver, Execute, Lose, Retry, Submit, Suspect}
 use Rattle.mencius_base.specs.declared.message.Message.{Message}
-use Rattle.mencius_model.specs.Trace.{Trace, sent, submitted}
-use Rattle.mencius_model.specs.Instance.{learned}
-use Rattle.mencius_model.specs.Next.{IsReached, learnings, lines, next, server_of}
-use Rattle.mencius_model.specs.Server.{front, waiting}
+use Rattle.mencius_model.specs.Trace.{Trace, sent_messages, submitted_commands}
+use Rattle.mencius_model.specs.Instance.{learned_value}
+use Rattle.mencius_model.specs.Next.{IsReached, learned_count, lines, next, server_of}
+use Rattle.mencius_model.specs.Server.{front, waiting_tickets}
 use Rattle.mencius_server.specs.Machine.{after_hearing, after_retry, after_submit_at, after_suspect, first_waiting, free_at, learned_on, retry_cause, retry_sent, sent_on, submit_cause, submit_sent, suspect_cause, suspect_sent}
 use Rattle.mencius_server.specs.Reached.{IsAt, IsEventPart, server_at}
 use Rattle.mencius_server.specs.State.{ServerState, slot}
@@ -25,16 +25,17 @@ FrontAnswers = (w : Trace) (s : ServerState) → IsAt w s → s.front ≡ front 
 -- and has learned there what it has learned by that trace
 abbrev pub LearnedAnswers : Type 0
 LearnedAnswers =
-    (w : Trace) (s : ServerState) → IsAt w s → (i : Inst) → i < instance_count → (slot s i).learned ≡ learned w s.id i
+    (w : Trace) (s : ServerState) → IsAt w s → (i : Inst) → i < instance_count → (slot s i).learned
+    ≡ learned_value w s.id i
 
 -- and its first waiting ticket is the one that waits first by that trace
 abbrev pub WaitingAnswers : Type 0
-WaitingAnswers = (w : Trace) (s : ServerState) → IsAt w s → first_waiting s ≡ first_item (waiting w s.id)
+WaitingAnswers = (w : Trace) (s : ServerState) → IsAt w s → first_waiting s ≡ first_item (waiting_tickets w s.id)
 
 -- where a ticket is the next one of the trace, suggesting it is the server's part in the submission
 abbrev pub SubmitIsEvent : Type 0
 SubmitIsEvent =
-    (w : Trace) (s : ServerState) (x : Command) (t : TicketNo) → IsAt w s → t ≡ length (submitted w)
+    (w : Trace) (s : ServerState) (x : Command) (t : TicketNo) → IsAt w s → t ≡ length (submitted_commands w)
     → IsEventPart w (Submit s.id x) s (submit_sent s t (free_at s)) (after_submit_at s t (free_at s))
     (λ o. submit_cause o (free_at s))
 
@@ -42,15 +43,15 @@ SubmitIsEvent =
 abbrev pub HearIsEvent : Type 0
 HearIsEvent =
     (w : Trace) (s : ServerState) (k : MessageNo) (x : Message) → IsAt w s → IsTrue (is_for s.members s.id x)
-    → slice_get (sent w) k ≡ Some x
+    → slice_get (sent_messages w) k ≡ Some x
     → IsEventPart w (Deliver k s.id) s (sent_on s x) (after_hearing s x) (λ o. outbox_full o (length (sent_on s x)))
 
 -- and so many instances are learned then
 abbrev pub HearLearnsAsEvent : Type 0
 HearLearnsAsEvent =
     (w : Trace) (s : ServerState) (k : MessageNo) (x : Message) → IsAt w s → IsTrue (is_for s.members s.id x)
-    → slice_get (sent w) k ≡ Some x
-    → learned_on s x ≡ learnings (lines s.members w (Deliver k s.id))
+    → slice_get (sent_messages w) k ≡ Some x
+    → learned_on s x ≡ learned_count (lines s.members w (Deliver k s.id))
 
 -- beginning first phases is the server's part in the suspicion
 abbrev pub SuspectIsEvent : Type 0

@@ -13,11 +13,11 @@ use Rattle.coord_paxos.specs.SlotState.{SlotState}
 use Rattle.coord_paxos.specs.Slot.{after_accept, after_begin, after_prepare, after_promise, after_acceptance, after_learn, prepare_answer, promise_answer, acceptance_answer}
 use Rattle.mencius_base.specs.declared.refusal.Refusal.{Refusal}
 use Rattle.mencius_base.specs.declared.refusal.Refusal.TheVariants.{InstancesFull, MessagesFull, NothingToRevoke, NothingWaiting, RoundsFull, SelfSuspect}
-use Rattle.mencius_base.specs.Outbox.{Outgoing, is_too_many, outbox_full}
+use Rattle.mencius_base.specs.Outbox.{OutboxState, is_too_many, outbox_full}
 use Rattle.mencius_model.specs.Server.{ticket_of}
 use Rattle.mencius_model.specs.Trace.{Line, messages_of}
-use Rattle.mencius_model.specs.Next.{first_cause, learnings}
-use Rattle.mencius_model.specs.Rules.{acceptance_lines, answer_lines, decision_lines, front_past, gives_up, is_covered_from, is_free_from, is_given_up_from, is_open_from, is_past, learning_lines, proposal_lines, reach_from, round_above, skip_lines, suggestion, waiting_ticket}
+use Rattle.mencius_model.specs.Next.{first_cause, learned_count}
+use Rattle.mencius_model.specs.Rules.{acceptance_lines, answer_lines, decision_lines, front_past, is_covered_from, is_free_from, is_newly_skipped_from, is_open_from, is_past, is_skipped_by, learning_lines, next_round_from, own_skip_lines, proposal_lines, reach_from, suggestion, waiting_ticket}
 use Rattle.mencius_server.specs.State.{ServerState, slot, with_slot, with_slot_and_front}
 use Rattle.mencius_base.specs.Limits.{greatest_round, instance_count}
 use Rattle.mencius_base.specs.Numbers.{BallotNo, Inst, ServerId, TicketNo}
@@ -28,7 +28,7 @@ next_front s i = if is_past s.front i then front_past s.members s.id i else s.fr
 
 -- the Skip that a suggestion at i brings about
 abbrev pub own_skip : ServerState → Inst → List Message
-own_skip s i = messages_of (skip_lines s.members s.id s.front i)
+own_skip s i = messages_of (own_skip_lines s.members s.id s.front i)
 
 -- the acceptance of a Propose, if any
 abbrev pub propose_sent : ServerState → ServerId → Inst → BallotNo → List Message
@@ -73,10 +73,10 @@ after_learn_at s i x = with_slot s i (after_learn (slot s i) x)
 
 -- the instances that a Skip by q gives up, and those of them that the server had not learned
 abbrev pub is_skipped : Membership → ServerId → Inst → Inst → Inst → Bool
-is_skipped m q first stop j = gives_up m j (Skip q first stop)
+is_skipped m q first stop j = is_skipped_by m j (Skip q first stop)
 
 abbrev pub is_newly_skipped_slot : Membership → ServerId → Inst → Inst → Inst → SlotState → Bool
-is_newly_skipped_slot m q first stop j s = is_given_up_from m j (Skip q first stop) s.learned
+is_newly_skipped_slot m q first stop j s = is_newly_skipped_from m j (Skip q first stop) s.learned
 
 abbrev pub slot_after_skip : Membership → ServerId → Inst → Inst → Inst → SlotState → SlotState
 slot_after_skip m q first stop j s = if is_skipped m q first stop j then after_learn s Noop else s
@@ -109,9 +109,9 @@ after_hearing s (Learn from inst value) = after_learn_at s inst value
 
 -- how many instances a message makes the server learn
 abbrev pub learned_on : ServerState → Message → ℕ
-learned_on s (Accepted from to inst ballot) = learnings (decided_on s from inst ballot)
+learned_on s (Accepted from to inst ballot) = learned_count (decided_on s from inst ballot)
 learned_on s (Skip from first stop) = newly_skipped_count s from first stop
-learned_on s (Learn from inst value) = learnings (learning_lines s.id inst value (slot s inst).learned)
+learned_on s (Learn from inst value) = learned_count (learning_lines s.id inst value (slot s inst).learned)
 learned_on s _ = 0
 
 -- an own unlearned instance from the front on
@@ -132,7 +132,7 @@ abbrev pub after_submit : ServerState → Inst → TicketNo → ServerState
 after_submit s i t = with_slot_and_front s i (record (slot s i) { proposal = Some (Ticket t) }) (i + s.members.count)
 
 -- nothing was done, but that there may be more room
-pub record IsUndone (old new : ServerState) (before after : Outgoing) : Type 0 where
+pub record IsUndone (old new : ServerState) (before after : OutboxState) : Type 0 where
   pub server : new ≡ old
   pub messages : after.messages ≡ before.messages
   pub room : before.room ≤ after.room
@@ -146,7 +146,7 @@ after_submit_at s t None = s
 after_submit_at s t (Some i) = after_submit s i t
 
 -- no instance is free, or the outbox is full
-abbrev pub submit_cause : Outgoing → Option Inst → Option Refusal
+abbrev pub submit_cause : OutboxState → Option Inst → Option Refusal
 submit_cause o None = Some InstancesFull
 submit_cause o (Some i) = outbox_full o 1
 
@@ -161,20 +161,20 @@ abbrev pub is_ticket : TicketNo → Option TicketNo → Bool
 is_ticket t None = false
 is_ticket t (Some u) = u == t
 
-abbrev pub is_suggested_past : ServerState → TicketNo → Inst → Inst → Bool
-is_suggested_past s t i j = nat_lt i j && is_ticket t (suggested_at s j)
+abbrev pub is_suggested_again : ServerState → TicketNo → Inst → Inst → Bool
+is_suggested_again s t i j = nat_lt i j && is_ticket t (suggested_at s j)
 
 -- it waits where no-op was learned there, and it was suggested nowhere further on
-abbrev pub waits_with : ServerState → Inst → Option TicketNo → Option TicketNo
-waits_with s i None = None
-waits_with s i (Some t) = waiting_ticket (slot s i).learned (list_any (is_suggested_past s t i) instances) t
+abbrev pub own_waiting_of : ServerState → Inst → Option TicketNo → Option TicketNo
+own_waiting_of s i None = None
+own_waiting_of s i (Some t) = waiting_ticket (slot s i).learned (list_any (is_suggested_again s t i) instances) t
 
-abbrev pub waits_at : ServerState → Inst → Option TicketNo
-waits_at s i = waits_with s i (suggested_at s i)
+abbrev pub own_waiting_at : ServerState → Inst → Option TicketNo
+own_waiting_at s i = own_waiting_of s i (suggested_at s i)
 
 -- the first ticket that waits
 abbrev pub first_waiting : ServerState → Option TicketNo
-first_waiting s = first_item (filter_map (waits_at s) instances)
+first_waiting s = first_item (filter_map (own_waiting_at s) instances)
 
 -- the suggestion of the ticket that waits, where there is one
 abbrev pub retry_sent : ServerState → Option TicketNo → List Message
@@ -185,7 +185,7 @@ abbrev pub after_retry : ServerState → Option TicketNo → ServerState
 after_retry s None = s
 after_retry s (Some t) = after_submit_at s t (free_at s)
 
-abbrev pub retry_cause : ServerState → Outgoing → Option TicketNo → Option Refusal
+abbrev pub retry_cause : ServerState → OutboxState → Option TicketNo → Option Refusal
 retry_cause s o None = Some NothingWaiting
 retry_cause s o (Some t) = submit_cause o (free_at s)
 
@@ -194,18 +194,18 @@ abbrev pub is_covered_in : Membership → ServerId → Inst → Inst → SlotSta
 is_covered_in m q reach i s = is_covered_from m q reach i s.learned
 
 -- one above the rounds that were tried and promised
-abbrev pub round_after : Membership → SlotState → ℕ
-round_after m s = round_above m s.trying s.promised
+abbrev pub next_round_of : Membership → SlotState → ℕ
+next_round_of m s = next_round_from m s.trying s.promised
 
-abbrev pub ballot_after : Membership → ServerId → SlotState → BallotNo
-ballot_after m p s = ballot_of m (round_after m s) p
+abbrev pub next_ballot : Membership → ServerId → SlotState → BallotNo
+next_ballot m p s = ballot_of m (next_round_of m s) p
 
 -- p's next first phase at an instance of which it knows this: the Prepare, and what it knows from then on
 abbrev pub next_prepare : Membership → ServerId → Inst → SlotState → Message
-next_prepare m p i s = Prepare p i (ballot_after m p s)
+next_prepare m p i s = Prepare p i (next_ballot m p s)
 
 abbrev pub with_next_phase : Membership → ServerId → SlotState → SlotState
-with_next_phase m p s = after_begin s (ballot_after m p s)
+with_next_phase m p s = after_begin s (next_ballot m p s)
 
 -- it is started where a suspicion of q covers the instance
 abbrev pub slot_after_suspect : Membership → ServerId → ServerId → Inst → Inst → SlotState → SlotState
@@ -243,21 +243,21 @@ after_suspect s q = record s {
 
 -- no round is left above them
 abbrev pub is_spent : Membership → SlotState → Bool
-is_spent m s = nat_lt greatest_round (round_after m s)
+is_spent m s = nat_lt greatest_round (next_round_of m s)
 
 abbrev pub is_spent_at : ServerState → Inst → Bool
 is_spent_at s i = is_spent s.members (slot s i)
 
 -- why a suspicion of another server is refused, in order: it covers nothing, there is no further round at an instance
 -- that it covers, or so many messages are too many
-abbrev pub revocation_causes : Bool → Bool → Outgoing → ℕ → List (Bool × Refusal)
+abbrev pub revocation_causes : Bool → Bool → OutboxState → ℕ → List (Bool × Refusal)
 revocation_causes is_nothing is_any_spent o count =
     (is_nothing, NothingToRevoke)
     ∷ (is_any_spent, RoundsFull)
     ∷ (is_too_many o.limit (length o.messages) count, MessagesFull) ∷ []
 
 -- and of any server
-abbrev pub suspect_cause : ServerState → Outgoing → ServerId → Option Refusal
+abbrev pub suspect_cause : ServerState → OutboxState → ServerId → Option Refusal
 suspect_cause s o q = first_cause (
     (s.id == q, SelfSuspect)
     ∷ revocation_causes (is_none (first_item (covered_instances_at s q)))

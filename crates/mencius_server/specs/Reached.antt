@@ -5,10 +5,10 @@ use Rattle.mencius_base.specs.declared.message.Message.{Message}
 use Rattle.mencius_base.specs.declared.refusal.Refusal.{Refusal}
 use Rattle.mencius_base.specs.Members.{Membership, instances}
 use Rattle.mencius_base.specs.Numbers.{ServerId}
-use Rattle.mencius_base.specs.Outbox.{Outgoing}
+use Rattle.mencius_base.specs.Outbox.{OutboxState}
 use Rattle.mencius_model.specs.Trace.{Trace, messages_of}
 use Rattle.mencius_model.specs.Server.{front}
-use Rattle.mencius_model.specs.Next.{IsReached, lines, found_by_server, first_cause, with_event}
+use Rattle.mencius_model.specs.Next.{IsReached, lines, server_causes, first_cause, with_event}
 use Rattle.coord_paxos.specs.Reached.{slot_at}
 use Rattle.mencius_server.specs.State.{ServerState}
 
@@ -22,12 +22,12 @@ pub record IsAt (w : Trace) (s : ServerState) : Type 0 where
   pub state : s ≡ server_at s.members w s.id
 
 -- the first cause, if any, for which a server refuses an event, where these messages stand on its outbox
-abbrev pub refusal_of : Trace → Event → ServerState → Outgoing → Option Refusal
-refusal_of w e s o = first_cause (found_by_server s.members w e (length o.messages) o.limit)
+abbrev pub refusal_of : Trace → Event → ServerState → OutboxState → Option Refusal
+refusal_of w e s o = first_cause (server_causes s.members w e (length o.messages) o.limit)
 
 -- a server's part in an event: it sends these messages, it is this afterwards, and it refuses the event for this cause
 pub record IsEventPart (w : Trace) (e : Event) (s : ServerState) (ms : List Message) (after : ServerState)
-    (cause : Outgoing → Option Refusal) : Type 0 where
+    (cause : OutboxState → Option Refusal) : Type 0 where
   pub sent : ms ≡ messages_of (lines s.members w e)
   pub state : after ≡ server_at s.members (with_event s.members w e) s.id
-  pub refusal : (o : Outgoing) → cause o ≡ refusal_of w e s o
+  pub refusal : (o : OutboxState) → cause o ≡ refusal_of w e s o

@@ -4,7 +4,7 @@ use Rattle.std.specs.List.{count_by, filter, list_any}
 use Rattle.mencius_base.specs.declared.refusal.Refusal.{Refusal}
 use Rattle.mencius_base.specs.Members.{Membership, below, instances, owner}
 use Rattle.mencius_base.specs.Numbers.{Inst, ServerId}
-use Rattle.mencius_base.specs.Outbox.{Outgoing}
+use Rattle.mencius_base.specs.Outbox.{OutboxState}
 use Rattle.coord_paxos.specs.SlotState.{SlotState}
 use Rattle.mencius_model.specs.Next.{first_cause}
 use Rattle.mencius_server.specs.Machine.{is_spent, revocation_causes}
@@ -92,7 +92,7 @@ pub record IsSurvey (s : InstancesState) (q : ServerId) (reach : Inst) (d : Tall
       ≡ list_any (is_spent_stored s) (filter (is_covered_stored s q reach) instances)
 
 -- why a suspicion of which this was counted is refused, running out of memory aside
-abbrev pub tally_cause : Tally → Outgoing → Option Refusal
+abbrev pub tally_cause : Tally → OutboxState → Option Refusal
 tally_cause x o = first_cause (revocation_causes (x.open_count == 0) (nat_lt 0 x.spent_count) o x.open_count)
 
 -- the instances of q from one on before which none is open, so far

@@ -5,7 +5,7 @@ ghost use Rattle.mencius_base.specs.Outbox.{outbox_full};
 ghost use Rattle.mencius_base.specs.Refusal.{IsRefusedFor};
 ghost use Rattle.mencius_base.specs.declared.message.Message.TheVariants.{Prepare};
 ghost use Rattle.mencius_server.specs.Machine.{IsUndone, accepted_sent, after_accepted, after_hearing, after_learn_at, after_skip, newly_skipped_count, after_prepare_at, after_promise_at, after_propose, after_suggest, learned_on, decided_on, prepare_sent, promise_sent, propose_sent, sent_on, own_skip, suggest_sent, next_front};
-ghost use Rattle.mencius_model.specs.Next.{learnings};
+ghost use Rattle.mencius_model.specs.Next.{learned_count};
 ghost use Rattle.mencius_server.specs.State.{slot};
 ghost use Rattle.std.specs.Prelude.{◌≡◌, ◌+◌, ◌<◌, ◌++◌, ◌==◌, length, is_none, OnOk, OnErr, IfOk, if◌then◌else◌, IsTrue, Some};
 
@@ -122,7 +122,7 @@ impl Server {
             self.change(inst, Change::Accept(Ballot::OWNER, Value::Ticket(ticket)))?;
         }
         if is_ahead {
-            self.skip_past(inst, out);
+            self.push_own_skip(inst, out);
         }
         if is_accepted {
             out.push(Message::Accepted {
@@ -166,7 +166,7 @@ impl Server {
                     vote,
                 });
             }
-            Answer::Known(value) => {
+            Answer::Learn(value) => {
                 out.reserve(1)?;
                 out.push(Message::Learn {
                     from: self.id,
@@ -280,7 +280,7 @@ impl Server {
         ensures sent { OnOk result (out.new.messages
             ≡ out.old.messages ++ accepted_sent self.old from inst ballot) }
         ensures after { OnOk result (self.new ≡ after_accepted self.old from inst ballot) }
-        ensures learned { IfOk result (λ n. n ≡ learnings (decided_on self.old from inst ballot)) }
+        ensures learned { IfOk result (λ n. n ≡ learned_count (decided_on self.old from inst ballot)) }
         ensures limit { out.new.limit ≡ out.old.limit }
         ensures err { OnErr result (IsUndone self.old self.new out.old out.new) }
         ensures refusal { IsRefusedFor
@@ -313,7 +313,7 @@ impl Server {
 
     // Gives up the own instances from the front up to one past an instance by one Skip, for which there is room
     // (Rule 2).
-    fn skip_past(&mut self, inst: u32, out: &mut Outbox)
+    fn push_own_skip(&mut self, inst: u32, out: &mut Outbox)
         requires small { inst < instance_count }
         requires ahead { self.old.front < inst }
         requires room { 0 < out.old.room }

@@ -156,8 +156,11 @@ impl Instances {
         ensures { result ≡ acceptance_answer (instance_slot self.now inst) from ballot }
     {
         match self.stored.slots.get(inst) {
-            Some(slot) => slot.accept_answer(from, ballot),
-            None => self.stored.slot_by_skip(inst).accept_answer(from, ballot),
+            Some(slot) => slot.acceptance_answer(from, ballot),
+            None => self
+                .stored
+                .slot_by_skip(inst)
+                .acceptance_answer(from, ballot),
         }
     }
 
@@ -169,8 +172,8 @@ impl Instances {
     {
         match self.stored.slots.get(inst) {
             Some(slot) => {
-                let accepts = slot.accepts();
-                (from as usize) < accepts.len() && accepts[from as usize]
+                let accepters = slot.accepters();
+                (from as usize) < accepters.len() && accepters[from as usize]
             }
             None => false,
         }

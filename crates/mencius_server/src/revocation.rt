@@ -1,7 +1,7 @@
 //! Rule 3: first phases at the instances of a server that is suspected.
 ghost use Rattle.mencius_base.specs.Limits.{greatest_round};
 ghost use Rattle.mencius_base.specs.Refusal.{IsRefusedFor};
-ghost use Rattle.mencius_server.specs.Machine.{IsUndone, after_suspect, is_spent, round_after, suspect_cause, suspect_sent};
+ghost use Rattle.mencius_server.specs.Machine.{IsUndone, after_suspect, is_spent, next_round_of, suspect_cause, suspect_sent};
 ghost use Rattle.mencius_server.specs.Slots.{prepare_at, slot_after_phase};
 ghost use Rattle.mencius_server.specs.State.{slot};
 ghost use Rattle.std.specs.Prelude.{◌≡◌, false, is_none, is_some, ◌+◌, ◌<◌, ◌≤◌, ◌++◌, ◌==◌, OnOk, OnErr, if◌then◌else◌, Some, true};
@@ -53,8 +53,8 @@ impl Server {
 }
 
 // One above the rounds that were tried and promised.
-pub(crate) fn round_after(members: Members, slot: &Slot) -> u32
-    ensures round { result ≡ round_after members slot.now }
+pub(crate) fn next_round_of(members: Members, slot: &Slot) -> u32
+    ensures round { result ≡ next_round_of members slot.now }
     ensures some { 1 ≤ result }
 {
     // Rounds are ordered as their ballots are, so one division is enough.
@@ -73,7 +73,7 @@ pub(crate) fn begin_slot(
 ) -> Option<bool>
     requires member { id < members.count }
     requires rounds { is_none slot.old.learned ≡ true
-        → round_after members slot.old ≤ greatest_round }
+        → next_round_of members slot.old ≤ greatest_round }
     requires room { is_none slot.old.learned ≡ true → 0 < out.old.room }
     ensures after { slot.new ≡ slot_after_phase members id slot.old }
     ensures sent { out.new.messages
@@ -86,7 +86,7 @@ pub(crate) fn begin_slot(
     if slot.learned().is_some() {
         return None;
     }
-    let round = round_after(members, slot);
+    let round = next_round_of(members, slot);
     if let Some(ballot) = Ballot::new(members, round, id) {
         slot.begin(ballot);
         out.push(Message::Prepare {

@@ -7,7 +7,7 @@ ghost use Rattle.mencius_base.specs.Members.{below, first_owned, instances, owne
 ghost use Rattle.mencius_base.specs.declared.message.Value.TheVariants.{Noop};
 ghost use Rattle.mencius_server.specs.Instances.{is_newly_skipped_in, slot_by_skip};
 ghost use Rattle.mencius_server.specs.Lending.{LendsSlot};
-ghost use Rattle.mencius_server.specs.Machine.{is_spent, round_after};
+ghost use Rattle.mencius_server.specs.Machine.{is_spent, next_round_of};
 ghost use Rattle.mencius_server.specs.SlotTable.{IsSlotTable, stored_slots};
 ghost use Rattle.mencius_server.specs.Intervals.{IsOwned, IsRising, is_between, is_in_any};
 ghost use Rattle.mencius_server.specs.LearnedIntervals.{AreLearnedIntervals};
@@ -172,7 +172,7 @@ impl Slots {
         requires id { id < interval.members.count }
         requires rounds { (j : ℕ) (s : SlotState) → is_covered_slot interval self.old j ≡ true
             → stored_at self.old j ≡ Some s
-            → round_after interval.members s ≤ greatest_round }
+            → next_round_of interval.members s ≤ greatest_round }
         requires room { count_by (is_covered_slot interval self.old) (below interval.stop) ≤ out.old.room }
         requires learned_intervals { AreLearnedIntervals interval.members (is_covered_slot interval self.old)
             learned_intervals.old }
@@ -218,7 +218,7 @@ impl Slots {
         requires member { id < members.count }
         requires rounds { (s : SlotState) → stored_at self.old inst ≡ Some s
             → is_none s.learned ≡ true
-            → round_after members s ≤ greatest_round }
+            → next_round_of members s ≤ greatest_round }
         requires room { is_unlearned (stored_at self.old inst) ≡ true → 0 < out.old.room }
         ensures slots { (j : ℕ) → stored_at self.new j
             ≡ (if j == inst
@@ -362,7 +362,7 @@ pub(crate) fn blank(members: Members, is_skipped: bool) -> Slot
     ensures { result ≡ slot_by_skip members is_skipped }
 {
     if is_skipped {
-        Slot::known(members, Value::Noop)
+        Slot::new_learned(members, Value::Noop)
     } else {
         Slot::new(members)
     }

@@ -3,7 +3,7 @@ ghost use Rattle.mencius_base.specs.Limits.{instance_count};
 ghost use Rattle.mencius_base.specs.Members.{instances, owner};
 ghost use Rattle.mencius_base.specs.Refusal.{IsRefusedFor};
 ghost use Rattle.mencius_base.specs.declared.message.Value.TheVariants.{Noop};
-ghost use Rattle.mencius_server.specs.Machine.{IsFree, is_free_at, after_submit, IsUndone, after_submit_at, free_at, submit_cause, submit_sent, after_retry, first_waiting, is_suggested_past, retry_cause, retry_sent, suggested_at, waits_at};
+ghost use Rattle.mencius_server.specs.Machine.{IsFree, is_free_at, after_submit, IsUndone, after_submit_at, free_at, submit_cause, submit_sent, after_retry, first_waiting, is_suggested_again, retry_cause, retry_sent, suggested_at, own_waiting_at};
 ghost use Rattle.mencius_server.specs.State.{slot};
 ghost use Rattle.std.specs.List.{list_any};
 ghost use Rattle.std.specs.Prelude.{◌≡◌, ℕ, ◌||◌, IfNone, None, false, is_none, min, ◌+◌, ◌<◌, ◌++◌, OnOk, OnErr, IfSome, Some};
@@ -112,9 +112,9 @@ impl Server {
     // The least instance at which a ticket waits, and the ticket.
     fn first_lost(&self) -> Option<(u32, u32)>
         ensures first { IfSome result (λ x. (x.0 < instance_count)
-            × (waits_at self.now x.0 ≡ Some x.1)
-            × ((j : ℕ) → j < x.0 → waits_at self.now j ≡ None)) }
-        ensures none { IfNone result ((j : ℕ) → j < instance_count → waits_at self.now j ≡ None) }
+            × (own_waiting_at self.now x.0 ≡ Some x.1)
+            × ((j : ℕ) → j < x.0 → own_waiting_at self.now j ≡ None)) }
+        ensures none { IfNone result ((j : ℕ) → j < instance_count → own_waiting_at self.now j ≡ None) }
     {
         let end = self.front.min(INSTANCES);
         let mut inst = self.next_own(self.notes.lost_from());
@@ -130,7 +130,7 @@ impl Server {
     /// The ticket that waits since it lost an instance: the server suggested it there and learned no-op,
     /// and suggested it nowhere further on.
     pub fn waiting_at(&self, inst: u32) -> Option<u32>
-        ensures { result ≡ waits_at self.now inst }
+        ensures { result ≡ own_waiting_at self.now inst }
     {
         let Some(ticket) = self.suggested(inst) else {
             return None;
@@ -145,7 +145,7 @@ impl Server {
     // The ticket of an own instance was suggested again further on.
     fn is_suggested_again(&self, inst: u32, ticket: u32) -> bool
         requires { suggested_at self.now inst ≡ Some ticket }
-        ensures { result ≡ list_any (is_suggested_past self.now ticket inst) instances }
+        ensures { result ≡ list_any (is_suggested_again self.now ticket inst) instances }
     {
         self.notes.is_suggested_again(inst)
     }

@@ -12,7 +12,7 @@ ghost use Rattle.std.specs.Prelude.{◌≡◌, ℕ, ◌+◌, ◌<◌, ◌≤◌,
 
 use crate::change::Change;
 use crate::owned_interval::{OwnedInterval, next_owned};
-use crate::revocation::round_after;
+use crate::revocation::next_round_of;
 use crate::slots::Slots;
 use crate::stored_instances::StoredInstances;
 use coord_paxos::Slot;
@@ -48,7 +48,7 @@ impl Tally {
         Tally {
             stop: self.stop,
             open_count: self.open_count + u32::from(is_open),
-            spent_count: self.spent_count + u32::from(is_open && is_last(members, slot)),
+            spent_count: self.spent_count + u32::from(is_open && is_spent(members, slot)),
         }
     }
 
@@ -73,7 +73,7 @@ impl Tally {
         Tally {
             stop: self.stop,
             open_count: self.open_count - u32::from(is_open),
-            spent_count: self.spent_count - u32::from(is_open && is_last(members, slot)),
+            spent_count: self.spent_count - u32::from(is_open && is_spent(members, slot)),
         }
     }
 
@@ -123,10 +123,10 @@ impl Tally {
 }
 
 // Whether there is no further round at a slot.
-fn is_last(members: Members, slot: &Slot) -> bool
+fn is_spent(members: Members, slot: &Slot) -> bool
     ensures { result ≡ is_spent members slot.now }
 {
-    round_after(members, slot) > GREATEST_ROUND
+    next_round_of(members, slot) > GREATEST_ROUND
 }
 
 /// A tally for each server.

@@ -3,6 +3,6 @@ pub mod TextLoops
 pub mod MemberAnswers
 pub mod SkippedLines
 pub mod MessageLines
-pub mod ToldParts
-pub mod ToldEvents
+pub mod EffectParts
+pub mod EffectTexts
 pub mod SettledMessages

@@ -5,7 +5,7 @@ use Rattle.std.specs.List.{enumerate_from, flat_map, range_with_len}
 use Rattle.std.proofs.lemmas.Bool.{cases_lt}
 use Rattle.std.proofs.lemmas.Grind.{flat_map-append}
 use Rattle.mencius_base.specs.declared.message.Message.{Message}
-use Rattle.mencius_model.specs.Trace.{Trace, sent}
+use Rattle.mencius_model.specs.Trace.{Trace, sent_messages}
 use Rattle.mencius_trace.specs.After.{messages_from, of_message, of_messages}
 use Rattle.mencius_trace.specs.Facts.{sent_line}
 use Rattle.mencius_trace.proofs.TextLoops.{range_last}
@@ -25,11 +25,11 @@ messages_start v first end before =
 
 -- one message more
 pub messages_further : (v : Trace) (first end n : ℕ) (before old new : List ℕ) → first ≤ n → n < end
-    → IsSentTo v first end n before old → new ≡ old ++ of_message (sent_line v) n (slice_get (sent v) n)
+    → IsSentTo v first end n before old → new ≡ old ++ of_message (sent_line v) n (slice_get (sent_messages v) n)
     → IsSentTo v first end (n + 1) before new
 messages_further v first end n before old new low high had got =
     let on : n + 1 - first ≡ suc (n - first) = omega (arith, low) in
-    let line = λ (k : ℕ). of_message (sent_line v) k (slice_get (sent v) k) in
+    let line = λ (k : ℕ). of_message (sent_line v) k (slice_get (sent_messages v) k) in
     let range = range_last first (n - first) n (omega (arith, low)) in
     record {
       still = λ h. omega (arith, h, low, high);
@@ -60,8 +60,8 @@ of_messages_are f xs before (x ∷ ms) e =
 
 -- all messages
 pub messages_whole : (v : Trace) (first end n : ℕ) (before now : List ℕ) → first ≤ n
-    → (first ≤ end → n ≤ end) → end ≤ n → end ≡ length (sent v) → IsSentTo v first end n before now
-    → now ≡ before ++ messages_from v first (length (sent v) - first)
+    → (first ≤ end → n ≤ end) → end ≤ n → end ≡ length (sent_messages v) → IsSentTo v first end n before now
+    → now ≡ before ++ messages_from v first (length (sent_messages v) - first)
 messages_whole v first end n before now low high past is had =
     had.text ∙ ap (λ count. before ++ messages_from v first count) (elim (cases_lt end first) [
       | inl none ↦ let at = had.still none in omega (arith, none, at, is)

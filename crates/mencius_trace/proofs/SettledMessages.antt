@@ -11,11 +11,11 @@ use Rattle.mencius_base.specs.declared.event.Event.TheVariants.{Submit, Deliver,
 use Rattle.mencius_base.specs.declared.refusal.Refusal.{Refusal}
 use Rattle.mencius_cluster.specs.State.{entries_from, entries_of, entry_of}
 use Rattle.mencius_model.specs.Trace.{Line, Sent, Learned, Trace}
-use Rattle.mencius_model.specs.Next.{causes, head, lines, next, replay, replay_from, replay_on, submits, with_event}
+use Rattle.mencius_model.specs.Next.{causes, head, lines, next, replay, replay_from, replay_on, submission_count, with_event}
 use Rattle.mencius_model.proofs.events.EventLines.{IsAnswer, answers, unchanged_after}
 use Rattle.mencius_model.proofs.rights.EventRights.{NoneHolds, next_is}
-use Rattle.mencius_trace.specs.Closing.{settles}
-use Rattle.mencius_trace.specs.Settled.{IsOfServer, entry_settles}
+use Rattle.mencius_trace.specs.Closing.{is_settled_by}
+use Rattle.mencius_trace.specs.Settled.{IsOfServer, is_settled_by_entry}
 
 -- ---- the first event of a journal that replays
 
@@ -35,7 +35,7 @@ begun m w v e es h = begun_on m w v e es (next m w e) refl h
 
 -- ---- what it settles
 
-head_settles : (k p n : ℕ) (e : Event) → settles k p (head e) ≡ entry_settles k p (entry_of n e)
+head_settles : (k p n : ℕ) (e : Event) → is_settled_by k p (head e) ≡ is_settled_by_entry k p (entry_of n e)
 head_settles k p n (Submit q command) = refl
 head_settles k p n (Deliver message q) = refl
 head_settles k p n (Lose message q) = refl
@@ -44,18 +44,19 @@ head_settles k p n (Retry q) = refl
 head_settles k p n (Execute q) = refl
 
 settles_nothing : (k p : ℕ) (l : Line) (w : Trace) → IsAnswer l
-    → list_any (settles k p) (l ∷ w) ≡ list_any (settles k p) w
+    → list_any (is_settled_by k p) (l ∷ w) ≡ list_any (is_settled_by k p) w
 settles_nothing k p (Sent x) w h = refl
 settles_nothing k p (Learned q i value) w h = refl
 settles_nothing k p _ w h = absurd h
 
 -- what is settled after an event
 settled-event : (m : Membership) (w : Trace) (e : Event) (k p n : ℕ)
-    → list_any (settles k p) (with_event m w e) ≡ (entry_settles k p (entry_of n e) || list_any (settles k p) w)
+    → list_any (is_settled_by k p) (with_event m w e)
+    ≡ (is_settled_by_entry k p (entry_of n e) || list_any (is_settled_by k p) w)
 settled-event m w e k p n =
-    unchanged_after (λ (v : Trace). list_any (settles k p) v) (settles_nothing k p) (lines m w e) (head e ∷ w)
+    unchanged_after (λ (v : Trace). list_any (is_settled_by k p) v) (settles_nothing k p) (lines m w e) (head e ∷ w)
     (answers m w e)
-    ∙ ap (λ here. here || list_any (settles k p) w) (head_settles k p n e)
+    ∙ ap (λ here. here || list_any (is_settled_by k p) w) (head_settles k p n e)
 
 or_between : (x y z : Bool) → (y || (x || z)) ≡ ((x || y) || z)
 or_between true true z = refl
@@ -67,21 +68,22 @@ or_none true = refl
 or_none false = refl
 
 settled_from : (m : Membership) (k p n : ℕ) (es : List Event) (w v : Trace) → replay_from m w es ≡ Ok v
-    → list_any (settles k p) v ≡ (list_any (entry_settles k p) (entries_from n es) || list_any (settles k p) w)
-settled_from m k p n [] w v h = let same : w ≡ v = cc in ap (list_any (settles k p)) (sym same)
+    → list_any (is_settled_by k p) v
+    ≡ (list_any (is_settled_by_entry k p) (entries_from n es) || list_any (is_settled_by k p) w)
+settled_from m k p n [] w v h = let same : w ≡ v = cc in ap (list_any (is_settled_by k p)) (sym same)
 settled_from m k p n (e ∷ es) w v h =
     let first = begun m w v e es h in
-    let later = list_any (entry_settles k p) (entries_from (n + submits e) es) in
-    settled_from m k p (n + submits e) es first.middle v first.rest
-    ∙ ap (λ mid. later || list_any (settles k p) mid) (sym (next_is m w first.middle e first.step).is)
+    let later = list_any (is_settled_by_entry k p) (entries_from (n + submission_count e) es) in
+    settled_from m k p (n + submission_count e) es first.middle v first.rest
+    ∙ ap (λ mid. later || list_any (is_settled_by k p) mid) (sym (next_is m w first.middle e first.step).is)
     ∙ ap (λ known. later || known) (settled-event m w e k p n)
-    ∙ or_between (entry_settles k p (entry_of n e)) later (list_any (settles k p) w)
+    ∙ or_between (is_settled_by_entry k p (entry_of n e)) later (list_any (is_settled_by k p) w)
 
 -- a message was heard or lost where a stored event says so
 pub settled_by_entries : (m : Membership) (es : List Event) (w : Trace) → replay m es ≡ Ok w → (k p : ℕ)
-    → list_any (settles k p) w ≡ list_any (entry_settles k p) (entries_of es)
+    → list_any (is_settled_by k p) w ≡ list_any (is_settled_by_entry k p) (entries_of es)
 settled_by_entries m es w h k p =
-    settled_from m k p 0 es [] w h ∙ or_none (list_any (entry_settles k p) (entries_of es))
+    settled_from m k p 0 es [] w h ∙ or_none (list_any (is_settled_by_entry k p) (entries_of es))
 
 -- ---- its server
 
@@ -102,7 +104,7 @@ of_servers_from m n (e ∷ es) w v few h zero d there =
     of_server m w n e few (next_is m w _ e (begun m w v e es h).step).allowed
 of_servers_from m n (e ∷ es) w v few h (suc place) d there =
     let first = begun m w v e es h in
-    of_servers_from m (n + submits e) es first.middle v few first.rest place d (omega arith)
+    of_servers_from m (n + submission_count e) es first.middle v few first.rest place d (omega arith)
 
 -- each stored event is one of a server that there may be
 pub of_servers : (m : Membership) (es : List Event) (w : Trace) → m.count ≤ most_servers → replay m es ≡ Ok w
@@ -115,6 +117,7 @@ of_servers m es w few h xs stored place d there =
 -- the marks of all stored events
 pub settled_all : (m : Membership) (es : List Event) (w : Trace) → replay m es ≡ Ok w → (k p : ℕ) (xs : List Entry)
     (place : ℕ) (now : Bool) → xs ≡ entries_of es → length xs ≤ place
-    → now ≡ list_any (entry_settles k p) (take place xs) → now ≡ list_any (settles k p) w
+    → now ≡ list_any (is_settled_by_entry k p) (take place xs) → now ≡ list_any (is_settled_by k p) w
 settled_all m es w h k p xs place now stored past had =
-    had ∙ ap (list_any (entry_settles k p)) (take_all place xs past ∙ stored) ∙ sym (settled_by_entries m es w h k p)
+    had ∙ ap (list_any (is_settled_by_entry k p)) (take_all place xs past ∙ stored)
+    ∙ sym (settled_by_entries m es w h k p)

@@ -9,25 +9,25 @@ use Rattle.mencius_base.specs.Limits.{instance_count}
 use Rattle.mencius_base.specs.Members.{Membership, below, owner}
 use Rattle.mencius_base.specs.declared.message.Value.TheVariants.{Noop}
 use Rattle.mencius_model.specs.Trace.{Learned, Trace}
-use Rattle.mencius_model.specs.Instance.{learned}
-use Rattle.mencius_model.specs.Next.{is_given_up, on_skip}
+use Rattle.mencius_model.specs.Instance.{learned_value}
+use Rattle.mencius_model.specs.Next.{is_newly_skipped, on_skip}
 use Rattle.mencius_model.proofs.trace.Lists.{eqb_swap}
 use Rattle.mencius_model.proofs.trace.NumberLists.{filter-below_more, filter-below_none, filter-below_zero, instances-below}
 use Rattle.mencius_trace.specs.Facts.{learned_line}
-use Rattle.mencius_trace.specs.Told.{learned_in, learned_lines}
+use Rattle.mencius_trace.specs.Effects.{learned_in, learned_lines}
 
 -- those below a place
-abbrev pub given_below : (ℕ → Bool) → Trace → ℕ → ℕ → List ℕ
-given_below test w p n = learned_lines w (map (λ j. Learned p j Noop) (filter test (below n)))
+abbrev pub skipped_below : (ℕ → Bool) → Trace → ℕ → ℕ → List ℕ
+skipped_below test w p n = learned_lines w (map (λ j. Learned p j Noop) (filter test (below n)))
 
-given-more : (test : ℕ → Bool) (w : Trace) (p i : ℕ) (a : Bool) → test i ≡ a
-    → given_below test w p (i + 1) ≡ given_below test w p i ++ cond a (learned_line w p i Noop) []
-given-more test w p i a e =
+skipped-more : (test : ℕ → Bool) (w : Trace) (p i : ℕ) (a : Bool) → test i ≡ a
+    → skipped_below test w p (i + 1) ≡ skipped_below test w p i ++ cond a (learned_line w p i Noop) []
+skipped-more test w p i a e =
     ap (λ js. learned_lines w (map (λ j. Learned p j Noop) js)) (filter-below_more test i)
     ∙ ap (learned_lines w) (map-append (λ j. Learned p j Noop) (filter test (below i)) (cond (test i) (i ∷ []) []))
     ∙ flat_map-append (learned_in w) (map (λ j. Learned p j Noop) (filter test (below i)))
     (map (λ j. Learned p j Noop) (cond (test i) (i ∷ []) []))
-    ∙ ap (λ text. given_below test w p i ++ text)
+    ∙ ap (λ text. skipped_below test w p i ++ text)
     (ap (λ a. learned_lines w (map (λ j. Learned p j Noop) (cond a (i ∷ []) []))) e ∙ last a)
   where
     last : (a : Bool)
@@ -37,47 +37,47 @@ given-more test w p i a e =
 
 -- in the range the owner and what is learned decide
 in_range : (m : Membership) (w : Trace) (p q first stop j : ℕ) → first ≤ j → j < stop
-    → is_given_up m w p q first stop j ≡ (eqb (owner m j) q && is_none (learned w p j))
+    → is_newly_skipped m w p q first stop j ≡ (eqb (owner m j) q && is_none (learned_value w p j))
 in_range m w p q first stop j low high =
     rw (le-leb first j low, lt-ltb j stop high)
-    (by (eqb q (owner m j)) ∙ ap (λ a. a && is_none (learned w p j)) (eqb_swap q (owner m j)))
+    (by (eqb q (owner m j)) ∙ ap (λ a. a && is_none (learned_value w p j)) (eqb_swap q (owner m j)))
   where
-    by : (a : Bool) → (((a && true) && true) && is_none (learned w p j)) ≡ (a && is_none (learned w p j))
+    by : (a : Bool) → (((a && true) && true) && is_none (learned_value w p j)) ≡ (a && is_none (learned_value w p j))
     by true = refl
     by false = refl
 
-early : (m : Membership) (w : Trace) (p q first stop j : ℕ) → j < first → is_given_up m w p q first stop j ≡ false
+early : (m : Membership) (w : Trace) (p q first stop j : ℕ) → j < first → is_newly_skipped m w p q first stop j ≡ false
 early m w p q first stop j h = rw (lt-leb first j h) (by (eqb q (owner m j)))
   where
-    by : (a : Bool) → (((a && false) && nat_lt j stop) && is_none (learned w p j)) ≡ false
+    by : (a : Bool) → (((a && false) && nat_lt j stop) && is_none (learned_value w p j)) ≡ false
     by true = refl
     by false = refl
 
-late : (m : Membership) (w : Trace) (p q first stop j : ℕ) → stop ≤ j → is_given_up m w p q first stop j ≡ false
+late : (m : Membership) (w : Trace) (p q first stop j : ℕ) → stop ≤ j → is_newly_skipped m w p q first stop j ≡ false
 late m w p q first stop j h = rw (le-ltb j stop h) (by (eqb q (owner m j) && nat_le first j))
   where
-    by : (a : Bool) → ((a && false) && is_none (learned w p j)) ≡ false
+    by : (a : Bool) → ((a && false) && is_none (learned_value w p j)) ≡ false
     by true = refl
     by false = refl
 
 -- a text has the lines of the instances from the first up to a place
-pub record IsGivenTo (m : Membership) (w : Trace) (p q first stop i : ℕ) (before now : List ℕ) : Type 0 where
+pub record IsSkippedTo (m : Membership) (w : Trace) (p q first stop i : ℕ) (before now : List ℕ) : Type 0 where
   pub text : p < m.count → first < instance_count
-      → (i ≤ instance_count) × (now ≡ before ++ given_below (is_given_up m w p q first stop) w p i)
+      → (i ≤ instance_count) × (now ≡ before ++ skipped_below (is_newly_skipped m w p q first stop) w p i)
 
 none_before : (m : Membership) (w : Trace) (p q first stop : ℕ)
-    → given_below (is_given_up m w p q first stop) w p first ≡ []
+    → skipped_below (is_newly_skipped m w p q first stop) w p first ≡ []
 none_before m w p q first stop =
     let plain : 0 + first ≡ first = omega arith in
-    ap (λ n. given_below (is_given_up m w p q first stop) w p n) (sym plain)
+    ap (λ n. skipped_below (is_newly_skipped m w p q first stop) w p n) (sym plain)
     ∙ ap (λ js. learned_lines w (map (λ j. Learned p j Noop) js))
-    (filter-below_none (is_given_up m w p q first stop) 0 first
+    (filter-below_none (is_newly_skipped m w p q first stop) 0 first
     (λ j low high. early m w p q first stop j (omega (arith, high)))
-    ∙ filter-below_zero (is_given_up m w p q first stop))
+    ∙ filter-below_zero (is_newly_skipped m w p q first stop))
 
-pub given_start : (m : Membership) (w : Trace) (p q first stop : ℕ) (before : List ℕ)
-    → IsGivenTo m w p q first stop first before before
-given_start m w p q first stop before = record {
+pub skipped_start : (m : Membership) (w : Trace) (p q first stop : ℕ) (before : List ℕ)
+    → IsSkippedTo m w p q first stop first before before
+skipped_start m w p q first stop before = record {
   text = λ member small. (
     omega (arith, small),
     sym
@@ -85,32 +85,33 @@ given_start m w p q first stop before = record {
   );
 }
 
-pub given_next : (m : Membership) (w : Trace) (p q first stop i : ℕ) (before old new : List ℕ)
-    → first ≤ i → i < stop → i < instance_count → IsGivenTo m w p q first stop i before old
-    → (p < m.count → new ≡ old ++ cond (eqb (owner m i) q && is_none (learned w p i)) (learned_line w p i Noop) [])
-    → IsGivenTo m w p q first stop (i + 1) before new
-given_next m w p q first stop i before old new low high fits had got = record {
+pub skipped_next : (m : Membership) (w : Trace) (p q first stop i : ℕ) (before old new : List ℕ)
+    → first ≤ i → i < stop → i < instance_count → IsSkippedTo m w p q first stop i before old
+    → (p < m.count → new ≡ old ++ cond (eqb (owner m i) q && is_none (learned_value w p i)) (learned_line w p i Noop) [])
+    → IsSkippedTo m w p q first stop (i + 1) before new
+skipped_next m w p q first stop i before old new low high fits had got = record {
   text = λ member small.
       let was = had.text member small in (
         omega (arith, fits),
         got member
             ∙ ap
-            (λ text. text ++ cond (eqb (owner m i) q && is_none (learned w p i)) (learned_line w p i Noop) []) was.1
-            ∙ append_assoc before (given_below (is_given_up m w p q first stop) w p i) _
+            (λ text. text
+            ++ cond (eqb (owner m i) q && is_none (learned_value w p i)) (learned_line w p i Noop) []) was.1
+            ∙ append_assoc before (skipped_below (is_newly_skipped m w p q first stop) w p i) _
             ∙ ap (λ text. before ++ text)
-            (sym (given-more (is_given_up m w p q first stop) w p i _ (in_range m w p q first stop i low high))),
+            (sym (skipped-more (is_newly_skipped m w p q first stop) w p i _ (in_range m w p q first stop i low high))),
       );
 }
 
-pub given_whole : (m : Membership) (w : Trace) (p q first stop i : ℕ) (before now : List ℕ)
-    → (i < instance_count → stop ≤ i) → IsGivenTo m w p q first stop i before now
+pub skipped_whole : (m : Membership) (w : Trace) (p q first stop i : ℕ) (before now : List ℕ)
+    → (i < instance_count → stop ≤ i) → IsSkippedTo m w p q first stop i before now
     → p < m.count → first < instance_count → now ≡ before ++ learned_lines w (on_skip m w p q first stop)
-given_whole m w p q first stop i before now past had member small =
+skipped_whole m w p q first stop i before now past had member small =
     let was = had.text member small in
     let rest : i + (instance_count - i) ≡ instance_count = omega (arith, was.0) in
     was.1
     ∙ ap (λ js. before ++ learned_lines w (map (λ j. Learned p j Noop) js))
-    (sym (filter-below_none (is_given_up m w p q first stop) i (instance_count - i)
+    (sym (filter-below_none (is_newly_skipped m w p q first stop) i (instance_count - i)
     (λ j low high. late m w p q first stop j (omega (arith, past (omega (arith, low, high, rest)), low))))
-    ∙ ap (λ n. filter (is_given_up m w p q first stop) (below n)) rest
-    ∙ ap (filter (is_given_up m w p q first stop)) (sym instances-below))
+    ∙ ap (λ n. filter (is_newly_skipped m w p q first stop) (below n)) rest
+    ∙ ap (filter (is_newly_skipped m w p q first stop)) (sym instances-below))

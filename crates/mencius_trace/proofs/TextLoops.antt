@@ -7,7 +7,7 @@ use Rattle.std.proofs.lemmas.Grind.{flat_map-append}
 use Rattle.mencius_base.specs.Limits.{instance_count}
 use Rattle.mencius_base.specs.Members.{below}
 use Rattle.mencius_model.specs.Trace.{Trace}
-use Rattle.mencius_model.specs.Server.{waiting, waiting_at}
+use Rattle.mencius_model.specs.Server.{waiting_at, waiting_tickets}
 use Rattle.mencius_model.proofs.trace.NumberLists.{below-more, instances-below}
 use Rattle.mencius_trace.specs.Closing.{ticket_in}
 use Rattle.mencius_trace.specs.Words.{spaced_ticket, tickets_text}
@@ -79,18 +79,19 @@ pub waiting_next : (w : Trace) (p i : ℕ) (some one : Bool) (before old new : L
 waiting_next w p i some one before old new had got is =
     let o = waiting_at w p i in
     let xs = waiting_below w p i in
-    let waiting = spaced_ticket w in
+    let waiting_tickets = spaced_ticket w in
     record {
       text =
-          got ∙ ap (λ text. text ++ ticket_in w o) had.text ∙ append_assoc before (flat_map waiting xs) (ticket_in w o)
-          ∙ ap (λ text. before ++ (flat_map waiting xs ++ text)) (one_more w o)
-          ∙ ap (λ text. before ++ text) (sym (ap (flat_map waiting) (waiting_more w p i)
-          ∙ flat_map-append waiting xs (cons_option o [])));
+          got ∙ ap (λ text. text ++ ticket_in w o) had.text
+          ∙ append_assoc before (flat_map waiting_tickets xs) (ticket_in w o)
+          ∙ ap (λ text. before ++ (flat_map waiting_tickets xs ++ text)) (one_more w o)
+          ∙ ap (λ text. before ++ text) (sym (ap (flat_map waiting_tickets) (waiting_more w p i)
+          ∙ flat_map-append waiting_tickets xs (cons_option o [])));
       some_is = ap (λ a. a || some) is ∙ ap (λ a. is_some o || a) had.some_is ∙ some_more xs o
           ∙ ap is_some_list (sym (waiting_more w p i));
     }
 
-all_below : (w : Trace) (p : ℕ) → waiting_below w p instance_count ≡ waiting w p
+all_below : (w : Trace) (p : ℕ) → waiting_below w p instance_count ≡ waiting_tickets w p
 all_below w p = ap (filter_map (waiting_at w p)) (sym instances-below)
 
 some_text : (w : Trace) (xs : List ℕ) → true ≡ is_some_list xs → flat_map (spaced_ticket w) xs ≡ tickets_text w xs
@@ -103,13 +104,13 @@ none_text w [] h = refl
 none_text w (x ∷ xs) h = absurd (cc)
 
 pub waiting_some : (w : Trace) (p : ℕ) (before now : List ℕ) → IsWaitingTo w p instance_count true before now
-    → now ≡ before ++ tickets_text w (waiting w p)
+    → now ≡ before ++ tickets_text w (waiting_tickets w p)
 waiting_some w p before now had =
     had.text ∙ ap (λ text. before ++ text) (some_text w (waiting_below w p instance_count) had.some_is)
     ∙ ap (λ ts. before ++ tickets_text w ts) (all_below w p)
 
 pub waiting_none : (w : Trace) (p : ℕ) (before old new : List ℕ) → IsWaitingTo w p instance_count false before old
-    → new ≡ old ++ codes " -" → new ≡ before ++ tickets_text w (waiting w p)
+    → new ≡ old ++ codes " -" → new ≡ before ++ tickets_text w (waiting_tickets w p)
 waiting_none w p before old new had got =
     let xs = waiting_below w p instance_count in
     got ∙ ap (λ text. text ++ codes " -") had.text ∙ append_assoc before (flat_map (spaced_ticket w) xs) (codes " -")

@@ -6,15 +6,15 @@ use Rattle.mencius_base.specs.Members.{Membership}
 use Rattle.mencius_base.specs.declared.message.Message.{Message}
 use Rattle.mencius_base.specs.declared.message.Message.TheVariants.{Skip, Accepted, Learn}
 use Rattle.mencius_base.specs.declared.message.Value.{Value}
-use Rattle.mencius_model.specs.Trace.{Trace, sent}
-use Rattle.mencius_model.specs.Instance.{learned}
-use Rattle.mencius_trace.specs.declared.hearing.Hearing.{Hearing}
+use Rattle.mencius_model.specs.Trace.{Trace, sent_messages}
+use Rattle.mencius_model.specs.Instance.{learned_value}
+use Rattle.mencius_trace.specs.declared.reaction.Reaction.{Reaction}
 use Rattle.mencius_trace.specs.Facts.{executed_line, learned_line, sent_line}
-use Rattle.mencius_trace.specs.Told.{awaited_lines, notice}
+use Rattle.mencius_trace.specs.Effects.{awaited_lines, notice}
 
-abbrev pub notice_after : Membership → Trace → ServerId → Bool → Hearing → Option Message → List ℕ
-notice_after m v p is_silent hearing None = []
-notice_after m v p is_silent hearing (Some x) = notice m v p x is_silent hearing
+abbrev pub notice_after : Membership → Trace → ServerId → Bool → Reaction → Option Message → List ℕ
+notice_after m v p is_ignored reaction None = []
+notice_after m v p is_ignored reaction (Some x) = notice m v p x is_ignored reaction
 
 abbrev pub value_learned : Trace → ServerId → Inst → Option Value → List ℕ
 value_learned v p i None = []
@@ -22,18 +22,18 @@ value_learned v p i (Some value) = learned_line v p i value
 
 -- what the server learned at an instance, if it is new
 abbrev pub learned_at : Trace → ServerId → Inst → ℕ → List ℕ
-learned_at v p i count = if nat_lt 0 count then value_learned v p i (learned v p i) else []
+learned_at v p i count = if nat_lt 0 count then value_learned v p i (learned_value v p i) else []
 
 -- what a message taught the server, where a Skip's lines are given
 abbrev pub learned_of : Trace → ServerId → List ℕ → ℕ → Message → List ℕ
-learned_of v p given_up count (Skip from first stop) = given_up
-learned_of v p given_up count (Accepted from to inst ballot) = learned_at v p inst count
-learned_of v p given_up count (Learn from inst value) = learned_at v p inst count
-learned_of v p given_up count _ = []
+learned_of v p skipped_text count (Skip from first stop) = skipped_text
+learned_of v p skipped_text count (Accepted from to inst ballot) = learned_at v p inst count
+learned_of v p skipped_text count (Learn from inst value) = learned_at v p inst count
+learned_of v p skipped_text count _ = []
 
 abbrev pub learned_after : Trace → ServerId → List ℕ → ℕ → Option Message → List ℕ
-learned_after v p given_up count None = []
-learned_after v p given_up count (Some x) = learned_of v p given_up count x
+learned_after v p skipped_text count None = []
+learned_after v p skipped_text count (Some x) = learned_of v p skipped_text count x
 
 -- what is told of a message, if there is one
 abbrev pub of_message : (MessageNo × Message → List ℕ) → MessageNo → Option Message → List ℕ
@@ -46,7 +46,7 @@ of_messages f xs first count = flat_map (λ k. of_message f k (slice_get xs k)) 
 
 -- so many messages, from a number on
 abbrev pub messages_from : Trace → MessageNo → ℕ → List ℕ
-messages_from v first count = of_messages (sent_line v) (sent v) first count
+messages_from v first count = of_messages (sent_line v) (sent_messages v) first count
 
 abbrev pub execution_after : Trace → ServerId → Bool → Option (Inst × Value) → List ℕ
 execution_after v p is_awaited None = []

@@ -11,29 +11,29 @@ use Rattle.mencius_base.specs.declared.message.Value.{Value}
 use Rattle.mencius_base.specs.declared.message.Value.TheVariants.{Ticket}
 use Rattle.mencius_cluster.specs.Answers.{if_member}
 use Rattle.mencius_cluster.specs.State.{ClusterState, trace_of}
-use Rattle.mencius_model.specs.Trace.{Trace, sent}
-use Rattle.mencius_model.specs.Instance.{learned}
+use Rattle.mencius_model.specs.Trace.{Trace, sent_messages}
+use Rattle.mencius_model.specs.Instance.{learned_value}
 use Rattle.mencius_model.specs.Server.{done, front}
 use Rattle.mencius_model.specs.Next.{on_skip, replay, server_of}
 use Rattle.mencius_model.specs.Replying.{command_at}
 use Rattle.mencius_trace.specs.declared.before.Before.{Before}
-use Rattle.mencius_trace.specs.declared.hearing.Hearing.{Hearing}
-use Rattle.mencius_trace.specs.Told.{hearing, place_of, is_pending, learned_lines}
+use Rattle.mencius_trace.specs.declared.reaction.Reaction.{Reaction}
+use Rattle.mencius_trace.specs.Effects.{reaction, instance_of, is_pending, learned_lines}
 
 -- the message that an event delivers
 abbrev pub heard_in : Trace → Event → Option Message
-heard_in w (Deliver k p) = slice_get (sent w) k
+heard_in w (Deliver k p) = slice_get (sent_messages w) k
 heard_in w _ = None
 
 -- the lines of the instances that a Skip makes the server learn
-abbrev pub given_up : Membership → Trace → ServerId → Option Message → List ℕ
-given_up m w p (Some (Skip from first stop)) = learned_lines w (on_skip m w p from first stop)
-given_up m w p _ = []
+abbrev pub skipped_text : Membership → Trace → ServerId → Option Message → List ℕ
+skipped_text m w p (Some (Skip from first stop)) = learned_lines w (on_skip m w p from first stop)
+skipped_text m w p _ = []
 
 -- the instance that an event executes, with its value
-abbrev pub executing : Trace → Event → Option (Inst × Value)
-executing w (Execute p) = option_map (λ x. (done w p, x)) (learned w p (done w p))
-executing w _ = None
+abbrev pub execution_in : Trace → Event → Option (Inst × Value)
+execution_in w (Execute p) = option_map (λ x. (done w p, x)) (learned_value w p (done w p))
+execution_in w _ = None
 
 -- whether the command that an event executes has no reply yet
 abbrev pub is_awaited : Trace → Option (Inst × Value) → Bool
@@ -41,13 +41,13 @@ is_awaited w (Some (i, Ticket t)) = is_pending w (command_at w t)
 is_awaited w _ = false
 
 -- how a message is taken, where the server is one and the message is within its limits
-abbrev pub IsTaken : Membership → Trace → ServerId → Option Message → Hearing → Type 0
-IsTaken m w p heard h = p < m.count → IfSome heard (λ x. place_of x < instance_count → h ≡ hearing m w p x)
+abbrev pub IsReaction : Membership → Trace → ServerId → Option Message → Reaction → Type 0
+IsReaction m w p heard h = p < m.count → IfSome heard (λ x. instance_of x < instance_count → h ≡ reaction m w p x)
 
--- the lines of what is given up, likewise
-abbrev pub IsGivenUp : Membership → Trace → ServerId → Option Message → List ℕ → Type 0
-IsGivenUp m w p heard text =
-    p < m.count → IfSome heard (λ x. place_of x < instance_count) → text ≡ given_up m w p heard
+-- the lines of what a Skip teaches, likewise
+abbrev pub IsSkippedText : Membership → Trace → ServerId → Option Message → List ℕ → Type 0
+IsSkippedText m w p heard text =
+    p < m.count → IfSome heard (λ x. instance_of x < instance_count) → text ≡ skipped_text m w p heard
 
 -- the notes are those of this event
 pub record IsBefore (x : ClusterState) (e : Event) (notes : Before) : Type 0 where
@@ -56,7 +56,8 @@ pub record IsBefore (x : ClusterState) (e : Event) (notes : Before) : Type 0 whe
   pub server : notes.server ≡ server_of e
   pub front : notes.front ≡ if_member x.members (server_of e) (front x.members (trace_of x) (server_of e))
   pub heard : notes.heard ≡ heard_in (trace_of x) e
-  pub hearing : IsTaken x.members (trace_of x) (server_of e) (heard_in (trace_of x) e) notes.hearing
-  pub given_up : IsGivenUp x.members (trace_of x) (server_of e) (heard_in (trace_of x) e) (string_bytes notes.given_up)
-  pub executing : server_of e < x.members.count → notes.executing ≡ executing (trace_of x) e
-  pub awaited : notes.is_awaited ≡ is_awaited (trace_of x) notes.executing
+  pub reaction : IsReaction x.members (trace_of x) (server_of e) (heard_in (trace_of x) e) notes.reaction
+  pub skipped_text : IsSkippedText x.members (trace_of x) (server_of e) (heard_in (trace_of x) e)
+      (string_bytes notes.skipped_text)
+  pub execution : server_of e < x.members.count → notes.execution ≡ execution_in (trace_of x) e
+  pub awaited : notes.is_awaited ≡ is_awaited (trace_of x) notes.execution

@@ -6,12 +6,12 @@ use Rattle.mencius_base.specs.declared.event.Event.{Event}
 use Rattle.mencius_base.specs.declared.message.Message.{Message}
 use Rattle.mencius_base.specs.Members.{Membership, below}
 use Rattle.mencius_base.specs.Message.{goes_to}
-use Rattle.mencius_model.specs.Trace.{Line, Heard, Lost, Trace, sent}
-use Rattle.mencius_model.specs.Server.{done, front, waiting}
+use Rattle.mencius_model.specs.Trace.{Line, Heard, Lost, Trace, sent_messages}
+use Rattle.mencius_model.specs.Server.{done, front, waiting_tickets}
 use Rattle.mencius_model.specs.Next.{is_loss, next}
 use Rattle.mencius_model.specs.Outcomes.{trace_after}
 use Rattle.mencius_trace.specs.Facts.{kind_text}
-use Rattle.mencius_trace.specs.Told.{event_lines}
+use Rattle.mencius_trace.specs.Effects.{event_lines}
 use Rattle.mencius_trace.specs.Words.{line_feed, spaced_ticket, tickets_text}
 
 -- ---- each server
@@ -29,7 +29,7 @@ progress_text p front done =
 
 -- and what waits at it
 abbrev pub server_line : Membership → Trace → ServerId → List ℕ
-server_line m w p = progress_text p (front m w p) (done w p) ++ tickets_text w (waiting w p) ++ line_feed
+server_line m w p = progress_text p (front m w p) (done w p) ++ tickets_text w (waiting_tickets w p) ++ line_feed
 
 abbrev pub server_lines : Membership → Trace → ℕ → List ℕ
 server_lines m w n = flat_map (server_line m w) (range_with_len 0 n)
@@ -37,13 +37,13 @@ server_lines m w n = flat_map (server_line m w) (range_with_len 0 n)
 -- ---- each message that may still be heard
 
 -- the line says that message k was lost for p, or that p heard it, which settles it as its loss does
-abbrev pub settles : MessageNo → ServerId → Line → Bool
-settles k p (Heard message server) = is_loss k p (Lost message server)
-settles k p l = is_loss k p l
+abbrev pub is_settled_by : MessageNo → ServerId → Line → Bool
+is_settled_by k p (Heard message server) = is_loss k p (Lost message server)
+is_settled_by k p l = is_loss k p l
 
 -- the message goes to p, and p neither heard it nor can no longer hear it
 abbrev pub is_unheard : Trace → MessageNo → Message → ServerId → Bool
-is_unheard w k x p = goes_to p x && not (list_any (settles k p) w)
+is_unheard w k x p = goes_to p x && not (list_any (is_settled_by k p) w)
 
 abbrev pub unheard_line : Trace → MessageNo → Message → ServerId → List ℕ
 unheard_line w k x p =
@@ -55,19 +55,19 @@ abbrev pub unheard_lines : Membership → Trace → MessageNo × Message → Lis
 unheard_lines m w (k, x) = flat_map (unheard_line w k x) (below m.count)
 
 abbrev pub unheard_text : Membership → Trace → List ℕ
-unheard_text m w = flat_map (unheard_lines m w) (enumerate_from 0 (sent w))
+unheard_text m w = flat_map (unheard_lines m w) (enumerate_from 0 (sent_messages w))
 
 -- ---- the whole
 
 -- the servers, and then the messages
-abbrev pub closing : Membership → Trace → List ℕ
-closing m w = server_lines m w m.count ++ unheard_text m w
+abbrev pub closing_text : Membership → Trace → List ℕ
+closing_text m w = server_lines m w m.count ++ unheard_text m w
 
 -- the events from a place on, and then what is told after the last
-abbrev pub told_from : Membership → Trace → ℕ → List Event → List ℕ
-told_from m w place [] = closing m w
-told_from m w place (e ∷ es) = event_lines m w place e ++ told_from m (trace_after w (next m w e)) (place + 1) es
+abbrev pub events_text : Membership → Trace → ℕ → List Event → List ℕ
+events_text m w place [] = closing_text m w
+events_text m w place (e ∷ es) = event_lines m w place e ++ events_text m (trace_after w (next m w e)) (place + 1) es
 
 -- the events of a scenario of these servers
 abbrev pub trace_text : Membership → List Event → List ℕ
-trace_text m es = codes "servers " ++ decimal m.count ++ line_feed ++ told_from m [] 0 es
+trace_text m es = codes "servers " ++ decimal m.count ++ line_feed ++ events_text m [] 0 es

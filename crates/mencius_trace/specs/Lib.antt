@@ -1,6 +1,6 @@
 pub mod Words
 pub mod Facts
-pub mod Told
+pub mod Effects
 pub mod Before
 pub mod After
 pub mod Closing

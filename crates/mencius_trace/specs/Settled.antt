@@ -6,25 +6,25 @@ use Rattle.mencius_base.specs.Limits.{most_servers}
 use Rattle.mencius_base.specs.Numbers.{ServerId, MessageNo}
 use Rattle.mencius_base.specs.declared.event.Entry.{Entry}
 use Rattle.mencius_base.specs.declared.event.Entry.TheVariants.{Deliver, Lose}
-use Rattle.mencius_cluster.specs.Marks.{MarkTable, mark_in}
+use Rattle.mencius_cluster.specs.MessageBits.{MessageBitsState, bit_in}
 use Rattle.mencius_model.specs.Trace.{Lost, Trace}
 use Rattle.mencius_model.specs.Next.{is_loss}
-use Rattle.mencius_trace.specs.Closing.{settles}
+use Rattle.mencius_trace.specs.Closing.{is_settled_by}
 
 -- the message that an event settles, and the server that hears or loses it
-abbrev pub settled_by : Entry → Option (MessageNo × ServerId)
-settled_by (Deliver message server) = Some (message, server)
-settled_by (Lose message server) = Some (message, server)
-settled_by _ = None
+abbrev pub settled_pair : Entry → Option (MessageNo × ServerId)
+settled_pair (Deliver message server) = Some (message, server)
+settled_pair (Lose message server) = Some (message, server)
+settled_pair _ = None
 
 -- by this event p heard or lost message k
-abbrev pub entry_settles : MessageNo → ServerId → Entry → Bool
-entry_settles k p x = option_map_or (λ pair. is_loss k p (Lost pair.0 pair.1)) (settled_by x) false
+abbrev pub is_settled_by_entry : MessageNo → ServerId → Entry → Bool
+is_settled_by_entry k p x = option_map_or (λ pair. is_loss k p (Lost pair.0 pair.1)) (settled_pair x) false
 
 -- the server that hears or loses is one that there may be
 abbrev pub IsOfServer : Entry → Type 0
-IsOfServer x = IfSome (settled_by x) (λ pair. pair.1 < most_servers)
+IsOfServer x = IfSome (settled_pair x) (λ pair. pair.1 < most_servers)
 
 -- a mark stands where a server heard or lost a message, and nowhere else
-abbrev pub AreSettled : Trace → MarkTable → Type 0
-AreSettled w marks = (k : MessageNo) (p : ServerId) → mark_in marks k p ≡ list_any (settles k p) w
+abbrev pub AreSettled : Trace → MessageBitsState → Type 0
+AreSettled w marks = (k : MessageNo) (p : ServerId) → bit_in marks k p ≡ list_any (is_settled_by k p) w

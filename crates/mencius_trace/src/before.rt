@@ -3,17 +3,17 @@
 ghost use Rattle.std.specs.Prelude.{◌≡◌, ◌<◌, ◌++◌, ◌&&◌, [], IfOk, OnOk, if◌then◌else◌, is_none, string_bytes};
 ghost use Rattle.mencius_base.specs.Limits.{instance_count};
 ghost use Rattle.mencius_base.specs.declared.message.Value.TheVariants.{Noop};
-ghost use Rattle.mencius_model.specs.Instance.{learned};
+ghost use Rattle.mencius_model.specs.Instance.{learned_value};
 ghost use Rattle.mencius_model.specs.Next.{on_skip, server_of};
 ghost use Rattle.mencius_trace.specs.Facts.{learned_line};
 ghost use Rattle.mencius_cluster.specs.State.{trace_of};
-ghost use Rattle.mencius_trace.specs.Told.{hearing, hearing_at, if_tried, known_or, learned_lines, place_of, proposed_or};
-ghost use Rattle.mencius_trace.specs.Before.{IsBefore, IsGivenUp, IsTaken, executing, given_up, heard_in, is_awaited};
+ghost use Rattle.mencius_trace.specs.Effects.{if_tried, instance_of, learned_lines, learned_or, proposed_or, reaction, reaction_at};
+ghost use Rattle.mencius_trace.specs.Before.{IsBefore, IsReaction, IsSkippedText, execution_in, heard_in, is_awaited, skipped_text};
 
 use crate::facts::push_learned;
-use crate::hearing::Hearing;
+use crate::reaction::Reaction;
 use mencius_base::{Ballot, Event, INSTANCES, Message, Value, Vote};
-use mencius_cluster::{Answered, Cluster, Glance};
+use mencius_cluster::{Cluster, Glance, Reply};
 use std::alloc::{AllocError, Global};
 
 /// What is noted before an event.
@@ -26,11 +26,11 @@ pub(crate) struct Before {
     /// The message that is delivered.
     pub(crate) heard: Option<Message>,
     /// How the server takes it.
-    pub(crate) hearing: Hearing,
+    pub(crate) reaction: Reaction,
     /// The lines of the instances that a Skip makes the server learn.
-    pub(crate) given_up: String,
+    pub(crate) skipped_text: String,
     /// The instance that is executed, with its value.
-    pub(crate) executing: Option<(u32, Value)>,
+    pub(crate) execution: Option<(u32, Value)>,
     /// Whether the command there has no reply yet.
     pub(crate) is_awaited: bool,
 }
@@ -44,17 +44,17 @@ pub(crate) fn note(alloc: Global, cluster: &Cluster, event: &Event) -> Result<Be
     let _few = cluster.servers();
     let server = server_of(event);
     let heard = heard_in(cluster, event);
-    let executing = executing_in(cluster, event);
-    let is_awaited = is_awaited(cluster, &executing);
-    let hearing = hearing_in(cluster, server, &heard);
-    let given_up = given_up_by(alloc, cluster, server, &heard)?;
+    let execution = execution_in(cluster, event);
+    let is_awaited = is_awaited(cluster, &execution);
+    let reaction = reaction_in(cluster, server, &heard);
+    let skipped_text = skipped_text_in(alloc, cluster, server, &heard)?;
     Ok(Before {
         server,
         front: cluster.front(server),
         heard,
-        hearing,
-        given_up,
-        executing,
+        reaction,
+        skipped_text,
+        execution,
         is_awaited,
     })
 }
@@ -83,9 +83,9 @@ fn heard_in(cluster: &Cluster, event: &Event) -> Option<Message>
     }
 }
 
-fn executing_in(cluster: &Cluster, event: &Event) -> Option<(u32, Value)>
+fn execution_in(cluster: &Cluster, event: &Event) -> Option<(u32, Value)>
     ensures { server_of event.now < cluster.now.members.count
-        → result ≡ executing (trace_of cluster.now) event.now }
+        → result ≡ execution_in (trace_of cluster.now) event.now }
 {
     let Event::Execute { server } = event else {
         return None;
@@ -95,75 +95,78 @@ fn executing_in(cluster: &Cluster, event: &Event) -> Option<(u32, Value)>
     Some((inst, value))
 }
 
-fn is_awaited(cluster: &Cluster, executing: &Option<(u32, Value)>) -> bool
-    ensures { result ≡ is_awaited (trace_of cluster.now) executing.now }
+fn is_awaited(cluster: &Cluster, execution: &Option<(u32, Value)>) -> bool
+    ensures { result ≡ is_awaited (trace_of cluster.now) execution.now }
 {
-    let Some((_, Value::Ticket(ticket))) = executing else {
+    let Some((_, Value::Ticket(ticket))) = execution else {
         return false;
     };
     match cluster.submission(*ticket) {
-        Some(submission) => matches!(submission.answer, Answered::Pending),
+        Some(submission) => matches!(submission.reply, Reply::Pending),
         None => false,
     }
 }
 
-fn hearing_in(cluster: &Cluster, server: u8, heard: &Option<Message>) -> Hearing
-    ensures { IsTaken cluster.now.members (trace_of cluster.now) server heard.now result }
+fn reaction_in(cluster: &Cluster, server: u8, heard: &Option<Message>) -> Reaction
+    ensures { IsReaction cluster.now.members (trace_of cluster.now) server heard.now result }
 {
     match heard {
-        Some(message) => hearing_of(cluster, server, message),
-        None => Hearing::Taken,
+        Some(message) => reaction_of(cluster, server, message),
+        None => Reaction::Effective,
     }
 }
 
 /// How a server takes a message.
-fn hearing_of(cluster: &Cluster, server: u8, message: &Message) -> Hearing
-    ensures { server < cluster.now.members.count → place_of message.now < instance_count
-        → result ≡ hearing cluster.now.members (trace_of cluster.now) server message.now }
+fn reaction_of(cluster: &Cluster, server: u8, message: &Message) -> Reaction
+    ensures { server < cluster.now.members.count → instance_of message.now < instance_count
+        → result ≡ reaction cluster.now.members (trace_of cluster.now) server message.now }
 {
-    match cluster.glance(server, place_of(message)) {
-        Some(glance) => hearing_at(&glance, message),
-        None => Hearing::Taken,
+    match cluster.glance(server, instance_of(message)) {
+        Some(glance) => reaction_at(&glance, message),
+        None => Reaction::Effective,
     }
 }
 
-fn hearing_at(glance: &Glance, message: &Message) -> Hearing
-    ensures { result ≡ hearing_at glance.now message.now }
+fn reaction_at(glance: &Glance, message: &Message) -> Reaction
+    ensures { result ≡ reaction_at glance.now message.now }
 {
     match *message {
         Message::Suggest { .. } | Message::Prepare { .. } | Message::Propose { .. } => {
-            Hearing::Promised(glance.promised)
+            Reaction::Promised(glance.promised)
         }
-        Message::Skip { .. } | Message::Learn { .. } => known_or(glance.learned, Hearing::Taken),
+        Message::Skip { .. } | Message::Learn { .. } => learned_or(
+            glance.learned,
+            Reaction::Effective,
+        ),
         Message::Accepted { ballot, .. } => {
             if_tried(
                 ballot,
                 glance.trying,
-                known_or(glance.learned, Hearing::Counted),
+                learned_or(glance.learned, Reaction::Counted),
             )
         }
         Message::Promise { ballot, .. } => {
             if_tried(
                 ballot,
                 glance.trying,
-                known_or(glance.learned, counted(glance.proposal)),
+                learned_or(glance.learned, counted(glance.proposal)),
             )
         }
     }
 }
 
 // A promise counts where nothing was proposed yet.
-fn counted(proposal: Option<Value>) -> Hearing
-    ensures { result ≡ proposed_or proposal Hearing.Counted }
+fn counted(proposal: Option<Value>) -> Reaction
+    ensures { result ≡ proposed_or proposal Reaction.Counted }
 {
     match proposal {
-        Some(_) => Hearing::Proposed,
-        None => Hearing::Counted,
+        Some(_) => Reaction::Proposed,
+        None => Reaction::Counted,
     }
 }
 
-pub(crate) fn place_of(message: &Message) -> u32
-    ensures { result ≡ place_of message.now }
+pub(crate) fn instance_of(message: &Message) -> u32
+    ensures { result ≡ instance_of message.now }
 {
     match *message {
         Message::Suggest { inst, .. }
@@ -176,43 +179,43 @@ pub(crate) fn place_of(message: &Message) -> u32
     }
 }
 
-fn known_or(learned: Option<Value>, otherwise: Hearing) -> Hearing
-    ensures { result ≡ known_or learned otherwise }
+fn learned_or(learned: Option<Value>, otherwise: Reaction) -> Reaction
+    ensures { result ≡ learned_or learned otherwise }
 {
     match learned {
-        Some(value) => Hearing::Known(value),
+        Some(value) => Reaction::Learned(value),
         None => otherwise,
     }
 }
 
-fn if_tried(ballot: Ballot, tried: Ballot, hearing: Hearing) -> Hearing
-    ensures { result ≡ if_tried ballot tried hearing }
+fn if_tried(ballot: Ballot, tried: Ballot, reaction: Reaction) -> Reaction
+    ensures { result ≡ if_tried ballot tried reaction }
 {
     if ballot == tried {
-        hearing
+        reaction
     } else {
-        Hearing::Tries(tried)
+        Reaction::Tries(tried)
     }
 }
 
 /// The lines of the instances that a Skip makes a server learn.
-fn given_up_by(
+fn skipped_text_in(
     alloc: Global,
     cluster: &Cluster,
     server: u8,
     heard: &Option<Message>,
 ) -> Result<String, AllocError>
     ensures { IfOk result (λ s.
-        IsGivenUp cluster.now.members (trace_of cluster.now) server heard.now (string_bytes s)) }
+        IsSkippedText cluster.now.members (trace_of cluster.now) server heard.now (string_bytes s)) }
 {
     let mut text = String::new(alloc);
     if let Some(Message::Skip { from, first, stop }) = heard {
-        push_given_up(&mut text, cluster, server, *from, *first, *stop)?;
+        push_skipped(&mut text, cluster, server, *from, *first, *stop)?;
     }
     Ok(text)
 }
 
-fn push_given_up(
+fn push_skipped(
     text: &mut String,
     cluster: &Cluster,
     server: u8,
@@ -243,7 +246,7 @@ fn push_where_unlearned(
 ) -> Result<(), AllocError>
     ensures { OnOk result (server < cluster.now.members.count → string_bytes text.new
         ≡ string_bytes text.old
-        ++ (if is_wanted && is_none (learned (trace_of cluster.now) server inst)
+        ++ (if is_wanted && is_none (learned_value (trace_of cluster.now) server inst)
         then learned_line (trace_of cluster.now) server inst Noop else [])) }
 {
     if is_wanted && cluster.learned(server, inst).is_none() {

@@ -3,8 +3,8 @@
 ghost use Rattle.std.specs.Prelude.{◌≡◌, ◌<◌, ◌++◌, IfOk, OnOk, is_some, string_bytes};
 ghost use Rattle.mencius_base.specs.Limits.{instance_count};
 ghost use Rattle.mencius_cluster.specs.State.{trace_of};
-ghost use Rattle.mencius_model.specs.Server.{waiting, waiting_at};
-ghost use Rattle.mencius_trace.specs.Closing.{closing, progress_text, server_line, server_lines, ticket_in};
+ghost use Rattle.mencius_model.specs.Server.{waiting_at, waiting_tickets};
+ghost use Rattle.mencius_trace.specs.Closing.{closing_text, progress_text, server_line, server_lines, ticket_in};
 ghost use Rattle.mencius_trace.specs.Words.{tickets_text};
 
 use crate::unheard::push_unheard;
@@ -19,7 +19,7 @@ use std::alloc::{AllocError, Global};
 /// The time that it takes, and the memory beside the text, grow with the length of the journal.
 pub fn push_closing(alloc: Global, text: &mut String, cluster: &Cluster) -> Result<(), NoMemory>
     ensures { OnOk result (string_bytes text.new ≡ string_bytes text.old
-        ++ closing cluster.now.members (trace_of cluster.now)) }
+        ++ closing_text cluster.now.members (trace_of cluster.now)) }
 {
     push_servers(text, cluster)?;
     push_unheard(alloc, text, cluster)
@@ -66,7 +66,7 @@ fn push_progress(text: &mut String, server: u8, front: u32, done: u32) -> Result
 fn push_waiting(text: &mut String, cluster: &Cluster, server: u8) -> Result<(), AllocError>
     requires { server < cluster.now.members.count }
     ensures { OnOk result (string_bytes text.new ≡ string_bytes text.old
-        ++ tickets_text (trace_of cluster.now) (waiting (trace_of cluster.now) server)) }
+        ++ tickets_text (trace_of cluster.now) (waiting_tickets (trace_of cluster.now) server)) }
 {
     let mut some = false;
     for inst in 0..INSTANCES {

@@ -4,12 +4,12 @@
 mod before;
 mod closing;
 mod facts;
-mod hearing;
+mod reaction;
 mod telling;
 mod unheard;
 mod words;
 
 pub use closing::push_closing;
-pub use hearing::Hearing;
+pub use reaction::Reaction;
 pub use telling::tell;
 pub use words::push_answer;

@@ -9,21 +9,21 @@ ghost use Rattle.mencius_model.specs.Next.{next};
 ghost use Rattle.mencius_model.specs.Outcomes.{trace_after};
 ghost use Rattle.mencius_model.specs.Replying.{command_at};
 ghost use Rattle.mencius_model.specs.Server.{front};
-ghost use Rattle.mencius_model.specs.Trace.{sent};
+ghost use Rattle.mencius_model.specs.Trace.{sent_messages};
 ghost use Rattle.mencius_trace.specs.After.{execution_after, learned_after, learned_at, learned_of, messages_from, notice_after, of_message};
 ghost use Rattle.mencius_trace.specs.Before.{IsBefore};
 ghost use Rattle.mencius_trace.specs.Facts.{refused_line, sent_line};
-ghost use Rattle.mencius_trace.specs.Told.{awaited_lines, count_line, event_lines, front_lines, given_to, ignored_line, notice, place_of, reason_text, told};
+ghost use Rattle.mencius_trace.specs.Effects.{awaited_lines, count_line, effect_text, event_lines, front_lines, given_to, ignored_line, instance_of, notice, reason_text};
 
-use crate::before::{Before, note, place_of};
+use crate::before::{Before, instance_of, note};
 use crate::facts::{
     push_event_line, push_executed, push_front, push_learned, push_refused, push_sent, push_tally,
     push_value,
 };
-use crate::hearing::Hearing;
+use crate::reaction::Reaction;
 use crate::words::push_answer;
 use mencius_base::{Event, Members, Message, NoMemory, Refusal, Value, Vote};
-use mencius_cluster::{Answered, Cluster, Effect, Glance};
+use mencius_cluster::{Cluster, Effect, Glance, Reply};
 use mencius_format::push_id;
 use std::alloc::{AllocError, Global};
 
@@ -45,7 +45,7 @@ pub fn tell(
     push_event_line(text, place, &event)?;
     let before = note(alloc, cluster, &event)?;
     match cluster.step(event) {
-        Ok(effect) => push_told(text, cluster, &before, effect),
+        Ok(effect) => push_effect(text, cluster, &before, effect),
         Err(refusal) => push_refusal(text, refusal),
     }
 }
@@ -63,7 +63,7 @@ fn push_refusal(text: &mut String, refusal: Refusal) -> Result<(), NoMemory>
 }
 
 // All that came of an accepted event.
-fn push_told(
+fn push_effect(
     text: &mut String,
     cluster: &Cluster,
     before: &Before,
@@ -71,9 +71,9 @@ fn push_told(
 ) -> Result<(), NoMemory>
     ensures { OnOk result ((x : ClusterState) (e : Event) → IsBefore x e before.now
         → IsStepped x cluster.now e effect → string_bytes text.new
-        ≡ string_bytes text.old ++ told x.members (trace_of x) (trace_of cluster.now) e) }
+        ≡ string_bytes text.old ++ effect_text x.members (trace_of x) (trace_of cluster.now) e) }
 {
-    push_notice(text, cluster, before, is_silent(effect))?;
+    push_notice(text, cluster, before, is_ignored(effect))?;
     push_learned_lines(text, cluster, before, effect.learned)?;
     push_sent_lines(text, cluster, effect.first)?;
     push_front_line(text, cluster, before.server, before.front)?;
@@ -81,7 +81,7 @@ fn push_told(
     Ok(())
 }
 
-fn is_silent(effect: Effect) -> bool
+fn is_ignored(effect: Effect) -> bool
     ensures { result ≡ (effect.sent == 0 && effect.learned == 0) }
 {
     effect.sent == 0 && effect.learned == 0
@@ -91,12 +91,12 @@ fn push_notice(
     text: &mut String,
     cluster: &Cluster,
     before: &Before,
-    is_silent: bool,
+    is_ignored: bool,
 ) -> Result<(), AllocError>
     ensures { OnOk result (before.now.server < cluster.now.members.count
-        → IfSome before.now.heard (λ x. place_of x < instance_count)
+        → IfSome before.now.heard (λ x. instance_of x < instance_count)
         → string_bytes text.new ≡ string_bytes text.old ++ notice_after cluster.now.members
-        (trace_of cluster.now) before.now.server is_silent before.now.hearing before.now.heard) }
+        (trace_of cluster.now) before.now.server is_ignored before.now.reaction before.now.heard) }
 {
     match &before.heard {
         Some(message) => {
@@ -105,8 +105,8 @@ fn push_notice(
                 cluster,
                 before.server,
                 message,
-                is_silent,
-                before.hearing,
+                is_ignored,
+                before.reaction,
             )
         }
         None => Ok(()),
@@ -118,22 +118,22 @@ fn push_notice_of(
     cluster: &Cluster,
     server: u8,
     message: &Message,
-    is_silent: bool,
-    hearing: Hearing,
+    is_ignored: bool,
+    reaction: Reaction,
 ) -> Result<(), AllocError>
     ensures { OnOk result (server < cluster.now.members.count
-        → place_of message.now < instance_count
+        → instance_of message.now < instance_count
         → string_bytes text.new ≡ string_bytes text.old ++ notice cluster.now.members
-        (trace_of cluster.now) server message.now is_silent hearing) }
+        (trace_of cluster.now) server message.now is_ignored reaction) }
 {
-    if hearing == Hearing::Taken {
+    if reaction == Reaction::Effective {
         return Ok(());
     }
-    if hearing == Hearing::Counted {
+    if reaction == Reaction::Counted {
         return push_count(text, cluster, server, message);
     }
-    if is_silent {
-        return push_ignored(text, cluster, hearing);
+    if is_ignored {
+        return push_ignored(text, cluster, reaction);
     }
     Ok(())
 }
@@ -145,11 +145,11 @@ fn push_count(
     message: &Message,
 ) -> Result<(), AllocError>
     ensures { OnOk result (server < cluster.now.members.count
-        → place_of message.now < instance_count
+        → instance_of message.now < instance_count
         → string_bytes text.new ≡ string_bytes text.old ++ notice cluster.now.members
-        (trace_of cluster.now) server message.now false Hearing.Counted) }
+        (trace_of cluster.now) server message.now false Reaction.Counted) }
 {
-    match cluster.glance(server, place_of(message)) {
+    match cluster.glance(server, instance_of(message)) {
         Some(glance) => push_count_of(text, cluster.members(), server, &glance, message),
         None => Ok(()),
     }
@@ -197,34 +197,34 @@ fn push_count_of(
     }
 }
 
-fn push_ignored(text: &mut String, cluster: &Cluster, hearing: Hearing) -> Result<(), AllocError>
+fn push_ignored(text: &mut String, cluster: &Cluster, reaction: Reaction) -> Result<(), AllocError>
     ensures { OnOk result (string_bytes text.new
-        ≡ string_bytes text.old ++ ignored_line (trace_of cluster.now) hearing) }
+        ≡ string_bytes text.old ++ ignored_line (trace_of cluster.now) reaction) }
 {
     text.push_str("ignored ")?;
-    push_reason(text, cluster, hearing)?;
+    push_reason(text, cluster, reaction)?;
     text.push('\n')
 }
 
-fn push_reason(text: &mut String, cluster: &Cluster, hearing: Hearing) -> Result<(), AllocError>
+fn push_reason(text: &mut String, cluster: &Cluster, reaction: Reaction) -> Result<(), AllocError>
     ensures { OnOk result (string_bytes text.new
-        ≡ string_bytes text.old ++ reason_text (trace_of cluster.now) hearing) }
+        ≡ string_bytes text.old ++ reason_text (trace_of cluster.now) reaction) }
 {
-    match hearing {
-        Hearing::Promised(ballot) => {
+    match reaction {
+        Reaction::Promised(ballot) => {
             let ballot = ballot.number();
             write!(text, "promised {ballot}")
         }
-        Hearing::Tries(ballot) => {
+        Reaction::Tries(ballot) => {
             let ballot = ballot.number();
             write!(text, "tries {ballot}")
         }
-        Hearing::Known(value) => {
+        Reaction::Learned(value) => {
             text.push_str("learned ")?;
             push_value(text, cluster, value)
         }
-        Hearing::Proposed => text.push_str("proposed already"),
-        Hearing::Taken | Hearing::Counted => Ok(()),
+        Reaction::Proposed => text.push_str("proposed already"),
+        Reaction::Effective | Reaction::Counted => Ok(()),
     }
 }
 
@@ -236,12 +236,12 @@ fn push_learned_lines(
 ) -> Result<(), AllocError>
     ensures { OnOk result (before.now.server < cluster.now.members.count
         → string_bytes text.new ≡ string_bytes text.old ++ learned_after (trace_of cluster.now)
-        before.now.server (string_bytes before.now.given_up) learned before.now.heard) }
+        before.now.server (string_bytes before.now.skipped_text) learned before.now.heard) }
 {
     match &before.heard {
         Some(message) => {
-            let given_up = before.given_up.as_str();
-            push_learned_of(text, cluster, before.server, given_up, learned, message)
+            let skipped_text = before.skipped_text.as_str();
+            push_learned_of(text, cluster, before.server, skipped_text, learned, message)
         }
         None => Ok(()),
     }
@@ -251,16 +251,16 @@ fn push_learned_of(
     text: &mut String,
     cluster: &Cluster,
     server: u8,
-    given_up: &str,
+    skipped_text: &str,
     learned: u32,
     message: &Message,
 ) -> Result<(), AllocError>
     ensures { OnOk result (server < cluster.now.members.count → string_bytes text.new
         ≡ string_bytes text.old
-        ++ learned_of (trace_of cluster.now) server given_up.now learned message.now) }
+        ++ learned_of (trace_of cluster.now) server skipped_text.now learned message.now) }
 {
     match *message {
-        Message::Skip { .. } => text.push_str(given_up),
+        Message::Skip { .. } => text.push_str(skipped_text),
         Message::Accepted { inst, .. } => push_learned_at(text, cluster, server, inst, learned),
         Message::Learn { inst, .. } => push_learned_at(text, cluster, server, inst, learned),
         Message::Suggest { .. }
@@ -293,7 +293,7 @@ fn push_learned_at(
 fn push_sent_lines(text: &mut String, cluster: &Cluster, first: u32) -> Result<(), AllocError>
     ensures { OnOk result (string_bytes text.new ≡ string_bytes text.old
         ++ messages_from (trace_of cluster.now) first
-        (length (sent (trace_of cluster.now)) - first)) }
+        (length (sent_messages (trace_of cluster.now)) - first)) }
 {
     for number in first..cluster.messages() {
         push_sent_line(text, cluster, number)?;
@@ -304,7 +304,7 @@ fn push_sent_lines(text: &mut String, cluster: &Cluster, first: u32) -> Result<(
 fn push_sent_line(text: &mut String, cluster: &Cluster, number: u32) -> Result<(), AllocError>
     ensures { OnOk result (string_bytes text.new ≡ string_bytes text.old
         ++ of_message (sent_line (trace_of cluster.now)) number
-        (slice_get (sent (trace_of cluster.now)) number)) }
+        (slice_get (sent_messages (trace_of cluster.now)) number)) }
 {
     // For the proof: a type inside a message.
     let _inside: Option<Vote> = None;
@@ -339,9 +339,9 @@ fn push_front_line(
 fn push_execution(text: &mut String, cluster: &Cluster, before: &Before) -> Result<(), AllocError>
     ensures { OnOk result (string_bytes text.new ≡ string_bytes text.old
         ++ execution_after (trace_of cluster.now) before.now.server before.now.is_awaited
-        before.now.executing) }
+        before.now.execution) }
 {
-    let Some((inst, value)) = before.executing else {
+    let Some((inst, value)) = before.execution else {
         return Ok(());
     };
     push_executed(text, cluster, before.server, inst, value)?;
@@ -375,12 +375,12 @@ fn push_given(text: &mut String, cluster: &Cluster, ticket: u32) -> Result<(), A
     let Some(submission) = cluster.submission(ticket) else {
         return Ok(());
     };
-    if matches!(submission.answer, Answered::Pending) {
+    if matches!(submission.reply, Reply::Pending) {
         return Ok(());
     }
     text.push_str("reply ")?;
     push_id(text, submission.command.id())?;
     text.push(' ')?;
-    push_answer(text, &submission.answer)?;
+    push_answer(text, &submission.reply)?;
     text.push('\n')
 }

@@ -3,16 +3,16 @@
 ghost use Rattle.std.specs.Prelude.{◌≡◌, ◌<◌, ◌++◌, ◌||◌, ℕ, IfOk, OnOk, slice_get, string_bytes};
 ghost use Rattle.std.specs.List.{list_any};
 ghost use Rattle.mencius_base.specs.Limits.{most_servers};
-ghost use Rattle.mencius_cluster.specs.Marks.{mark_in};
+ghost use Rattle.mencius_cluster.specs.MessageBits.{bit_in};
 ghost use Rattle.mencius_cluster.specs.State.{trace_of};
-ghost use Rattle.mencius_model.specs.Trace.{Trace, sent};
+ghost use Rattle.mencius_model.specs.Trace.{Trace, sent_messages};
 ghost use Rattle.mencius_trace.specs.After.{of_message};
-ghost use Rattle.mencius_trace.specs.Closing.{settles, unheard_line, unheard_lines, unheard_text};
-ghost use Rattle.mencius_trace.specs.Settled.{AreSettled, IsOfServer, entry_settles};
+ghost use Rattle.mencius_trace.specs.Closing.{is_settled_by, unheard_line, unheard_lines, unheard_text};
+ghost use Rattle.mencius_trace.specs.Settled.{AreSettled, IsOfServer, is_settled_by_entry};
 
 use crate::facts::kind_of;
 use mencius_base::{Entry, Message, NoMemory, Vote};
-use mencius_cluster::{Cluster, Marks};
+use mencius_cluster::{Cluster, MessageBits};
 use std::alloc::{AllocError, Global};
 
 /// Adds a line for each message and each server that it goes to, where the server neither heard nor
@@ -31,23 +31,23 @@ pub(crate) fn push_unheard(
 }
 
 // A mark at each message and server where the server heard or lost the message.
-fn settled(alloc: Global, cluster: &Cluster) -> Result<Marks, NoMemory>
+fn settled(alloc: Global, cluster: &Cluster) -> Result<MessageBits, NoMemory>
     ensures { IfOk result (AreSettled (trace_of cluster.now)) }
 {
     // For the proof: the journal replays, and there are few members.
     cluster.replays();
     let _few = cluster.servers();
-    let mut marks = Marks::new(alloc);
+    let mut marks = MessageBits::new(alloc);
     for entry in cluster.journal() {
         settle(&mut marks, entry)?;
     }
     Ok(marks)
 }
 
-fn settle(marks: &mut Marks, entry: &Entry) -> Result<(), NoMemory>
+fn settle(marks: &mut MessageBits, entry: &Entry) -> Result<(), NoMemory>
     requires { IsOfServer entry.now }
-    ensures { OnOk result ((k p : ℕ) → mark_in marks.new k p
-        ≡ (entry_settles k p entry.now || mark_in marks.old k p)) }
+    ensures { OnOk result ((k p : ℕ) → bit_in marks.new k p
+        ≡ (is_settled_by_entry k p entry.now || bit_in marks.old k p)) }
 {
     match *entry {
         Entry::Deliver { message, server } | Entry::Lose { message, server } => {
@@ -62,7 +62,7 @@ fn settle(marks: &mut Marks, entry: &Entry) -> Result<(), NoMemory>
     }
 }
 
-fn push_all(text: &mut String, cluster: &Cluster, settled: &Marks) -> Result<(), AllocError>
+fn push_all(text: &mut String, cluster: &Cluster, settled: &MessageBits) -> Result<(), AllocError>
     requires { AreSettled (trace_of cluster.now) settled.now }
     ensures { OnOk result (string_bytes text.new ≡ string_bytes text.old
         ++ unheard_text cluster.now.members (trace_of cluster.now)) }
@@ -76,13 +76,13 @@ fn push_all(text: &mut String, cluster: &Cluster, settled: &Marks) -> Result<(),
 fn push_unheard_lines(
     text: &mut String,
     cluster: &Cluster,
-    settled: &Marks,
+    settled: &MessageBits,
     number: u32,
 ) -> Result<(), AllocError>
     requires { AreSettled (trace_of cluster.now) settled.now }
     ensures { OnOk result (string_bytes text.new ≡ string_bytes text.old
         ++ of_message (unheard_lines cluster.now.members (trace_of cluster.now)) number
-        (slice_get (sent (trace_of cluster.now)) number)) }
+        (slice_get (sent_messages (trace_of cluster.now)) number)) }
 {
     // For the proof: a type inside a message.
     let _inside: Option<Vote> = None;
@@ -95,7 +95,7 @@ fn push_unheard_lines(
 fn push_for_each(
     text: &mut String,
     cluster: &Cluster,
-    settled: &Marks,
+    settled: &MessageBits,
     number: u32,
     message: &Message,
 ) -> Result<(), AllocError>
@@ -111,14 +111,14 @@ fn push_for_each(
 
 fn push_for(
     text: &mut String,
-    settled: &Marks,
+    settled: &MessageBits,
     number: u32,
     message: &Message,
     server: u8,
 ) -> Result<(), AllocError>
     requires { server < most_servers }
-    ensures { OnOk result ((w : Trace) → mark_in settled.now number server
-        ≡ list_any (settles number server) w → string_bytes text.new
+    ensures { OnOk result ((w : Trace) → bit_in settled.now number server
+        ≡ list_any (is_settled_by number server) w → string_bytes text.new
         ≡ string_bytes text.old ++ unheard_line w number message.now server) }
 {
     if !message.goes_to(server) || settled.is_marked(number, server) {

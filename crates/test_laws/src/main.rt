@@ -18,18 +18,18 @@
 //! Standard error then says what, and else what happened.
 #![tactic(auto)]
 
+mod counts;
 mod dice;
 mod drawing;
 mod given;
 mod mail;
 mod operations;
-mod tally;
 
+use crate::counts::EventCounts;
 use crate::dice::Dice;
 use crate::drawing::{Mix, draw_event};
 use crate::given::{follow, send_again};
 use crate::mail::Mail;
-use crate::tally::Tally;
 use mencius_app::report;
 use mencius_base::{Event, GREATEST_BETA, INSTANCES, Members};
 use mencius_cluster::Cluster;
@@ -172,26 +172,31 @@ fn judge_journal(alloc: Global, cluster: &Cluster, end: u32) -> Result<(), Stop>
     Ok(())
 }
 
-fn attack_one(alloc: Global, draw: Draw, number: u32, tally: &mut Tally) -> Result<(), Stop> {
+fn attack_one(
+    alloc: Global,
+    draw: Draw,
+    number: u32,
+    counts: &mut EventCounts,
+) -> Result<(), Stop> {
     let walk = attack(alloc, &mut Dice::new(draw.seed, number), draw.pace)?;
     let end = if draw.pace > 1 {
         reach(walk.cluster())
     } else {
         INSTANCES
     };
-    judge_walk(alloc, &walk, end, tally)
+    judge_walk(alloc, &walk, end, counts)
 }
 
-fn judge_walk(alloc: Global, walk: &Walk, end: u32, tally: &mut Tally) -> Result<(), Stop> {
+fn judge_walk(alloc: Global, walk: &Walk, end: u32, counts: &mut EventCounts) -> Result<(), Stop> {
     judge_journal(alloc, walk.cluster(), end)?;
-    tally.add(alloc, walk.cluster(), walk.longest().len())?;
+    counts.add(alloc, walk.cluster(), walk.longest().len())?;
     Ok(())
 }
 
 // All schedules, and the number of the one at which it ended early, with the cause.
-fn attack_all(alloc: Global, draw: Draw, tally: &mut Tally) -> Result<(), (u32, Stop)> {
+fn attack_all(alloc: Global, draw: Draw, counts: &mut EventCounts) -> Result<(), (u32, Stop)> {
     for number in 0..draw.count {
-        if let Err(stop) = attack_one(alloc, draw, number, tally) {
+        if let Err(stop) = attack_one(alloc, draw, number, counts) {
             return Err((number, stop));
         }
     }
@@ -199,11 +204,15 @@ fn attack_all(alloc: Global, draw: Draw, tally: &mut Tally) -> Result<(), (u32, 
 }
 
 // The schedule that is given, by itself and with all that it sends once more.
-fn attack_given(alloc: Global, scenario: Scenario<Events>, tally: &mut Tally) -> Result<(), Stop> {
+fn attack_given(
+    alloc: Global,
+    scenario: Scenario<Events>,
+    counts: &mut EventCounts,
+) -> Result<(), Stop> {
     let mut walk = follow(alloc, scenario)?;
     judge_journal(alloc, walk.cluster(), INSTANCES)?;
     send_again(&mut walk)?;
-    judge_walk(alloc, &walk, INSTANCES, tally)
+    judge_walk(alloc, &walk, INSTANCES, counts)
 }
 
 // The status at the end, and what is said of it; `missing` is what was to happen and did not.
@@ -211,11 +220,11 @@ fn conclude(
     alloc: Global,
     ended: Result<(), (u32, Stop)>,
     missing: Option<&str>,
-    tally: &Tally,
+    counts: &EventCounts,
 ) -> Result<(u8, String), AllocError> {
     match ended {
         Ok(()) => match missing {
-            None => Ok((0, tally.text(alloc)?)),
+            None => Ok((0, counts.text(alloc)?)),
             Some(words) => Ok((9, String::from_str(alloc, words)?)),
         },
         Err((number, Stop::NoMemory)) => Ok((
@@ -230,15 +239,15 @@ fn conclude(
 
 // Attacks by what standard input asks for, and answers the status and what is said.
 fn attack_by(alloc: Global, bytes: &[u8]) -> Result<(u8, String), AllocError> {
-    let mut tally = Tally::new();
+    let mut counts = EventCounts::new();
     if let Some(draw) = read_numbers(bytes) {
-        let ended = attack_all(alloc, draw, &mut tally);
-        return conclude(alloc, ended, tally.missing(), &tally);
+        let ended = attack_all(alloc, draw, &mut counts);
+        return conclude(alloc, ended, counts.missing(), &counts);
     }
     match read_scenario(alloc, bytes) {
         Ok(scenario) => {
-            let ended = attack_given(alloc, scenario, &mut tally).map_err(|stop| (0, stop));
-            conclude(alloc, ended, None, &tally)
+            let ended = attack_given(alloc, scenario, &mut counts).map_err(|stop| (0, stop));
+            conclude(alloc, ended, None, &counts)
         }
         Err(AppFault::NoMemory) => Ok((6, String::from_str(alloc, "no memory")?)),
         Err(_) => Ok((

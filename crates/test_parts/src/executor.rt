@@ -1,6 +1,6 @@
 //! What commands at one key are answered, one after the other.
 
-use map_exec::{Executor, Reply};
+use map_exec::{Executor, FormerText};
 use mencius_base::{Command, CommandId, Key, Op, Text};
 use std::alloc::Global;
 use std::panic::Expect;
@@ -28,9 +28,9 @@ fn op_of(rt: &impl Abort, alloc: Global, deed: Deed) -> Op {
         },
         Deed::Get => Op::Get { key },
         Deed::Del => Op::Del { key },
-        Deed::Cas(held, new) => Op::Cas {
+        Deed::Cas(expected, new) => Op::Cas {
             key,
-            held: text(rt, alloc, held),
+            expected: text(rt, alloc, expected),
             text: text(rt, alloc, new),
         },
     }
@@ -44,7 +44,7 @@ fn make_command(rt: &impl Abort, alloc: Global, deed: Deed) -> Command {
     Command::new(id, op_of(rt, alloc, deed)).expect(rt, "a command")
 }
 
-fn text_of(reply: &Reply) -> Option<&str> {
+fn text_of(reply: &FormerText) -> Option<&str> {
     match reply {
         Some(text) => Some(text.as_str()),
         None => None,

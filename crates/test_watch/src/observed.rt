@@ -2,7 +2,7 @@
 
 use crate::plain_map::change;
 use mencius_base::{Command, Entry, INSTANCES, Message, Value, Vote};
-use mencius_cluster::{Answered, Cluster};
+use mencius_cluster::{Cluster, Reply};
 use std::alloc::{AllocError, Global};
 use std::collections::BTreeMap;
 
@@ -240,13 +240,13 @@ impl Observed {
             return Some("a command is gone");
         };
         match (
-            &submission.answer,
+            &submission.reply,
             self.place_at(cluster, submission.home, ticket),
         ) {
-            (Answered::Pending, None) => None,
-            (Answered::Pending, Some(_)) => Some("an executed command has no reply"),
-            (Answered::Given(_), None) => Some("a command has a reply too early"),
-            (Answered::Given(reply), Some(place)) => self.compare(reply, place),
+            (Reply::Pending, None) => None,
+            (Reply::Pending, Some(_)) => Some("an executed command has no reply"),
+            (Reply::Given(_), None) => Some("a command has a reply too early"),
+            (Reply::Given(reply), Some(place)) => self.compare(reply, place),
         }
     }
 

@@ -4,7 +4,7 @@ use crate::courses::{
     GET_AT_ANOTHER_SERVER, REVOKED_AND_SUGGESTED_AGAIN, cluster_after, new_cluster, scenario_of,
 };
 use mencius_base::{CommandId, Entry, Event, Members, Message, Value};
-use mencius_cluster::{Answered, Cluster, Effect};
+use mencius_cluster::{Cluster, Effect, Reply};
 use std::alloc::Global;
 use std::panic::Expect;
 use std::process::Abort;
@@ -31,9 +31,9 @@ const EFFECTS: [(u32, u32); 14] = [
 fn shown(cluster: &Cluster, client: u32) -> &str {
     match cluster.reply(CommandId { client, number: 0 }) {
         None => "not submitted",
-        Some(Answered::Pending) => "pending",
-        Some(Answered::Given(None)) => "none",
-        Some(Answered::Given(Some(text))) => text.as_str(),
+        Some(Reply::Pending) => "pending",
+        Some(Reply::Given(None)) => "none",
+        Some(Reply::Given(Some(text))) => text.as_str(),
     }
 }
 

@@ -9,7 +9,7 @@ use crate::courses::{
 use mencius_base::{Ballot, Event, Members, Message, Outbox, Refusal};
 use mencius_board::{Board, BoardFault, Reader};
 use mencius_cluster::Cluster;
-use mencius_conclusions::conclusions::{Noted, histories, note_across};
+use mencius_conclusions::conclusions::{TwoHistories, histories, note_across};
 use mencius_conclusions::hands::deliver;
 use mencius_conclusions::readings::{Reading, look_up_shown, look_up_within};
 use mencius_server::Server;
@@ -62,7 +62,7 @@ fn noted<R: Abort>(
     cluster: &mut Cluster,
     servers: (u8, u8),
     rest: Vec<Event>,
-) -> Noted {
+) -> TwoHistories {
     let (server, other) = servers;
     note_across(alloc, cluster, server, rest, other).expect(rt, "memory")
 }

@@ -5,7 +5,7 @@ ghost use Rattle.std.specs.Prelude.{◌≡◌};
 use crate::courses::{new_cluster, plan_of};
 use mencius_base::{Command, CommandId};
 use mencius_board::{Board, BoardFault, Chooser, Plan, Reader, worker_turn};
-use mencius_cluster::{Answered, Cluster};
+use mencius_cluster::{Cluster, Reply};
 use std::alloc::{AllocError, Global};
 use std::collections::BTreeMap;
 use std::marker::Model;
@@ -29,12 +29,12 @@ fn left_at(alloc: Global, commands: &[Command], key: &str) -> Result<Option<Stri
 }
 
 // A board and a reader of it.
-struct Told {
+struct BoardAndReader {
     board: Board,
     reader: Reader,
 }
 
-impl Model for Told {
+impl Model for BoardAndReader {
     ghost use Rattle.std.specs.Prelude.{◌≡◌};
     ghost use Rattle.mencius_board.specs.Boards.{BoardState};
 
@@ -45,10 +45,10 @@ impl Model for Told {
     ghost invariant = { λ x. x.reader.book ≡ x.board.book };
 }
 
-impl Told {
-    fn new(mut board: Board) -> Result<Told, Board> {
+impl BoardAndReader {
+    fn new(mut board: Board) -> Result<BoardAndReader, Board> {
         match board.reader() {
-            Ok(reader) => Ok(Told { board, reader }),
+            Ok(reader) => Ok(BoardAndReader { board, reader }),
             Err(_) => Err(board),
         }
     }
@@ -70,7 +70,7 @@ impl Told {
     }
 
     fn end<R: Wait>(self, rt: &R) -> Cluster {
-        let Told {
+        let BoardAndReader {
             board,
             reader: _reader,
         } = self;
@@ -79,7 +79,7 @@ impl Told {
 }
 
 // Whether 64 turns end well, eight of each worker.
-fn turn_all(told: &mut Told, choosers: &mut [Chooser]) -> bool {
+fn turn_all(told: &mut BoardAndReader, choosers: &mut [Chooser]) -> bool {
     let mut are_well = true;
     for _ in 0..8 {
         for chooser in &mut *choosers {
@@ -90,7 +90,12 @@ fn turn_all(told: &mut Told, choosers: &mut [Chooser]) -> bool {
 }
 
 // Whether all turns of a plan's workers end well, and the reader finds what it is to find after each 64 of them.
-fn rotate<R: Wait>(rt: &R, alloc: Global, told: &mut Told, choosers: &mut [Chooser]) -> bool {
+fn rotate<R: Wait>(
+    rt: &R,
+    alloc: Global,
+    told: &mut BoardAndReader,
+    choosers: &mut [Chooser],
+) -> bool {
     for _ in 0..250 {
         let are_well = turn_all(told, choosers);
         if !are_well || told.finds(rt, alloc) != Ok(true) {
@@ -119,7 +124,7 @@ fn rotated<R: Wait>(
         return Err(BoardFault::NoMemory);
     };
     let board = Board::new(rt, alloc, cluster, 1)?;
-    match Told::new(board) {
+    match BoardAndReader::new(board) {
         Ok(mut told) => {
             let finds = rotate(rt, alloc, &mut told, choosers.as_mut_slice());
             Ok((finds, told.end(rt)))
@@ -162,7 +167,7 @@ fn found_by_cas(cluster: &Cluster) -> Option<&str> {
         number: 1,
     };
     match cluster.reply(second) {
-        Some(Answered::Given(Some(text))) => Some(text.as_str()),
+        Some(Reply::Given(Some(text))) => Some(text.as_str()),
         _ => None,
     }
 }

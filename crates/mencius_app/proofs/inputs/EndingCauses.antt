@@ -6,14 +6,14 @@ use Rattle.mencius_ends.specs.Ends.{TakesAtMost, most_bytes, most_failed_calls}
 use Rattle.mencius_app.specs.Calls.{AsksAs, AsksLittle, IsCause}
 use Rattle.mencius_app.specs.Replay.{IsReplayOf, accepts_all}
 use Rattle.mencius_app.specs.Run.{IsRunOf}
-use Rattle.mencius_app.specs.Ending.{IsAskedFor, IsFaultFor, IsInputFaultOf, IsTextOf, ending_at, ending_of, ending_of_run, ending_with, fault_in, tells_of_refusals}
+use Rattle.mencius_app.specs.Ending.{IsAskedFor, IsFaultFor, IsInputFaultOf, IsTextOf, ending_at, ending_of, ending_of_run, ending_with, fault_in, reports_refusals}
 use Rattle.mencius_app.specs.declared.finding.Finding.{Finding}
 use Rattle.mencius_app.specs.RunFindings.{IfFound}
 use Rattle.mencius_app.specs.declared.run_finding.RunFinding.{RunFinding}
 use Rattle.mencius_app.specs.declared.run_finding.RunFinding.TheVariants as at
 use Rattle.mencius_app.specs.declared.ending.Ending.{Ending}
 use Rattle.mencius_app.specs.declared.ending.Ending.TheVariants.{BoardFailed}
-use Rattle.mencius_command_line.specs.CommandLine.{Asked, asked, asked_check, asked_draw, asked_judge, asked_replay, asked_run, asked_trace, faults, line_of}
+use Rattle.mencius_command_line.specs.CommandLine.{TaskState, asked_check, asked_draw, asked_judge, asked_replay, asked_run, asked_trace, faults, line_of, task_in}
 
 -- where its text is also one of another kind
 pub as_text : {F : AppFault → Type 0} {P Q : List ℕ → Type 0} {reads reads_now writes writes_now : ℕ}
@@ -32,7 +32,7 @@ pub text_of_replay : (is_strict : Bool) (known : Option (List ℕ)) (text : List
     → IsTextOf (asked_replay is_strict) known text
 text_of_replay is_strict known text h =
     let all = accepts_all h.written.members h.written.course in
-    (tells_of_refusals is_strict all, (all, (h, refl), refl))
+    (reports_refusals is_strict all, (all, (h, refl), refl))
 
 pub text_of_run : (known : Option (List ℕ)) (with_journal with_observations : Bool) (key there : Option (List ℕ)) (text : List ℕ)
     → key ≡ there → IsRunOf known with_journal with_observations key text
@@ -81,9 +81,10 @@ board_of_run (Err (at.Found found)) ending e failed is = absurd (found_not_board
 board_of_run (Err at.BoardFailed) ending e failed is = failed refl
 
 -- what holds of a task holds of the arguments that ask for it
-pub of_task : (arguments : List Text) (task : Asked) (known : Option (List ℕ)) (reads reads_now writes writes_now : ℕ)
+pub of_task : (arguments : List Text) (task : TaskState) (known : Option (List ℕ))
+    (reads reads_now writes writes_now : ℕ)
     (old new : Option (List ℕ)) (fault : Option AppFault) → faults (line_of arguments) ≡ []
-    → task ≡ asked (line_of arguments)
+    → task ≡ task_in (line_of arguments)
     → IfSome fault (IsCause (IsInputFaultOf task known) (IsTextOf task known) reads reads_now writes writes_now old new)
     → IfSome fault (IsCause (IsFaultFor arguments known) (IsAskedFor arguments known) reads reads_now writes writes_now
     old new)
@@ -107,8 +108,8 @@ little known reads writes writes_now few =
     record { reader = record { taken = unread_takes known; tried = omega arith }; tried = few }
 
 -- so of any task, where only a few calls of the writer failed
-pub asks_as : (task : Asked) (known : Option (List ℕ)) (reads writes writes_now : ℕ) → writes_now ≤ writes + most_failed_calls
-    → AsksAs task known known reads reads writes writes_now
+pub asks_as : (task : TaskState) (known : Option (List ℕ)) (reads writes writes_now : ℕ)
+    → writes_now ≤ writes + most_failed_calls → AsksAs task known known reads reads writes writes_now
 asks_as (asked_replay is_strict) known reads writes writes_now few = little known reads writes writes_now few
 asks_as asked_trace known reads writes writes_now few = little known reads writes writes_now few
 asks_as (asked_draw part) known reads writes writes_now few = little known reads writes writes_now few

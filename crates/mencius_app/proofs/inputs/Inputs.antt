@@ -9,11 +9,11 @@ use Rattle.serde_json.specs.Data.{Data}
 use Rattle.mencius_ends.specs.declared.fault.AppFault.{AppFault}
 use Rattle.mencius_ends.specs.declared.fault.AppFault.TheVariants.{NotJson, BadShape, BadLimit, ReadFailed, WriteFailed, NoMemory}
 use Rattle.mencius_ends.specs.Ends.{HasFailed, WritesFront, most_bytes}
-use Rattle.mencius_format.specs.Judged.{FailsBy, Gives, judged, seen}
+use Rattle.mencius_format.specs.ValuesOrFaults.{FailsBy, Gives, map_ok, value_or_fault}
 use Rattle.mencius_input.specs.declared.kind.Kind.TheVariants.{Run}
 use Rattle.mencius_input.specs.Plan.{plan, plan_read, plan_within}
 use Rattle.mencius_base.specs.Members.{Membership}
-use Rattle.mencius_input.specs.Scenario.{json_of, or_not_json, read_there, scenario, scenario_of, scenario_within, within, written_of}
+use Rattle.mencius_input.specs.Scenario.{is_within_limits, json_of, or_not_json, read_there, scenario, scenario_of, scenario_within, written_of}
 use Rattle.mencius_app.specs.Calls.{IsCause, IsReadingCause}
 use Rattle.mencius_app.specs.Input.{HasFault, IsBadInput, Says, input_of, unless_long}
 use Rattle.mencius_app.specs.Replay.{IsMadeOf}
@@ -42,21 +42,21 @@ long_fault read (Some bytes) h =
 -- ---- the faults of bad inputs
 
 -- what is judged has no other fault
-judged_bad : {X : Type 0} (fits : X → Bool) (o : Option X) (fault : AppFault) → judged fits o ≡ Err fault
+value_fault_bad : {X : Type 0} (fits : X → Bool) (o : Option X) (fault : AppFault) → value_or_fault fits o ≡ Err fault
     → IsBadInput fault
-judged_bad fits None fault e = inr (inl (cc))
-judged_bad {X} fits (Some x) fault e = by_test (fits x) e where
+value_fault_bad fits None fault e = inr (inl (cc))
+value_fault_bad {X} fits (Some x) fault e = by_test (fits x) e where
   by_test : (a : Bool) → cond a (Ok x) (Err BadLimit) ≡ Err fault → IsBadInput fault
   by_test true e = absurd (cc)
   by_test false e = inr (inr (cc))
 
 json_bad : {X : Type 0} (fits : X → Bool) (of : Data → Option X) (o : Option Data) (fault : AppFault)
-    → read_there (λ d. judged fits (of d)) (or_not_json o) ≡ Err fault → IsBadInput fault
+    → read_there (λ d. value_or_fault fits (of d)) (or_not_json o) ≡ Err fault → IsBadInput fault
 json_bad fits of None fault e = inl (cc)
-json_bad fits of (Some d) fault e = judged_bad fits (of d) fault e
+json_bad fits of (Some d) fault e = value_fault_bad fits (of d) fault e
 
 pub scenario_bad : (bytes : List ℕ) (fault : AppFault) → scenario bytes ≡ Err fault → IsBadInput fault
-scenario_bad bytes fault e = json_bad within written_of (json_of bytes) fault e
+scenario_bad bytes fault e = json_bad is_within_limits written_of (json_of bytes) fault e
 
 pub plan_bad : (bytes : List ℕ) (fault : AppFault) → plan bytes ≡ Err fault → IsBadInput fault
 plan_bad bytes fault e = json_bad (scenario_within plan_within) (scenario_of Run plan_read) (json_of bytes) fault e
@@ -140,13 +140,13 @@ module _ {X Y : Type 0} (read : List ℕ → Result Y AppFault)
     (bad : (bytes : List ℕ) (fault : AppFault) → read bytes ≡ Err fault → IsBadInput fault) (view : X → Y)
     (known : Option (List ℕ)) (bytes text : List ℕ) (whole : IfSome known (λ all. bytes ≡ all))
     (fits : length text ≤ most_bytes) (is : text ≡ bytes) where
-  pub said : (r : Result X AppFault) → Gives (seen view r) (read text)
+  pub said : (r : Result X AppFault) → Gives (map_ok view r) (read text)
       → IfOk r (λ x. Says (unless_long read) known (view x))
   said (Ok x) gives =
       (bytes, flipped known bytes whole, ap (unless_long read) (sym is) ∙ says_by_bytes read text fits ∙ gives)
   said (Err fault) gives = tt
 
-  pub misread : (reads reads_now : ℕ) (r : Result X AppFault) → Gives (seen view r) (read text)
+  pub misread : (reads reads_now : ℕ) (r : Result X AppFault) → Gives (map_ok view r) (read text)
       → IfErr r (IsReadingCause (HasFault (unless_long read) known) reads reads_now)
   misread reads reads_now (Ok x) gives = tt
   misread reads reads_now (Err fault) gives = elim (failing fault (read text) gives) [

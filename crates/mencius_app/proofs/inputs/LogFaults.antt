@@ -7,7 +7,7 @@ use Rattle.mencius_trace.specs.Words.{line_feed}
 use Rattle.mencius_command_line.specs.CommandLine.{asked_judge}
 use Rattle.mencius_app.specs.Ending.{DidTask, IsTextOf, TellsOf, ending_of_judgement, ending_with, fault_in}
 use Rattle.mencius_app.specs.Findings.{IsFoundIn}
-use Rattle.mencius_app.specs.Judging.{IsJudgement, IsJudgementOf, IsToldByLine}
+use Rattle.mencius_app.specs.Judging.{ExplainsByLine, IsJudgement, IsJudgementOf}
 use Rattle.mencius_app.specs.declared.finding.Finding.{Finding}
 use Rattle.mencius_app.specs.declared.ending.Ending.{Ending}
 use Rattle.mencius_app.specs.declared.ending.Ending.TheVariants.{Done, Refused, BadCommandLine, BoardFailed}
@@ -26,21 +26,21 @@ of_judgement (Ok false) ending P e h = subst (λ d. IfSome (fault_in d) P) (sym 
 of_judgement (Err found) ending P e h = of_finding found ending P e h
 
 pub told_of_judgement : (known : Option (List ℕ)) (done : Result Bool Finding) (ending : Ending)
-    → ending ≡ ending_of_judgement done → IfErr done (IsFoundIn IsToldByLine known) → TellsOf asked_judge known ending
+    → ending ≡ ending_of_judgement done → IfErr done (IsFoundIn ExplainsByLine known) → TellsOf asked_judge known ending
 told_of_judgement known (Ok true) ending e h = subst (TellsOf asked_judge known) (sym e) tt
 told_of_judgement known (Ok false) ending e h = subst (TellsOf asked_judge known) (sym e) tt
 told_of_judgement known (Err found) ending e h = told_of_finding asked_judge known found ending e h
 
 -- what was written, by the ending
-pub judged_done : (known old new : Option (List ℕ)) (done : Result Bool Finding) (ending : Ending) (told : Bool)
+pub judged_done : (known old new : Option (List ℕ)) (done : Result Bool Finding) (ending : Ending) (is_refused : Bool)
     → ending ≡ ending_of_judgement done
     → IfOk done (λ kept. (text : List ℕ) × IsJudgementOf known text kept × Appends old new text)
-    → ending ≡ cond told Refused Done → DidTask asked_judge known old new told
+    → ending ≡ cond is_refused Refused Done → DidTask asked_judge known old new is_refused
 judged_done known old new (Ok true) ending false e h is = (h.0, (true, h.1, refl), h.2)
 judged_done known old new (Ok false) ending true e h is = (h.0, (false, h.1, refl), h.2)
 judged_done known old new (Ok true) ending true e h is = (let both = sym e ∙ is in absurd (cc))
 judged_done known old new (Ok false) ending false e h is = (let both = sym e ∙ is in absurd (cc))
-judged_done known old new (Err found) ending told e h is = absurd (no_fault found.words told (sym e ∙ is))
+judged_done known old new (Err found) ending is_refused e h is = absurd (no_fault found.words is_refused (sym e ∙ is))
   where
     no_fault : (words : Option (String Global)) (d : Bool) → ending_with found.fault words ≡ cond d Refused Done → ⊥
     no_fault None true g = absurd (cc)

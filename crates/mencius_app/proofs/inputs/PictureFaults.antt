@@ -6,8 +6,8 @@ use Rattle.mencius_draw.specs.declared.options.Options.{Options}
 use Rattle.mencius_draw.specs.Places.{most_levels}
 use Rattle.mencius_trace.specs.Words.{line_feed}
 use Rattle.mencius_app.specs.Calls.{IsReadingCause}
-use Rattle.mencius_app.specs.Drawing.{IsDrawingFaultOf, IsRefusedAs, IsToldOfPicture, levels_in, too_large_words}
-use Rattle.mencius_app.specs.Findings.{AreWordsOfInput, IsFoundIn, Telling}
+use Rattle.mencius_app.specs.Drawing.{ExplainsPicture, IsDrawingFaultOf, IsRefusedAs, levels_in, too_large_words}
+use Rattle.mencius_app.specs.Findings.{AreWordsOfInput, Explanation, IsFoundIn}
 use Rattle.mencius_app.specs.Trace.{IsTraceOf}
 use Rattle.mencius_app.specs.declared.finding.Finding.{Finding}
 use Rattle.mencius_app.proofs.inputs.Inputs.{own_fault}
@@ -32,7 +32,8 @@ refused_cause o known trace reads reads_now found is (inr large) = record {
 }
 
 -- words that are told of bytes may be told of them in another way
-pub found_as : (S T : Telling) → ((fault : AppFault) (bytes words : List ℕ) → S fault bytes words → T fault bytes words)
+pub found_as : (S T : Explanation)
+    → ((fault : AppFault) (bytes words : List ℕ) → S fault bytes words → T fault bytes words)
     → (known : Option (List ℕ)) (fault : AppFault) (words : Option (String Global))
     → IfSome words (λ line. AreWordsOfInput S known fault (string_bytes line))
     → IfSome words (λ line. AreWordsOfInput T known fault (string_bytes line))
@@ -50,19 +51,19 @@ found_as S T also (Some bytes) fault (Some line) h = (
 large_words : (o : Options) (known : Option (List ℕ)) (trace : List ℕ) (fault : AppFault)
     (words : Option (String Global)) → IsTraceOf known trace → fault ≡ BadLimit → most_levels < levels_in o trace
     → IfSome words (λ line. string_bytes line ≡ too_large_words (levels_in o trace) ++ line_feed)
-    → IfSome words (λ line. AreWordsOfInput (IsToldOfPicture o) known fault (string_bytes line))
+    → IfSome words (λ line. AreWordsOfInput (ExplainsPicture o) known fault (string_bytes line))
 large_words o known trace fault None is limit large h = tt
 large_words o None trace fault (Some line) is limit large h = tt
 large_words o (Some bytes) trace fault (Some line) is limit large h =
     (too_large_words (levels_in o trace), inl (inr (limit, levels_in o trace, (trace, is, refl, large), refl)), h)
 
-none_said : (Tells : Telling) (known : Option (List ℕ)) (fault : AppFault) (words : Option (String Global))
+none_said : (Tells : Explanation) (known : Option (List ℕ)) (fault : AppFault) (words : Option (String Global))
     → words ≡ None → IfSome words (λ line. AreWordsOfInput Tells known fault (string_bytes line))
 none_said Tells known fault None e = tt
 none_said Tells known fault (Some line) e = absurd (cc)
 
 pub refused_words : (o : Options) (known : Option (List ℕ)) (trace : List ℕ) (found : Finding) → IsTraceOf known trace
-    → IsRefusedAs o trace found → IsFoundIn (IsToldOfPicture o) known found
-refused_words o known trace found is (inl memory) = none_said (IsToldOfPicture o) known found.fault found.words memory.1
+    → IsRefusedAs o trace found → IsFoundIn (ExplainsPicture o) known found
+refused_words o known trace found is (inl memory) = none_said (ExplainsPicture o) known found.fault found.words memory.1
 refused_words o known trace found is (inr large) =
     large_words o known trace found.fault found.words is large.0 large.1 large.2

@@ -6,9 +6,9 @@ use Rattle.serde_json.specs.Find.{get}
 use Rattle.mencius_ends.specs.declared.fault.AppFault.TheVariants.{BadShape}
 use Rattle.mencius_input.specs.declared.kind.Kind.{Kind}
 use Rattle.mencius_input.specs.declared.kind.Kind.TheVariants.{Replay, Run}
-use Rattle.mencius_format.specs.Judged.{judged}
+use Rattle.mencius_format.specs.ValuesOrFaults.{value_or_fault}
 use Rattle.mencius_input.specs.Kinds.{has_run_field, is_crowded, kind_in, kind_said}
-use Rattle.mencius_input.specs.Scenario.{json_of, or_not_json, read_there, scenario, within, written_of}
+use Rattle.mencius_input.specs.Scenario.{is_within_limits, json_of, or_not_json, read_there, scenario, written_of}
 use Rattle.mencius_input.proofs.objects.ScenarioFields.{no_events_said}
 
 has_none : (o : Option Data) (other : Bool) → cond (not (is_some o) && other) Run Replay ≡ Run → o ≡ None
@@ -16,9 +16,10 @@ has_none None other e = refl
 has_none (Some x) other e = absurd (cc)
 
 run_said : (o : Option Data) → kind_said o ≡ Run
-    → read_there (λ d. judged within (written_of d)) (or_not_json o) ≡ Err BadShape
+    → read_there (λ d. value_or_fault is_within_limits (written_of d)) (or_not_json o) ≡ Err BadShape
 run_said None e = absurd (cc)
-run_said (Some d) e = ap (judged within) (no_events_said d (has_none (get (codes "events") d) (has_run_field d) e))
+run_said (Some d) e =
+    ap (value_or_fault is_within_limits) (no_events_said d (has_none (get (codes "events") d) (has_run_field d) e))
 
 -- what is meant as a run's has another shape
 pub run_misshapen : (bytes : List ℕ) → kind_in bytes ≡ Run → scenario bytes ≡ Err BadShape

@@ -10,7 +10,7 @@ use Rattle.mencius_base.specs.declared.command.Command.{Command}
 use Rattle.mencius_board.specs.Marks.{MarkState, VersionState}
 use Rattle.mencius_board.specs.declared.version.Operation.{Operation}
 use Rattle.mencius_board.specs.declared.version.Operation.TheVariants.{Stamp}
-use Rattle.mencius_board.specs.Pending.{IsMarked, then_shown, added}
+use Rattle.mencius_board.specs.Pending.{IsMarked, version_after_all, added_commands}
 use Rattle.mencius_board.proofs.ShownEntries.{then_stamped}
 use Rattle.mencius_board.specs.Shown.{Follows, IsWhole, Keeps, Shows}
 use Rattle.mencius_model.proofs.trace.Prefixes.{prefix_self, prefix_trans}
@@ -74,10 +74,11 @@ merges seat z other d x views h at apart there =
 -- a mark of all that is then shown keeps the rule
 pub stamped_turns : (seat : ℕ) (a : Option MarkState) (x now next : VersionState) (old all : List Operation)
     (h mark : MarkState) → length h.log < 2 ^ 32 → x ≡ now → all ≡ old ++ Stamp mark ∷ [] → mark ≡ h
-    → IsMarked h.book now → now.list ++ added old ≡ h.log → next ≡ then_shown x all → TurnsAt Keeps seat a x next Shows
+    → IsMarked h.book now → now.list ++ added_commands old ≡ h.log → next ≡ version_after_all x all
+    → TurnsAt Keeps seat a x next Shows
 stamped_turns seat a x now next old all h mark few same ops is marked whole made =
-    let made_now : next ≡ then_shown now (old ++ Stamp mark ∷ []) = made
-    ∙ (ap (λ s. then_shown s all) same ∙ ap (then_shown now) ops) in
+    let made_now : next ≡ version_after_all now (old ++ Stamp mark ∷ []) = made
+    ∙ (ap (λ s. version_after_all s all) same ∙ ap (version_after_all now) ops) in
     let stamped : next ≡ record { mark = mark; list = mark.log } = made_now
     ∙ then_stamped now old mark (whole ∙ ap (λ (m : MarkState). m.log) (sym is)) in
     let mark_is : next.mark ≡ h = ap (λ (s : VersionState). s.mark) stamped ∙ is in
@@ -87,7 +88,7 @@ stamped_turns seat a x now next old all h mark few same ops is marked whole made
       limit = subst (λ (l : List Command). length l < 2 ^ 32) (sym list_is) few;
     } in
     let book : now.mark.book ≡ next.mark.book = marked.book_is ∙ ap (λ (m : MarkState). m.book) (sym mark_is) in
-    let log : next.mark.log ≡ now.mark.log ++ added old =
-    ap (λ (m : MarkState). m.log) mark_is ∙ (sym whole ∙ ap (λ xs. xs ++ added old) (sym marked.log_is)) in
+    let log : next.mark.log ≡ now.mark.log ++ added_commands old =
+    ap (λ (m : MarkState). m.log) mark_is ∙ (sym whole ∙ ap (λ xs. xs ++ added_commands old) (sym marked.log_is)) in
     turns seat a x next (ap (λ (s : VersionState). s.mark.book) same ∙ book)
-    (subst (λ (s : VersionState). IsPrefix s.mark.log next.mark.log) (sym same) (added old, sym log)) own
+    (subst (λ (s : VersionState). IsPrefix s.mark.log next.mark.log) (sym same) (added_commands old, sym log)) own

@@ -6,39 +6,39 @@ use Rattle.mencius_board.specs.declared.fault.BoardFault.{BoardFault}
 use Rattle.mencius_choices.specs.Choices.{ChooserState, HasTurned, ProgressState, chooser_at, first_chooser}
 use Rattle.mencius_board.specs.Faults.{IsRunFault}
 use Rattle.mencius_base.specs.Plan.{PlanState}
-use Rattle.mencius_board.specs.Running.{EndState, HaveEnded, HaveFailed, HaveTurned, IsEndOf, TakesTurns, settled, settled_behind}
+use Rattle.mencius_board.specs.Running.{EndState, HaveEnded, HaveFailed, HaveTurned, IsWorkerEnd, TakesTurns, choosers_behind, choosers_or_fault}
 use Rattle.mencius_board.proofs.logs.ListSteps.{more_of}
 
 -- each end, by its place behind n that came before
 abbrev EndFrom : PlanState → ℕ → List EndState → Type 0
-EndFrom plan n ends = (m : ℕ) (d : EndState) → m < length ends → IsEndOf plan (n + m) (get_or ends m d)
+EndFrom plan n ends = (m : ℕ) (d : EndState) → m < length ends → IsWorkerEnd plan (n + m) (get_or ends m d)
 
 abbrev Turned : PlanState → ℕ → ChooserState → Type 0
 Turned plan seat chooser =
     HasTurned chooser plan seat plan.turns × TakesTurns seat plan.turns (first_chooser plan seat) chooser
 
 end_first : (plan : PlanState) (n : ℕ) (end : EndState) (rest : List EndState) → EndFrom plan n (end ∷ rest)
-    → IsEndOf plan n end
-end_first plan n end rest h = subst (λ (m : ℕ). IsEndOf plan m end) (add-zero n) (h 0 end (omega arith))
+    → IsWorkerEnd plan n end
+end_first plan n end rest h = subst (λ (m : ℕ). IsWorkerEnd plan m end) (add-zero n) (h 0 end (omega arith))
 
 end_rest : (plan : PlanState) (n m : ℕ) (end : EndState) (rest : List EndState) → m ≡ n + 1
     → EndFrom plan n (end ∷ rest) → EndFrom plan m rest
 end_rest plan n m end rest e h l d below =
     let at : n + suc l ≡ m + l = omega (arith, e) in
-    subst (λ (o : ℕ). IsEndOf plan o (get_or rest l d)) at (h (suc l) d (omega arith))
+    subst (λ (o : ℕ). IsWorkerEnd plan o (get_or rest l d)) at (h (suc l) d (omega arith))
 
-has_turned : (plan : PlanState) (seat : ℕ) (d : ProgressState) → IsEndOf plan seat (Ok d)
+has_turned : (plan : PlanState) (seat : ℕ) (d : ProgressState) → IsWorkerEnd plan seat (Ok d)
     → Turned plan seat (chooser_at plan d)
 has_turned plan seat d (inl h) = (record { plan = refl; drawing = h.0 }, h.1)
 has_turned plan seat d (inr e) = absurd (cc)
 
-run_fault : (plan : PlanState) (seat : ℕ) (f : BoardFault) → IsEndOf plan seat (Err f) → IsRunFault plan.turns f
+run_fault : (plan : PlanState) (seat : ℕ) (f : BoardFault) → IsWorkerEnd plan seat (Err f) → IsRunFault plan.turns f
 run_fault plan seat f (inl (inl memory)) = inl memory
 run_fault plan seat f (inl (inr shown)) = inr (inr (shown.0, shown.2))
 run_fault plan seat f (inr e) = inr (inl (cc))
 
 settled_fault : (plan : PlanState) (done : List ChooserState) (n : ℕ) (ends : List EndState) (f : BoardFault)
-    → settled_behind plan done ends ≡ Err f → EndFrom plan n ends → IsRunFault plan.turns f
+    → choosers_behind plan done ends ≡ Err f → EndFrom plan n ends → IsRunFault plan.turns f
 settled_fault plan done n [] f e h = absurd (cc)
 settled_fault plan done n (Err g ∷ rest) f e h =
     let same : g ≡ f = cc in subst (IsRunFault plan.turns) same (run_fault plan n g (end_first plan n (Err g) rest h))
@@ -46,7 +46,7 @@ settled_fault plan done n (Ok d ∷ rest) f e h =
     settled_fault plan (done ++ chooser_at plan d ∷ []) (n + 1) rest f e (end_rest plan n (n + 1) (Ok d) rest refl h)
 
 settled_turned : (plan : PlanState) (done : List ChooserState) (ends : List EndState) (x : List ChooserState)
-    → settled_behind plan done ends ≡ Ok x → EndFrom plan (length done) ends
+    → choosers_behind plan done ends ≡ Ok x → EndFrom plan (length done) ends
     → ((m : ℕ) (y : ChooserState) → m < length done → Turned plan m (get_or done m y))
     → (length x ≡ length done + length ends)
     × ((m : ℕ) (y : ChooserState) → m < length x → Turned plan m (get_or x m y))
@@ -69,13 +69,13 @@ settled_turned plan done (Ok d ∷ rest) x e h turned =
 ends_from : (plan : PlanState) (n : ℕ) (ends : List EndState) → length ends ≡ n → HaveEnded ends plan n
     → EndFrom plan 0 ends
 ends_from plan n ends len h m d below =
-    subst (λ (o : ℕ). IsEndOf plan o (get_or ends m d)) (sym (zero-add m)) (h m d (omega (arith, len, below)))
+    subst (λ (o : ℕ). IsWorkerEnd plan o (get_or ends m d)) (sym (zero-add m)) (h m d (omega (arith, len, below)))
 
 -- what a run answers
 pub come_to : {V : Type 0} (plan : PlanState) (ends : List EndState) (items : V → List ChooserState) (many : V → ℕ)
     (r : Result V BoardFault) → ((x : V) → many x ≡ length (items x)) → length ends ≡ plan.workers
     → HaveEnded ends plan plan.workers
-    → MatchResult r (λ x. settled plan ends ≡ Ok (items x)) (λ fault. settled plan ends ≡ Err fault)
+    → MatchResult r (λ x. choosers_or_fault plan ends ≡ Ok (items x)) (λ fault. choosers_or_fault plan ends ≡ Err fault)
     → IfOk r (λ x. many x ≡ plan.workers) × IfOk r (λ x. HaveTurned (items x) plan) × IfErr r (HaveFailed plan)
     × IfErr r (IsRunFault plan.turns)
 come_to plan ends items many (Ok x) counts len h e =

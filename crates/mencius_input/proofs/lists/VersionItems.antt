@@ -3,12 +3,12 @@ use Rattle.std.proofs.Common.{◌≡◌, ℕ, ◌&&◌, List, [], ◌∷◌, Boo
 use Rattle.std.specs.Prelude.{unwrap_or}
 use Rattle.serde_json.specs.Data.{Data, Items, no_items, item}
 use Rattle.serde_json.specs.Find.{as_array, as_str}
-use Rattle.mencius_base.specs.Request.{Request}
+use Rattle.mencius_base.specs.CommandState.{CommandState}
 use Rattle.mencius_base.specs.declared.event.Event.{Event}
 use Rattle.mencius_ends.specs.declared.fault.AppFault.{AppFault}
 use Rattle.mencius_ends.specs.declared.fault.AppFault.TheVariants.{BadShape}
 use Rattle.mencius_format.specs.Grammar.{command_of, command_within, event_of, event_within}
-use Rattle.mencius_format.specs.Judged.{judged}
+use Rattle.mencius_format.specs.ValuesOrFaults.{value_or_fault}
 use Rattle.mencius_format.specs.TextVersions.{command_version, event_version}
 use Rattle.mencius_format.specs.Versions.{first_version, may_stand_in, newest_version}
 use Rattle.mencius_format.specs.Words.{words}
@@ -16,7 +16,7 @@ use Rattle.mencius_format.proofs.OperationWords.{where_stands}
 use Rattle.mencius_format.proofs.VersionWords.{all_stand, command_in, event_in}
 use Rattle.mencius_format.proofs.Versions.{both_stand}
 use Rattle.mencius_input.specs.Newest.{command_item_version, event_item_version, in_version, items_version, list_version, text_version}
-use Rattle.mencius_input.specs.Plan.{command_said, commands_of}
+use Rattle.mencius_input.specs.Plan.{command_said, commands_read}
 use Rattle.mencius_input.specs.Scenario.{all_in, all_of, item_said, said_by}
 
 -- ---- texts, items and lists
@@ -73,32 +73,35 @@ module _ (version : ℕ) where
   -- ---- what was judged before the version was known
 
   read_in_version : {X : Type 0} (within : X → Bool) (needed : ℕ) (read newest : Option X) → read ≡ where_had needed newest
-      → in_version version (record { said = judged within newest; version = needed }) ≡ judged within read
-  read_in_version within needed read newest h = by_test (may_stand_in needed version) ∙ ap (judged within) (sym h)
+      → in_version version (record { said = value_or_fault within newest; version = needed })
+      ≡ value_or_fault within read
+  read_in_version within needed read newest h =
+      by_test (may_stand_in needed version) ∙ ap (value_or_fault within) (sym h)
     where
       by_test : (a : Bool)
-          → ◌≡◌ {A = Result _ AppFault} (cond a (judged within newest) (Err BadShape)) (judged within (where_stands a newest))
+          → ◌≡◌ {A = Result _ AppFault} (cond a (value_or_fault within newest) (Err BadShape))
+          (value_or_fault within (where_stands a newest))
       by_test true = refl
       by_test false = refl
 
   -- so a list that was read before its version is what that version makes of it
   pub events_said_in : (within : List Event → Bool) (d : Data)
       → in_version version (record {
-        said = judged within (all_in (said_by (event_of newest_version)) d);
+        said = value_or_fault within (all_in (said_by (event_of newest_version)) d);
         version = list_version event_item_version d;
-      }) ≡ judged within (all_in (said_by (event_of version)) d)
+      }) ≡ value_or_fault within (all_in (said_by (event_of version)) d)
   events_said_in within d =
       read_in_version within (list_version event_item_version d) _ _
       (list_in (said_by (event_of version)) (said_by (event_of newest_version)) event_item_version event_said d)
 
-  pub lists_said_in : (within : List (List Request) → Bool) (d : Data)
+  pub lists_said_in : (within : List (List CommandState) → Bool) (d : Data)
       → in_version version (record {
-        said = judged within (all_in (commands_of newest_version) d);
+        said = value_or_fault within (all_in (commands_read newest_version) d);
         version = list_version (list_version command_item_version) d;
-      }) ≡ judged within (all_in (commands_of version) d)
+      }) ≡ value_or_fault within (all_in (commands_read version) d)
   lists_said_in within d =
       read_in_version within (list_version (list_version command_item_version) d) _ _
-      (list_in (commands_of version) (commands_of newest_version) (list_version command_item_version)
+      (list_in (commands_read version) (commands_read newest_version) (list_version command_item_version)
       (list_in (said_by (command_of version)) (said_by (command_of newest_version)) command_item_version command_of_said) d)
 
   pub item_said_in : (d : Data)

@@ -9,11 +9,11 @@ use Rattle.serde_json.specs.Find.{as_array, get_member}
 use Rattle.serde_json.specs.Read.{read}
 use Rattle.mencius_base.specs.Members.{Membership}
 use Rattle.mencius_base.specs.Plan.{PlanState, plan_of}
-use Rattle.mencius_base.specs.Request.{Request}
+use Rattle.mencius_base.specs.CommandState.{CommandState}
 use Rattle.mencius_ends.specs.declared.fault.AppFault.{AppFault}
 use Rattle.mencius_ends.specs.declared.fault.AppFault.TheVariants.{BadLimit, BadShape}
 use Rattle.mencius_format.specs.Grammar.{command_within}
-use Rattle.mencius_format.specs.Judged.{judged}
+use Rattle.mencius_format.specs.ValuesOrFaults.{value_or_fault}
 use Rattle.mencius_input.specs.declared.field.Field.{Field}
 use Rattle.mencius_input.specs.declared.field.Field.TheVariants.{Version, Servers, Beta, Workers, Seed, Turns, Loss}
 use Rattle.mencius_input.specs.declared.kind.Kind.{Kind}
@@ -21,8 +21,8 @@ use Rattle.mencius_input.specs.declared.kind.Kind.TheVariants.{Replay, Run}
 use Rattle.mencius_input.specs.declared.scenario.Scenario.{Scenario}
 use Rattle.mencius_input.specs.FieldsOf.{field_name, field_within, fields, names}
 use Rattle.mencius_input.specs.Laws.{FaultsHavePlaces, HasPlace}
-use Rattle.mencius_input.specs.Places.{count_place, course_place, field_named, first_in, first_of, first_place, is_lacking, lack_place, list_place, names_in, names_of, place_in, version_of}
-use Rattle.mencius_input.specs.Plan.{commands_of, plan_read, plan_within}
+use Rattle.mencius_input.specs.Places.{count_place, course_place, field_named, first_in, first_of, first_place, is_lacking, lack_place, list_place, names_in, names_of, place_in, version_in}
+use Rattle.mencius_input.specs.Plan.{commands_read, plan_read, plan_within}
 use Rattle.mencius_input.specs.Scenario.{all_of, has_only, json_of, number_of, or_not_json, read_there, scenario_in, scenario_of, scenario_within, schedule_of, schedule_within}
 use Rattle.mencius_input.proofs.JsonTexts.{json_read}
 use Rattle.mencius_input.proofs.objects.NameOrder.{names_made}
@@ -39,7 +39,7 @@ some_mapped f (Some x) e = refl
 
 planned_there : (version : ℕ) (ow os ot ol : Option ℕ) (value : Option Data) → is_some ow ≡ true → is_some os ≡ true
     → is_some ot ≡ true → is_some ol ≡ true
-    → is_some (option_and_then (all_of (commands_of version)) (option_and_then as_array value)) ≡ true
+    → is_some (option_and_then (all_of (commands_read version)) (option_and_then as_array value)) ≡ true
     → is_some (planned version ow os ot ol value) ≡ true
 planned_there version None os ot ol value w s t l lists = absurd cc
 planned_there version (Some workers) None ot ol value w s t l lists = absurd cc
@@ -55,7 +55,7 @@ record IsPlanned (version : ℕ) (ow os ot ol : Option ℕ) (value : Option Data
   seed : os ≡ Some plan.seed
   turns : ot ≡ Some plan.turns
   loss : ol ≡ Some plan.loss
-  commands : option_and_then (all_of (commands_of version)) (option_and_then as_array value) ≡ Some plan.commands
+  commands : option_and_then (all_of (commands_read version)) (option_and_then as_array value) ≡ Some plan.commands
 
 planned_parts : (version : ℕ) (ow os ot ol : Option ℕ) (value : Option Data) (plan : PlanState)
     → planned version ow os ot ol value ≡ Some plan → IsPlanned version ow os ot ol value plan
@@ -66,8 +66,8 @@ planned_parts version (Some workers) (Some seed) (Some turns) None value plan is
 planned_parts version (Some workers) (Some seed) (Some turns) (Some loss) value plan is =
     by_lists _ refl (mapped_items 0 workers seed turns loss version (option_and_then as_array value) ∙ is)
   where
-    by_lists : (o : Option (List (List Request)))
-        → option_and_then (all_of (commands_of version)) (option_and_then as_array value) ≡ o
+    by_lists : (o : Option (List (List CommandState)))
+        → option_and_then (all_of (commands_read version)) (option_and_then as_array value) ≡ o
         → option_map (plan_of workers seed turns loss) o ≡ Some plan
         → IsPlanned version (Some workers) (Some seed) (Some turns) (Some loss) value plan
     by_lists None lists is = absurd cc
@@ -81,16 +81,16 @@ planned_parts version (Some workers) (Some seed) (Some turns) (Some loss) value 
 
 module _ (ms : Members) (h : HasNone Run BadShape ms) (version : ℕ) (said : number_of Version (object ms) ≡ Some version) where
   run_lists : (o : Option Items) → course_place Run BadShape (object ms) o ≡ None
-      → is_some (option_and_then (all_of (commands_of version)) o) ≡ true
+      → is_some (option_and_then (all_of (commands_read version)) o) ≡ true
   run_lists None none = absurd cc
   run_lists (Some items) none =
-      let parts = none_both (first_of (list_place BadShape (version_of (object ms))) 0 items) _ none in
+      let parts = none_both (first_of (list_place BadShape (version_in (object ms))) 0 items) _ none in
       lists_there version items
       (sym (ap (λ v. first_of (list_place BadShape v) 0 items) (same_version ms version said)) ∙ parts.0)
 
   run_value : (o : Option Data) → is_some o ≡ true
       → option_and_then (λ value. course_place Run BadShape (object ms) (as_array value)) o ≡ None
-      → is_some (option_and_then (all_of (commands_of version)) (option_and_then as_array o)) ≡ true
+      → is_some (option_and_then (all_of (commands_read version)) (option_and_then as_array o)) ≡ true
   run_value None some none = absurd cc
   run_value (Some value) some none = run_lists (as_array value) none
 
@@ -115,22 +115,22 @@ module _ (ms : Members) (h : HasNone Run BadLimit ms) (version servers : ℕ)
     (said : number_of Version (object ms) ≡ Some version) (counted : number_of Servers (object ms) ≡ Some servers)
     (few : field_within Servers servers ≡ true) where
   -- the lists are within their limits, and as many as there are servers
-  run_lists_fit : (o : Option Items) (lists : List (List Request)) → course_place Run BadLimit (object ms) o ≡ None
-      → option_and_then (all_of (commands_of version)) o ≡ Some lists
+  run_lists_fit : (o : Option Items) (lists : List (List CommandState)) → course_place Run BadLimit (object ms) o ≡ None
+      → option_and_then (all_of (commands_read version)) o ≡ Some lists
       → ((length lists == servers) ≡ true) × (list_all (list_all command_within) lists ≡ true)
   run_lists_fit None lists none is = absurd cc
   run_lists_fit (Some items) lists none is =
-      let parts = none_both (first_of (list_place BadLimit (version_of (object ms))) 0 items)
+      let parts = none_both (first_of (list_place BadLimit (version_in (object ms))) 0 items)
       (count_place BadLimit (items_len items) (number_of Servers (object ms))) none in (
-        ap (λ n. n == servers) (same_count (commands_of version) (list_place BadLimit version) items lists is)
+        ap (λ n. n == servers) (same_count (commands_read version) (list_place BadLimit version) items lists is)
             ∙ counts_agree (items_len items) servers (number_of Servers (object ms)) counted few parts.1,
         lists_fit version items lists
             (sym (ap (λ v. first_of (list_place BadLimit v) 0 items) (same_version ms version said)) ∙ parts.0) is,
       )
 
-  run_value_fits : (o : Option Data) (lists : List (List Request))
+  run_value_fits : (o : Option Data) (lists : List (List CommandState))
       → option_and_then (λ value. course_place Run BadLimit (object ms) (as_array value)) o ≡ None
-      → option_and_then (all_of (commands_of version)) (option_and_then as_array o) ≡ Some lists
+      → option_and_then (all_of (commands_read version)) (option_and_then as_array o) ≡ Some lists
       → ((length lists == servers) ≡ true) × (list_all (list_all command_within) lists ≡ true)
   run_value_fits None lists none is = absurd cc
   run_value_fits (Some value) lists none is = run_lists_fit (as_array value) lists none is
@@ -314,7 +314,7 @@ module _ {X : Type 0} (kind : Kind) (course_of : ℕ → Data → Option X) (fit
           absurd cc)
 
       by_scenario : (d : Data) → json_of bytes ≡ Some d → (o : Option (Scenario X)) → scenario_of kind course_of d ≡ o
-          → HasPlace kind bytes (judged (scenario_within fits) o)
+          → HasPlace kind bytes (value_or_fault (scenario_within fits) o)
       by_scenario d is None said =
           some_unless (first_place kind BadShape bytes) (λ none.
           let some = shape_none d (json_read bytes d is) (place_none BadShape d is none) in
@@ -324,7 +324,7 @@ module _ {X : Type 0} (kind : Kind) (course_of : ℕ → Data → Option X) (fit
 
       by_json : (o : Option Data) → json_of bytes ≡ o
           → HasPlace kind bytes
-          (read_there (λ d. judged (scenario_within fits) (scenario_of kind course_of d)) (or_not_json o))
+          (read_there (λ d. value_or_fault (scenario_within fits) (scenario_of kind course_of d)) (or_not_json o))
       by_json None is = tt
       by_json (Some d) is = by_scenario d is (scenario_of kind course_of d) refl
 

@@ -7,19 +7,19 @@ use Rattle.std.proofs.lemmas.Bool.{and_from}
 use Rattle.serde_json.specs.Data.{Data, Items, Members, no_items, item, object}
 use Rattle.serde_json.specs.Events.{items_len}
 use Rattle.serde_json.specs.Find.{as_array, get_member}
-use Rattle.mencius_base.specs.Request.{Request}
+use Rattle.mencius_base.specs.CommandState.{CommandState}
 use Rattle.mencius_base.specs.declared.event.Event.{Event}
 use Rattle.mencius_ends.specs.declared.fault.AppFault.{AppFault}
 use Rattle.mencius_ends.specs.declared.fault.AppFault.TheVariants.{BadLimit, BadShape}
 use Rattle.mencius_format.specs.Grammar.{command_of, command_within, event_of, event_within, newest_version}
-use Rattle.mencius_format.specs.Judged.{judged}
+use Rattle.mencius_format.specs.ValuesOrFaults.{value_or_fault}
 use Rattle.mencius_input.specs.declared.field.Field.{Field}
 use Rattle.mencius_input.specs.declared.field.Field.TheVariants.{Version, Servers}
 use Rattle.mencius_input.specs.declared.kind.Kind.{Kind}
 use Rattle.mencius_input.specs.declared.kind.Kind.TheVariants.{Replay, Run}
 use Rattle.mencius_input.specs.FieldsOf.{default_of, field_name, field_within, fields, list_field}
-use Rattle.mencius_input.specs.Places.{commands_place, count_place, course_place, events_place, fault_at, field_named, field_place, first_item, first_of, is_fault, is_lacking, lack_place, list_field_place, list_place, missing_field, named_place, number_place, version_of, whole_place}
-use Rattle.mencius_input.specs.Plan.{commands_of}
+use Rattle.mencius_input.specs.Places.{commands_place, count_place, course_place, events_place, fault_at, field_named, field_place, first_item, first_of, is_fault, is_lacking, lack_place, list_field_place, list_place, missing_field, named_place, number_place, version_in, whole_place}
+use Rattle.mencius_input.specs.Plan.{commands_read}
 use Rattle.mencius_input.specs.Scenario.{all_of, events_of, number_in, number_of, said_by, schedule_of, whole_in}
 use Rattle.mencius_input.proofs.objects.ScenarioFields.{schedule_bound}
 use Rattle.mencius_input.proofs.objects.SharedFields.{default_fits}
@@ -167,12 +167,13 @@ module _ {X Y : Type 0} (read : Data → Option X) (ask : ℕ → Data → Optio
 
 -- an item without the fault
 module _ {X P : Type 0} (fits : X → Bool) (place : P) where
-  item_there : (o : Option X) → cond (is_fault BadShape (result_err (judged fits o))) (Some place) None ≡ None
+  item_there : (o : Option X) → cond (is_fault BadShape (result_err (value_or_fault fits o))) (Some place) None ≡ None
       → is_some o ≡ true
   item_there None none = absurd cc
   item_there (Some x) none = refl
 
-  item_fits : (o : Option X) (x : X) → cond (is_fault BadLimit (result_err (judged fits o))) (Some place) None ≡ None
+  item_fits : (o : Option X) (x : X)
+      → cond (is_fault BadLimit (result_err (value_or_fault fits o))) (Some place) None ≡ None
       → o ≡ Some x → fits x ≡ true
   item_fits None x none is = absurd cc
   item_fits (Some y) x none is = sym (ap (λ o. fits (unwrap_or o x)) is) ∙ by_test (fits y) none
@@ -199,7 +200,7 @@ events_fit version items es none is =
     0 items es (none_mapped _ (first_item Replay BadLimit version items) none) is
 
 pub same_version : (ms : Members) (version : ℕ) → number_of Version (object ms) ≡ Some version
-    → version_of (object ms) ≡ version
+    → version_in (object ms) ≡ version
 same_version ms version is = ap (λ o. unwrap_or o newest_version) is
 
 pub schedule_there : (ms : Members) → HasNone Replay BadShape ms → (version : ℕ)
@@ -250,7 +251,7 @@ list_read version at (Some items) none =
     (λ n d none. item_there command_within _ (said_by (command_of version) d) none)
     0 items (none_mapped _ (first_item Run BadShape version items) none)
 
-list_fits : (version at : ℕ) (o : Option Items) (xs : List Request) → commands_place BadLimit version at o ≡ None
+list_fits : (version at : ℕ) (o : Option Items) (xs : List CommandState) → commands_place BadLimit version at o ≡ None
     → option_and_then (all_of (said_by (command_of version))) o ≡ Some xs → list_all command_within xs ≡ true
 list_fits version at None xs none is = absurd cc
 list_fits version at (Some items) xs none is =
@@ -259,16 +260,16 @@ list_fits version at (Some items) xs none is =
     0 items xs (none_mapped _ (first_item Run BadLimit version items) none) is
 
 pub lists_there : (version : ℕ) (items : Items) → first_of (list_place BadShape version) 0 items ≡ None
-    → is_some (all_of (commands_of version) items) ≡ true
+    → is_some (all_of (commands_read version) items) ≡ true
 lists_there version items none =
-    all_there (commands_of version) (list_place BadShape version)
+    all_there (commands_read version) (list_place BadShape version)
     (λ at d none. list_read version at (as_array d) none) 0 items none
 
-pub lists_fit : (version : ℕ) (items : Items) (lists : List (List Request))
-    → first_of (list_place BadLimit version) 0 items ≡ None → all_of (commands_of version) items ≡ Some lists
+pub lists_fit : (version : ℕ) (items : Items) (lists : List (List CommandState))
+    → first_of (list_place BadLimit version) 0 items ≡ None → all_of (commands_read version) items ≡ Some lists
     → list_all (list_all command_within) lists ≡ true
 lists_fit version items lists none is =
-    all_fit (commands_of version) (list_place BadLimit version) (list_all command_within)
+    all_fit (commands_read version) (list_place BadLimit version) (list_all command_within)
     (λ at d xs none is. list_fits version at (as_array d) xs none is) 0 items lists none is
 
 -- a list for each of the servers, where their number is within its limits

@@ -7,20 +7,20 @@ use Rattle.serde_json.specs.Data.{Data, Items, Members, object}
 use Rattle.serde_json.specs.Find.{as_array, get_member}
 use Rattle.mencius_base.specs.Limits.{most_servers}
 use Rattle.mencius_base.specs.Plan.{PlanState, plan_of}
-use Rattle.mencius_base.specs.Request.{Request}
+use Rattle.mencius_base.specs.CommandState.{CommandState}
 use Rattle.mencius_ends.specs.declared.fault.AppFault.TheVariants.{BadLimit}
 use Rattle.mencius_format.specs.Grammar.{command_within}
-use Rattle.mencius_format.specs.Judged.{judged}
+use Rattle.mencius_format.specs.ValuesOrFaults.{value_or_fault}
 use Rattle.mencius_input.specs.declared.field.Field.TheVariants.{Workers, Seed, Turns, Loss}
 use Rattle.mencius_input.specs.declared.fields.FieldValues as code
 use Rattle.mencius_input.specs.declared.kind.Kind.TheVariants.{Run}
 use Rattle.mencius_input.specs.declared.scenario.Shared.{Shared}
-use Rattle.mencius_input.specs.FieldValues.{AreFieldValues, fitted, fitted_plan, list_kept, list_said, lists_within, plan_fits, plan_said, said_of, shared_in, shared_within}
+use Rattle.mencius_input.specs.FieldValues.{AreFieldValues, list_kept, list_said, lists_within, plan_fits, plan_or_fault, plan_said, said_of, scenario_or_fault, shared_in, shared_within}
 use Rattle.mencius_input.specs.FieldsOf.{field_within, names}
-use Rattle.mencius_input.specs.Plan.{commands_of, numbers_within, plan_read, plan_within}
+use Rattle.mencius_input.specs.Plan.{commands_read, numbers_within, plan_read, plan_within}
 use Rattle.mencius_input.specs.Scenario.{all_in, all_of, has_only, number_of, scenario_of, scenario_within}
 use Rattle.mencius_input.proofs.lists.VersionItems.{lists_said_in}
-use Rattle.mencius_input.proofs.objects.SharedFields.{fitted_judged, members_in, shared_say}
+use Rattle.mencius_input.proofs.objects.SharedFields.{members_in, scenario_or_fault_is, shared_say}
 
 -- ---- what an object says as a plan, by its fields
 
@@ -28,7 +28,7 @@ abbrev pub planned : ℕ → Option ℕ → Option ℕ → Option ℕ → Option
 planned version ow os ot ol value =
     option_and_then (λ workers. option_and_then (λ seed. option_and_then (λ turns. option_and_then (λ loss.
     option_and_then (λ lists. option_and_then (λ commands. Some (plan_of workers seed turns loss commands))
-    (all_of (commands_of version) lists)) (option_and_then as_array value)) ol) ot) os) ow
+    (all_of (commands_read version) lists)) (option_and_then as_array value)) ol) ot) os) ow
 
 pub plan_bound : (version : ℕ) (ms : Members) → plan_read version (object ms)
     ≡ planned version (number_of Workers (object ms)) (number_of Seed (object ms)) (number_of Turns (object ms))
@@ -65,11 +65,11 @@ same_limits shared plan =
 -- ---- the lists
 
 module _ (servers workers seed turns loss : ℕ) where
-  abbrev of : List (List Request) → PlanState
+  abbrev of : List (List CommandState) → PlanState
   of = plan_of workers seed turns loss
 
-  by_list : (all : List (List Request)) (l few : Bool) → nat_le (length all) most_servers ≡ few
-      → fitted_plan servers of (cond (l && few) (Ok all) (Err BadLimit))
+  by_list : (all : List (List CommandState)) (l few : Bool) → nat_le (length all) most_servers ≡ few
+      → plan_or_fault servers of (cond (l && few) (Ok all) (Err BadLimit))
       ≡ cond (plan_fits servers (of all) && l) (Ok (of all)) (Err BadLimit)
   by_list all true true e =
       ap (λ bit. cond bit (Ok (of all)) (Err BadLimit)) (sym (and-true (plan_fits servers (of all))))
@@ -80,40 +80,42 @@ module _ (servers workers seed turns loss : ℕ) where
   by_list all false few e =
       ap (λ bit. cond bit (Ok (of all)) (Err BadLimit)) (sym (and-false (plan_fits servers (of all))))
 
-  with_all : (o : Option (List (List Request)))
-      → fitted_plan servers of (judged lists_within o) ≡ judged (tested servers) (option_map of o)
+  with_all : (o : Option (List (List CommandState)))
+      → plan_or_fault servers of (value_or_fault lists_within o) ≡ value_or_fault (tested servers) (option_map of o)
   with_all None = refl
   with_all (Some all) =
       by_list all (list_all (list_all command_within) all) (nat_le (length all) most_servers) refl
 
-  mapped : (o : Option (List (List Request)))
+  mapped : (o : Option (List (List CommandState)))
       → option_map of o ≡ option_and_then (λ commands. Some (of commands)) o
   mapped None = refl
   mapped (Some all) = refl
 
   pub mapped_items : (version : ℕ) (o : Option Items)
-      → option_map of (option_and_then (all_of (commands_of version)) o)
-      ≡ option_and_then (λ lists. option_and_then (λ commands. Some (of commands)) (all_of (commands_of version) lists)) o
+      → option_map of (option_and_then (all_of (commands_read version)) o)
+      ≡ option_and_then
+      (λ lists. option_and_then (λ commands. Some (of commands)) (all_of (commands_read version) lists)) o
   mapped_items version None = refl
-  mapped_items version (Some lists) = mapped (all_of (commands_of version) lists)
+  mapped_items version (Some lists) = mapped (all_of (commands_read version) lists)
 
-plan_judged : (shared : Shared) (ow os ot ol : Option ℕ) (value : Option Data)
+plan_or_fault_is : (shared : Shared) (ow os ot ol : Option ℕ) (value : Option Data)
     → plan_said shared (ow ∷ os ∷ ot ∷ ol ∷ []) (option_map (list_said Run) value)
-    ≡ judged (tested shared.servers) (planned shared.version ow os ot ol value)
-plan_judged shared None os ot ol value = refl
-plan_judged shared (Some workers) None ot ol value = refl
-plan_judged shared (Some workers) (Some seed) None ol value = refl
-plan_judged shared (Some workers) (Some seed) (Some turns) None value = refl
-plan_judged shared (Some workers) (Some seed) (Some turns) (Some loss) None = refl
-plan_judged shared (Some workers) (Some seed) (Some turns) (Some loss) (Some d) =
-    ap (fitted_plan shared.servers (plan_of workers seed turns loss)) (lists_said_in shared.version lists_within d)
-    ∙ with_all shared.servers workers seed turns loss (all_in (commands_of shared.version) d)
-    ∙ ap (judged (tested shared.servers)) (mapped_items shared.servers workers seed turns loss shared.version (as_array d))
+    ≡ value_or_fault (tested shared.servers) (planned shared.version ow os ot ol value)
+plan_or_fault_is shared None os ot ol value = refl
+plan_or_fault_is shared (Some workers) None ot ol value = refl
+plan_or_fault_is shared (Some workers) (Some seed) None ol value = refl
+plan_or_fault_is shared (Some workers) (Some seed) (Some turns) None value = refl
+plan_or_fault_is shared (Some workers) (Some seed) (Some turns) (Some loss) None = refl
+plan_or_fault_is shared (Some workers) (Some seed) (Some turns) (Some loss) (Some d) =
+    ap (plan_or_fault shared.servers (plan_of workers seed turns loss)) (lists_said_in shared.version lists_within d)
+    ∙ with_all shared.servers workers seed turns loss (all_in (commands_read shared.version) d)
+    ∙ ap (value_or_fault (tested shared.servers))
+    (mapped_items shared.servers workers seed turns loss shared.version (as_array d))
 
 -- the answer
 pub plan_fields_say : (f : code.FieldValues) (ms : Members) → AreFieldValues Run f ms → has_only (names Run) ms ≡ true
     → said_of (λ shared own. plan_said shared own (option_map list_kept f.list)) (shared_in f.wholes.items)
-    ≡ judged (scenario_within plan_within) (scenario_of Run plan_read (object ms))
+    ≡ value_or_fault (scenario_within plan_within) (scenario_of Run plan_read (object ms))
 plan_fields_say f ms h only =
     let ow = number_of Workers (object ms) in
     let os = number_of Seed (object ms) in
@@ -123,7 +125,7 @@ plan_fields_say f ms h only =
     ap (λ list. said_of (λ shared own. plan_said shared own list) (shared_in f.wholes.items)) h.list
     ∙ shared_say Run (λ shared own. plan_said shared own (option_map (list_said Run) value)) plan_within
     plan_read f.wholes.items (ow ∷ os ∷ ot ∷ ol ∷ []) ms h.wholes only
-    (λ shared. ap (fitted shared) (plan_judged shared ow os ot ol value)
-    ∙ fitted_judged shared (tested shared.servers) plan_within (same_limits shared)
+    (λ shared. ap (scenario_or_fault shared) (plan_or_fault_is shared ow os ot ol value)
+    ∙ scenario_or_fault_is shared (tested shared.servers) plan_within (same_limits shared)
     (planned shared.version ow os ot ol value)
     ∙ rw (plan_bound shared.version ms) refl)

@@ -4,15 +4,15 @@ use Rattle.std.specs.List.{list_all}
 use Rattle.serde_json.specs.Data.{Data, Members, object}
 use Rattle.serde_json.specs.Find.{as_array, get, get_member}
 use Rattle.mencius_format.specs.Grammar.{event_within}
-use Rattle.mencius_format.specs.Judged.{judged}
+use Rattle.mencius_format.specs.ValuesOrFaults.{value_or_fault}
 use Rattle.mencius_input.specs.declared.fields.FieldValues as code
 use Rattle.mencius_input.specs.declared.kind.Kind.TheVariants.{Replay}
 use Rattle.mencius_input.specs.declared.scenario.Shared.{Shared}
-use Rattle.mencius_input.specs.FieldValues.{AreFieldValues, fitted, list_kept, list_said, said_of, schedule_said, shared_in}
+use Rattle.mencius_input.specs.FieldValues.{AreFieldValues, list_kept, list_said, said_of, scenario_or_fault, schedule_said, shared_in}
 use Rattle.mencius_input.specs.FieldsOf.{names}
-use Rattle.mencius_input.specs.Scenario.{events_of, has_only, schedule_of, schedule_within, within, written_of}
+use Rattle.mencius_input.specs.Scenario.{events_of, has_only, is_within_limits, schedule_of, schedule_within, written_of}
 use Rattle.mencius_input.proofs.lists.VersionItems.{events_said_in}
-use Rattle.mencius_input.proofs.objects.SharedFields.{fitted_judged, no_course, shared_say}
+use Rattle.mencius_input.proofs.objects.SharedFields.{no_course, scenario_or_fault_is, shared_say}
 
 -- what an object says as events, by its field
 pub schedule_bound : (version : ℕ) (ms : Members) → schedule_of version (object ms)
@@ -20,22 +20,22 @@ pub schedule_bound : (version : ℕ) (ms : Members) → schedule_of version (obj
 unfolding schedule_of
 schedule_bound version ms = refl
 
-schedule_judged : (shared : Shared) (o : Option Data) → schedule_said (option_map (list_said Replay) o) shared
-    ≡ judged (list_all event_within) (option_and_then (events_of shared.version) (option_and_then as_array o))
-schedule_judged shared None = refl
-schedule_judged shared (Some d) = events_said_in shared.version (list_all event_within) d
+schedule_or_fault_is : (shared : Shared) (o : Option Data) → schedule_said (option_map (list_said Replay) o) shared
+    ≡ value_or_fault (list_all event_within) (option_and_then (events_of shared.version) (option_and_then as_array o))
+schedule_or_fault_is shared None = refl
+schedule_or_fault_is shared (Some d) = events_said_in shared.version (list_all event_within) d
 
 -- the answer
 pub fields_say : (f : code.FieldValues) (ms : Members) → AreFieldValues Replay f ms → has_only (names Replay) ms ≡ true
     → said_of (λ shared own. schedule_said (option_map list_kept f.list) shared) (shared_in f.wholes.items)
-    ≡ judged within (written_of (object ms))
+    ≡ value_or_fault is_within_limits (written_of (object ms))
 fields_say f ms h only =
     let value = get_member (codes "events") ms in
     ap (λ list. said_of (λ shared own. schedule_said list shared) (shared_in f.wholes.items)) h.list
     ∙ shared_say Replay (λ shared own. schedule_said (option_map (list_said Replay) value) shared) schedule_within
     schedule_of f.wholes.items [] ms h.wholes only
-    (λ shared. ap (fitted shared) (schedule_judged shared value)
-    ∙ fitted_judged shared (list_all event_within) schedule_within (λ events. refl)
+    (λ shared. ap (scenario_or_fault shared) (schedule_or_fault_is shared value)
+    ∙ scenario_or_fault_is shared (list_all event_within) schedule_within (λ events. refl)
     (option_and_then (events_of shared.version) (option_and_then as_array value))
     ∙ rw (schedule_bound shared.version ms) refl)
 

@@ -13,7 +13,7 @@ use Rattle.std.proofs.lemmas.Slice.Eq.{bytes_eq-Decides}
 use Rattle.mencius_base.specs.declared.command.Command.{Command}
 use Rattle.mencius_base.specs.declared.command.Op.{Op}
 use Rattle.mencius_base.specs.declared.command.Op.TheVariants.{Set, Get, Del, Cas}
-use Rattle.mencius_model.specs.Store.{Store, apply, is_held, key_of, store_after, value_at}
+use Rattle.mencius_model.specs.KeyMap.{KeyMap, apply, has_text, key_of, map_after, value_at}
 use Rattle.mencius_model.proofs.replies.MapContents.{tested}
 use Rattle.mencius_judge.specs.declared.timeline.Timeline.{Timeline}
 use Rattle.mencius_judge.specs.Timelines.{AreTimelines, Becomes, IsTimelineOf, held_by, text_of}
@@ -22,51 +22,52 @@ use Rattle.mencius_judge.proofs.keys.TextMaps.{other_bytes, same_bytes}
 
 -- ---- one operation
 
-get-put : (m : Store) (other text key : List ℕ)
+get-put : (m : KeyMap) (other text key : List ℕ)
     → finite.get (finite.insert m other text) key ≡ cond (bytes_eq other key) (Some text) (finite.get m key)
 get-put m other text key =
     get-insert nat_list_cmp_total m other text key
     ∙ ap (λ bit. cond bit (Some text) (finite.get m key)) (sym (tested other key))
 
-get-taken : (m : Store) (other key : List ℕ)
+get-taken : (m : KeyMap) (other key : List ℕ)
     → finite.get (finite.remove m other) key ≡ cond (bytes_eq other key) None (finite.get m key)
 get-taken m other key =
     get-remove nat_list_cmp_total m other key
     ∙ ap (λ bit. cond bit None (finite.get m key)) (sym (tested other key))
 
 -- an operation leaves each other key
-get_elsewhere : (m : Store) (op : Op) (key : List ℕ) → bytes_eq (key_of op) key ≡ false
+get_elsewhere : (m : KeyMap) (op : Op) (key : List ℕ) → bytes_eq (key_of op) key ≡ false
     → finite.get (apply m op) key ≡ finite.get m key
 get_elsewhere m (Set other text) key e =
     get-put m other text key ∙ ap (λ bit. cond bit (Some text) (finite.get m key)) e
 get_elsewhere m (Get other) key e = refl
 get_elsewhere m (Del other) key e =
     get-taken m other key ∙ ap (λ bit. cond bit None (finite.get m key)) e
-get_elsewhere m (Cas other held text) key e = by_held (is_held (finite.get m other) held)
+get_elsewhere m (Cas other held text) key e = by_held (has_text (finite.get m other) held)
   where
     by_held : (bit : Bool) → finite.get (cond bit (finite.insert m other text) m) key ≡ finite.get m key
     by_held true = get-put m other text key ∙ ap (λ bit. cond bit (Some text) (finite.get m key)) e
     by_held false = refl
 
 -- and this becomes of its own
-pub put_there : (m : Store) (key text : List ℕ) → Some text ≡ finite.get (finite.insert m key text) key
+pub put_there : (m : KeyMap) (key text : List ℕ) → Some text ≡ finite.get (finite.insert m key text) key
 put_there m key text =
     sym (get-put m key text key ∙ ap (λ bit. cond bit (Some text) (finite.get m key)) (same_bytes key))
 
-pub taken_there : (m : Store) (key : List ℕ) → None ≡ finite.get (finite.remove m key) key
+pub taken_there : (m : KeyMap) (key : List ℕ) → None ≡ finite.get (finite.remove m key) key
 taken_there m key = sym (get-taken m key key ∙ ap (λ bit. cond bit None (finite.get m key)) (same_bytes key))
 
-pub put_where_held : (m : Store) (key held text : List ℕ) (former new : Option (List ℕ)) → finite.get m key ≡ former
-    → new ≡ cond (is_held former held) (Some text) former
-    → new ≡ finite.get (cond (is_held (finite.get m key) held) (finite.insert m key text) m) key
-put_where_held m key held text former new e is = is ∙ sym (ap (λ o. cond (is_held o held) (Some text) o) e) ∙ by_held (is_held (finite.get m key) held)
+pub put_where_held : (m : KeyMap) (key held text : List ℕ) (former new : Option (List ℕ)) → finite.get m key ≡ former
+    → new ≡ cond (has_text former held) (Some text) former
+    → new ≡ finite.get (cond (has_text (finite.get m key) held) (finite.insert m key text) m) key
+put_where_held m key held text former new e is =
+    is ∙ sym (ap (λ o. cond (has_text o held) (Some text) o) e) ∙ by_held (has_text (finite.get m key) held)
   where
     by_held : (bit : Bool) → cond bit (Some text) (finite.get m key) ≡ finite.get (cond bit (finite.insert m key text) m) key
     by_held true = put_there m key text
     by_held false = refl
 
-store_more : (cs : List Command) (c : Command) → store_after (cs ++ c ∷ []) ≡ apply (store_after cs) c.op
-store_more cs c = fold-append (λ (store : Store) (command : Command). apply store command.op) finite.empty cs (c ∷ [])
+store_more : (cs : List Command) (c : Command) → map_after (cs ++ c ∷ []) ≡ apply (map_after cs) c.op
+store_more cs c = fold-append (λ (store : KeyMap) (command : Command). apply store command.op) finite.empty cs (c ∷ [])
 
 -- ---- numbers of commands
 
@@ -84,7 +85,7 @@ module _ (cs : List Command) (c : Command) where
   pub held_kept : (key : List ℕ) (m : ℕ) → m ≤ length cs → held_by (cs ++ c ∷ []) key m ≡ held_by cs key m
   held_kept key m le = ap (value_at key) (take-append-le m cs (c ∷ []) le)
 
-  last : (key : List ℕ) → held_by (cs ++ c ∷ []) key (length cs + 1) ≡ finite.get (apply (store_after cs) c.op) key
+  last : (key : List ℕ) → held_by (cs ++ c ∷ []) key (length cs + 1) ≡ finite.get (apply (map_after cs) c.op) key
   last key =
       ap (value_at key) (take_all (length cs + 1) (cs ++ c ∷ []) (omega (arith, length-append cs (c ∷ []))))
       ∙ ap (λ m. finite.get m key) (store_more cs c)
@@ -92,7 +93,7 @@ module _ (cs : List Command) (c : Command) where
   pub held_elsewhere : (key : List ℕ) → key ≢ key_of c.op
       → held_by (cs ++ c ∷ []) key (length cs + 1) ≡ held_by cs key (length cs)
   held_elsewhere key ne =
-      last key ∙ get_elsewhere (store_after cs) c.op key (other_bytes (key_of c.op) key ne) ∙ sym (held_all cs key)
+      last key ∙ get_elsewhere (map_after cs) c.op key (other_bytes (key_of c.op) key ne) ∙ sym (held_all cs key)
 
   -- ---- all timelines
 
@@ -145,7 +146,7 @@ module _ (cs : List Command) (c : Command) (by_key new : BTreeMap (String Global
   answer_is = held_is ∙ held_all cs (key_of c.op)
 
   after_is : held_by (cs ++ c ∷ []) (key_of c.op) (length cs + 1) ≡ text
-  after_is = last cs c (key_of c.op) ∙ sym (becomes (store_after cs) (sym answer_is))
+  after_is = last cs c (key_of c.op) ∙ sym (becomes (map_after cs) (sym answer_is))
 
   pub with_change : IsChange by_key new (key_of c.op) text (length cs + 1) → AreTimelines (cs ++ c ∷ []) new
   with_change change = counted cs c new (λ key. ⊎_elim

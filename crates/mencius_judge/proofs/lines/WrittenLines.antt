@@ -27,9 +27,9 @@ use Rattle.mencius_format.proofs.WrittenWords.{Lacks, cut_at, entry_good, lacks_
 use Rattle.mencius_judge.specs.declared.observation.Observation.{Observation}
 use Rattle.mencius_judge.specs.declared.observation.Observation.TheVariants.{Submit, Execute, Reply, Lookup, Tell}
 use Rattle.mencius_judge.specs.Lines.{answer_of, answer_within, is_passed_over, line_said, most_line_bytes, observation_of, observation_within}
-use Rattle.mencius_judge.specs.Reading.{Adds, IsInLine}
-use Rattle.mencius_judge.specs.Told.{held_text}
-use Rattle.mencius_judge.specs.Written.{IsAnswer, IsIdentity, IsSayable, LogsReadBack, ObservationsReadBack, line_of, observation_text}
+use Rattle.mencius_judge.specs.Reading.{AddsLine, IsInLine}
+use Rattle.mencius_judge.specs.VerdictLines.{held_text}
+use Rattle.mencius_judge.specs.Written.{IsAnswer, IsIdentity, IsSayable, LogsReadBack, ObservationsReadBack, observation_line, observation_text}
 
 -- ---- words
 
@@ -290,6 +290,6 @@ logs_read_back (o ∷ w) h =
     let one = observations_read_back o h.0 in
     let rest = logs_read_back w h.1 in (
       observation_text o ∷ rest.0,
-      ap (λ xs. xs ++ line_of o) rest.1,
-      (one.0, w, rest.2, subst (λ said. Adds said w (o ∷ w)) (sym one.1) refl),
+      ap (λ xs. xs ++ observation_line o) rest.1,
+      (one.0, w, rest.2, subst (λ said. AddsLine said w (o ∷ w)) (sym one.1) refl),
     )

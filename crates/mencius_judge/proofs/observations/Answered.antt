@@ -5,11 +5,11 @@ use Rattle.std.specs.Ordering.{nat_cmp}
 use Rattle.std.specs.BTreeMap.{BTreeMap, get}
 use Rattle.mencius_base.specs.declared.command.Command.{Command}
 use Rattle.mencius_base.specs.declared.command.CommandId.{CommandId}
-use Rattle.mencius_model.specs.Store.{out}
+use Rattle.mencius_model.specs.KeyMap.{out}
 use Rattle.mencius_judge.specs.declared.judge.Execution.{Execution}
 use Rattle.mencius_judge.specs.declared.judge.Submission.{Submission}
 use Rattle.mencius_judge.specs.declared.observation.Observation.TheVariants.{Reply}
-use Rattle.mencius_judge.specs.Log.{Log, command_of, commands_of, has, reply_of}
+use Rattle.mencius_judge.specs.Log.{Log, command_of, commands_of, has_id, reply_of}
 use Rattle.mencius_judge.specs.Promises.{AreOneReply}
 use Rattle.mencius_judge.specs.Tables.{AreExecutions, AreReplies, AreSubmissions, Executions, IsNoOther, IsNoOtherExecution, Replies, identity_key, number_count}
 use Rattle.mencius_judge.proofs.promises.Identities.{place_has}
@@ -55,8 +55,8 @@ pub no_other_answer : (w : Log) (order : List CommandId) (executions : Execution
 no_other_answer w order executions id text h small none front back c e is =
     by_execution (get nat_cmp executions (identity_key id)) refl
   where
-    inside : has order id ≡ true
-    inside = ap (λ ids. has ids id) e ∙ place_has (front ++ id ∷ back) id _ (item_here front back id)
+    inside : has_id order id ≡ true
+    inside = ap (λ ids. has_id ids id) e ∙ place_has (front ++ id ∷ back) id _ (item_here front back id)
 
     by_execution : (o : Option Execution) → get nat_cmp executions (identity_key id) ≡ o → text ≡ out (commands_of w front) c
     by_execution None was =

@@ -9,7 +9,7 @@ use Rattle.mencius_model.specs.Executed.{IsPrefix}
 use Rattle.mencius_model.proofs.trace.Prefixes.{prefix_either, take_begins}
 use Rattle.mencius_model.proofs.replies.RepliesAfterEvents.{slice_get-append}
 use Rattle.mencius_judge.specs.declared.observation.Observation.TheVariants.{Execute}
-use Rattle.mencius_judge.specs.Log.{Log, has, history}
+use Rattle.mencius_judge.specs.Log.{Log, has_id, history}
 use Rattle.mencius_judge.specs.Promises.{AreComparable, StandOnce}
 use Rattle.mencius_judge.specs.Tables.{AreHistories, IsOrder}
 use Rattle.mencius_judge.proofs.promises.Identities.{has_place, place_has}
@@ -160,7 +160,7 @@ module _ (w : Log) (order : List CommandId) (counts : List ℕ) (h : AreHistorie
           cc
 
   -- a command that was executed already
-  pub twice : n ≡ length order → has order id ≡ true → StandOnce (Execute p id ∷ w) → ⊥
+  pub twice : n ≡ length order → has_id order id ≡ true → StandOnce (Execute p id ∷ w) → ⊥
   twice last inside once =
       let place = has_place order id inside in
       let first : slice_get (history (Execute p id ∷ w) p) place.0 ≡ Some id =
@@ -187,7 +187,8 @@ abbrev pub IsOnce : List CommandId → Type 0
 IsOnce order =
     (n m : ℕ) (id : CommandId) → slice_get order n ≡ Some id → slice_get order m ≡ Some id → n ≡ m
 
-pub once_more : (order : List CommandId) (id : CommandId) → IsOnce order → has order id ≡ false → IsOnce (order ++ id ∷ [])
+pub once_more : (order : List CommandId) (id : CommandId) → IsOnce order → has_id order id ≡ false
+    → IsOnce (order ++ id ∷ [])
 once_more order id once none n m x e f = by_places (split n x e) (split m x f)
   where
     split : (k : ℕ) (y : CommandId) → slice_get (order ++ id ∷ []) k ≡ Some y

@@ -5,14 +5,14 @@ use Rattle.std.specs.Option.{option_copied}
 use Rattle.std.specs.Ordering.{nat_cmp}
 use Rattle.std.specs.BTreeMap.{BTreeMap, Updates, get}
 use Rattle.mencius_base.specs.declared.command.CommandId.{CommandId}
-use Rattle.mencius_model.specs.Store.{out}
+use Rattle.mencius_model.specs.KeyMap.{out}
 use Rattle.mencius_judge.specs.declared.judge.Execution.{Execution}
 use Rattle.mencius_judge.specs.declared.judge.Judge.{Judge}
 use Rattle.mencius_judge.specs.declared.judge.Submission.{Submission}
 use Rattle.mencius_judge.specs.declared.timeline.Timeline.{Timeline}
 use Rattle.mencius_judge.specs.declared.observation.Observation.TheVariants.{Execute}
-use Rattle.mencius_judge.specs.Judged.{IsAt}
-use Rattle.mencius_judge.specs.Log.{Log, command_of, commands_of, has, history, with_reply, with_reply_before}
+use Rattle.mencius_judge.specs.Judged.{HasSeenLog}
+use Rattle.mencius_judge.specs.Log.{Log, command_of, commands_of, has_id, history, with_reply, with_reply_before}
 use Rattle.mencius_judge.specs.Promises.{StandBehindReplies, StandOnce}
 use Rattle.mencius_judge.specs.Tables.{AreExecutions, AreHistories, AreSettled, Executions, IsNoOther, IsOrder, identity_key, number_count}
 use Rattle.mencius_judge.specs.Timelines.{AreTimelines}
@@ -33,12 +33,14 @@ copied_some None = refl
 copied_some (Some x) = refl
 
 -- how many commands a server has executed
-pub size_is : (j : Judge) (w : Log) (p : ℕ) → IsAt j w → length (history w p) ≡ get_or j.histories.counts.items p 0
+pub size_is : (j : Judge) (w : Log) (p : ℕ) → HasSeenLog j w
+    → length (history w p) ≡ get_or j.histories.counts.items p 0
 size_is j w p h =
     ap length (h.histories.each p) ∙ length-take (get_or j.histories.counts.items p 0) j.histories.order.items
     ∙ omega (arith, h.histories.within p)
 
-module _ (j : Judge) (w : Log) (h : IsAt j w) (p : ℕ) (id : CommandId) (row : Submission) (small : id.number < number_count)
+module _ (j : Judge) (w : Log) (h : HasSeenLog j w) (p : ℕ) (id : CommandId) (row : Submission)
+    (small : id.number < number_count)
     (there : get nat_cmp j.submissions (identity_key id) ≡ Some row) (known : p < length j.histories.counts.items)
     (ahead : length j.histories.order.items ≤ get_or j.histories.counts.items p 0) where
   abbrev pub order : List CommandId
@@ -65,23 +67,23 @@ module _ (j : Judge) (w : Log) (h : IsAt j w) (p : ℕ) (id : CommandId) (row : 
       all (x ∷ xs) = ap (λ ys. x ∷ ys) (all xs)
 
   pub lead_twice : is_some (get nat_cmp j.executions (identity_key id)) ≡ true
-      → (has (history w p) id ≡ true) × (StandOnce (Execute p id ∷ w) → ⊥)
+      → (has_id (history w p) id ≡ true) × (StandOnce (Execute p id ∷ w) → ⊥)
   lead_twice e = (
-    ap (λ ids. has ids id) whole ∙ sym (h.executions.all id small) ∙ e,
+    ap (λ ids. has_id ids id) whole ∙ sym (h.executions.all id small) ∙ e,
     twice w order counts h.histories p known id last (sym (h.executions.all id small) ∙ e),
   )
 
   pub lead_early : (settled : ℕ) (behind : CommandId) → settled < row.replies_before
       → slice_get j.with_reply.items settled ≡ Some behind → get nat_cmp j.executions (identity_key behind) ≡ None
-      → (has (with_reply_before w id) behind ≡ true) × (has (history w p) behind ≡ false)
+      → (has_id (with_reply_before w id) behind ≡ true) × (has_id (history w p) behind ≡ false)
       × (StandBehindReplies (Execute p id ∷ w) → ⊥)
   lead_early settled behind less listed none =
       let before = h.submissions.before id row small there in
       let item : slice_get (with_reply w) settled ≡ Some behind =
       ap (λ ids. slice_get ids settled) (sym h.replies.order) ∙ listed in
       let r = unsettled_before w order j.executions h.replies.small h.executions settled row.replies_before behind less item none in
-      let given : has (with_reply_before w id) behind ≡ true = ap (λ ids. has ids behind) before.1 ∙ r.0 in
-      (given, ap (λ ids. has ids behind) whole ∙ r.1, too_early w p id behind order longer given r.1)
+      let given : has_id (with_reply_before w id) behind ≡ true = ap (λ ids. has_id ids behind) before.1 ∙ r.0 in
+      (given, ap (λ ids. has_id ids behind) whole ∙ r.1, too_early w p id behind order longer given r.1)
 
   -- what the map answers at the new place
   pub lead_answer : (text : Option (List ℕ)) → text ≡ out (commands_of w order) row.command
@@ -101,7 +103,7 @@ module _ (j : Judge) (w : Log) (h : IsAt j w) (p : ℕ) (id : CommandId) (row : 
       (absent : is_some (get nat_cmp j.executions (identity_key id)) ≡ false) (none : IsNoOther j.replies (identity_key id) answer)
       (settled : ℕ) (facts : AreSettled j.with_reply.items j.executions settled)
       (behind : settled < row.replies_before → length j.with_reply.items ≤ settled) where
-    pub new_one : has order id ≡ false
+    pub new_one : has_id order id ≡ false
     new_one = sym (h.executions.all id small) ∙ absent
 
     reached : row.replies_before ≤ settled
@@ -119,7 +121,7 @@ module _ (j : Judge) (w : Log) (h : IsAt j w) (p : ℕ) (id : CommandId) (row : 
         let before = h.submissions.before id row small there in
         order_lead w p id row.command order h.order new_one command
         (λ y inside. settled_stand w order j.executions h.replies.small h.executions j.with_reply.items settled row.replies_before y
-        h.replies.order facts reached (ap (λ ids. has ids y) (sym before.1) ∙ inside))
+        h.replies.order facts reached (ap (λ ids. has_id ids y) (sym before.1) ∙ inside))
         (λ text given. no_other w id j.replies j.with_reply.items answer h.one_reply h.replies small none text given
         ∙ answered)
 

@@ -4,9 +4,9 @@ use Rattle.std.specs.List.{Contains}
 use Rattle.std.proofs.lemmas.List.{take-append-drop}
 use Rattle.mencius_base.specs.declared.command.Command.{Command}
 use Rattle.mencius_base.specs.declared.command.CommandId.{CommandId}
-use Rattle.mencius_model.specs.Store.{out}
+use Rattle.mencius_model.specs.KeyMap.{out}
 use Rattle.mencius_judge.specs.declared.observation.Observation.TheVariants.{Submit, Execute, Reply}
-use Rattle.mencius_judge.specs.Log.{Log, command_of, commands_of, has, history, with_reply_before}
+use Rattle.mencius_judge.specs.Log.{Log, command_of, commands_of, has_id, history, with_reply_before}
 use Rattle.mencius_judge.specs.Promises.{AreRightReplies, StandBehindReplies}
 use Rattle.mencius_judge.specs.Tables.{AreHistories, IsOrder}
 use Rattle.mencius_judge.proofs.promises.Identities.{has_place}
@@ -35,7 +35,7 @@ item_here [] back x = refl
 item_here (y ∷ front) back x = item_here front back x
 
 -- an item splits its list
-pub split_at : (xs : List CommandId) (id : CommandId) → has xs id ≡ true
+pub split_at : (xs : List CommandId) (id : CommandId) → has_id xs id ≡ true
     → (front : List CommandId) × (back : List CommandId) × (xs ≡ front ++ id ∷ back)
 split_at xs id h = let place = has_place xs id h in by_place xs place.0 place.2
   where
@@ -80,7 +80,7 @@ order_submit w x order h = record {
   known = λ n id e. ap is_some (kept_command w x id (h.known n id e)) ∙ h.known n id e;
   once = h.once;
   behind = λ front back id y e inside. h.behind front back id y e
-      (ap (λ ids. has ids y) (sym (kept_before w x id (item_known w order front back id h.known e))) ∙ inside);
+      (ap (λ ids. has_id ids y) (sym (kept_before w x id (item_known w order front back id h.known e))) ∙ inside);
   right = λ front back id c text e is there.
       h.right front back id c text e (kept_at w x order front back id c h.known e is) (earlier_reply id text there)
       ∙ sym (kept_out w x order front back id c h.known e);
@@ -106,8 +106,8 @@ order_follow w p x order h = record {
 }
 
 pub order_lead : (w : Log) (p : ℕ) (x : CommandId) (d : Command) (order : List CommandId) → IsOrder w order
-    → has order x ≡ false → command_of w x ≡ Some d
-    → ((y : CommandId) → has (with_reply_before w x) y ≡ true → has order y ≡ true)
+    → has_id order x ≡ false → command_of w x ≡ Some d
+    → ((y : CommandId) → has_id (with_reply_before w x) y ≡ true → has_id order y ≡ true)
     → ((text : Option (List ℕ)) → Contains w (Reply x text) → text ≡ out (commands_of w order) d)
     → IsOrder (Execute p x ∷ w) (order ++ x ∷ [])
 order_lead w p x d order h new command settled right = record {
@@ -116,8 +116,8 @@ order_lead w p x d order h new command settled right = record {
   behind = λ front back id y e inside.
       elim (split_end order x front back id e) [
         | inl at ↦
-            subst (λ ids. has ids y ≡ true) (sym at.0)
-            (settled y (subst (λ (a : CommandId). has (with_reply_before w a) y ≡ true) at.1 inside))
+            subst (λ ids. has_id ids y ≡ true) (sym at.0)
+            (settled y (subst (λ (a : CommandId). has_id (with_reply_before w a) y ≡ true) at.1 inside))
         | inr at ↦ h.behind front at.0 id y at.1 inside
       ];
   right = λ front back id c text e is there.
@@ -173,8 +173,9 @@ module _ (w : Log) (order : List CommandId) (counts : List ℕ) (h : AreHistorie
 
   pub stand_behind : StandBehindReplies w
   stand_behind p front back id x e inside =
-      as_true (has front x) (facts.behind front (back ++ drop (get_or counts p 0) order) id x (longer p front back id e)
-      (is_true (has (with_reply_before w id) x) inside))
+      as_true (has_id front x)
+      (facts.behind front (back ++ drop (get_or counts p 0) order) id x (longer p front back id e)
+      (is_true (has_id (with_reply_before w id) x) inside))
     where
       is_true : (d : Bool) → IsTrue d → d ≡ true
       is_true d t = search rules

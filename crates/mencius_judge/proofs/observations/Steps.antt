@@ -8,12 +8,12 @@ use Rattle.std.proofs.lemmas.List.{take-append-le, take_all}
 use Rattle.mencius_base.specs.declared.command.Command.{Command}
 use Rattle.mencius_base.specs.declared.command.CommandId.{CommandId}
 use Rattle.mencius_base.specs.Command.{is_same_id}
-use Rattle.mencius_model.specs.Store.{out}
-use Rattle.mencius_model.specs.Trace.{earlier}
+use Rattle.mencius_model.specs.KeyMap.{out}
+use Rattle.mencius_model.specs.Trace.{first_some}
 use Rattle.mencius_judge.specs.declared.judge.Execution.{Execution}
 use Rattle.mencius_judge.specs.declared.judge.Submission.{Submission}
 use Rattle.mencius_judge.specs.declared.observation.Observation.TheVariants.{Submit, Execute, Reply}
-use Rattle.mencius_judge.specs.Log.{Log, command_of, commands_of, has, with_reply, reply_of}
+use Rattle.mencius_judge.specs.Log.{Log, command_of, commands_of, has_id, with_reply, reply_of}
 use Rattle.mencius_judge.specs.Promises.{AreOneCommand, AreOneReply, WereSubmitted}
 use Rattle.mencius_judge.specs.Tables.{AreExecutions, AreHistories, AreReplies, AreSettled, AreSubmissions, Executions, IsOrder, Replies, identity_key, number_count}
 use Rattle.mencius_judge.proofs.promises.Identities.{get_here, get_there, has-append, id_cases, place_has, same_id, other_id}
@@ -185,7 +185,7 @@ module _ (w : Log) (rows : BTreeMap ℕ Submission) (h : AreSubmissions w rows) 
 
 -- a reply to another command
 reply_elsewhere : (w : Log) (x : CommandId) (text : Option (List ℕ)) (id : CommandId) → x ≢ id
-    → (o : Option (Option (List ℕ))) → earlier o (cond (is_same_id x id) (Some text) None) ≡ o
+    → (o : Option (Option (List ℕ))) → first_some o (cond (is_same_id x id) (Some text) None) ≡ o
 reply_elsewhere w x text id ne None = ap (λ d. cond d (Some text) None) (other_id x id ne)
 reply_elsewhere w x text id ne (Some y) = refl
 
@@ -225,7 +225,9 @@ table_reply w x text replies new ids h small updates none = record {
     grown = with_reply_new w x text (ap is_some none)
 
     here : reply_of (Reply x text ∷ w) x ≡ Some text
-    here = ap (λ o. earlier o (cond (is_same_id x x) (Some text) None)) none ∙ ap (λ d. cond d (Some text) None) (same_id x)
+    here =
+        ap (λ o. first_some o (cond (is_same_id x x) (Some text) None)) none
+        ∙ ap (λ d. cond d (Some text) None) (same_id x)
 
     all_small : (xs : List CommandId) → ((n : ℕ) (id : CommandId) → slice_get xs n ≡ Some id → id.number < number_count)
         → (n : ℕ) (id : CommandId) → slice_get (xs ++ x ∷ []) n ≡ Some id → id.number < number_count
@@ -244,7 +246,8 @@ table_again w x text replies ids h there = record {
   small = λ n id e. h.small n id (ap (λ ys. slice_get ys n) (sym (with_reply_again w x text there)) ∙ e);
 }
   where
-    stays : (o : Option (Option (List ℕ))) (other : Option (Option (List ℕ))) → is_some o ≡ true → earlier o other ≡ o
+    stays : (o : Option (Option (List ℕ))) (other : Option (Option (List ℕ))) → is_some o ≡ true → first_some o other
+        ≡ o
     stays None other e = absurd (cc)
     stays (Some y) other e = refl
 
@@ -273,16 +276,17 @@ pub executions_reply : (w : Log) (x : CommandId) (text : Option (List ℕ)) (ord
 executions_reply w x text order executions h = record { all = h.all; right = h.right }
 
 pub executions_lead : (w : Log) (p : ℕ) (x : CommandId) (c : Command) (order : List CommandId) (executions new : Executions)
-    (execution : Execution) → AreExecutions w order executions → x.number < number_count → has order x ≡ false
+    (execution : Execution) → AreExecutions w order executions → x.number < number_count → has_id order x ≡ false
     → command_of w x ≡ Some c → execution.reply ≡ out (commands_of w order) c → execution.place ≡ length order
     → Updates nat_cmp executions new (identity_key x) (Some execution) → AreExecutions (Execute p x ∷ w) (order ++ x ∷ []) new
 executions_lead w p x c order executions new execution h small absent command reply place updates = record {
   all = λ id less. ⊎_elim
-      (λ (eq : x ≡ id). subst (λ (a : CommandId). is_some (get nat_cmp new (identity_key a)) ≡ has (order ++ x ∷ []) a) eq
+      (λ (eq : x ≡ id). subst (λ (a : CommandId). is_some (get nat_cmp new (identity_key a))
+      ≡ has_id (order ++ x ∷ []) a) eq
       (ap is_some (get_here executions new x execution updates)
       ∙ sym (place_has (order ++ x ∷ []) x (length order) (end_of order x))))
       (λ (ne : x ≢ id). ap is_some (get_there executions new x id execution updates small less ne) ∙ h.all id less
-      ∙ sym (has-append order x id ∙ ap (λ d. d || has order id) (other_id x id ne)))
+      ∙ sym (has-append order x id ∙ ap (λ d. d || has_id order id) (other_id x id ne)))
       (id_cases x id);
   right = λ id y front back d less there e is.
       elim (split_end order x front back id e) [
@@ -306,7 +310,7 @@ executions_lead w p x c order executions new execution h small absent command re
   where
     other : (front rest : List CommandId) (id : CommandId) → order ≡ front ++ id ∷ rest → x ≢ id
     other front rest id e same =
-        let inside : has order x ≡ true =
+        let inside : has_id order x ≡ true =
         place_has order x (length front) (ap (λ xs. slice_get xs (length front)) e ∙ at front ∙ ap Some (sym same)) in
         absurd (cc)
       where

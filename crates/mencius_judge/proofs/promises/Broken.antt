@@ -9,7 +9,7 @@ use Rattle.mencius_base.specs.declared.command.Command.{Command}
 use Rattle.mencius_base.specs.declared.command.CommandId.{CommandId}
 use Rattle.mencius_judge.specs.declared.judge.Execution.{Execution}
 use Rattle.mencius_judge.specs.declared.observation.Observation.TheVariants.{Submit, Execute, Reply}
-use Rattle.mencius_judge.specs.Log.{Log, command_of, has, history, with_reply, with_reply_before, reply_of}
+use Rattle.mencius_judge.specs.Log.{Log, command_of, has_id, history, with_reply, with_reply_before, reply_of}
 use Rattle.mencius_judge.specs.Promises.{AreOneCommand, AreOneReply, AreRightReplies, StandBehindReplies}
 use Rattle.mencius_judge.specs.Tables.{AreExecutions, AreHistories, AreSettled, Executions, identity_key, number_count}
 use Rattle.mencius_judge.specs.Violations.{IsAnswerAt}
@@ -32,10 +32,11 @@ two_replies w id x text found ne h =
     (contains_here (Reply id text) w (Reply id text) refl))
 
 pub too_early : (w : Log) (p : ℕ) (id x : CommandId) (order : List CommandId)
-    → history (Execute p id ∷ w) p ≡ order ++ id ∷ [] → has (with_reply_before w id) x ≡ true → has order x ≡ false
+    → history (Execute p id ∷ w) p ≡ order ++ id ∷ [] → has_id (with_reply_before w id) x ≡ true
+    → has_id order x ≡ false
     → StandBehindReplies (Execute p id ∷ w) → ⊥
 too_early w p id x order grown before absent h =
-    clash (has order x) absent (h p order [] id x grown (as_true (has (with_reply_before w id) x) before))
+    clash (has_id order x) absent (h p order [] id x grown (as_true (has_id (with_reply_before w id) x) before))
   where
     as_true : (d : Bool) → d ≡ true → IsTrue d
     as_true true e = refl
@@ -50,7 +51,7 @@ pub answer_at : (w : Log) (id : CommandId) (c : Command) (order : List CommandId
     (x : Execution) → AreHistories w order counts → AreExecutions w order executions → id.number < number_count
     → command_of w id ≡ Some c → get nat_cmp executions (identity_key id) ≡ Some x → IsAnswerAt w id x.place x.reply
 answer_at w id c order counts executions x histories h small command found =
-    let inside : has order id ≡ true = sym (h.all id small) ∙ ap is_some found in
+    let inside : has_id order id ≡ true = sym (h.all id small) ∙ ap is_some found in
     let parts = split_at order id inside in
     let r = h.right id x parts.0 parts.1 c small found parts.2 command in
     record {
@@ -89,8 +90,8 @@ module _ (w : Log) (order : List CommandId) (executions : Executions)
     (small : (n : ℕ) (id : CommandId) → slice_get (with_reply w) n ≡ Some id → id.number < number_count)
     (h : AreExecutions w order executions) where
   pub settled_stand : (ids : List CommandId) (settled behind : ℕ) (y : CommandId) → ids ≡ with_reply w
-      → AreSettled ids executions settled → behind ≤ settled → has (take behind (with_reply w)) y ≡ true
-      → has order y ≡ true
+      → AreSettled ids executions settled → behind ≤ settled → has_id (take behind (with_reply w)) y ≡ true
+      → has_id order y ≡ true
   settled_stand ids settled behind y listed facts le inside =
       let place = has_place (take behind (with_reply w)) y inside in
       let there = whole_get behind (with_reply w) place.0 y place.2 in
@@ -101,7 +102,7 @@ module _ (w : Log) (order : List CommandId) (executions : Executions)
   -- one that does not
   pub unsettled_before : (settled behind : ℕ) (y : CommandId) → settled < behind → slice_get (with_reply w) settled ≡ Some y
       → get nat_cmp executions (identity_key y) ≡ None
-      → (has (take behind (with_reply w)) y ≡ true) × (has order y ≡ false)
+      → (has_id (take behind (with_reply w)) y ≡ true) × (has_id order y ≡ false)
   unsettled_before settled behind y less there none = (
     place_has (take behind (with_reply w)) y settled (taken (with_reply w) behind settled y less there),
     sym (h.all y (small settled y there)) ∙ ap is_some none,

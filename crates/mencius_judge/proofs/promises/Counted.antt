@@ -9,9 +9,9 @@ use Rattle.mencius_judge.specs.declared.counts.Counts.{Counts}
 use Rattle.mencius_judge.specs.declared.judge.Judge.{Judge}
 use Rattle.mencius_judge.specs.declared.observation.Observation.TheVariants.{Submit}
 use Rattle.mencius_judge.specs.Counts.{AreCounts, command_count, is_some_length}
-use Rattle.mencius_judge.specs.Judged.{IsAt}
-use Rattle.mencius_judge.specs.Log.{Log, command_of, has, history, with_reply}
-use Rattle.mencius_judge.specs.Tables.{is_open, identity_key, number_count}
+use Rattle.mencius_judge.specs.Judged.{HasSeenLog}
+use Rattle.mencius_judge.specs.Log.{Log, command_of, has_id, history, with_reply}
+use Rattle.mencius_judge.specs.Tables.{has_no_place, identity_key, number_count}
 use Rattle.mencius_judge.proofs.observations.Leads.{size_is}
 
 -- ---- commands
@@ -37,10 +37,10 @@ same_count f g (x ∷ xs) h =
 
 -- ---- what a judge counts
 
-pub counted : (j : Judge) (w : Log) (c : Counts) → IsAt j w
+pub counted : (j : Judge) (w : Log) (c : Counts) → HasSeenLog j w
     → c.servers ≡ count_by is_some_length j.histories.counts.items → c.commands ≡ j.commands
     → c.executed ≡ length j.histories.order.items → c.replies ≡ length j.with_reply.items
-    → c.open_replies ≡ count_by (is_open j.executions) j.with_reply.items → c.lookups ≡ j.lookups → AreCounts w c
+    → c.open_replies ≡ count_by (has_no_place j.executions) j.with_reply.items → c.lookups ≡ j.lookups → AreCounts w c
 counted j w c h servers commands executed replies open_replies lookups =
     let q = h.histories.some.0 in
     let order = j.histories.order.items in
@@ -56,8 +56,9 @@ counted j w c h servers commands executed replies open_replies lookups =
           let whole : length order ≡ length (history w q) = ap length longest in omega (arith, size, most, whole));
       executed = executed ∙ ap length longest;
       replies = replies ∙ ap length h.replies.order;
-      open_replies = open_replies ∙ ap (count_by (is_open j.executions)) h.replies.order
-          ∙ same_count (is_open j.executions) (λ id. not (has (history w q) id)) (with_reply w) (λ n id there.
-          ap not (h.executions.all id (h.replies.small n id there) ∙ ap (λ (ids : List CommandId). has ids id) longest));
+      open_replies = open_replies ∙ ap (count_by (has_no_place j.executions)) h.replies.order
+          ∙ same_count (has_no_place j.executions) (λ id. not (has_id (history w q) id)) (with_reply w) (λ n id there.
+          ap not (h.executions.all id (h.replies.small n id there)
+          ∙ ap (λ (ids : List CommandId). has_id ids id) longest));
       lookups = lookups ∙ h.lookups;
     }

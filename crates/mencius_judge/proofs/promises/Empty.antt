@@ -10,7 +10,7 @@ use Rattle.mencius_base.specs.declared.command.CommandId.{CommandId}
 use Rattle.mencius_judge.specs.declared.judge.Submission.{Submission}
 use Rattle.mencius_judge.specs.Promises.{AreOneCommand, AreOneReply}
 use Rattle.mencius_judge.specs.declared.observation.Observation.TheVariants.{Reply, Submit}
-use Rattle.mencius_judge.specs.Log.{has}
+use Rattle.mencius_judge.specs.Log.{has_id}
 use Rattle.mencius_judge.specs.Tables.{AreExecutions, AreFloors, floor_of, AreHistories, AreReplies, AreSettled, AreSubmissions, Executions, IsOrder, Replies, identity_key}
 use Rattle.mencius_judge.proofs.promises.Logs.{contains_none}
 
@@ -68,7 +68,7 @@ no_table replies ids e f = record {
 pub no_executions : (order : List CommandId) (executions : Executions) → order ≡ [] → IsEmpty executions
     → AreExecutions [] order executions
 no_executions order executions e f = record {
-  all = λ id small. ap is_some (no_entry executions (identity_key id) f) ∙ ap (λ ids. has ids id) (sym e);
+  all = λ id small. ap is_some (no_entry executions (identity_key id) f) ∙ ap (λ ids. has_id ids id) (sym e);
   right = λ id x front back c small there splits is.
       let none : get nat_cmp executions (identity_key id) ≡ None = no_entry executions (identity_key id) f in absurd (cc);
 }

@@ -3,7 +3,7 @@ use Rattle.std.proofs.Common.{◌≡◌, ◌⊎◌, inl, inr, ℕ, zero, suc, �
 use Rattle.std.specs.Prelude.{MatchBool, IsNone, ◌↔◌, max}
 use Rattle.mencius_base.specs.declared.command.CommandId.{CommandId}
 use Rattle.mencius_model.specs.Executed.{IsComparable, IsPrefix}
-use Rattle.mencius_model.specs.Store.{out, value_at}
+use Rattle.mencius_model.specs.KeyMap.{out, value_at}
 use Rattle.mencius_model.proofs.trace.Prefixes.{prefix_either, prefix_self, prefix_trans}
 use Rattle.mencius_judge.specs.declared.judge.Judge.{Judge}
 use Rattle.mencius_judge.specs.declared.observation.Observation.{Observation}
@@ -11,16 +11,16 @@ use Rattle.mencius_judge.specs.declared.observation.Observation.TheVariants.{Sub
 use Rattle.mencius_judge.specs.declared.violation.Promise.{Promise}
 use Rattle.mencius_judge.specs.declared.violation.Promise.TheVariants.{OneCommand, Submitted, Once, SameOrder, RealTime, OneReply, RightReply, RightLookup}
 use Rattle.mencius_judge.specs.declared.violation.Violation.{Violation}
-use Rattle.mencius_judge.specs.Judged.{IsAt, IsJudged}
+use Rattle.mencius_judge.specs.Judged.{HasSeenLog, IsJudged}
 use Rattle.mencius_judge.specs.Violations.{promise_of}
 use Rattle.mencius_judge.specs.Log.{Log, MaySee, command_of, commands_of, history, with_reply_before}
-use Rattle.mencius_judge.specs.Promises.{Holds, Keeps, WereSubmitted}
+use Rattle.mencius_judge.specs.Promises.{Holds, KeepsAll, WereSubmitted}
 use Rattle.mencius_judge.specs.Tables.{floor_of}
 use Rattle.mencius_judge.proofs.observations.HistorySteps.{comparable, stand_once}
 use Rattle.mencius_judge.proofs.promises.Logs.{AreKnown, contains_later, kept_before, kept_command, kept_commands}
 use Rattle.mencius_judge.proofs.observations.OrderSteps.{front_known, item_known, right_replies, stand_behind}
 
-pub keeps : (j : Judge) (w : Log) → IsAt j w → Keeps w
+pub keeps : (j : Judge) (w : Log) → HasSeenLog j w → KeepsAll w
 keeps j w h =
     let order = j.histories.order.items in
     let counts = j.histories.counts.items in
@@ -35,7 +35,7 @@ keeps j w h =
       right_lookup = λ r. (floor_of j.floors r, h.floors.seen r);
     }
 
-pub holds : (w : Log) → Keeps w → (promise : Promise) → Holds promise w
+pub holds : (w : Log) → KeepsAll w → (promise : Promise) → Holds promise w
 holds w h OneCommand = h.one_command
 holds w h Submitted = h.submitted
 holds w h Once = h.once
@@ -154,7 +154,7 @@ seen_earlier w (Lookup reader key text) r n h = by_test (reader == r) h
     by_test true g = (g.0, g.1)
     by_test false g = (n, g)
 
-pub kept_earlier : (w : Log) (o : Observation) → Keeps (o ∷ w) → Keeps w
+pub kept_earlier : (w : Log) (o : Observation) → KeepsAll (o ∷ w) → KeepsAll w
 kept_earlier w o h =
     let before = submitted_earlier w o h.submitted in
     record {
@@ -179,14 +179,14 @@ kept_earlier w o h =
       right_lookup = λ r. let now = h.right_lookup r in seen_earlier w o r now.0 now.1;
     }
 
-pub kept_before_all : (later w : Log) → Keeps (later ++ w) → Keeps w
+pub kept_before_all : (later w : Log) → KeepsAll (later ++ w) → KeepsAll w
 kept_before_all [] w h = h
 kept_before_all (o ∷ later) w h = kept_before_all later w (kept_earlier (later ++ w) o h)
 
 -- ---- the verdict on one observation
 
 pub judged_kept : (w : Log) (o : Observation) (x : Option Violation) (j : Judge) → IsJudged w o x j
-    → IsNone x ↔ Keeps (o ∷ w)
+    → IsNone x ↔ KeepsAll (o ∷ w)
 judged_kept w o None j h = ((λ none. keeps j (o ∷ w) h), (λ k. refl))
 judged_kept w o (Some violation) j h =
     ((λ none. absurd (cc)), (λ k. absurd (h.1 (holds (o ∷ w) k (promise_of violation)))))

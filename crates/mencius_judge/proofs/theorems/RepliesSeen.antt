@@ -7,11 +7,11 @@ use Rattle.mencius_base.specs.Command.{is_same_id}
 use Rattle.mencius_base.specs.declared.command.Command.{Command}
 use Rattle.mencius_base.specs.declared.command.CommandId.{CommandId}
 use Rattle.mencius_model.specs.Executed.{IsComparable, IsPrefix}
-use Rattle.mencius_model.specs.Store.{out}
+use Rattle.mencius_model.specs.KeyMap.{out}
 use Rattle.mencius_model.proofs.trace.Prefixes.{prefix_self}
 use Rattle.mencius_judge.specs.declared.observation.Observation.{Observation}
 use Rattle.mencius_judge.specs.declared.observation.Observation.TheVariants.{Submit, Execute, Reply, Lookup, Tell}
-use Rattle.mencius_judge.specs.Log.{Log, command_of, commands_of, has, history, reply_of, with_reply, with_reply_before}
+use Rattle.mencius_judge.specs.Log.{Log, command_of, commands_of, has_id, history, reply_of, with_reply, with_reply_before}
 use Rattle.mencius_judge.specs.Promises.{AreComparable, AreOneReply, AreRightReplies, StandBehindReplies, StandOnce, WereSubmitted}
 use Rattle.mencius_judge.proofs.promises.Identities.{has-append, has_place, place_has, same_id_eq}
 use Rattle.mencius_judge.proofs.promises.Kept.{all_known, comparable_earlier, history_grows, longer_split, same_command, same_commands, still_there, submitted_earlier}
@@ -150,12 +150,12 @@ module _ (w : Log) (once : StandOnce w) (comparable : AreComparable w) where
 
 -- ---- real time
 
-has_prefix : (xs ys : List CommandId) (y : CommandId) → IsPrefix xs ys → has xs y ≡ true → has ys y ≡ true
+has_prefix : (xs ys : List CommandId) (y : CommandId) → IsPrefix xs ys → has_id xs y ≡ true → has_id ys y ≡ true
 has_prefix xs ys y h inside =
     let place = has_place xs y inside in place_has ys y place.0 (still_there xs ys place.0 y h place.2)
 
-with_reply_executed : (w : Log) → WereRight w → (y : CommandId) → has (with_reply w) y ≡ true
-    → (q : ℕ) × (has (history w q) y ≡ true)
+with_reply_executed : (w : Log) → WereRight w → (y : CommandId) → has_id (with_reply w) y ≡ true
+    → (q : ℕ) × (has_id (history w q) y ≡ true)
 with_reply_executed [] right y h = absurd (cc)
 with_reply_executed (Submit c ∷ w) right y h = with_reply_executed w right y h
 with_reply_executed (Execute p x ∷ w) right y h =
@@ -175,10 +175,10 @@ with_reply_executed (Reply id x ∷ w) right y h =
       | inr before ↦ with_reply_executed w right.1 y before
     ]
   where
-    either : (d : Bool) → has (cond d (with_reply w) (with_reply w ++ id ∷ [])) y ≡ true
-        → (is_same_id id y ≡ true) ⊎ (has (with_reply w) y ≡ true)
+    either : (d : Bool) → has_id (cond d (with_reply w) (with_reply w ++ id ∷ [])) y ≡ true
+        → (is_same_id id y ≡ true) ⊎ (has_id (with_reply w) y ≡ true)
     either true g = inr g
-    either false g = or_cases (is_same_id id y) (has (with_reply w) y) (sym (has-append (with_reply w) id y) ∙ g)
+    either false g = or_cases (is_same_id id y) (has_id (with_reply w) y) (sym (has-append (with_reply w) id y) ∙ g)
 
 -- when the command was first submitted, some server had executed the other one
 pub record IsEarly (w : Log) (id y : CommandId) : Type 0 where
@@ -187,7 +187,7 @@ pub record IsEarly (w : Log) (id y : CommandId) : Type 0 where
   pub splits : w ≡ later ++ before
   pub new : command_of before id ≡ None
   pub server : ℕ
-  pub there : has (history before server) y ≡ true
+  pub there : has_id (history before server) y ≡ true
 
 more_early : (w : Log) (o : Observation) (id y : CommandId) → IsEarly w id y → IsEarly (o ∷ w) id y
 more_early w o id y h = record {
@@ -204,16 +204,16 @@ none_of None e = refl
 none_of (Some c) e = absurd (cc)
 
 early : (w : Log) → WereRight w → (id y : CommandId) → is_some (command_of w id) ≡ true
-    → has (with_reply_before w id) y ≡ true → IsEarly w id y
+    → has_id (with_reply_before w id) y ≡ true → IsEarly w id y
 early [] right id y there h = absurd (cc)
 early (Submit c ∷ w) right id y there h =
     elim (cases_Bool (is_some (command_of w id))) [
       | inl e ↦
           more_early w (Submit c) id y (early w right id y e
-          (sym (ap (λ d. has (cond d (with_reply_before w id) (with_reply w)) y) e) ∙ h))
+          (sym (ap (λ d. has_id (cond d (with_reply_before w id) (with_reply w)) y) e) ∙ h))
       | inr e ↦
-          let all : has (with_reply w) y ≡ true =
-          sym (ap (λ d. has (cond d (with_reply_before w id) (with_reply w)) y) e) ∙ h in
+          let all : has_id (with_reply w) y ≡ true =
+          sym (ap (λ d. has_id (cond d (with_reply_before w id) (with_reply w)) y) e) ∙ h in
           let r = with_reply_executed w right y all in
           record {
             later = Submit c ∷ [];
@@ -237,7 +237,7 @@ pub all_behind : (w : Log) → AreComparable w → WereSubmitted w → WereRight
 all_behind w comparable given right p front back id y e inside =
     let there : is_some (command_of w id) ≡ true =
     item_known w (history w p) front back id (all_known w p given) e in
-    let h = early w right id y there (is_true (has (with_reply_before w id) y) inside) in
+    let h = early w right id y there (is_true (has_id (with_reply_before w id) y) inside) in
     let grows : IsPrefix (history h.before h.server) (history w h.server) =
     subst (λ (u : Log). IsPrefix (history h.before h.server) (history u h.server)) (sym h.splits)
     (history_later h.later h.before h.server) in
@@ -251,7 +251,7 @@ all_behind w comparable given right p front back id y e inside =
     let was : is_some (command_of h.before id) ≡ true = all_known h.before h.server old n id at in
     let none = h.new in
     absurd (cc)) in
-    as_true (has front y) (has_prefix (history h.before h.server) front y begin h.there)
+    as_true (has_id front y) (has_prefix (history h.before h.server) front y begin h.there)
   where
     is_true : (d : Bool) → IsTrue d → d ≡ true
     is_true d t = search rules

@@ -5,18 +5,18 @@ use Rattle.mencius_base.specs.Numbers.{ServerId}
 use Rattle.mencius_base.specs.declared.event.Event.{Event}
 use Rattle.mencius_base.specs.declared.event.Event.TheVariants.{Submit, Deliver, Lose, Suspect, Retry, Execute}
 use Rattle.mencius_base.specs.declared.message.Answer.{Answer}
-use Rattle.mencius_base.specs.declared.message.Answer.TheVariants.{Promise as Promised, Known, Silent}
+use Rattle.mencius_base.specs.declared.message.Answer.TheVariants.{Promise as Promised, Learn as Learn_answer, Silent}
 use Rattle.mencius_base.specs.declared.message.Message.{Message}
 use Rattle.mencius_base.specs.declared.message.Message.TheVariants.{Suggest, Skip, Accepted, Prepare, Promise, Propose, Learn}
 use Rattle.mencius_base.specs.declared.message.Value.{Value}
 use Rattle.mencius_base.specs.declared.message.Value.TheVariants.{Noop}
 use Rattle.mencius_base.specs.Members.{Membership, first_owned, instances, first_item}
-use Rattle.mencius_model.specs.Trace.{Line, Heard, Sent, Learned, Trace, sent}
-use Rattle.mencius_model.specs.Instance.{learned, promised, vote}
-use Rattle.mencius_model.specs.Server.{free_instance, front, covered_by, waiting}
-use Rattle.mencius_model.specs.Rules.{acceptor_answer, answer_lines, decision_lines, proposal_lines, suggestion}
+use Rattle.mencius_model.specs.Trace.{Line, Heard, Sent, Learned, Trace, sent_messages}
+use Rattle.mencius_model.specs.Instance.{learned_value, promised_ballot, vote}
+use Rattle.mencius_model.specs.Server.{free_instance, front, covered_instances, waiting_tickets}
+use Rattle.mencius_model.specs.Rules.{answer_lines, decision_lines, prepare_answer_from, proposal_lines, suggestion}
 use Rattle.mencius_model.proofs.rights.EachLine.{AreAll, one_if}
-use Rattle.mencius_model.specs.Next.{again, delivery, head, is_given_up, lines, on_message, preparation, decision_at, proposal_at, server_of}
+use Rattle.mencius_model.specs.Next.{retry_lines, delivery, head, is_newly_skipped, lines, on_message, preparation, due_decision_at, due_proposal_at, server_of}
 
 -- whose line it is
 abbrev pub IsBy : ServerId → Line → Type 0
@@ -38,7 +38,7 @@ by_suggestion : (p t : ℕ) (o : Option ℕ) → AreBy p (suggestion p o t)
 by_suggestion p t None = tt
 by_suggestion p t (Some i) = (refl, tt)
 
-by_again : (m : Membership) (w : Trace) (p : ℕ) (o : Option ℕ) → AreBy p (again m w p o)
+by_again : (m : Membership) (w : Trace) (p : ℕ) (o : Option ℕ) → AreBy p (retry_lines m w p o)
 by_again m w p None = tt
 by_again m w p (Some t) = by_suggestion p t (free_instance m w p)
 
@@ -67,19 +67,19 @@ by_proposal p i b (Some x) = (refl, tt)
 
 by_answer : (p q i b : ℕ) (answer : Answer) → AreBy p (answer_lines p q i b answer)
 by_answer p q i b (Promised vote) = (refl, tt)
-by_answer p q i b (Known x) = (refl, tt)
+by_answer p q i b (Learn_answer x) = (refl, tt)
 by_answer p q i b Silent = tt
 
 by_message : (m : Membership) (w v : Trace) (p : ℕ) (x : Message) → AreBy p (on_message m w v p x)
 by_message m w v p (Suggest q i t) =
-    by_two p (front m w p) (first_owned m p (i + 1)) q i (ltb (front m w p) i) (leb (promised w p i) 0)
-by_message m w v p (Skip q first stop) = by_noops p (filter (is_given_up m w p q first stop) instances)
+    by_two p (front m w p) (first_owned m p (i + 1)) q i (ltb (front m w p) i) (leb (promised_ballot w p i) 0)
+by_message m w v p (Skip q first stop) = by_noops p (filter (is_newly_skipped m w p q first stop) instances)
 by_message m w v p (Prepare q i b) =
-    by_answer p q i b (acceptor_answer (promised w p i) (vote w p i) b (learned w p i))
-by_message m w v p (Promise q to i b reports) = by_proposal p i b (proposal_at m w v p i b)
-by_message m w v p (Propose q i b x) = one_if (IsBy p) _ (leb (promised w p i) b) refl
-by_message m w v p (Accepted q to i b) = by_decision p i (decision_at m w v p i b)
-by_message m w v p (Learn q i x) = one_if (IsBy p) _ (is_none (learned w p i)) refl
+    by_answer p q i b (prepare_answer_from (promised_ballot w p i) (vote w p i) b (learned_value w p i))
+by_message m w v p (Promise q to i b reports) = by_proposal p i b (due_proposal_at m w v p i b)
+by_message m w v p (Propose q i b x) = one_if (IsBy p) _ (leb (promised_ballot w p i) b) refl
+by_message m w v p (Accepted q to i b) = by_decision p i (due_decision_at m w v p i b)
+by_message m w v p (Learn q i x) = one_if (IsBy p) _ (is_none (learned_value w p i)) refl
 
 by_delivery : (m : Membership) (w v : Trace) (p : ℕ) (o : Option Message) → AreBy p (delivery m w v p o)
 by_delivery m w v p None = tt
@@ -87,10 +87,10 @@ by_delivery m w v p (Some x) = by_message m w v p x
 
 pub lines_by : (m : Membership) (w : Trace) (e : Event) → AreBy (server_of e) (lines m w e)
 lines_by m w (Submit p command) = by_suggestion p _ (free_instance m w p)
-lines_by m w (Deliver k p) = by_delivery m w (Heard k p ∷ w) p (slice_get (sent w) k)
+lines_by m w (Deliver k p) = by_delivery m w (Heard k p ∷ w) p (slice_get (sent_messages w) k)
 lines_by m w (Lose k p) = tt
-lines_by m w (Suspect p q) = by_prepared m w p (covered_by m w p q)
-lines_by m w (Retry p) = by_again m w p (first_item (waiting w p))
+lines_by m w (Suspect p q) = by_prepared m w p (covered_instances m w p q)
+lines_by m w (Retry p) = by_again m w p (first_item (waiting_tickets w p))
 lines_by m w (Execute p) = tt
 
 pub head_by : (e : Event) → IsBy (server_of e) (head e)

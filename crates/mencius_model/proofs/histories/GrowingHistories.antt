@@ -3,16 +3,16 @@ use Rattle.std.proofs.Common.{◌≡◌, ℕ, ◌≤◌, List, [], ◌∷◌, �
 use Rattle.mencius_base.specs.declared.message.Value.{Value}
 use Rattle.mencius_base.specs.Members.{Membership}
 use Rattle.mencius_model.specs.Trace.{Line, Trace}
-use Rattle.mencius_model.specs.Instance.{learned}
+use Rattle.mencius_model.specs.Instance.{learned_value}
 use Rattle.mencius_model.specs.Server.{done}
-use Rattle.mencius_model.specs.Executed.{executed, IsPrefix}
+use Rattle.mencius_model.specs.Executed.{history, IsPrefix}
 use Rattle.mencius_model.proofs.rights.LineRights.{IsGrown, IsPast, past_grown}
 use Rattle.mencius_model.proofs.trace.AnswersLast.{learned_more}
 use Rattle.mencius_model.proofs.histories.Histories.{tickets_prefix, tickets_same, executed_learned}
 
 -- what was learned stays
-learned_past : (ls : List Line) (w : Trace) (p i : ℕ) (z : Value) → learned w p i ≡ Some z
-    → learned (ls ++ w) p i ≡ Some z
+learned_past : (ls : List Line) (w : Trace) (p i : ℕ) (z : Value) → learned_value w p i ≡ Some z
+    → learned_value (ls ++ w) p i ≡ Some z
 learned_past [] w p i z h = h
 learned_past (l ∷ ls) w p i z h = learned_more l (ls ++ w) p i z (learned_past ls w p i z h)
 
@@ -21,8 +21,8 @@ done_past : (ls : List Line) (w : Trace) (p : ℕ) → done w p ≤ done (ls ++ 
 done_past [] w p = omega arith
 done_past (l ∷ ls) w p = omega (arith, done_past ls w p)
 
-learned_later : (w end : Trace) → IsPast w end → (p i : ℕ) (z : Value) → learned w p i ≡ Some z
-    → learned end p i ≡ Some z
+learned_later : (w end : Trace) → IsPast w end → (p i : ℕ) (z : Value) → learned_value w p i ≡ Some z
+    → learned_value end p i ≡ Some z
 learned_later w end past p i z h = rw past.is (learned_past past.since w p i z h)
 
 done_later : (w end : Trace) → IsPast w end → (p : ℕ) → done w p ≤ done end p
@@ -30,11 +30,11 @@ done_later w end past p = rw past.is (done_past past.since w p)
 
 -- a server's history only grows
 pub history_grows : (m : Membership) (w end : Trace) → IsPast w end → IsGrown m end → (p : ℕ)
-    → IsPrefix (executed w p) (executed end p)
+    → IsPrefix (history w p) (history end p)
 history_grows m w end past grown p =
     let same =
-    tickets_same (learned w p) (learned end p) (done w p)
+    tickets_same (learned_value w p) (learned_value end p) (done w p)
     (λ i lt.
     let r = executed_learned m w (past_grown m w end past grown) p i lt in
     r.1 ∙ sym (learned_later w end past p i r.0 r.1)) in
-    rw same (tickets_prefix (learned end p) (done w p) (done end p) (done_later w end past p))
+    rw same (tickets_prefix (learned_value end p) (done w p) (done end p) (done_later w end past p))

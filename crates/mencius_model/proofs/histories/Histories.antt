@@ -6,11 +6,11 @@ use Rattle.std.proofs.lemmas.List.Elements.{filter_map-append}
 use Rattle.mencius_base.specs.declared.message.Value.{Value}
 use Rattle.mencius_base.specs.declared.message.Value.TheVariants.{Noop, Ticket}
 use Rattle.mencius_base.specs.Members.{Membership, below}
-use Rattle.mencius_model.specs.Trace.{Line, Executed, Trace, submitted}
-use Rattle.mencius_model.specs.Instance.{learned}
+use Rattle.mencius_model.specs.Trace.{Line, Executed, Trace, submitted_commands}
+use Rattle.mencius_model.specs.Instance.{learned_value}
 use Rattle.mencius_model.specs.Server.{done, done_by, ticket_of}
 use Rattle.mencius_model.specs.Decided.{IsDecided}
-use Rattle.mencius_model.specs.Executed.{executed, IsPrefix, IsComparable}
+use Rattle.mencius_model.specs.Executed.{history, IsPrefix, IsComparable}
 use Rattle.mencius_model.proofs.trace.Lists.{IsIn, get_in, in_append}
 use Rattle.mencius_model.proofs.trace.NumberLists.{below-more}
 use Rattle.mencius_model.proofs.rights.LineRights.{IsGrown, IsPast, past_grown}
@@ -31,7 +31,7 @@ executed_line p _ = inl refl
 
 -- an instance that s executed it had learned
 pub executed_learned : (m : Membership) (w : Trace) → IsGrown m w → (p i : ℕ) → i < done w p
-    → (x : Value) × (learned w p i ≡ Some x)
+    → (x : Value) × (learned_value w p i ≡ Some x)
 executed_learned m [] grown p i lt = absurd (omega arith)
 executed_learned m (l ∷ w) grown p i lt =
     elim (cases_lt i (done w p)) [
@@ -40,7 +40,7 @@ executed_learned m (l ∷ w) grown p i lt =
           elim (executed_line p l) [
             | inl z ↦ absurd (omega (arith, z, ge, lt))
             | inr d ↦
-                let may : (x : Value) × (learned w p (done w p) ≡ Some x) = rw d.1 at grown.1 in
+                let may : (x : Value) × (learned_value w p (done w p) ≡ Some x) = rw d.1 at grown.1 in
                 let here : done w p ≡ i = omega (arith, d.0, ge, lt) in
                 (may.0, learned_more l w p i may.0 (rw here at may.1))
           ]
@@ -163,7 +163,7 @@ begins_before (x ∷ xs) (a ∷ front) back t comparable new =
 
 module _ (m : Membership) (few : 1 ≤ m.count) (end : Trace) (g : IsGrown m end) where
   -- what was learned at a moment is decided in the end
-  learned_end : (w : Trace) → IsPast w end → (p i : ℕ) (z : Value) → learned w p i ≡ Some z → IsDecided m end i z
+  learned_end : (w : Trace) → IsPast w end → (p i : ℕ) (z : Value) → learned_value w p i ≡ Some z → IsDecided m end i z
   learned_end w past p i z h =
       let d = learned_decided m w (past_grown m w end past g) p i z h in
       rw past.is (decided_past m past.since w i z d)
@@ -177,9 +177,9 @@ module _ (m : Membership) (few : 1 ≤ m.count) (end : Trace) (g : IsGrown m end
 
   -- two servers that executed an instance learned the same there
   pub histories_comparable : (w v : Trace) → IsPast w end → IsPast v end → (p q : ℕ)
-      → IsComparable (executed w p) (executed v q)
+      → IsComparable (history w p) (history v q)
   histories_comparable w v a past p q =
-      comparable (learned w p) (learned v q) (done w p) (done v q)
+      comparable (learned_value w p) (learned_value v q) (done w p) (done v q)
       (λ i lt below.
       let x = executed_learned m w (past_grown m w end a g) p i lt in
       let y = executed_learned m v (past_grown m v end past g) q i below in
@@ -188,23 +188,23 @@ module _ (m : Membership) (few : 1 ≤ m.count) (end : Trace) (g : IsGrown m end
 
 module _ (m : Membership) (few : 1 ≤ m.count) (w : Trace) (g : IsGrown m w) where
   -- each ticket was submitted
-  pub history_submitted : (p t : ℕ) → IsIn t (executed w p) → t < length (submitted w)
+  pub history_submitted : (p t : ℕ) → IsIn t (history w p) → t < length (submitted_commands w)
   history_submitted p t h =
-      let r = in_tickets (learned w p) (done w p) t h in
+      let r = in_tickets (learned_value w p) (done w p) t h in
       decided_submitted m w g r.0 t (learned_decided m w g p r.0 (Ticket t) r.2)
 
   -- and stands once, since it is decided at one instance
-  pub history_once : (p : ℕ) → IsOnce (executed w p)
+  pub history_once : (p : ℕ) → IsOnce (history w p)
   history_once p =
-      tickets_once (learned w p) (done w p)
+      tickets_once (learned_value w p) (done w p)
       (λ i j t h told. decided_once m w few g i j t (learned_decided m w g p i (Ticket t) h)
       (learned_decided m w g p j (Ticket t) told))
 
 -- what is submitted after a history was executed stands behind all of it
 pub order : (m : Membership) → 1 ≤ m.count → (w end : Trace) → IsPast w end → IsGrown m end
     → (p q t : ℕ) (front back : List ℕ)
-    → length (submitted w) ≤ t → executed end q ≡ front ++ t ∷ back → IsPrefix (executed w p) front
+    → length (submitted_commands w) ≤ t → history end q ≡ front ++ t ∷ back → IsPrefix (history w p) front
 order m few w end past grown p q t front back late is =
-    begins_before (executed w p) front back t
+    begins_before (history w p) front back t
     (rw is at (histories_comparable m few end grown w end past (record { since = []; is = refl }) p q))
     (λ h. omega (arith, history_submitted m few w (past_grown m w end past grown) p t h, late))

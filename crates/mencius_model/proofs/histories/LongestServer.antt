@@ -7,7 +7,7 @@ use Rattle.mencius_base.specs.Members.{Membership, below}
 use Rattle.mencius_model.specs.Trace.{Trace}
 use Rattle.mencius_model.proofs.trace.NumberLists.{below-more}
 use Rattle.mencius_model.specs.Replying.{longest_at, longest_below}
-use Rattle.mencius_model.specs.Executed.{executed}
+use Rattle.mencius_model.specs.Executed.{history}
 
 -- p is the first of the n numbers where f is greatest
 pub record IsFurthest (f : ServerId → ℕ) (n : ℕ) (p : ServerId) : Type 0 where
@@ -63,11 +63,11 @@ pub longest-none : (w : Trace) → fold (longest_below w) 0 (below 0) ≡ 0
 unfolding below
 longest-none w = refl
 
-pub longest_is : (m : Membership) (w : Trace) → IsFurthest (λ p. length (executed w p)) m.count (longest_at m w)
-longest_is m w = furthest (λ p. length (executed w p)) m.count
+pub longest_is : (m : Membership) (w : Trace) → IsFurthest (λ p. length (history w p)) m.count (longest_at m w)
+longest_is m w = furthest (λ p. length (history w p)) m.count
 
-pub is_longer : (w : Trace) (p q : ℕ) → length (executed w p) < length (executed w q) → q ≡ longest_below w p q
-is_longer w p q h = sym (ap (λ a. cond a q p) (lt-ltb (length (executed w p)) (length (executed w q)) h))
+pub is_longer : (w : Trace) (p q : ℕ) → length (history w p) < length (history w q) → q ≡ longest_below w p q
+is_longer w p q h = sym (ap (λ a. cond a q p) (lt-ltb (length (history w p)) (length (history w q)) h))
 
-pub is_no_longer : (w : Trace) (p q : ℕ) → length (executed w q) ≤ length (executed w p) → p ≡ longest_below w p q
-is_no_longer w p q h = sym (ap (λ a. cond a q p) (le-ltb (length (executed w p)) (length (executed w q)) h))
+pub is_no_longer : (w : Trace) (p q : ℕ) → length (history w q) ≤ length (history w p) → p ≡ longest_below w p q
+is_no_longer w p q h = sym (ap (λ a. cond a q p) (le-ltb (length (history w p)) (length (history w q)) h))

@@ -7,10 +7,10 @@ use Rattle.mencius_base.specs.declared.message.Message.TheVariants.{Skip, Learn}
 use Rattle.mencius_base.specs.declared.message.Value.{Value}
 use Rattle.mencius_base.specs.declared.message.Value.TheVariants.{Noop}
 use Rattle.mencius_base.specs.Members.{Membership, owner}
-use Rattle.mencius_model.specs.Trace.{Line, Sent, Learned, Trace, sent}
-use Rattle.mencius_model.specs.Instance.{proposed, learned, has_accepted}
+use Rattle.mencius_model.specs.Trace.{Line, Sent, Learned, Trace, sent_messages}
+use Rattle.mencius_model.specs.Instance.{proposal, learned_value, has_accepted}
 use Rattle.mencius_model.specs.Decided.{IsSkipped, IsDecided}
-use Rattle.mencius_model.specs.Rules.{gives_up}
+use Rattle.mencius_model.specs.Rules.{is_skipped_by}
 use Rattle.mencius_model.proofs.trace.Lists.{IsIn, any_in, in_any, majority_more}
 use Rattle.mencius_model.proofs.rights.LineRights.{IsGrown, MayLearn}
 use Rattle.mencius_model.proofs.trace.AnswersLast.{proposed_more, acceptance_more, sent_in, in_sent, start_in, learned_in}
@@ -26,7 +26,7 @@ pub record SkipOf (m : Membership) (w : Trace) (i : Inst) : Type 0 where
   pub to : i < stop
 
 -- a message that gives i up is such a Skip
-skip_message : (m : Membership) (w : Trace) (i : ℕ) (x : Message) → IsIn (Sent x) w → gives_up m i x ≡ true
+skip_message : (m : Membership) (w : Trace) (i : ℕ) (x : Message) → IsIn (Sent x) w → is_skipped_by m i x ≡ true
     → SkipOf m w i
 skip_message m w i (Skip from first stop) h e =
     let r = and_parts (eqb from (owner m i) && leb first i) (ltb i stop) e in
@@ -38,14 +38,14 @@ skip_message m w i _ h e = absurd (cc)
 -- where i is skipped, there is one
 skip_of : (m : Membership) (w : Trace) (i : ℕ) → IsSkipped m w i → SkipOf m w i
 skip_of m w i h =
-    let r = any_in (gives_up m i) (sent w) h in
+    let r = any_in (is_skipped_by m i) (sent_messages w) h in
     skip_message m w i r.0 (sent_in r.0 w r.1) r.2
 
 -- a later line leaves what is skipped
 skipped_more : (m : Membership) (l : Line) (w : Trace) (i : ℕ) → IsSkipped m w i → IsSkipped m (l ∷ w) i
 skipped_more m l w i h =
-    let r = any_in (gives_up m i) (sent w) h in
-    in_any (gives_up m i) r.0 (sent (l ∷ w)) (in_sent r.0 (l ∷ w) (inr (sent_in r.0 w r.1))) r.2
+    let r = any_in (is_skipped_by m i) (sent_messages w) h in
+    in_any (is_skipped_by m i) r.0 (sent_messages (l ∷ w)) (in_sent r.0 (l ∷ w) (inr (sent_in r.0 w r.1))) r.2
 
 -- a later line leaves what is decided
 pub decided_more : (m : Membership) (l : Line) (w : Trace) (i : ℕ) (z : Value) → IsDecided m w i z
@@ -66,7 +66,7 @@ decided_past m (l ∷ ls) w i z h = decided_more m l (ls ++ w) i z (decided_past
 
 -- where a Skip covers i, every proposal at i is no-op
 pub skipped_noop : (m : Membership) (w : Trace) → 1 ≤ m.count → IsGrown m w → (i b : ℕ) (x : Value)
-    → IsSkipped m w i → proposed w i b ≡ Some x → x ≡ Noop
+    → IsSkipped m w i → proposal w i b ≡ Some x → x ≡ Noop
 skipped_noop m w few grown i b x h e =
     elim (origin m w grown i b x e) [
       | inl n ↦ n
@@ -118,6 +118,6 @@ all_decided m (l ∷ w) grown =
     }
 
 -- every learned value is decided
-pub learned_decided : (m : Membership) (w : Trace) → IsGrown m w → (p i : ℕ) (z : Value) → learned w p i ≡ Some z
+pub learned_decided : (m : Membership) (w : Trace) → IsGrown m w → (p i : ℕ) (z : Value) → learned_value w p i ≡ Some z
     → IsDecided m w i z
 learned_decided m w grown p i z h = (all_decided m w grown).lines p i z (learned_in w p i z h)

@@ -9,7 +9,7 @@ use Rattle.mencius_base.specs.declared.message.Value.TheVariants.{Noop}
 use Rattle.mencius_base.specs.declared.message.Vote.{Vote}
 use Rattle.mencius_base.specs.Members.{Membership}
 use Rattle.mencius_model.specs.Trace.{Line, Sent, Trace}
-use Rattle.mencius_model.specs.Instance.{promised, proposed, accepted, vote, are_majority, value_or_noop, has_accepted}
+use Rattle.mencius_model.specs.Instance.{promised_ballot, proposal, accepted_ballot, vote, are_majority, value_or_noop, has_accepted}
 use Rattle.mencius_model.proofs.trace.Lists.{IsIn, majorities_meet}
 use Rattle.mencius_model.proofs.rights.LineRights.{May, IsGrown, MayAccept, MayPromise, MayPropose, Reaches}
 use Rattle.mencius_model.proofs.trace.AnswersLast.{promise_within, acceptance_within, promised_more, accepted_above, accepted_in, proposed_more, proposal_in, acceptance_in}
@@ -17,10 +17,10 @@ use Rattle.mencius_model.proofs.trace.AnswersLast.{promise_within, acceptance_wi
 -- the vote was proposed, below the ballot
 abbrev pub Backed : Trace → Inst → BallotNo → Option Vote → Type 0
 Backed w i b None = Unit {0}
-Backed w i b (Some x) = (x.ballot < b) × (proposed w i x.ballot ≡ Some x.value)
+Backed w i b (Some x) = (x.ballot < b) × (proposal w i x.ballot ≡ Some x.value)
 
 -- a promise by q at (i, b) with this vote: whatever q accepted below b, the vote's ballot is none of the lesser
-pub record IsKept (w : Trace) (q : ServerId) (i : Inst) (b : BallotNo) (o : Option Vote) : Type 0 where
+pub record IsPromiseKept (w : Trace) (q : ServerId) (i : Inst) (b : BallotNo) (o : Option Vote) : Type 0 where
   pub covers : (to : ServerId) (c : BallotNo) → IsIn (Sent (Accepted q to i c)) w → c < b → Reaches o c
   pub backed : Backed w i b o
 
@@ -30,7 +30,7 @@ pub record IsSafe (m : Membership) (w : Trace) (i : Inst) (b : BallotNo) (z : Va
   pub among : ServerId → Bool
   pub majority : are_majority m among ≡ true
   pub highest : Option Vote
-  pub bound : (q : ServerId) → among q ≡ true → b ≤ promised w q i
+  pub bound : (q : ServerId) → among q ≡ true → b ≤ promised_ballot w q i
   pub covers : (q to : ServerId) (c : BallotNo) → among q ≡ true → IsIn (Sent (Accepted q to i c)) w → c < b
       → Reaches highest c
   pub backed : Backed w i b highest
@@ -54,7 +54,7 @@ reaches_through (Some y) (Some x) c r each = let below : y.ballot ≤ x.ballot =
 
 -- what is accepted was proposed
 pub accepted_proposed : (m : Membership) (w : Trace) → IsGrown m w → (q to i b : ℕ)
-    → IsIn (Sent (Accepted q to i b)) w → (z : Value) × (proposed w i b ≡ Some z)
+    → IsIn (Sent (Accepted q to i b)) w → (z : Value) × (proposal w i b ≡ Some z)
 accepted_proposed m [] grown q to i b h = absurd h
 accepted_proposed m (l ∷ w) grown q to i b (inl e) =
     let may : MayAccept w q to i b = rw (← e) at grown.1 in
@@ -64,8 +64,8 @@ accepted_proposed m (l ∷ w) grown q to i b (inr h) =
     (r.0, proposed_more l w i b r.0 r.1)
 
 -- the vote of a new promise
-vote_kept : (m : Membership) (w : Trace) → IsGrown m w → (q i b : ℕ) (o : Option ℕ) → accepted w q i ≡ o
-    → promised w q i < b → IsKept w q i b (vote w q i)
+vote_kept : (m : Membership) (w : Trace) → IsGrown m w → (q i b : ℕ) (o : Option ℕ) → accepted_ballot w q i ≡ o
+    → promised_ballot w q i < b → IsPromiseKept w q i b (vote w q i)
 vote_kept m w grown q i b None e a =
     record {
       covers = λ to c h lt. let r = accepted_above w q to i c h in absurd (cc);
@@ -86,11 +86,12 @@ vote_kept m w grown q i b (Some last) e a =
 
 -- nothing is accepted below a promise, but what its vote covers
 pub promise_covers : (m : Membership) (w : Trace) → IsGrown m w → (q to i b : ℕ) (o : Option Vote)
-    → IsIn (Sent (Promise q to i b o)) w → IsKept w q i b o
+    → IsIn (Sent (Promise q to i b o)) w → IsPromiseKept w q i b o
 promise_covers m [] grown q to i b o h = absurd h
 promise_covers m (l ∷ w) grown q to i b o (inl e) =
     let may : MayPromise w q to i b o = rw (← e) at grown.1 in
-    let kept : IsKept w q i b o = rw may.is (vote_kept m w grown.0 q i b (accepted w q i) refl may.above) in
+    let kept : IsPromiseKept w q i b o =
+    rw may.is (vote_kept m w grown.0 q i b (accepted_ballot w q i) refl may.above) in
     record {
       covers = λ to c h lt. elim h [ inl x ↦ absurd (cc) | inr x ↦ kept.covers to c x lt ];
       backed = backed_more l w i b o kept.backed;
@@ -156,14 +157,14 @@ propose_safe m (l ∷ w) grown p i b z (inl e) =
 propose_safe m (l ∷ w) grown p i b z (inr h) = safe_more m l w i b z grown.1 (propose_safe m w grown.0 p i b z h)
 
 proposal_safe : (m : Membership) (w : Trace) → IsGrown m w → (i b : ℕ) (z : Value) → 0 < b
-    → proposed w i b ≡ Some z → IsSafe m w i b z
+    → proposal w i b ≡ Some z → IsSafe m w i b z
 proposal_safe m w grown i b z pos h = let r = proposal_in w i b z pos h in propose_safe m w grown r.0 i b z r.1
 
 -- where v was chosen at ballot c: every proposal at a greater ballot has v
-module _ (m : Membership) (w : Trace) (g : IsGrown m w) (i c : ℕ) (z : Value) (start : proposed w i c ≡ Some z)
+module _ (m : Membership) (w : Trace) (g : IsGrown m w) (i c : ℕ) (z : Value) (start : proposal w i c ≡ Some z)
     (chosen : are_majority m (has_accepted w i c) ≡ true) where
   above : (b : ℕ) (x : Value) (h : Option Vote) → Reaches h c → Backed w i b h → x ≡ value_or_noop h
-      → ((between : ℕ) (y : Value) → between < b → c < between → proposed w i between ≡ Some y → y ≡ z) → x ≡ z
+      → ((between : ℕ) (y : Value) → between < b → c < between → proposal w i between ≡ Some y → y ≡ z) → x ≡ z
   above b x None r backed is rest = absurd r
   above b x (Some highest) r backed is rest =
       elim (cases_lt c highest.ballot) [
@@ -171,7 +172,7 @@ module _ (m : Membership) (w : Trace) (g : IsGrown m w) (i c : ℕ) (z : Value) 
         | inr ge ↦ let e : highest.ballot ≡ c = omega (arith, r, ge) in let s = backed.1 in cc
       ]
 
-  pub chosen_above_to : (n b : ℕ) (x : Value) → b ≤ n → c < b → proposed w i b ≡ Some x → x ≡ z
+  pub chosen_above_to : (n b : ℕ) (x : Value) → b ≤ n → c < b → proposal w i b ≡ Some x → x ≡ z
   chosen_above_to zero b x le lt h = absurd (omega arith)
   chosen_above_to (suc n) b x le lt h =
       let s = proposal_safe m w g i b x (omega arith) h in
@@ -180,17 +181,17 @@ module _ (m : Membership) (w : Trace) (g : IsGrown m w) (i c : ℕ) (z : Value) 
       above b x s.highest (s.covers one.0 a.0 c one.1 a.1 lt) s.backed s.is
       (λ between y below past. chosen_above_to n between y (omega (arith, below, le)) past)
 
-  pub chosen_above : (b : ℕ) (x : Value) → c < b → proposed w i b ≡ Some x → x ≡ z
+  pub chosen_above : (b : ℕ) (x : Value) → c < b → proposal w i b ≡ Some x → x ≡ z
   chosen_above b x lt h = chosen_above_to b b x (omega arith) lt h
 
 module _ (m : Membership) (w : Trace) (g : IsGrown m w) (i : ℕ) where
   under : (b : ℕ) (x : Value) (h : Option Vote) → Backed w i b h → x ≡ value_or_noop h
-      → ((c : ℕ) (y : Value) → c < b → proposed w i c ≡ Some y → (y ≡ Noop) ⊎ (proposed w i 0 ≡ Some y))
-      → (x ≡ Noop) ⊎ (proposed w i 0 ≡ Some x)
+      → ((c : ℕ) (y : Value) → c < b → proposal w i c ≡ Some y → (y ≡ Noop) ⊎ (proposal w i 0 ≡ Some y))
+      → (x ≡ Noop) ⊎ (proposal w i 0 ≡ Some x)
   under b x None backed is rest = inl is
   under b x (Some highest) backed is rest = rw is (rest highest.ballot highest.value backed.0 backed.1)
 
-  origin_below : (n b : ℕ) (x : Value) → b ≤ n → proposed w i b ≡ Some x → (x ≡ Noop) ⊎ (proposed w i 0 ≡ Some x)
+  origin_below : (n b : ℕ) (x : Value) → b ≤ n → proposal w i b ≡ Some x → (x ≡ Noop) ⊎ (proposal w i 0 ≡ Some x)
   origin_below zero b x le h = let e : b ≡ 0 = omega arith in inr (rw e at h)
   origin_below (suc n) b x le h =
       elim (cases_lt 0 b) [
@@ -201,5 +202,5 @@ module _ (m : Membership) (w : Trace) (g : IsGrown m w) (i : ℕ) where
       ]
 
   -- every proposal is no-op or what was suggested
-  pub origin : (b : ℕ) (x : Value) → proposed w i b ≡ Some x → (x ≡ Noop) ⊎ (proposed w i 0 ≡ Some x)
+  pub origin : (b : ℕ) (x : Value) → proposal w i b ≡ Some x → (x ≡ Noop) ⊎ (proposal w i 0 ≡ Some x)
   origin b x h = origin_below b b x (omega arith) h

@@ -5,7 +5,7 @@ use Rattle.std.proofs.lemmas.Bool.{and_parts, cases_Bool, eqb-true}
 use Rattle.mencius_base.specs.declared.message.Message.{Message}
 use Rattle.mencius_base.specs.declared.message.Message.TheVariants.{Suggest, Propose}
 use Rattle.mencius_base.specs.Members.{Membership, owner}
-use Rattle.mencius_model.specs.Trace.{Submitted, Heard, Lost, Suspected, Retried, Executed, Sent, Learned, Trace, sent}
+use Rattle.mencius_model.specs.Trace.{Submitted, Heard, Lost, Suspected, Retried, Executed, Sent, Learned, Trace, sent_messages}
 use Rattle.mencius_model.specs.Laws.{AtMostOnePropose, AtMostOneSuggest, is_proposal_at, is_suggestion_at}
 use Rattle.mencius_model.specs.Next.{IsReached}
 use Rattle.mencius_model.proofs.rights.LineRights.{IsGrown, MayPropose, MaySuggest}
@@ -39,33 +39,33 @@ one_more test x xs = let e = sum_by-append (bit test) xs (x ∷ []) in omega (ar
 -- what may come only where none came before came at most once
 module _ (m : Membership) (test : Message → Bool) (first : (w : Trace) (x : Message) → IsGrown m (Sent x ∷ w)
     → test x ≡ true → (y : Message) → IsIn (Sent y) w → test y ≡ true → ⊥) where
-  once_sent : (w : Trace) (x : Message) → IsGrown m (Sent x ∷ w) → count_by test (sent w) ≤ 1
-      → count_by test (sent w ++ x ∷ []) ≤ 1
+  once_sent : (w : Trace) (x : Message) → IsGrown m (Sent x ∷ w) → count_by test (sent_messages w) ≤ 1
+      → count_by test (sent_messages w ++ x ∷ []) ≤ 1
   once_sent w x grown before =
       elim (cases_Bool (test x)) [
         | inl e ↦
             let here : bit test x ≡ 1 = rw e refl in
-            let none : count_by test (sent w) ≤ 0 =
-            none_counted test (sent w) (λ y h passes. first w x grown e y (sent_in y w h) passes) in
-            omega (arith, one_more test x (sent w), here, none)
+            let none : count_by test (sent_messages w) ≤ 0 =
+            none_counted test (sent_messages w) (λ y h passes. first w x grown e y (sent_in y w h) passes) in
+            omega (arith, one_more test x (sent_messages w), here, none)
         | inr e ↦
             let here : bit test x ≡ 0 = rw e refl in
-            omega (arith, one_more test x (sent w), here, before)
+            omega (arith, one_more test x (sent_messages w), here, before)
       ]
 
   same_sent : (xs : List Message) → count_by test xs ≤ 1 → count_by test (xs ++ []) ≤ 1
   same_sent xs h = omega (arith, sum_by-append (bit test) xs [], h)
 
-  once : (w : Trace) → IsGrown m w → count_by test (sent w) ≤ 1
+  once : (w : Trace) → IsGrown m w → count_by test (sent_messages w) ≤ 1
   once [] grown = omega arith
   once (Sent x ∷ w) grown = once_sent w x grown (once w grown.0)
-  once (Submitted command p ∷ w) grown = same_sent (sent w) (once w grown.0)
-  once (Heard k p ∷ w) grown = same_sent (sent w) (once w grown.0)
-  once (Lost k p ∷ w) grown = same_sent (sent w) (once w grown.0)
-  once (Suspected p q ∷ w) grown = same_sent (sent w) (once w grown.0)
-  once (Retried p ∷ w) grown = same_sent (sent w) (once w grown.0)
-  once (Executed p ∷ w) grown = same_sent (sent w) (once w grown.0)
-  once (Learned p i z ∷ w) grown = same_sent (sent w) (once w grown.0)
+  once (Submitted command p ∷ w) grown = same_sent (sent_messages w) (once w grown.0)
+  once (Heard k p ∷ w) grown = same_sent (sent_messages w) (once w grown.0)
+  once (Lost k p ∷ w) grown = same_sent (sent_messages w) (once w grown.0)
+  once (Suspected p q ∷ w) grown = same_sent (sent_messages w) (once w grown.0)
+  once (Retried p ∷ w) grown = same_sent (sent_messages w) (once w grown.0)
+  once (Executed p ∷ w) grown = same_sent (sent_messages w) (once w grown.0)
+  once (Learned p i z ∷ w) grown = same_sent (sent_messages w) (once w grown.0)
 
 suggestion_first : (m : Membership) (i : ℕ) → 1 ≤ m.count → (w : Trace) (x : Message) → IsGrown m (Sent x ∷ w)
     → is_suggestion_at i x ≡ true → (y : Message) → IsIn (Sent y) w
@@ -97,7 +97,7 @@ proposal_first m i b w (Propose p j c z) grown e _ h holds = cc
 proposal_first m i b w _ grown e y h holds = cc
 
 no_line : (m : Membership) (w : Trace) (r : IsReached m w) (test : Message → Bool)
-    → (1 ≤ m.count → count_by test (sent w) ≤ 1) → (v : Trace) → w ≡ v → count_by test (sent w) ≤ 1
+    → (1 ≤ m.count → count_by test (sent_messages w) ≤ 1) → (v : Trace) → w ≡ v → count_by test (sent_messages w) ≤ 1
 no_line m w r test some [] e = rw e (omega arith)
 no_line m w r test some (l ∷ v) e = some (some_server_of m w r l (subst (IsIn l) (sym e) (inl refl)))
 

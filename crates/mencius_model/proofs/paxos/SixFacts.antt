@@ -6,7 +6,7 @@ use Rattle.mencius_base.specs.declared.message.Value.TheVariants.{Noop}
 use Rattle.mencius_base.specs.declared.message.Vote.{Vote}
 use Rattle.mencius_base.specs.Members.{Membership, owner}
 use Rattle.mencius_model.specs.Trace.{Line, Sent, Trace}
-use Rattle.mencius_model.specs.Instance.{proposed, are_majority, has_accepted}
+use Rattle.mencius_model.specs.Instance.{proposal, are_majority, has_accepted}
 use Rattle.mencius_model.specs.Next.{IsReached}
 use Rattle.mencius_model.specs.Decided.{IsSkipped, IsDecided}
 use Rattle.mencius_model.proofs.trace.Lists.{IsIn}
@@ -61,12 +61,12 @@ module _ (m : Membership) (few : 1 ≤ m.count) (w : Trace) (r : IsReached m w) 
       owners.skip_free m w few grown (owner m i) first stop q i t refl from to h inside
 
   -- 4. where a value is chosen at a ballot, every proposal at a greater ballot has it
-  pub chosen_is_proposed_above : (i c b : ℕ) (o x : Value) → proposed w i c ≡ Some o
-      → are_majority m (has_accepted w i c) ≡ true → c < b → proposed w i b ≡ Some x → x ≡ o
+  pub chosen_is_proposed_above : (i c b : ℕ) (o x : Value) → proposal w i c ≡ Some o
+      → are_majority m (has_accepted w i c) ≡ true → c < b → proposal w i b ≡ Some x → x ≡ o
   chosen_is_proposed_above i c b o x start chosen lt h = paxos.chosen_above m w grown i c o start chosen b x lt h
 
   -- and where the owner skipped an instance, every proposal there is no-op
-  pub skipped_is_proposed_noop : (i b : ℕ) (x : Value) → IsSkipped m w i → proposed w i b ≡ Some x → x ≡ Noop
+  pub skipped_is_proposed_noop : (i b : ℕ) (x : Value) → IsSkipped m w i → proposal w i b ≡ Some x → x ≡ Noop
   skipped_is_proposed_noop i b x s h = decisions.skipped_noop m w few grown i b x s h
 
   -- 5. each value that was learned, or stands in a Learn message, is decided

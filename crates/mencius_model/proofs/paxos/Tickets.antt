@@ -9,7 +9,7 @@ use Rattle.mencius_base.specs.declared.command.CommandId.{CommandId}
 use Rattle.mencius_base.specs.declared.message.Message.TheVariants.{Suggest}
 use Rattle.mencius_base.specs.declared.message.Value.TheVariants.{Noop, Ticket}
 use Rattle.mencius_base.specs.Members.{Membership}
-use Rattle.mencius_model.specs.Trace.{Line, Submitted, Sent, Trace, submitted, command_in, option_to_list}
+use Rattle.mencius_model.specs.Trace.{Line, Submitted, Sent, Trace, submitted_commands, command_in, option_to_list}
 use Rattle.mencius_base.specs.Command.{is_same_id}
 use Rattle.mencius_model.specs.Decided.{IsDecided}
 use Rattle.mencius_model.proofs.trace.Lists.{IsIn, none_in, get_in}
@@ -20,19 +20,19 @@ use Rattle.mencius_model.proofs.paxos.Paxos.{origin}
 use Rattle.mencius_model.proofs.paxos.Decisions.{decided_more, all_decided, agreement}
 
 -- no line takes a submission back
-submitted_more : (l : Line) (w : Trace) → length (submitted w) ≤ length (submitted (l ∷ w))
-submitted_more l w = omega (arith, length-append (submitted w) (option_to_list (command_in l)))
+submitted_more : (l : Line) (w : Trace) → length (submitted_commands w) ≤ length (submitted_commands (l ∷ w))
+submitted_more l w = omega (arith, length-append (submitted_commands w) (option_to_list (command_in l)))
 
 -- the ticket of the command that was just submitted is the last
-fresh_last : (w : Trace) (t : ℕ) → IsFresh w t → t < length (submitted w)
+fresh_last : (w : Trace) (t : ℕ) → IsFresh w t → t < length (submitted_commands w)
 fresh_last [] t h = absurd h
-fresh_last (Submitted command p ∷ w) t h = omega (arith, h, length_push (submitted w) (command, p))
+fresh_last (Submitted command p ∷ w) t h = omega (arith, h, length_push (submitted_commands w) (command, p))
 fresh_last (_ ∷ w) t h = absurd h
 
 module _ (m : Membership) where
   -- a suggested ticket was submitted
   pub ticket_submitted : (w : Trace) → IsGrown m w → (p i t : ℕ) → IsIn (Sent (Suggest p i t)) w
-      → t < length (submitted w)
+      → t < length (submitted_commands w)
   ticket_submitted [] grown p i t h = absurd h
   ticket_submitted (l ∷ w) grown p i t (inl e) =
       let may : MaySuggest m w p i t = rw (← e) at grown.1 in
@@ -117,7 +117,7 @@ module _ (m : Membership) where
 
   -- and so it was submitted
   pub decided_submitted : (w : Trace) → IsGrown m w → (i t : ℕ) → IsDecided m w i (Ticket t)
-      → t < length (submitted w)
+      → t < length (submitted_commands w)
   decided_submitted w grown i t h = let r = decided_suggested w grown i t h in ticket_submitted w grown r.0 i t r.1
 
   -- it is decided at no lower instance, for there no-op is
@@ -166,30 +166,31 @@ Submission = Command × ℕ
 module _ (w : Trace) (t u : ℕ) (x y : Submission) (e : is_same_id x.0.id y.0.id ≡ true) where
   -- the same, where a line may have brought the submission o
   identity_at : (o : Option Submission)
-      → ((z : Submission) → o ≡ Some z → list_any (λ (a : Submission). is_same_id a.0.id z.0.id) (submitted w) ≡ false)
-      → slice_get (submitted w ++ option_to_list o) t ≡ Some x → slice_get (submitted w ++ option_to_list o) u ≡ Some y
-      → (slice_get (submitted w) t ≡ Some x → slice_get (submitted w) u ≡ Some y → t ≡ u) → t ≡ u
+      → ((z : Submission) → o ≡ Some z → list_any (λ (a : Submission). is_same_id a.0.id z.0.id) (submitted_commands w) ≡ false)
+      → slice_get (submitted_commands w ++ option_to_list o) t ≡ Some x
+      → slice_get (submitted_commands w ++ option_to_list o) u ≡ Some y
+      → (slice_get (submitted_commands w) t ≡ Some x → slice_get (submitted_commands w) u ≡ Some y → t ≡ u) → t ≡ u
   identity_at None fresh h also rest = rest (rw append-nil at h) (rw append-nil at also)
   identity_at (Some z) fresh h also rest =
       let new = fresh z refl in
-      elim (get_push (submitted w) z x t h) [
-        | inl a ↦ elim (get_push (submitted w) z y u also) [
+      elim (get_push (submitted_commands w) z x t h) [
+        | inl a ↦ elim (get_push (submitted_commands w) z y u also) [
           | inl left ↦ rest a left
           | inr right ↦ absurd
-              (none_in (λ (s : Submission). is_same_id s.0.id z.0.id) x (submitted w) new
-              (get_in (submitted w) t x a) (rw right.1 e))
+              (none_in (λ (s : Submission). is_same_id s.0.id z.0.id) x (submitted_commands w) new
+              (get_in (submitted_commands w) t x a) (rw right.1 e))
         ]
-        | inr a ↦ elim (get_push (submitted w) z y u also) [
+        | inr a ↦ elim (get_push (submitted_commands w) z y u also) [
           | inl leftmost ↦ absurd
-              (none_in (λ (s : Submission). is_same_id s.0.id z.0.id) y (submitted w) new
-              (get_in (submitted w) u y leftmost) (rw a.1 (same_id_back x.0.id y.0.id e)))
+              (none_in (λ (s : Submission). is_same_id s.0.id z.0.id) y (submitted_commands w) new
+              (get_in (submitted_commands w) u y leftmost) (rw a.1 (same_id_back x.0.id y.0.id e)))
           | inr rightmost ↦ a.0 ∙ sym rightmost.0
         ]
       ]
 
 -- a submission had a new identity
 command_new : (m : Membership) (w : Trace) (l : Line) → May m w l → (z : Submission) → command_in l ≡ Some z
-    → list_any (λ (a : Submission). is_same_id a.0.id z.0.id) (submitted w) ≡ false
+    → list_any (λ (a : Submission). is_same_id a.0.id z.0.id) (submitted_commands w) ≡ false
 command_new m w (Submitted command p) may z e =
     let same : command ≡ z.0 = ap (λ (o : Option Submission). first_or command o) e in rw (← same) may where
       first_or : Command → Option Submission → Command
@@ -199,7 +200,7 @@ command_new m w _ may z e = absurd (cc)
 
 -- each identity is submitted once
 pub identity_once : (m : Membership) (w : Trace) → IsGrown m w → (t u : ℕ) (x y : Submission)
-    → slice_get (submitted w) t ≡ Some x → slice_get (submitted w) u ≡ Some y
+    → slice_get (submitted_commands w) t ≡ Some x → slice_get (submitted_commands w) u ≡ Some y
     → is_same_id x.0.id y.0.id ≡ true → t ≡ u
 identity_once m [] grown t u x y h also e = absurd (cc)
 identity_once m (l ∷ w) grown t u x y h also e =

@@ -5,13 +5,13 @@ use Rattle.std.proofs.lemmas.Bool.{and_parts, cases_Bool, cases_eq, cases_lt, eq
 use Rattle.mencius_base.specs.declared.event.Event.TheVariants.{Suspect}
 use Rattle.mencius_base.specs.declared.refusal.Refusal.{Refusal}
 use Rattle.mencius_base.specs.declared.refusal.Refusal.TheVariants.{BadServer, EventsFull, MessagesFull, NothingToRevoke, RoundsFull, SelfSuspect}
-use Rattle.mencius_base.specs.Limits.{instance_count}
-use Rattle.mencius_base.specs.Members.{Membership, first_item, most_events, most_messages, most_rounds, owner}
+use Rattle.mencius_base.specs.Limits.{greatest_round, instance_count}
+use Rattle.mencius_base.specs.Members.{Membership, first_item, most_events, most_messages, owner}
 use Rattle.mencius_base.specs.Outbox.{is_too_many}
-use Rattle.mencius_model.specs.Trace.{Line, Trace, events, messages_of, sent}
-use Rattle.mencius_model.specs.Instance.{learned}
-use Rattle.mencius_model.specs.Server.{covered_by, first_open, front, is_covered, is_open}
-use Rattle.mencius_model.specs.Next.{IsReached, first_cause, next_round, preparation, sends}
+use Rattle.mencius_model.specs.Trace.{Line, Trace, events, messages_of, sent_messages}
+use Rattle.mencius_model.specs.Instance.{learned_value}
+use Rattle.mencius_model.specs.Server.{covered_instances, first_open, front, is_covered, is_open}
+use Rattle.mencius_model.specs.Next.{IsReached, first_cause, message_count, next_round, preparation}
 use Rattle.mencius_model.specs.Rules.{is_covered_from, reach_from}
 use Rattle.mencius_model.specs.Laws.{BetaZeroRefuses, BetaZeroSends, open_to_front, causes_to_front, is_open_to_front}
 use Rattle.mencius_model.proofs.trace.NumberLists.{filter-instances_same, find-instances_before, find-instances_nothing}
@@ -67,13 +67,13 @@ module _ (m : Membership) (w : Trace) (zero : m.beta ≡ 0) (r : IsReached m w) 
         | inr low ↦ reach_some i j low theirs
       ]
 
-  pub covered_to_front : covered_by m w p q ≡ open_to_front m w p q
+  pub covered_to_front : covered_instances m w p q ≡ open_to_front m w p q
   covered_to_front =
       filter-instances_same (is_covered m w p q) (is_open_to_front m w p q)
-      (λ j small. same_test (eqb (owner m j) q) _ (leb j (front m w p)) (is_none (learned w p j))
+      (λ j small. same_test (eqb (owner m j) q) _ (leb j (front m w p)) (is_none (learned_value w p j))
       (reach_open (first_open m w p q) refl j small))
 
-one_each : (m : Membership) (w : Trace) (p : ℕ) (is : List ℕ) → sends (map (preparation m w p) is) ≡ length is
+one_each : (m : Membership) (w : Trace) (p : ℕ) (is : List ℕ) → message_count (map (preparation m w p) is) ≡ length is
 one_each m w p [] = refl
 one_each m w p (i ∷ is) = ap suc (one_each m w p is)
 
@@ -82,17 +82,17 @@ module _ (m : Membership) (w : Trace) (p q : ℕ) where
   abbrev of_server : List ℕ → ℕ → List (Bool × Refusal)
   of_server is count =
       (is_none (first_item is), NothingToRevoke)
-      ∷ (list_any (λ i. ltb most_rounds (next_round m w p i)) is, RoundsFull)
-      ∷ (is_too_many most_messages (length (sent w)) count, MessagesFull) ∷ []
+      ∷ (list_any (λ i. ltb greatest_round (next_round m w p i)) is, RoundsFull)
+      ∷ (is_too_many most_messages (length (sent_messages w)) count, MessagesFull) ∷ []
 
   same_server : (is js : List ℕ) → is ≡ js
-      → first_cause (of_server is (sends (map (preparation m w p) is))) ≡ first_cause (of_server js (length js))
+      → first_cause (of_server is (message_count (map (preparation m w p) is))) ≡ first_cause (of_server js (length js))
   same_server is js e =
       ap (λ n. first_cause (of_server is n)) (one_each m w p is) ∙ ap (λ xs. first_cause (of_server xs (length xs))) e
 
   same_causes : (full bad self : Bool) (is js : List ℕ) → (bad ≡ false → self ≡ false → is ≡ js)
       → first_cause ((full, EventsFull) ∷ (bad, BadServer) ∷ (self, SelfSuspect)
-      ∷ of_server is (sends (map (preparation m w p) is)))
+      ∷ of_server is (message_count (map (preparation m w p) is)))
       ≡ first_cause ((full, EventsFull) ∷ (bad, BadServer) ∷ (self, SelfSuspect) ∷ of_server js (length js))
   same_causes true bad self is js same = refl
   same_causes false true self is js same = refl
@@ -103,19 +103,21 @@ not_same : (p q : ℕ) → eqb p q ≡ false → p ≡ q → ⊥
 not_same p q e at = clash (eqb p q) (eq-eqb p q at) e
 
 both : (m : Membership) (w : Trace) → m.beta ≡ 0 → IsReached m w → (p q : ℕ)
-    → (leb m.count p || leb m.count q) ≡ false → eqb p q ≡ false → covered_by m w p q ≡ open_to_front m w p q
+    → (leb m.count p || leb m.count q) ≡ false → eqb p q ≡ false → covered_instances m w p q ≡ open_to_front m w p q
 both m w zero r p q good other =
     covered_to_front m w zero r p q (leb-false m.count p (or_parts (leb m.count p) (leb m.count q) good).0)
     (not_same p q other)
 
 pub beta_zero_refuses : BetaZeroRefuses
 beta_zero_refuses m w zero r p q =
-    same_causes m w p q (leb most_events (events w)) (leb m.count p || leb m.count q) (eqb p q) (covered_by m w p q)
+    same_causes m w p q (leb most_events (events w)) (leb m.count p || leb m.count q) (eqb p q)
+    (covered_instances m w p q)
     (open_to_front m w p q) (both m w zero r p q)
 
 pub beta_zero_sends : BetaZeroSends
 beta_zero_sends m w zero r p q fine =
     let h = none_holds ((leb most_events (events w), EventsFull)
     ∷ (leb m.count p || leb m.count q, BadServer) ∷ (eqb p q, SelfSuspect)
-    ∷ of_server m w p q (covered_by m w p q) (sends (map (preparation m w p) (covered_by m w p q)))) fine in
+    ∷ of_server m w p q (covered_instances m w p q)
+    (message_count (map (preparation m w p) (covered_instances m w p q)))) fine in
     ap (map (preparation m w p)) (both m w zero r p q h.1.0 h.1.1.0)

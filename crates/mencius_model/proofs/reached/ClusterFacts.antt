@@ -3,8 +3,8 @@ use Rattle.std.proofs.Common.{◌≡◌, ℕ, ◌<◌, Some, length}
 use Rattle.mencius_base.specs.declared.message.Value.{Value}
 use Rattle.mencius_base.specs.declared.message.Value.TheVariants.{Ticket}
 use Rattle.mencius_base.specs.Members.{Membership}
-use Rattle.mencius_model.specs.Trace.{Trace, submitted}
-use Rattle.mencius_model.specs.Instance.{learned}
+use Rattle.mencius_model.specs.Trace.{Trace, submitted_commands}
+use Rattle.mencius_model.specs.Instance.{learned_value}
 use Rattle.mencius_model.specs.Server.{done}
 use Rattle.mencius_model.specs.Next.{IsReached}
 use Rattle.mencius_model.proofs.rights.Journals.{reached_grown}
@@ -13,13 +13,13 @@ use Rattle.mencius_model.proofs.paxos.Tickets.{decided_submitted}
 use Rattle.mencius_model.proofs.histories.Histories.{executed_learned}
 
 -- what was executed was learned, and what was learned was submitted
-pub record IsTold (m : Membership) (w : Trace) : Type 0 where
-  pub executed : (p i : ℕ) → i < done w p → (z : Value) × (learned w p i ≡ Some z)
-  pub ticketed : (p i t : ℕ) → learned w p i ≡ Some (Ticket t) → t < length (submitted w)
+pub record HasClusterFacts (m : Membership) (w : Trace) : Type 0 where
+  pub executed : (p i : ℕ) → i < done w p → (z : Value) × (learned_value w p i ≡ Some z)
+  pub ticketed : (p i t : ℕ) → learned_value w p i ≡ Some (Ticket t) → t < length (submitted_commands w)
 
 -- both hold of every reached trace
-pub told : (m : Membership) (w : Trace) → IsReached m w → IsTold m w
-told m w reached =
+pub cluster_facts : (m : Membership) (w : Trace) → IsReached m w → HasClusterFacts m w
+cluster_facts m w reached =
     let grown = reached_grown m w reached in
     record {
       executed = executed_learned m w grown;

@@ -4,7 +4,7 @@ use Rattle.std.proofs.lemmas.Bool.{cases_Bool, cases_lt}
 use Rattle.std.proofs.Math.Nat.{add-mod_right, mod-eq_of_lt}
 use Rattle.mencius_base.specs.declared.message.Message.TheVariants.{Suggest, Skip, Accepted, Prepare, Promise, Propose, Learn}
 use Rattle.mencius_base.specs.Members.{Membership, owner}
-use Rattle.mencius_model.specs.Trace.{Line, Submitted, Heard, Lost, Suspected, Retried, Executed, Sent, Learned, Trace, greatest}
+use Rattle.mencius_model.specs.Trace.{Line, Submitted, Heard, Lost, Suspected, Retried, Executed, Sent, Learned, Trace, greatest_by}
 use Rattle.mencius_model.specs.Server.{front, front_by}
 use Rattle.mencius_model.proofs.rights.LineRights.{IsGrown, May}
 
@@ -43,14 +43,14 @@ own_by m w p (Retried server) may = inl refl
 own_by m w p (Executed server) may = inl refl
 own_by m w p (Learned server inst value) may = inl refl
 
-own_greatest : (m : Membership) (w : Trace) (p : ℕ) → IsGrown m w → IsOwnOrNone m p (greatest (front_by m p) w)
+own_greatest : (m : Membership) (w : Trace) (p : ℕ) → IsGrown m w → IsOwnOrNone m p (greatest_by (front_by m p) w)
 own_greatest m [] p grown = inl refl
 own_greatest m (l ∷ w) p grown =
     own_max m p _ _ (own_greatest m w p grown.0) (own_by m w p l grown.1)
 
 pub front_owner : (m : Membership) (w : Trace) (p : ℕ) → IsGrown m w → p < m.count → owner m (front m w p) ≡ p
 front_owner m w p grown member =
-    elim (own_max m p p (greatest (front_by m p) w) (inr (mod-eq_of_lt member)) (own_greatest m w p grown)) [
+    elim (own_max m p p (greatest_by (front_by m p) w) (inr (mod-eq_of_lt member)) (own_greatest m w p grown)) [
       | inl none ↦ let e : p ≡ 0 = omega (arith, none) in
           let zero : front m w p ≡ p = none ∙ sym e in
           ap (owner m) zero ∙ mod-eq_of_lt member

@@ -1,11 +1,11 @@
--- What a server heard was sent; its tallies; the highest vote that it heard of.
+-- What a server heard was sent; its sets; the highest vote that it heard of.
 use Rattle.std.proofs.Common.{◌≡◌, ℕ, ◌≤◌, Bool, true, false, cond, ◌&&◌, eqb, ltb, List, [], ◌∷◌, ◌⊎◌, inl, inr, refl, sym, ap, ◌∙◌, arith, Option, Some, None, eqb-true, ltb-true, ltb-false, slice_get, map, fold}
 use Rattle.std.proofs.lemmas.Bool.{and_parts, cases_Bool}
 use Rattle.mencius_base.specs.declared.message.Message.{Message}
 use Rattle.mencius_base.specs.declared.message.Message.TheVariants.{Promise}
 use Rattle.mencius_base.specs.declared.message.Vote.{Vote}
-use Rattle.mencius_model.specs.Trace.{Heard, Sent, Trace, sent, heard, option_to_list}
-use Rattle.mencius_model.specs.Instance.{promisers, is_promise, accepters, is_acceptance, higher_vote, vote_reported, reported, has_accepted}
+use Rattle.mencius_model.specs.Trace.{Heard, Sent, Trace, sent_messages, heard_messages, option_to_list}
+use Rattle.mencius_model.specs.Instance.{promisers, is_promise, accepters, is_acceptance, higher_vote, vote_reported, reported_vote, has_accepted}
 use Rattle.mencius_model.proofs.trace.Lists.{IsIn, in_append, any_in, get_in}
 use Rattle.mencius_model.proofs.rights.LineRights.{Reaches, HasPromised}
 use Rattle.mencius_model.proofs.trace.AnswersLast.{sent_in, acceptance_message, in_acceptance, same_two}
@@ -18,20 +18,20 @@ in_get x xs n h = go x xs (slice_get xs n) refl h where
   go x xs (Some y) e (inl s) = rw s (get_in xs n y e)
   go x xs (Some y) e (inr s) = absurd s
 
-pub heard_in : (w : Trace) (p : ℕ) (x : Message) → IsIn x (heard w p) → IsIn (Sent x) w
+pub heard_in : (w : Trace) (p : ℕ) (x : Message) → IsIn x (heard_messages w p) → IsIn (Sent x) w
 heard_in [] p x h = absurd h
 heard_in (Heard k q ∷ w) p x h =
     elim (cases_Bool (eqb q p)) [
       | inl e ↦
-          elim (in_append x (heard w p) (option_to_list (slice_get (sent w) k)) (rw e at h)) [
+          elim (in_append x (heard_messages w p) (option_to_list (slice_get (sent_messages w) k)) (rw e at h)) [
             | inl a ↦ inr (heard_in w p x a)
-            | inr a ↦ inr (sent_in x w (in_get x (sent w) k a))
+            | inr a ↦ inr (sent_in x w (in_get x (sent_messages w) k a))
           ]
       | inr e ↦ inr (heard_in w p x (rw e at h))
     ]
 heard_in (_ ∷ w) p x h = inr (heard_in w p x h)
 
--- ---- tallies
+-- ---- sets of servers
 
 promise_message : (i b q : ℕ) (x : Message) → is_promise i b q x ≡ true
     → (to : ℕ) × (o : Option Vote) × (Promise q to i b o ≡ x)
@@ -46,7 +46,7 @@ promise_message i b q _ h = absurd (cc)
 
 pub accepters_accepted : (w : Trace) (p i b q : ℕ) → accepters w p i b q ≡ true → has_accepted w i b q ≡ true
 accepters_accepted w p i b q h =
-    let r = any_in (is_acceptance i b q) (heard w p) h in
+    let r = any_in (is_acceptance i b q) (heard_messages w p) h in
     let s = acceptance_message i b q r.0 r.2 in
     in_acceptance w i b q s.0 (rw s.1 (heard_in w p r.0 r.1))
 
@@ -128,13 +128,13 @@ vote_message i b z (Promise from to inst ballot vote) h =
     (from, to, cc)
 vote_message i b z _ h = absurd (cc)
 
-pub reported_promise : (w : Trace) (p i b : ℕ) (z : Vote) → reported w p i b ≡ Some z
+pub reported_promise : (w : Trace) (p i b : ℕ) (z : Vote) → reported_vote w p i b ≡ Some z
     → (q : ℕ) × (to : ℕ) × IsIn (Sent (Promise q to i b (Some z))) w
 reported_promise w p i b z h =
-    elim (fold_in (map (vote_reported i b) (heard w p)) None z h) [
+    elim (fold_in (map (vote_reported i b) (heard_messages w p)) None z h) [
       | inl e ↦ absurd (cc)
       | inr there ↦
-          let r = votes_in i b (heard w p) z there in
+          let r = votes_in i b (heard_messages w p) z there in
           let s = vote_message i b z r.0 r.2 in
           (s.0, s.1, rw s.2 (heard_in w p r.0 r.1))
     ]
@@ -142,9 +142,9 @@ reported_promise w p i b z h =
 own_vote : (q to i b : ℕ) (o : Option Vote) → vote_reported i b (Promise q to i b o) ≡ o
 own_vote q to i b o = rw (same_two i b)
 
-pub promiser : (w : Trace) (p i b q : ℕ) → promisers w p i b q ≡ true → HasPromised w q i b (reported w p i b)
+pub promiser : (w : Trace) (p i b q : ℕ) → promisers w p i b q ≡ true → HasPromised w q i b (reported_vote w p i b)
 promiser w p i b q h =
-    let r = any_in (is_promise i b q) (heard w p) h in
+    let r = any_in (is_promise i b q) (heard_messages w p) h in
     let s = promise_message i b q r.0 r.2 in
     record {
       to = s.0;
@@ -152,6 +152,7 @@ promiser w p i b q h =
       promise = rw s.2 (heard_in w p r.0 r.1);
       within =
           λ x e.
-          fold_reaches (map (vote_reported i b) (heard w p)) None x
-          (in_votes i b (heard w p) r.0 x r.1 (ap (vote_reported i b) (sym s.2) ∙ (own_vote q s.0 i b s.1 ∙ e)));
+          fold_reaches (map (vote_reported i b) (heard_messages w p)) None x
+          (in_votes i b (heard_messages w p) r.0 x r.1
+          (ap (vote_reported i b) (sym s.2) ∙ (own_vote q s.0 i b s.1 ∙ e)));
     }

@@ -6,17 +6,17 @@ use Rattle.std.proofs.lemmas.Bool.{cases_Bool}
 use Rattle.mencius_base.specs.declared.event.Event.{Event}
 use Rattle.mencius_base.specs.declared.event.Event.TheVariants.{Submit, Deliver, Lose, Suspect, Retry, Execute}
 use Rattle.mencius_base.specs.declared.message.Answer.{Answer}
-use Rattle.mencius_base.specs.declared.message.Answer.TheVariants.{Promise as Promised, Known, Silent}
+use Rattle.mencius_base.specs.declared.message.Answer.TheVariants.{Promise as Promised, Learn as Learn_answer, Silent}
 use Rattle.mencius_base.specs.declared.message.Message.{Message}
 use Rattle.mencius_base.specs.declared.message.Message.TheVariants.{Suggest, Skip, Accepted, Prepare, Promise, Propose, Learn}
 use Rattle.mencius_base.specs.declared.message.Value.{Value}
 use Rattle.mencius_base.specs.declared.message.Value.TheVariants.{Noop}
 use Rattle.mencius_base.specs.Members.{Membership, below, first_item, instances}
-use Rattle.mencius_model.specs.Trace.{Line, Heard, Sent, Learned, Trace, sent}
-use Rattle.mencius_model.specs.Instance.{learned, promised, vote}
-use Rattle.mencius_model.specs.Server.{free_instance, front, covered_by, waiting}
-use Rattle.mencius_model.specs.Rules.{acceptor_answer, answer_lines, decision_lines, proposal_lines, suggestion}
-use Rattle.mencius_model.specs.Next.{IsReached, again, delivery, head, is_given_up, lines, next, on_message, preparation, decision_at, proposal_at}
+use Rattle.mencius_model.specs.Trace.{Line, Heard, Sent, Learned, Trace, sent_messages}
+use Rattle.mencius_model.specs.Instance.{learned_value, promised_ballot, vote}
+use Rattle.mencius_model.specs.Server.{free_instance, front, covered_instances, waiting_tickets}
+use Rattle.mencius_model.specs.Rules.{answer_lines, decision_lines, prepare_answer_from, proposal_lines, suggestion}
+use Rattle.mencius_model.specs.Next.{IsReached, retry_lines, delivery, head, is_newly_skipped, lines, next, on_message, preparation, due_decision_at, due_proposal_at}
 use Rattle.mencius_model.proofs.rights.EachLine.{AreAll, HoldsAlong, next_along, one_if}
 use Rattle.mencius_model.proofs.trace.Lists.{get_in}
 use Rattle.mencius_model.proofs.trace.AnswersLast.{learned_in, sent_in}
@@ -56,7 +56,7 @@ low_suggestion : (p t : ℕ) (o : Option ℕ) → AreLow (suggestion p o t)
 low_suggestion p t None = tt
 low_suggestion p t (Some i) = (tt, tt)
 
-low_again : (m : Membership) (w : Trace) (p : ℕ) (o : Option ℕ) → AreLow (again m w p o)
+low_again : (m : Membership) (w : Trace) (p : ℕ) (o : Option ℕ) → AreLow (retry_lines m w p o)
 low_again m w p None = tt
 low_again m w p (Some t) = low_suggestion p t (free_instance m w p)
 
@@ -66,7 +66,7 @@ low_prepared m w p (i ∷ is) = (tt, low_prepared m w p is)
 
 low_answer : (p q i b : ℕ) (answer : Answer) → AreLow (answer_lines p q i b answer)
 low_answer p q i b (Promised vote) = (tt, tt)
-low_answer p q i b (Known x) = (tt, tt)
+low_answer p q i b (Learn_answer x) = (tt, tt)
 low_answer p q i b Silent = tt
 
 low_proposal : (p i b : ℕ) (o : Option Value) → AreLow (proposal_lines p i b o)
@@ -78,27 +78,27 @@ low_decision p i h None = tt
 low_decision p i h (Some x) = (h, (tt, tt))
 
 low_message : (m : Membership) (w v : Trace) (p : ℕ) (x : Message) → IsSmall m x → AreLow (on_message m w v p x)
-low_message m w v p (Suggest q i t) h = low_two _ _ (ltb (front m w p) i) (leb (promised w p i) 0)
-low_message m w v p (Skip q first stop) h = low_given_up p (is_given_up m w p q first stop)
+low_message m w v p (Suggest q i t) h = low_two _ _ (ltb (front m w p) i) (leb (promised_ballot w p i) 0)
+low_message m w v p (Skip q first stop) h = low_given_up p (is_newly_skipped m w p q first stop)
 low_message m w v p (Prepare q i b) h =
-    low_answer p q i b (acceptor_answer (promised w p i) (vote w p i) b (learned w p i))
-low_message m w v p (Promise q to i b reports) h = low_proposal p i b (proposal_at m w v p i b)
-low_message m w v p (Propose q i b x) h = one_if IsLow _ (leb (promised w p i) b) tt
-low_message m w v p (Accepted q to i b) h = low_decision p i h.1 (decision_at m w v p i b)
-low_message m w v p (Learn q i x) h = one_if IsLow _ (is_none (learned w p i)) h.1
+    low_answer p q i b (prepare_answer_from (promised_ballot w p i) (vote w p i) b (learned_value w p i))
+low_message m w v p (Promise q to i b reports) h = low_proposal p i b (due_proposal_at m w v p i b)
+low_message m w v p (Propose q i b x) h = one_if IsLow _ (leb (promised_ballot w p i) b) tt
+low_message m w v p (Accepted q to i b) h = low_decision p i h.1 (due_decision_at m w v p i b)
+low_message m w v p (Learn q i x) h = one_if IsLow _ (is_none (learned_value w p i)) h.1
 
 low_delivery : (m : Membership) → m.count ≤ most_servers → (w v : Trace) (p k : ℕ) → IsReached m w
-    → (o : Option Message) → slice_get (sent w) k ≡ o → AreLow (delivery m w v p o)
+    → (o : Option Message) → slice_get (sent_messages w) k ≡ o → AreLow (delivery m w v p o)
 low_delivery m few w v p k r None e = tt
 low_delivery m few w v p k r (Some x) e =
-    low_message m w v p x (sent_small m few w r x (sent_in x w (get_in (sent w) k x e)))
+    low_message m w v p x (sent_small m few w r x (sent_in x w (get_in (sent_messages w) k x e)))
 
 low_lines : (m : Membership) → m.count ≤ most_servers → (w : Trace) (e : Event) → IsReached m w → AreLow (lines m w e)
 low_lines m few w (Submit p command) r = low_suggestion p _ (free_instance m w p)
-low_lines m few w (Deliver k p) r = low_delivery m few w (Heard k p ∷ w) p k r (slice_get (sent w) k) refl
+low_lines m few w (Deliver k p) r = low_delivery m few w (Heard k p ∷ w) p k r (slice_get (sent_messages w) k) refl
 low_lines m few w (Lose k p) r = tt
-low_lines m few w (Suspect p q) r = low_prepared m w p (covered_by m w p q)
-low_lines m few w (Retry p) r = low_again m w p (first_item (waiting w p))
+low_lines m few w (Suspect p q) r = low_prepared m w p (covered_instances m w p q)
+low_lines m few w (Retry p) r = low_again m w p (first_item (waiting_tickets w p))
 low_lines m few w (Execute p) r = tt
 
 low_head : (e : Event) → IsLow (head e)
@@ -123,7 +123,7 @@ low_next m few w v e all h =
 
 -- what is learned is learned at one of the instances that there are
 pub learned_small : (m : Membership) → m.count ≤ most_servers → (w : Trace) → IsReached m w → (p i : ℕ) (z : Value)
-    → learned w p i ≡ Some z → i < instance_count
+    → learned_value w p i ≡ Some z → i < instance_count
 learned_small m few w r p i z h =
     let start : IsLowReached m [] =
     record { reached = record { journal = []; replays = refl }; low = λ l h. absurd h } in

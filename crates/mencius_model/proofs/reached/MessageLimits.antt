@@ -6,17 +6,17 @@ use Rattle.std.proofs.lemmas.Bool.{le-leb, and_from, cases_Bool, eqb-true, lt-lt
 use Rattle.mencius_base.specs.declared.event.Event.{Event}
 use Rattle.mencius_base.specs.declared.event.Event.TheVariants.{Submit, Deliver, Lose, Suspect, Retry, Execute}
 use Rattle.mencius_base.specs.declared.message.Answer.{Answer}
-use Rattle.mencius_base.specs.declared.message.Answer.TheVariants.{Promise as Promised, Known, Silent}
+use Rattle.mencius_base.specs.declared.message.Answer.TheVariants.{Promise as Promised, Learn as Learn_answer, Silent}
 use Rattle.mencius_base.specs.declared.message.Message.{Message}
 use Rattle.mencius_base.specs.declared.message.Message.TheVariants.{Suggest, Skip, Accepted, Prepare, Promise, Propose, Learn}
 use Rattle.mencius_base.specs.declared.message.Value.{Value}
 use Rattle.mencius_base.specs.declared.message.Value.TheVariants.{Noop}
 use Rattle.mencius_base.specs.Members.{Membership, below, first_owned, instances, round, first_item}
-use Rattle.mencius_model.specs.Trace.{Line, Heard, Sent, Learned, Trace, sent}
-use Rattle.mencius_model.specs.Instance.{learned, promised, trying, vote}
-use Rattle.mencius_model.specs.Server.{free_instance, front, is_covered, is_free, covered_by, waiting}
-use Rattle.mencius_model.specs.Rules.{acceptor_answer, answer_lines, decision_lines, proposal_lines, suggestion}
-use Rattle.mencius_model.specs.Next.{IsReached, again, causes, delivery, head, is_given_up, lines, next, on_message, preparation, decision_at, proposal_at}
+use Rattle.mencius_model.specs.Trace.{Line, Heard, Sent, Learned, Trace, sent_messages}
+use Rattle.mencius_model.specs.Instance.{learned_value, promised_ballot, tried_ballot, vote}
+use Rattle.mencius_model.specs.Server.{free_instance, front, is_covered, is_free, covered_instances, waiting_tickets}
+use Rattle.mencius_model.specs.Rules.{answer_lines, decision_lines, prepare_answer_from, proposal_lines, suggestion}
+use Rattle.mencius_model.specs.Next.{IsReached, retry_lines, causes, delivery, head, is_newly_skipped, lines, next, on_message, preparation, due_decision_at, due_proposal_at}
 use Rattle.mencius_base.specs.Message.{goes_to, is_for, is_within}
 use Rattle.mencius_model.proofs.trace.NumberLists.{find-instances_found}
 use Rattle.mencius_model.proofs.rights.EachLine.{AreAll, HoldsAlong, next_along, one_if}
@@ -51,7 +51,7 @@ small_suggestion : (m : Membership) (w : Trace) (p t : ℕ) → p < m.count → 
 small_suggestion m w p t member None e = tt
 small_suggestion m w p t member (Some i) e = ((member, (find-instances_found (is_free m w p) i e).small), tt)
 
-small_again : (m : Membership) (w : Trace) (p : ℕ) → p < m.count → (o : Option ℕ) → AreSmall m (again m w p o)
+small_again : (m : Membership) (w : Trace) (p : ℕ) → p < m.count → (o : Option ℕ) → AreSmall m (retry_lines m w p o)
 small_again m w p member None = tt
 small_again m w p member (Some t) = small_suggestion m w p t member (free_instance m w p) refl
 
@@ -64,7 +64,7 @@ small_prepared : (m : Membership) (w : Trace) (p : ℕ) (g : ℕ → Bool) → p
 small_prepared m w p g member i zero h = tt
 small_prepared m w p g member i (suc n) h =
     let some : 0 < m.count = omega arith in
-    let high = next_above (max (round m (trying w p i)) (round m (promised w p i))) m.count p some in
+    let high = next_above (max (round m (tried_ballot w p i)) (round m (promised_ballot w p i))) m.count p some in
     let rest = small_prepared m w p g member (i + 1) n (omega arith) in
     let here : i < instance_count = omega arith in
     elim (cases_Bool (g i)) [
@@ -73,7 +73,7 @@ small_prepared m w p g member i (suc n) h =
     ]
 
 small_suspects : (m : Membership) (w : Trace) (p q : ℕ) → p < m.count
-    → AreSmall m (map (preparation m w p) (covered_by m w p q))
+    → AreSmall m (map (preparation m w p) (covered_instances m w p q))
 unfolding below instances
 small_suspects m w p q member = small_prepared m w p (is_covered m w p q) member 0 instance_count (omega arith)
 
@@ -97,7 +97,7 @@ module _ (m : Membership) (few : m.count ≤ most_servers) (w : Trace) (k p : �
 
   small_answer : (q i b : ℕ) → i < instance_count → 0 < b → (answer : Answer) → AreSmall m (answer_lines p q i b answer)
   small_answer q i b small pos (Promised vote) = ((member, small, pos), tt)
-  small_answer q i b small pos (Known y) = ((member, small), tt)
+  small_answer q i b small pos (Learn_answer y) = ((member, small), tt)
   small_answer q i b small pos Silent = tt
 
   small_proposal : (i b : ℕ) → i < instance_count → 0 < b → (o : Option Value) → AreSmall m (proposal_lines p i b o)
@@ -109,31 +109,31 @@ module _ (m : Membership) (few : m.count ≤ most_servers) (w : Trace) (k p : �
   small_decision i small (Some y) = (tt, ((member, small), tt))
 
   small_message : (x : Message) → IsSmall m x → AreSmall m (on_message m w (Heard k p ∷ w) p x)
-  small_message (Suggest q i t) h = small_suggest q i h.1 (ltb (front m w p) i) (leb (promised w p i) 0) refl
-  small_message (Skip q first stop) h = small_noops m p (filter (is_given_up m w p q first stop) instances)
+  small_message (Suggest q i t) h = small_suggest q i h.1 (ltb (front m w p) i) (leb (promised_ballot w p i) 0) refl
+  small_message (Skip q first stop) h = small_noops m p (filter (is_newly_skipped m w p q first stop) instances)
   small_message (Prepare q i b) h =
-      small_answer q i b h.1 h.2 (acceptor_answer (promised w p i) (vote w p i) b (learned w p i))
+      small_answer q i b h.1 h.2 (prepare_answer_from (promised_ballot w p i) (vote w p i) b (learned_value w p i))
   small_message (Promise q to i b y) h =
-      small_proposal i b h.1 h.2 (proposal_at m w (Heard k p ∷ w) p i b)
-  small_message (Propose q i b x) h = one_if (IsSmallLine m) _ (leb (promised w p i) b) (member, h.1)
-  small_message (Accepted q to i b) h = small_decision i h.1 (decision_at m w (Heard k p ∷ w) p i b)
-  small_message (Learn q i x) h = one_if (IsSmallLine m) _ (is_none (learned w p i)) tt
+      small_proposal i b h.1 h.2 (due_proposal_at m w (Heard k p ∷ w) p i b)
+  small_message (Propose q i b x) h = one_if (IsSmallLine m) _ (leb (promised_ballot w p i) b) (member, h.1)
+  small_message (Accepted q to i b) h = small_decision i h.1 (due_decision_at m w (Heard k p ∷ w) p i b)
+  small_message (Learn q i x) h = one_if (IsSmallLine m) _ (is_none (learned_value w p i)) tt
 
-  small_delivery : HoldsAlong (IsSmallLine m) w → (o : Option Message) → slice_get (sent w) k ≡ o
+  small_delivery : HoldsAlong (IsSmallLine m) w → (o : Option Message) → slice_get (sent_messages w) k ≡ o
       → AreSmall m (delivery m w (Heard k p ∷ w) p o)
   small_delivery all None e = tt
-  small_delivery all (Some x) e = small_message x (all (Sent x) (sent_in x w (get_in (sent w) k x e)))
+  small_delivery all (Some x) e = small_message x (all (Sent x) (sent_in x w (get_in (sent_messages w) k x e)))
 
 small_lines : (m : Membership) → m.count ≤ most_servers → (w : Trace) (e : Event) → HoldsAlong (IsSmallLine m) w
     → NoneHolds (causes m w e) → AreSmall m (lines m w e)
 small_lines m few w (Submit p command) all h =
     small_suggestion m w p _ (leb-false m.count p h.0) (free_instance m w p) refl
 small_lines m few w (Deliver k p) all h =
-    small_delivery m few w k p (leb-false m.count p h.0) all (slice_get (sent w) k) refl
+    small_delivery m few w k p (leb-false m.count p h.0) all (slice_get (sent_messages w) k) refl
 small_lines m few w (Lose k p) all h = tt
 small_lines m few w (Suspect p q) all h =
     small_suspects m w p q (leb-false m.count p (or_parts (leb m.count p) (leb m.count q) h.0).0)
-small_lines m few w (Retry p) all h = small_again m w p (leb-false m.count p h.0) (first_item (waiting w p))
+small_lines m few w (Retry p) all h = small_again m w p (leb-false m.count p h.0) (first_item (waiting_tickets w p))
 small_lines m few w (Execute p) all h = tt
 
 head_small : (m : Membership) (e : Event) → IsSmallLine m (head e)
@@ -178,7 +178,8 @@ within_small m p (Learn from inst value) member h e = rw (lt-ltb from m.count h.
 
 -- a message of the trace that goes to a member is addressed to it, within all bounds
 pub sent_addressed : (m : Membership) → m.count ≤ most_servers → (w : Trace) → IsReached m w → (k p : ℕ) (x : Message)
-    → p < m.count → slice_get (sent w) k ≡ Some x → goes_to p x ≡ true → IsTrue (is_for m p x)
+    → p < m.count → slice_get (sent_messages w) k ≡ Some x → goes_to p x ≡ true → IsTrue (is_for m p x)
 sent_addressed m few w r k p x member h e =
     and_from _ _ (lt-ltb p m.count member)
-    (and_from _ _ e (within_small m p x member (sent_small m few w r x (sent_in x w (get_in (sent w) k x h))) e))
+    (and_from _ _ e
+    (within_small m p x member (sent_small m few w r x (sent_in x w (get_in (sent_messages w) k x h))) e))

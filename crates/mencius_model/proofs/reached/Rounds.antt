@@ -5,27 +5,27 @@ use Rattle.std.specs.List.{list_any}
 use Rattle.std.proofs.lemmas.Bool.{ltb-false, or_parts}
 use Rattle.std.proofs.lemmas.Nat.{div-mul-add}
 use Rattle.mencius_base.specs.Limits.{greatest_round}
-use Rattle.mencius_base.specs.Members.{Membership, first_item, instances, most_rounds, round}
+use Rattle.mencius_base.specs.Members.{Membership, first_item, instances, round}
 use Rattle.mencius_base.specs.declared.event.Event.{Event}
 use Rattle.mencius_base.specs.declared.event.Event.TheVariants.{Submit, Deliver, Lose, Suspect, Retry, Execute}
 use Rattle.mencius_base.specs.declared.message.Answer.{Answer}
-use Rattle.mencius_base.specs.declared.message.Answer.TheVariants.{Promise as Promised, Known, Silent}
+use Rattle.mencius_base.specs.declared.message.Answer.TheVariants.{Promise as Promised, Learn as Learn_answer, Silent}
 use Rattle.mencius_base.specs.declared.message.Message.{Message}
 use Rattle.mencius_base.specs.declared.message.Message.TheVariants.{Suggest, Skip, Accepted, Prepare, Promise, Propose, Learn}
 use Rattle.mencius_base.specs.declared.message.Value.{Value}
 use Rattle.mencius_base.specs.declared.message.Value.TheVariants.{Noop}
-use Rattle.mencius_model.specs.Trace.{Line, Heard, Sent, Learned, Trace, sent}
-use Rattle.mencius_model.specs.Instance.{learned, promised, vote}
-use Rattle.mencius_model.specs.Rules.{acceptor_answer, answer_lines, decision_lines, proposal_lines, suggestion}
-use Rattle.mencius_model.specs.Server.{covered_by, free_instance, front, waiting}
-use Rattle.mencius_model.specs.Next.{IsReached, again, causes, decision_at, delivery, head, is_given_up, lines, next, next_round, on_message, preparation, proposal_at}
+use Rattle.mencius_model.specs.Trace.{Line, Heard, Sent, Learned, Trace, sent_messages}
+use Rattle.mencius_model.specs.Instance.{learned_value, promised_ballot, vote}
+use Rattle.mencius_model.specs.Rules.{answer_lines, decision_lines, prepare_answer_from, proposal_lines, suggestion}
+use Rattle.mencius_model.specs.Server.{covered_instances, free_instance, front, waiting_tickets}
+use Rattle.mencius_model.specs.Next.{IsReached, causes, delivery, due_decision_at, due_proposal_at, head, is_newly_skipped, lines, next, next_round, on_message, preparation, retry_lines}
 use Rattle.mencius_model.proofs.rights.EachLine.{AreAll, HoldsAlong, next_along, one_if}
 use Rattle.mencius_model.proofs.trace.Lists.{IsIn}
 use Rattle.mencius_model.proofs.rights.EventRights.{NoneHolds, next_is}
 use Rattle.mencius_model.proofs.rights.Journals.{reached_along}
 
 abbrev IsLowBallot : Membership → Line → Type 0
-IsLowBallot m (Sent (Prepare from inst ballot)) = round m ballot ≤ most_rounds
+IsLowBallot m (Sent (Prepare from inst ballot)) = round m ballot ≤ greatest_round
 IsLowBallot m _ = Unit {0}
 
 abbrev AreLowBallots : Membership → List Line → Type 0
@@ -46,13 +46,13 @@ low_suggestion : (m : Membership) (p t : ℕ) (o : Option ℕ) → AreLowBallots
 low_suggestion m p t None = tt
 low_suggestion m p t (Some i) = (tt, tt)
 
-low_again : (m : Membership) (w : Trace) (p : ℕ) (o : Option ℕ) → AreLowBallots m (again m w p o)
+low_again : (m : Membership) (w : Trace) (p : ℕ) (o : Option ℕ) → AreLowBallots m (retry_lines m w p o)
 low_again m w p None = tt
 low_again m w p (Some t) = low_suggestion m p t (free_instance m w p)
 
 low_answer : (m : Membership) (p q i b : ℕ) (answer : Answer) → AreLowBallots m (answer_lines p q i b answer)
 low_answer m p q i b (Promised vote) = (tt, tt)
-low_answer m p q i b (Known x) = (tt, tt)
+low_answer m p q i b (Learn_answer x) = (tt, tt)
 low_answer m p q i b Silent = tt
 
 low_proposal : (m : Membership) (p i b : ℕ) (o : Option Value) → AreLowBallots m (proposal_lines p i b o)
@@ -64,13 +64,13 @@ low_decision m p i None = tt
 low_decision m p i (Some x) = (tt, (tt, tt))
 
 low_message : (m : Membership) (w v : Trace) (p : ℕ) (x : Message) → AreLowBallots m (on_message m w v p x)
-low_message m w v p (Suggest q i t) = low_two m p q _ i _ (ltb (front m w p) i) (leb (promised w p i) 0)
-low_message m w v p (Skip q first stop) = low_noops m p (filter (is_given_up m w p q first stop) instances)
+low_message m w v p (Suggest q i t) = low_two m p q _ i _ (ltb (front m w p) i) (leb (promised_ballot w p i) 0)
+low_message m w v p (Skip q first stop) = low_noops m p (filter (is_newly_skipped m w p q first stop) instances)
 low_message m w v p (Prepare q i b) =
-    low_answer m p q i b (acceptor_answer (promised w p i) (vote w p i) b (learned w p i))
-low_message m w v p (Promise q to i b reports) = low_proposal m p i b (proposal_at m w v p i b)
-low_message m w v p (Propose q i b x) = one_if (IsLowBallot m) _ (leb (promised w p i) b) tt
-low_message m w v p (Accepted q to i b) = low_decision m p i (decision_at m w v p i b)
+    low_answer m p q i b (prepare_answer_from (promised_ballot w p i) (vote w p i) b (learned_value w p i))
+low_message m w v p (Promise q to i b reports) = low_proposal m p i b (due_proposal_at m w v p i b)
+low_message m w v p (Propose q i b x) = one_if (IsLowBallot m) _ (leb (promised_ballot w p i) b) tt
+low_message m w v p (Accepted q to i b) = low_decision m p i (due_decision_at m w v p i b)
 low_message m w v p (Learn q i x) = one_if (IsLowBallot m) _ _ tt
 
 low_delivery : (m : Membership) (w v : Trace) (p : ℕ) (o : Option Message) → AreLowBallots m (delivery m w v p o)
@@ -79,25 +79,26 @@ low_delivery m w v p (Some x) = low_message m w v p x
 
 -- a suspicion is refused where a round would be too great
 low_prepared : (m : Membership) (w : Trace) (p : ℕ) → p < m.count → (xs : List ℕ)
-    → list_any (λ i. nat_lt most_rounds (next_round m w p i)) xs ≡ false
+    → list_any (λ i. nat_lt greatest_round (next_round m w p i)) xs ≡ false
     → AreLowBallots m (map (preparation m w p) xs)
 low_prepared m w p member [] h = tt
 low_prepared m w p member (i ∷ xs) h =
-    let parts = or_parts (nat_lt most_rounds (next_round m w p i))
-    (list_any (λ i. nat_lt most_rounds (next_round m w p i)) xs) h in
-    let few = ltb-false most_rounds (next_round m w p i) parts.0 in (
+    let parts = or_parts (nat_lt greatest_round (next_round m w p i))
+    (list_any (λ i. nat_lt greatest_round (next_round m w p i)) xs) h in
+    let few = ltb-false greatest_round (next_round m w p i) parts.0 in (
       omega (arith, few, div-mul-add (next_round m w p i) m.count p member),
       low_prepared m w p member xs parts.1,
     )
 
 low_lines : (m : Membership) (w : Trace) (e : Event) → NoneHolds (causes m w e) → AreLowBallots m (lines m w e)
 low_lines m w (Submit p command) h = low_suggestion m p _ (free_instance m w p)
-low_lines m w (Deliver k p) h = low_delivery m w (Heard k p ∷ w) p (slice_get (sent w) k)
+low_lines m w (Deliver k p) h = low_delivery m w (Heard k p ∷ w) p (slice_get (sent_messages w) k)
 low_lines m w (Lose k p) h = tt
 low_lines m w (Suspect p q) h =
-    low_prepared m w p (leb-false m.count p (or_parts (leb m.count p) (leb m.count q) h.0).0) (covered_by m w p q)
+    low_prepared m w p (leb-false m.count p (or_parts (leb m.count p) (leb m.count q) h.0).0)
+    (covered_instances m w p q)
     h.1.1.1.0
-low_lines m w (Retry p) h = low_again m w p (first_item (waiting w p))
+low_lines m w (Retry p) h = low_again m w p (first_item (waiting_tickets w p))
 low_lines m w (Execute p) h = tt
 
 low_head : (m : Membership) (e : Event) → IsLowBallot m (head e)
@@ -116,6 +117,5 @@ low_next m w v e all h =
 -- the round of a ballot that is prepared is one that there may be
 pub prepared_low : (m : Membership) (w : Trace) → IsReached m w → (p i b : ℕ) → IsIn (Sent (Prepare p i b)) w
     → round m b ≤ greatest_round
-unfolding most_rounds
 prepared_low m w r p i b h =
     reached_along m (HoldsAlong (IsLowBallot m)) (λ l h. absurd h) (low_next m) w r (Sent (Prepare p i b)) h

@@ -5,8 +5,8 @@ use Rattle.mencius_base.specs.declared.message.Message.TheVariants.{Accepted, Pr
 use Rattle.mencius_base.specs.declared.message.Value.{Value}
 use Rattle.mencius_base.specs.declared.message.Vote.{Vote}
 use Rattle.mencius_base.specs.Members.{Membership, owner}
-use Rattle.mencius_model.specs.Trace.{Line, Sent, Trace, greatest}
-use Rattle.mencius_model.specs.Instance.{proposed, proposed_by, tried_by, trying}
+use Rattle.mencius_model.specs.Trace.{Line, Sent, Trace, greatest_by}
+use Rattle.mencius_model.specs.Instance.{proposal, proposal_by, tried_ballot, tried_by}
 use Rattle.mencius_model.proofs.trace.Lists.{IsIn}
 use Rattle.mencius_model.proofs.rights.LineRights.{IsGrown, MayAccept, MayPrepare, MayPromise, IsAsked, MayPropose}
 use Rattle.mencius_model.proofs.trace.AnswersLast.{greatest_ge, oldest_none, same_two}
@@ -14,10 +14,10 @@ use Rattle.mencius_model.proofs.rights.EventRights.{propose_positive}
 
 -- ---- a ballot has one proposal, by its leader
 
-greatest_in : (f : Line → ℕ) (w : Trace) → 0 < greatest f w → (l : Line) × IsIn l w × (f l ≡ greatest f w)
+greatest_in : (f : Line → ℕ) (w : Trace) → 0 < greatest_by f w → (l : Line) × IsIn l w × (f l ≡ greatest_by f w)
 greatest_in f [] h = absurd (omega arith)
 greatest_in f (l ∷ w) h =
-    elim (cases_lt (greatest f w) (f l)) [
+    elim (cases_lt (greatest_by f w) (f l)) [
       | inl lt ↦ (l, inl refl, omega (arith, lt))
       | inr ge ↦ let r = greatest_in f w (omega (arith, ge, h)) in (r.0, inr r.1, omega (arith, r.2, ge))
     ]
@@ -43,13 +43,13 @@ prepare_right m (l ∷ w) grown p i b (inl e) = rw (← e) at grown.1
 prepare_right m (l ∷ w) grown p i b (inr h) = prepare_right m w grown.0 p i b h
 
 -- an owner tries nothing at its own instances
-pub own_untried : (m : Membership) (w : Trace) → IsGrown m w → (p i : ℕ) → owner m i ≡ p → trying w p i ≡ 0
+pub own_untried : (m : Membership) (w : Trace) → IsGrown m w → (p i : ℕ) → owner m i ≡ p → tried_ballot w p i ≡ 0
 own_untried m w grown p i mine =
-    elim (cases_lt 0 (trying w p i)) [
+    elim (cases_lt 0 (tried_ballot w p i)) [
       | inl lt ↦
           let r = greatest_in (tried_by p i) w lt in
-          let s = tried_line p i (trying w p i) r.0 lt r.2 in
-          absurd ((prepare_right m w grown p i (trying w p i) (rw s r.1)).other mine)
+          let s = tried_line p i (tried_ballot w p i) r.0 lt r.2 in
+          absurd ((prepare_right m w grown p i (tried_ballot w p i) (rw s r.1)).other mine)
       | inr ge ↦ omega arith
     ]
 
@@ -71,10 +71,10 @@ pub propose_ballot : (m : Membership) (w : Trace) → IsGrown m w → (p i b : �
 propose_ballot m w grown p i b z h =
     let may = prepare_right m w grown p i b (propose_prepared m w grown p i b z h) in (may.above, may.own)
 
-pub not_proposed : (w : Trace) (p i b : ℕ) (z : Value) → 0 < b → proposed w i b ≡ None
+pub not_proposed : (w : Trace) (p i b : ℕ) (z : Value) → 0 < b → proposal w i b ≡ None
     → IsIn (Sent (Propose p i b z)) w → ⊥
 not_proposed w p i b z pos none h =
-    let n = oldest_none (proposed_by i b) (Sent (Propose p i b z)) w none h in
+    let n = oldest_none (proposal_by i b) (Sent (Propose p i b z)) w none h in
     let turned = rw (same_two i b, lt-ltb 0 b pos) at n in
     absurd (cc)
 
@@ -110,22 +110,22 @@ promise_asked m (l ∷ w) grown q to i b o (inl e) =
 promise_asked m (l ∷ w) grown q to i b o (inr h) = inr (promise_asked m w grown.0 q to i b o h)
 
 -- the greatest ballot that a server tried is none of the lesser
-pub prepare_within : (w : Trace) (p i b : ℕ) → IsIn (Sent (Prepare p i b)) w → b ≤ trying w p i
+pub prepare_within : (w : Trace) (p i b : ℕ) → IsIn (Sent (Prepare p i b)) w → b ≤ tried_ballot w p i
 prepare_within w p i b h =
-    let greatest = greatest_ge (tried_by p i) (Sent (Prepare p i b)) w h in
-    rw (same_two p i) at greatest
+    let greatest_by = greatest_ge (tried_by p i) (Sent (Prepare p i b)) w h in
+    rw (same_two p i) at greatest_by
 
 pub propose_within : (m : Membership) (w : Trace) → IsGrown m w → (p i b : ℕ) (z : Value)
-    → IsIn (Sent (Propose p i b z)) w → b ≤ trying w p i
+    → IsIn (Sent (Propose p i b z)) w → b ≤ tried_ballot w p i
 propose_within m [] grown p i b z h = absurd h
 propose_within m (l ∷ w) grown p i b z (inl e) =
     let may : MayPropose m w p i b z = rw (← e) at grown.1 in omega (arith, may.tried)
 propose_within m (l ∷ w) grown p i b z (inr h) = omega (arith, propose_within m w grown.0 p i b z h)
 
 -- what a server tries is a ballot of its own
-pub tried_owner : (m : Membership) (w : Trace) → IsGrown m w → (p i : ℕ) → 0 < trying w p i
-    → owner m (trying w p i) ≡ p
+pub tried_owner : (m : Membership) (w : Trace) → IsGrown m w → (p i : ℕ) → 0 < tried_ballot w p i
+    → owner m (tried_ballot w p i) ≡ p
 tried_owner m w grown p i lt =
     let r = greatest_in (tried_by p i) w lt in
-    let s = tried_line p i (trying w p i) r.0 lt r.2 in
-    (prepare_right m w grown p i (trying w p i) (rw s r.1)).own
+    let s = tried_line p i (tried_ballot w p i) r.0 lt r.2 in
+    (prepare_right m w grown p i (tried_ballot w p i) (rw s r.1)).own

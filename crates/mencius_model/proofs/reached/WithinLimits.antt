@@ -12,14 +12,14 @@ use Rattle.mencius_base.specs.declared.message.Message.TheVariants.{Suggest, Ski
 use Rattle.mencius_base.specs.declared.message.Value.{Value}
 use Rattle.mencius_base.specs.declared.message.Value.TheVariants.{Noop, Ticket}
 use Rattle.mencius_base.specs.declared.message.Vote.{Vote}
-use Rattle.mencius_model.specs.Trace.{Sent, Learned, Trace, messages_of, sent}
-use Rattle.mencius_model.specs.Instance.{proposed}
+use Rattle.mencius_model.specs.Trace.{Sent, Learned, Trace, messages_of, sent_messages}
+use Rattle.mencius_model.specs.Instance.{proposal}
 use Rattle.mencius_model.specs.Decided.{IsDecided}
-use Rattle.mencius_model.specs.Next.{IsReached, causes, lines, next, sends, with_event}
+use Rattle.mencius_model.specs.Next.{IsReached, causes, lines, message_count, next, with_event}
 use Rattle.mencius_model.specs.WithinLimits.{CountsWithinLimits, IsBallotWithin, IsMessageWithin, IsValueWithin, IsVoteWithin, LearnedWithinLimits, MessagesAddressed, MessagesWithinLimits}
 use Rattle.mencius_model.proofs.trace.AnswersLast.{learned_in, sent_in, start_in}
 use Rattle.mencius_model.proofs.paxos.Decisions.{all_decided, learned_decided}
-use Rattle.mencius_model.proofs.events.EventLines.{sent-event}
+use Rattle.mencius_model.proofs.events.EventLines.{sent_messages-event}
 use Rattle.mencius_model.proofs.rights.EventRights.{NoneHolds, next_is}
 use Rattle.mencius_model.proofs.events.JournalCounts.{events_few}
 use Rattle.mencius_model.proofs.rights.Journals.{reached_along, reached_grown, some_server_of}
@@ -30,14 +30,15 @@ use Rattle.mencius_model.proofs.reached.MessageLimits.{sent_addressed, sent_smal
 use Rattle.mencius_model.proofs.paxos.Paxos.{origin, promise_covers}
 use Rattle.mencius_model.proofs.reached.Rounds.{prepared_low}
 use Rattle.mencius_model.proofs.reached.Senders.{acceptance_asked, promise_asked, propose_prepared}
-use Rattle.mencius_model.proofs.reached.ServerFacts.{sound}
+use Rattle.mencius_model.proofs.reached.ServerFacts.{server_facts}
 use Rattle.mencius_model.proofs.paxos.Tickets.{decided_submitted, ticket_submitted}
 
 -- ---- how many
 
 -- an event that is accepted sends no more messages than there is room for
-sends_few : (m : Membership) (w : Trace) (e : Event) → NoneHolds (causes m w e) → length (sent w) ≤ most_messages
-    → length (sent w) + sends (lines m w e) ≤ most_messages
+sends_few : (m : Membership) (w : Trace) (e : Event) → NoneHolds (causes m w e)
+    → length (sent_messages w) ≤ most_messages
+    → length (sent_messages w) + message_count (lines m w e) ≤ most_messages
 sends_few m w (Submit p command) h before = ltb-false most_messages _ h.1.1.1.0
 sends_few m w (Deliver k p) h before = ltb-false most_messages _ h.1.1.1.1.0
 sends_few m w (Lose k p) h before = omega (arith, before)
@@ -45,18 +46,19 @@ sends_few m w (Suspect p q) h before = ltb-false most_messages _ h.1.1.1.1.0
 sends_few m w (Retry p) h before = ltb-false most_messages _ h.1.1.1.0
 sends_few m w (Execute p) h before = omega (arith, before)
 
-sent_next : (m : Membership) (w v : Trace) (e : Event) → length (sent w) ≤ most_messages → next m w e ≡ Ok v
-    → length (sent v) ≤ most_messages
+sent_next : (m : Membership) (w v : Trace) (e : Event) → length (sent_messages w) ≤ most_messages → next m w e ≡ Ok v
+    → length (sent_messages v) ≤ most_messages
 sent_next m w v e before h =
     let n = next_is m w v e h in
-    let many : length (sent (with_event m w e)) ≡ length (sent w) + sends (lines m w e) =
-    ap (λ (xs : List Message). length xs) (sent-event m w e) ∙ length-append (sent w) (messages_of (lines m w e)) in
+    let many : length (sent_messages (with_event m w e)) ≡ length (sent_messages w) + message_count (lines m w e) =
+    ap (λ (xs : List Message). length xs) (sent_messages-event m w e)
+    ∙ length-append (sent_messages w) (messages_of (lines m w e)) in
     rw (← n.is) (omega (arith, many, sends_few m w e n.allowed before))
 
 pub counts_within : CountsWithinLimits
 unfolding most_messages most_events
 counts_within m w r =
-    (events_few m w r, reached_along m (λ v. length (sent v) ≤ most_messages) (omega arith) (sent_next m) w r)
+    (events_few m w r, reached_along m (λ v. length (sent_messages v) ≤ most_messages) (omega arith) (sent_next m) w r)
 
 -- ---- ballots, values and votes
 
@@ -79,12 +81,12 @@ lower_ballot m b c some le within =
     ballot_within m c some (omega (arith, lower, within.small))
 
 module _ (m : Membership) (w : Trace) (g : IsGrown m w) (some : 1 ≤ m.count) where
-  start_within : (i : ℕ) (z : Value) → proposed w i 0 ≡ Some z → IsValueWithin w z
+  start_within : (i : ℕ) (z : Value) → proposal w i 0 ≡ Some z → IsValueWithin w z
   start_within i z e =
       let s = start_in w i z e in
       rw s.3 (ticket_submitted m w g s.0 i s.1 s.2)
 
-  proposed_within : (i b : ℕ) (z : Value) → proposed w i b ≡ Some z → IsValueWithin w z
+  proposed_within : (i b : ℕ) (z : Value) → proposal w i b ≡ Some z → IsValueWithin w z
   proposed_within i b z e =
       elim (origin m w g i b z e) [
         | inl noop ↦ rw noop tt
@@ -126,7 +128,8 @@ module _ (m : Membership) (w : Trace) (few : m.count ≤ most_servers) (r : IsRe
             ((sent_small m few w r (Propose p i b s.0) s.1).0, proposal_within p i b s.0 s.1)
       ]
 
-  message_within : (x : Message) → IsIn (Sent x) w → (k : ℕ) → slice_get (sent w) k ≡ Some x → IsMessageWithin m w x
+  message_within : (x : Message) → IsIn (Sent x) w → (k : ℕ) → slice_get (sent_messages w) k ≡ Some x
+      → IsMessageWithin m w x
   message_within (Suggest p i t) h k e =
       let small = sent_small m few w r (Suggest p i t) h in
       (small.0, small.1, ticket_submitted m w grown p i t h)
@@ -153,7 +156,7 @@ module _ (m : Membership) (w : Trace) (few : m.count ≤ most_servers) (r : IsRe
         small.0,
         small.1,
         proposal_within p i b z h,
-        proposed_within m w grown some i b z ((sound m w r).one_propose k p i b z e),
+        proposed_within m w grown some i b z ((server_facts m w r).one_propose k p i b z e),
       )
   message_within (Learn p i z) h k e =
       let small = sent_small m few w r (Learn p i z) h in
@@ -161,7 +164,7 @@ module _ (m : Membership) (w : Trace) (few : m.count ≤ most_servers) (r : IsRe
 
 pub messages_within : MessagesWithinLimits
 messages_within m w few r k x e =
-    let there = sent_in x w (get_in (sent w) k x e) in
+    let there = sent_in x w (get_in (sent_messages w) k x e) in
     message_within m w few r (some_server_of m w r (Sent x) there) x there k e
 
 pub learned_within : LearnedWithinLimits

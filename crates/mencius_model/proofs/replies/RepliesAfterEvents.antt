@@ -8,16 +8,16 @@ use Rattle.mencius_base.specs.declared.event.Event.{Event}
 use Rattle.mencius_base.specs.declared.message.Value.{Value}
 use Rattle.mencius_base.specs.declared.message.Value.TheVariants.{Noop, Ticket}
 use Rattle.mencius_base.specs.Members.{Membership, below}
-use Rattle.mencius_model.specs.Trace.{Trace, command_in, option_to_list, submitted}
-use Rattle.mencius_model.specs.Instance.{learned}
+use Rattle.mencius_model.specs.Trace.{Trace, command_in, option_to_list, submitted_commands}
+use Rattle.mencius_model.specs.Instance.{learned_value}
 use Rattle.mencius_model.specs.Server.{done, done_by, ticket_of}
 use Rattle.mencius_model.specs.Next.{head, with_event}
-use Rattle.mencius_model.specs.Executed.{executed}
+use Rattle.mencius_model.specs.Executed.{history}
 use Rattle.mencius_model.proofs.trace.NumberLists.{below-more, map-below_same}
-use Rattle.mencius_model.specs.Store.{out}
-use Rattle.mencius_model.specs.Replying.{Is, Reply, command_at, commands_of, place_of, reply_at, reply_from}
-use Rattle.mencius_model.proofs.events.EventLines.{done-event, learned-event, submitted-event}
-use Rattle.mencius_model.proofs.reached.ClusterFacts.{IsTold}
+use Rattle.mencius_model.specs.KeyMap.{out}
+use Rattle.mencius_model.specs.Replying.{Given, Reply, command_at, commands_of, index_of_first, reply_at, reply_from}
+use Rattle.mencius_model.proofs.events.EventLines.{done-event, learned_value-event, submitted_commands-event}
+use Rattle.mencius_model.proofs.reached.ClusterFacts.{HasClusterFacts}
 
 -- ---- plain lists
 
@@ -75,29 +75,30 @@ ticket_told (Some Noop) t h = absurd (cc)
 ticket_told (Some (Ticket u)) t h = let same : u ≡ t = cc in ap (λ (n : ℕ). Some (Ticket n)) same
 
 -- every executed ticket was submitted
-pub history-below : (m : Membership) (w : Trace) (p : ℕ) → IsTold m w → AreBelow (length (submitted w)) (executed w p)
+pub history-below : (m : Membership) (w : Trace) (p : ℕ) → HasClusterFacts m w
+    → AreBelow (length (submitted_commands w)) (history w p)
 history-below m w p told =
-    below_all (length (submitted w)) (λ i. ticket_of (learned w p i)) (below (done w p))
-    (λ i t h. told.ticketed p i t (ticket_told (learned w p i) t h))
+    below_all (length (submitted_commands w)) (λ i. ticket_of (learned_value w p i)) (below (done w p))
+    (λ i t h. told.ticketed p i t (ticket_told (learned_value w p i) t h))
 
 -- ---- what an event leaves
 
 -- the history of a server that executes nothing
-pub history_kept : (m : Membership) (w : Trace) (e : Event) (p : ℕ) → IsTold m w → done_by p (head e) ≡ 0
-    → executed (with_event m w e) p ≡ executed w p
+pub history_kept : (m : Membership) (w : Trace) (e : Event) (p : ℕ) → HasClusterFacts m w → done_by p (head e) ≡ 0
+    → history (with_event m w e) p ≡ history w p
 history_kept m w e p told none =
     let same : done (with_event m w e) p ≡ done w p =
     done-event m w e p ∙ ap (λ n. done w p + n) none ∙ add-zero (done w p) in
-    ap (λ n. filter_map (λ i. ticket_of (learned (with_event m w e) p i)) (below n)) same
+    ap (λ n. filter_map (λ i. ticket_of (learned_value (with_event m w e) p i)) (below n)) same
     ∙ filter_map-below_same _ _ (done w p)
-    (λ i h. let r = told.executed p i h in ap ticket_of (learned-event m w e p i r.0 r.1 ∙ sym r.1))
+    (λ i h. let r = told.executed p i h in ap ticket_of (learned_value-event m w e p i r.0 r.1 ∙ sym r.1))
 
-command_kept : (m : Membership) (w : Trace) (e : Event) (t : ℕ) → t < length (submitted w)
+command_kept : (m : Membership) (w : Trace) (e : Event) (t : ℕ) → t < length (submitted_commands w)
     → command_at (with_event m w e) t ≡ command_at w t
 command_kept m w e t h =
-    ap (λ xs. option_map (λ (x : Command × ℕ). x.0) (slice_get xs t)) (submitted-event m w e)
+    ap (λ xs. option_map (λ (x : Command × ℕ). x.0) (slice_get xs t)) (submitted_commands-event m w e)
     ∙ ap (option_map (λ (x : Command × ℕ). x.0))
-    (slice_get-append (submitted w) (option_to_list (command_in (head e))) t h)
+    (slice_get-append (submitted_commands w) (option_to_list (command_in (head e))) t h)
 
 -- two histories that have the same commands at the tickets below n
 pub commands_same : (v w : Trace) (n : ℕ) (ts : List ℕ) → ((t : ℕ) → t < n → command_at v t ≡ command_at w t)
@@ -108,26 +109,28 @@ commands_same v w n (t ∷ ts) same h =
     ∙ ap (cons_option (command_at w t)) (commands_same v w n ts same h.1)
 
 -- the commands of submitted tickets
-pub commands_kept : (m : Membership) (w : Trace) (e : Event) (ts : List ℕ) → AreBelow (length (submitted w)) ts
+pub commands_kept : (m : Membership) (w : Trace) (e : Event) (ts : List ℕ) → AreBelow (length (submitted_commands w)) ts
     → commands_of (with_event m w e) ts ≡ commands_of w ts
-commands_kept m w e ts h = commands_same (with_event m w e) w (length (submitted w)) ts (command_kept m w e) h
+commands_kept m w e ts h = commands_same (with_event m w e) w (length (submitted_commands w)) ts (command_kept m w e) h
 
 abbrev Reply_of : List Command → Command → Reply
-Reply_of cs command = Is (out cs command)
+Reply_of cs command = Given (out cs command)
 
-reply_from_kept : (m : Membership) (w : Trace) (e : Event) (command : Command) (home : ℕ) (o : Option ℕ) → IsTold m w
+reply_from_kept : (m : Membership) (w : Trace) (e : Event) (command : Command) (home : ℕ) (o : Option ℕ)
+    → HasClusterFacts m w
     → done_by home (head e) ≡ 0
     → reply_from (with_event m w e) command home o ≡ reply_from w command home o
 reply_from_kept m w e command home None told none = refl
 reply_from_kept m w e command home (Some n) told none =
     ap (λ h. Reply_of (commands_of (with_event m w e) (take n h)) command) (history_kept m w e home told none)
     ∙ ap (λ cs. Reply_of cs command)
-    (commands_kept m w e (take n (executed w home)) (below_take _ n _ (history-below m w home told)))
+    (commands_kept m w e (take n (history w home)) (below_take _ n _ (history-below m w home told)))
 
 -- the reply of a command whose home executes nothing
-pub reply_kept : (m : Membership) (w : Trace) (e : Event) (t : ℕ) (command : Command) (home : ℕ) → IsTold m w
+pub reply_kept : (m : Membership) (w : Trace) (e : Event) (t : ℕ) (command : Command) (home : ℕ) → HasClusterFacts m w
     → done_by home (head e) ≡ 0
     → reply_at (with_event m w e) t command home ≡ reply_at w t command home
 reply_kept m w e t command home told none =
-    ap (λ h. reply_from (with_event m w e) command home (place_of (λ u. u == t) h)) (history_kept m w e home told none)
-    ∙ reply_from_kept m w e command home (place_of (λ u. u == t) (executed w home)) told none
+    ap (λ h. reply_from (with_event m w e) command home (index_of_first (λ u. u == t) h))
+    (history_kept m w e home told none)
+    ∙ reply_from_kept m w e command home (index_of_first (λ u. u == t) (history w home)) told none

@@ -5,10 +5,10 @@ use Rattle.std.proofs.lemmas.Bool.{cases_Bool, and_parts, or_parts}
 use Rattle.std.proofs.lemmas.Option.{some_pair_parts}
 use Rattle.mencius_base.specs.declared.command.CommandId.{CommandId}
 use Rattle.mencius_base.specs.Members.{Membership}
-use Rattle.mencius_model.specs.Trace.{Trace, submitted}
+use Rattle.mencius_model.specs.Trace.{Trace, submitted_commands}
 use Rattle.mencius_base.specs.Command.{is_same_id}
-use Rattle.mencius_model.specs.Executed.{executed}
-use Rattle.mencius_model.specs.Replying.{Reply, NotYet, Is, place_of, reply_from, reply_of_place, reply_of}
+use Rattle.mencius_model.specs.Executed.{history}
+use Rattle.mencius_model.specs.Replying.{Reply, Pending, Given, index_of_first, reply_from, reply_of_place, reply_of}
 use Rattle.mencius_model.specs.Laws.{IsReply, IsPending, IsSubmitted}
 use Rattle.mencius_model.proofs.trace.Lists.{none_in, get_in}
 use Rattle.mencius_model.proofs.rights.LineRights.{IsGrown}
@@ -46,8 +46,8 @@ place_next test x xs place o e miss s =
       first = λ n y a z. later_place test x xs place miss s.first n y a z;
     })
 
--- `place_of` answers the first place of an item that passes
-place_is : {A : Type 0} (test : A → Bool) (xs : List A) (m : ℕ) → place_of test xs ≡ Some m → IsPlace A test xs m
+-- `index_of_first` answers the first place of an item that passes
+place_is : {A : Type 0} (test : A → Bool) (xs : List A) (m : ℕ) → index_of_first test xs ≡ Some m → IsPlace A test xs m
 place_is test [] m h = absurd (cc)
 place_is test (x ∷ xs) m h =
     elim (cases_Bool (test x)) [
@@ -55,7 +55,7 @@ place_is test (x ∷ xs) m h =
           let z : 0 ≡ m = (let s = rw e at h in cc) in
           rw (← z) (record { item = x; there = refl; passes = e; first = λ n y a holds. omega arith })
       | inr e ↦
-          let r = mapped (place_of test xs) m (rw e at h) in
+          let r = mapped (index_of_first test xs) m (rw e at h) in
           place_next test x xs r.0 m r.2 e (place_is test xs r.0 r.1)
     ]
 
@@ -64,15 +64,15 @@ mapped_none None h = refl
 mapped_none (Some n) h = absurd (cc)
 
 -- and none exactly where no item passes
-no_place : {A : Type 0} (test : A → Bool) (xs : List A) → place_of test xs ≡ None → list_any test xs ≡ false
+no_place : {A : Type 0} (test : A → Bool) (xs : List A) → index_of_first test xs ≡ None → list_any test xs ≡ false
 no_place test [] h = refl
 no_place test (x ∷ xs) h =
     elim (cases_Bool (test x)) [
       | inl e ↦ absurd (let s = rw e at h in cc)
-      | inr e ↦ rw e (no_place test xs (mapped_none (place_of test xs) (rw e at h)))
+      | inr e ↦ rw e (no_place test xs (mapped_none (index_of_first test xs) (rw e at h)))
     ]
 
-some_place : {A : Type 0} (test : A → Bool) (xs : List A) → list_any test xs ≡ false → place_of test xs ≡ None
+some_place : {A : Type 0} (test : A → Bool) (xs : List A) → list_any test xs ≡ false → index_of_first test xs ≡ None
 some_place test [] h = refl
 some_place test (x ∷ xs) h =
     let r = or_parts (test x) (list_any test xs) h in
@@ -97,8 +97,8 @@ module _ (m : Membership) (few : 1 ≤ m.count) (w : Trace) (g : IsGrown m w) (i
   is_ticket t u = eqb u t
 
   -- one submission has this identity
-  same_submission : (t u : ℕ) (x y : Submission) → slice_get (submitted w) t ≡ Some x
-      → slice_get (submitted w) u ≡ Some y
+  same_submission : (t u : ℕ) (x y : Submission) → slice_get (submitted_commands w) t ≡ Some x
+      → slice_get (submitted_commands w) u ≡ Some y
       → is_same_id x.0.id id ≡ true → is_same_id y.0.id id ≡ true → (t ≡ u) × (x ≡ y)
   same_submission t u x y a d h holds =
       let e = identity_once m w g t u x y a d (same_ids x.0.id y.0.id id h holds) in
@@ -110,7 +110,7 @@ module _ (m : Membership) (few : 1 ≤ m.count) (w : Trace) (g : IsGrown m w) (i
   reply_once x y a d =
       let s = same_submission a.ticket d.ticket (a.command, a.home) (d.command, d.home) a.given d.given a.same d.same in
       let parts = some_pair_parts a.command d.command a.home d.home (ap Some s.1) in
-      let there : slice_get (executed w a.home) d.place ≡ Some a.ticket = rw (parts.1, s.0) d.there in
+      let there : slice_get (history w a.home) d.place ≡ Some a.ticket = rw (parts.1, s.0) d.there in
       let once = history_once m few w g a.home a.place d.place a.ticket a.there there in
       a.is ∙ (rw (parts.0, parts.1, once) (sym d.is))
 
@@ -123,12 +123,12 @@ module _ (m : Membership) (few : 1 ≤ m.count) (w : Trace) (g : IsGrown m w) (i
 
   -- ---- what `reply_of` answers is so
 
-  given_at : (t : ℕ) (x : Submission) (o : Option ℕ) (r : Option (List ℕ)) → slice_get (submitted w) t ≡ Some x
+  given_at : (t : ℕ) (x : Submission) (o : Option ℕ) (r : Option (List ℕ)) → slice_get (submitted_commands w) t ≡ Some x
       → is_same_id x.0.id id ≡ true
-      → place_of (is_ticket t) (executed w x.1) ≡ o → reply_from w x.0 x.1 o ≡ Is r → IsReply w id r
+      → index_of_first (is_ticket t) (history w x.1) ≡ o → reply_from w x.0 x.1 o ≡ Given r → IsReply w id r
   given_at t x None r a s e h = absurd (cc)
   given_at t x (Some n) r a s e h =
-      let placed = place_is (is_ticket t) (executed w x.1) n e in
+      let placed = place_is (is_ticket t) (history w x.1) n e in
       let same = eqb-true placed.item t placed.passes in
       record {
         ticket = t;
@@ -142,9 +142,9 @@ module _ (m : Membership) (few : 1 ≤ m.count) (w : Trace) (g : IsGrown m w) (i
         is = cc;
       }
 
-  pending_at : (t : ℕ) (x : Submission) (o : Option ℕ) → slice_get (submitted w) t ≡ Some x
+  pending_at : (t : ℕ) (x : Submission) (o : Option ℕ) → slice_get (submitted_commands w) t ≡ Some x
       → is_same_id x.0.id id ≡ true
-      → place_of (is_ticket t) (executed w x.1) ≡ o → reply_from w x.0 x.1 o ≡ NotYet → IsPending w id
+      → index_of_first (is_ticket t) (history w x.1) ≡ o → reply_from w x.0 x.1 o ≡ Pending → IsPending w id
   pending_at t x (Some n) a s e h = absurd (cc)
   pending_at t x None a s e h =
       record {
@@ -153,29 +153,32 @@ module _ (m : Membership) (few : 1 ≤ m.count) (w : Trace) (g : IsGrown m w) (i
         home = x.1;
         given = a;
         same = s;
-        absent = λ n there. none_in (is_ticket t) t (executed w x.1) (no_place (is_ticket t) (executed w x.1) e)
-            (get_in (executed w x.1) n t there) (eq-eqb t t refl);
+        absent = λ n there. none_in (is_ticket t) t (history w x.1) (no_place (is_ticket t) (history w x.1) e)
+            (get_in (history w x.1) n t there) (eq-eqb t t refl);
       }
 
-  given_for : (o : Option ℕ) (r : Option (List ℕ)) → place_of is_id (submitted w) ≡ o
-      → reply_of_place w o ≡ Some (Is r) → IsReply w id r
+  given_for : (o : Option ℕ) (r : Option (List ℕ)) → index_of_first is_id (submitted_commands w) ≡ o
+      → reply_of_place w o ≡ Some (Given r) → IsReply w id r
   given_for None r e h = absurd (cc)
   given_for (Some t) r e h =
-      let placed = place_is is_id (submitted w) t e in
+      let placed = place_is is_id (submitted_commands w) t e in
       let turned = rw placed.there at h in
-      given_at t placed.item (place_of (is_ticket t) (executed w placed.item.1)) r placed.there placed.passes refl (cc)
+      given_at t placed.item (index_of_first (is_ticket t) (history w placed.item.1)) r placed.there placed.passes refl
+      (cc)
 
-  pending_for : (o : Option ℕ) → place_of is_id (submitted w) ≡ o → reply_of_place w o ≡ Some NotYet → IsPending w id
+  pending_for : (o : Option ℕ) → index_of_first is_id (submitted_commands w) ≡ o → reply_of_place w o ≡ Some Pending
+      → IsPending w id
   pending_for None e h = absurd (cc)
   pending_for (Some t) e h =
-      let placed = place_is is_id (submitted w) t e in
+      let placed = place_is is_id (submitted_commands w) t e in
       let turned = rw placed.there at h in
-      pending_at t placed.item (place_of (is_ticket t) (executed w placed.item.1)) placed.there placed.passes refl (cc)
+      pending_at t placed.item (index_of_first (is_ticket t) (history w placed.item.1)) placed.there placed.passes refl
+      (cc)
 
-  none_for : (o : Option ℕ) → place_of is_id (submitted w) ≡ o → reply_of_place w o ≡ None → o ≡ None
+  none_for : (o : Option ℕ) → index_of_first is_id (submitted_commands w) ≡ o → reply_of_place w o ≡ None → o ≡ None
   none_for None e h = refl
   none_for (Some t) e h =
-      let placed = place_is is_id (submitted w) t e in
+      let placed = place_is is_id (submitted_commands w) t e in
       let turned = rw placed.there at h in
       absurd (cc)
 
@@ -188,42 +191,45 @@ module _ (m : Membership) (few : 1 ≤ m.count) (w : Trace) (g : IsGrown m w) (i
   -- no reply exactly where the identity was never submitted
   pub unknown : (reply_of w id ≡ None) ↔ (IsSubmitted w id → ⊥)
   unknown = (
-    (λ h s. let n = no_place is_id (submitted w) (none_for (place_of is_id (submitted w)) refl h) in
-        let holds : list_any is_id (submitted w) ≡ true = s in absurd (cc)),
-    (λ h. rw (some_place is_id (submitted w) (not_true (list_any is_id (submitted w)) h))),
+    (λ h s. let n = no_place is_id (submitted_commands w)
+        (none_for (index_of_first is_id (submitted_commands w)) refl h) in
+        let holds : list_any is_id (submitted_commands w) ≡ true = s in absurd (cc)),
+    (λ h. rw (some_place is_id (submitted_commands w) (not_true (list_any is_id (submitted_commands w)) h))),
   )
 
   -- of a submitted identity there is a reply, if only a pending one
-  something : (t : ℕ) (x : Submission) → slice_get (submitted w) t ≡ Some x → is_same_id x.0.id id ≡ true
+  something : (t : ℕ) (x : Submission) → slice_get (submitted_commands w) t ≡ Some x → is_same_id x.0.id id ≡ true
       → reply_of w id ≡ None → ⊥
   something t x a s h =
-      none_in is_id x (submitted w) (no_place is_id (submitted w) (none_for (place_of is_id (submitted w)) refl h))
-      (get_in (submitted w) t x a) s
+      none_in is_id x (submitted_commands w)
+      (no_place is_id (submitted_commands w) (none_for (index_of_first is_id (submitted_commands w)) refl h))
+      (get_in (submitted_commands w) t x a) s
 
   -- of the three answers, a reply or a pending command leaves one
-  by_cases : (o : Option Reply) → reply_of w id ≡ o → (t : ℕ) (x : Submission) → slice_get (submitted w) t ≡ Some x
+  by_cases : (o : Option Reply) → reply_of w id ≡ o → (t : ℕ) (x : Submission) → slice_get (submitted_commands w) t
+      ≡ Some x
       → is_same_id x.0.id id ≡ true
-      → ((r : Option (List ℕ)) → IsReply w id r → o ≡ Some (Is r)) × (IsPending w id → o ≡ Some NotYet)
+      → ((r : Option (List ℕ)) → IsReply w id r → o ≡ Some (Given r)) × (IsPending w id → o ≡ Some Pending)
   by_cases None e t x a s = absurd (something t x a s e)
-  by_cases (Some NotYet) e t x a s =
-      let place = pending_for (place_of is_id (submitted w)) refl e in
+  by_cases (Some Pending) e t x a s =
+      let place = pending_for (index_of_first is_id (submitted_commands w)) refl e in
       ((λ r given. absurd (not_both r given place)), (λ pending. refl))
-  by_cases (Some (Is y)) e t x a s =
-      let place = given_for (place_of is_id (submitted w)) y refl e in (
-        (λ r given. ap (λ z. Some (Is z)) (reply_once y r place given)),
+  by_cases (Some (Given y)) e t x a s =
+      let place = given_for (index_of_first is_id (submitted_commands w)) y refl e in (
+        (λ r given. ap (λ z. Some (Given z)) (reply_once y r place given)),
         (λ pending. absurd (not_both y place pending)),
       )
 
   -- a reply is given exactly where there is one
-  pub replied : (r : Option (List ℕ)) → (reply_of w id ≡ Some (Is r)) ↔ IsReply w id r
+  pub replied : (r : Option (List ℕ)) → (reply_of w id ≡ Some (Given r)) ↔ IsReply w id r
   replied r = (
-    (λ h. given_for (place_of is_id (submitted w)) r refl h),
+    (λ h. given_for (index_of_first is_id (submitted_commands w)) r refl h),
     (λ a. (by_cases (reply_of w id) refl a.ticket (a.command, a.home) a.given a.same).0 r a),
   )
 
   -- and pending exactly where the home has not executed the command
-  pub awaited : (reply_of w id ≡ Some NotYet) ↔ IsPending w id
+  pub awaited : (reply_of w id ≡ Some Pending) ↔ IsPending w id
   awaited = (
-    (λ h. pending_for (place_of is_id (submitted w)) refl h),
+    (λ h. pending_for (index_of_first is_id (submitted_commands w)) refl h),
     (λ a. (by_cases (reply_of w id) refl a.ticket (a.command, a.home) a.given a.same).1 a),
   )

@@ -16,11 +16,11 @@ use Rattle.mencius_base.specs.declared.message.Value.TheVariants.{Noop, Ticket}
 use Rattle.mencius_base.specs.declared.message.Vote.{Vote}
 use Rattle.mencius_base.proofs.LeastOwned.{first_owned_owner}
 use Rattle.mencius_base.specs.Members.{Membership, owner, round, first_owned, instances, most_events, first_item}
-use Rattle.mencius_model.specs.Trace.{Line, Submitted, Heard, Suspected, Retried, Sent, Learned, Trace, followed_by, sent, submitted, events}
-use Rattle.mencius_model.specs.Instance.{promised, proposed, proposed_by, accepted, greater, vote, vote_of, vote_at, learned, trying, promisers, accepters, reported, are_majority, has_accepted}
-use Rattle.mencius_model.specs.Server.{front, suggested, is_suggestion_past, waits, waiting_at, waiting, is_free, free_instance, is_covered, done}
-use Rattle.mencius_model.specs.Rules.{acceptor_answer, answer_lines, decision_lines, gives_up, proposal_due, proposal_lines, suggestion, is_noop, unless}
-use Rattle.mencius_model.specs.Next.{head, is_given_up, on_promise, on_propose, on_accepted, on_learn, on_message, next_round, preparation, again, delivery, lines, causes, first_cause, refused, step_or, next}
+use Rattle.mencius_model.specs.Trace.{Line, Submitted, Heard, Suspected, Retried, Sent, Learned, Trace, followed_by, sent_messages, submitted_commands, events}
+use Rattle.mencius_model.specs.Instance.{promised_ballot, proposal, proposal_by, accepted_ballot, greater_ballot, vote, vote_of, vote_at, learned_value, tried_ballot, promisers, accepters, reported_vote, are_majority, has_accepted}
+use Rattle.mencius_model.specs.Server.{front, suggested_ticket, is_suggested_again_by, waiting_of, waiting_at, waiting_tickets, is_free, free_instance, is_covered, done}
+use Rattle.mencius_model.specs.Rules.{prepare_answer_from, answer_lines, decision_lines, is_skipped_by, due_proposal_from, proposal_lines, suggestion, is_noop, unless}
+use Rattle.mencius_model.specs.Next.{head, is_newly_skipped, on_promise, on_propose, on_accepted, on_learn, on_message, next_round, preparation, retry_lines, delivery, lines, causes, first_cause, refusal_cause, step_or, next}
 use Rattle.mencius_model.proofs.trace.NumberLists.{find-instances_found}
 use Rattle.mencius_model.proofs.trace.Lists.{IsIn, in_any, get_in, none_in, majority_more, majorities_meet}
 use Rattle.mencius_model.proofs.rights.LineRights.{HasLost, MaySuggest, MayPromise, MayPropose, MayLearn, May, IsGrown}
@@ -50,7 +50,7 @@ free_ahead : (m : Membership) (w : Trace) (p i : ℕ) → free_instance m w p �
 free_ahead m w p i h =
     let place = find-instances_found (is_free m w p) i h in
     let e = place.passes in
-    let r = and_parts (eqb (owner m i) p && leb (front m w p) i) (is_none (learned w p i)) e in
+    let r = and_parts (eqb (owner m i) p && leb (front m w p) i) (is_none (learned_value w p i)) e in
     let s = and_parts (eqb (owner m i) p) (leb (front m w p) i) r.0 in
     record { own = eqb-true (owner m i) p s.0; past = leb-true (front m w p) i s.1; small = place.small }
 
@@ -60,9 +60,9 @@ suggestion_may m w p None t each = tt
 suggestion_may m w p (Some i) t each = (each i refl, tt)
 
 submit_may : (m : Membership) (w : Trace) (p : ℕ) (command : Command)
-    → AllMay m (Submitted command p ∷ w) (suggestion p (free_instance m w p) (length (submitted w)))
+    → AllMay m (Submitted command p ∷ w) (suggestion p (free_instance m w p) (length (submitted_commands w)))
 submit_may m w p command =
-    suggestion_may m (Submitted command p ∷ w) p (free_instance m w p) (length (submitted w))
+    suggestion_may m (Submitted command p ∷ w) p (free_instance m w p) (length (submitted_commands w))
     (λ i e. let a = free_ahead m w p i e in
     record { own = a.own; past = omega (arith, a.past); small = a.small; ticket = inl refl })
 
@@ -75,20 +75,20 @@ unless_some : (a : Bool) (t u : ℕ) → unless a (Some t) ≡ Some u → (a ≡
 unless_some true t u h = absurd (cc)
 unless_some false t u h = (refl, cc)
 
-waits_lost : (w : Trace) (p i : ℕ) (o : Option ℕ) (t : ℕ) → suggested w p i ≡ o → waits w p i o ≡ Some t
+waits_lost : (w : Trace) (p i : ℕ) (o : Option ℕ) (t : ℕ) → suggested_ticket w p i ≡ o → waiting_of w p i o ≡ Some t
     → HasLost w p t i
 waits_lost w p i None t e h = absurd (cc)
 waits_lost w p i (Some u) t e h =
-    let r = unless_some (not (is_noop (learned w p i)) || list_any (is_suggestion_past p u i) w) u t h in
-    let s = or_parts (not (is_noop (learned w p i))) (list_any (is_suggestion_past p u i) w) r.0 in
-    let n = noop_is (learned w p i) (not-false (is_noop (learned w p i)) s.0) in
+    let r = unless_some (not (is_noop (learned_value w p i)) || list_any (is_suggested_again_by p u i) w) u t h in
+    let s = or_parts (not (is_noop (learned_value w p i))) (list_any (is_suggested_again_by p u i) w) r.0 in
+    let n = noop_is (learned_value w p i) (not-false (is_noop (learned_value w p i)) s.0) in
     record {
       before = rw r.1 at (suggested_in w p i u e);
       lost = learned_in w p i Noop n;
       last =
           λ j h. elim (cases_Bool (ltb i j)) [
             | inl lt ↦ absurd
-                (none_in (is_suggestion_past p u i) (Sent (Suggest p j t)) w s.1 h (rw (r.1, same p, same t) lt))
+                (none_in (is_suggested_again_by p u i) (Sent (Suggest p j t)) w s.1 h (rw (r.1, same p, same t) lt))
             | inr ge ↦ omega (arith, ge_from i j ge)
           ];
     } where
@@ -106,13 +106,14 @@ first_given : (f : ℕ → Option ℕ) (xs : List ℕ) (t : ℕ) → first_item 
 first_given f [] t h = absurd (cc)
 first_given f (x ∷ xs) t h = first_given_at f x xs t (f x) refl h (first_given f xs t)
 
-waiting_lost : (m : Membership) (w : Trace) (p t : ℕ) → first_item (waiting w p) ≡ Some t → (i : ℕ) × HasLost w p t i
+waiting_lost : (m : Membership) (w : Trace) (p t : ℕ) → first_item (waiting_tickets w p) ≡ Some t → (i : ℕ)
+    × HasLost w p t i
 waiting_lost m w p t h =
     let r = first_given (waiting_at w p) instances t h in
-    (r.0, waits_lost w p r.0 (suggested w p r.0) t refl r.1)
+    (r.0, waits_lost w p r.0 (suggested_ticket w p r.0) t refl r.1)
 
 retry_may : (m : Membership) (w : Trace) (p : ℕ) (o : Option ℕ)
-    → ((t : ℕ) → o ≡ Some t → (i : ℕ) × HasLost w p t i) → AllMay m (Retried p ∷ w) (again m w p o)
+    → ((t : ℕ) → o ≡ Some t → (i : ℕ) × HasLost w p t i) → AllMay m (Retried p ∷ w) (retry_lines m w p o)
 retry_may m w p None each = tt
 retry_may m w p (Some t) each =
     let r = each t refl in
@@ -145,7 +146,7 @@ suspect_may m w v p q (i ∷ xs) lt ne =
     elim (cases_Bool (is_covered m w p q i)) [
       | inl e ↦ rw e (
         record {
-          above = next_above (max (round m (trying w p i)) (round m (promised w p i))) m.count p;
+          above = next_above (max (round m (tried_ballot w p i)) (round m (promised_ballot w p i))) m.count p;
           own = mod-mul-add (next_round m w p i) m.count p lt;
           other = λ mine. suspect_other i e mine;
         },
@@ -155,7 +156,7 @@ suspect_may m w v p q (i ∷ xs) lt ne =
     ] where
       suspect_other : (i : ℕ) → is_covered m w p q i ≡ true → owner m i ≡ p → ⊥
       suspect_other i e mine =
-          let r = and_parts _ (is_none (learned w p i)) e in
+          let r = and_parts _ (is_none (learned_value w p i)) e in
           let s = eqb-true (owner m i) q (and_parts (eqb (owner m i) q) _ r.0).0 in
           let holds : eqb p q ≡ true = eq-eqb p q (sym mine ∙ s) in
           absurd (cc)
@@ -180,22 +181,22 @@ some_or_none None = inr refl
 some_or_none (Some z) = inl (z, refl)
 
 pub suggest_proposed : (w : Trace) (p i t : ℕ) → IsIn (Sent (Suggest p i t)) w
-    → (z : Value) × (proposed w i 0 ≡ Some z)
+    → (z : Value) × (proposal w i 0 ≡ Some z)
 suggest_proposed w p i t h =
-    elim (some_or_none (proposed w i 0)) [
+    elim (some_or_none (proposal w i 0)) [
       | inl r ↦ r
       | inr e ↦
-          let n = oldest_none (proposed_by i 0) (Sent (Suggest p i t)) w e h in
+          let n = oldest_none (proposal_by i 0) (Sent (Suggest p i t)) w e h in
           let turned = rw (same i) at n in absurd (cc)
     ]
 
 pub propose_proposed : (w : Trace) (p i b : ℕ) (x : Value) → 0 < b → IsIn (Sent (Propose p i b x)) w
-    → (z : Value) × (proposed w i b ≡ Some z)
+    → (z : Value) × (proposal w i b ≡ Some z)
 propose_proposed w p i b x pos h =
-    elim (some_or_none (proposed w i b)) [
+    elim (some_or_none (proposal w i b)) [
       | inl r ↦ r
       | inr e ↦
-          let n = oldest_none (proposed_by i b) (Sent (Propose p i b x)) w e h in
+          let n = oldest_none (proposal_by i b) (Sent (Propose p i b x)) w e h in
           let turned = rw (same_two i b, lt-ltb 0 b pos) at n in absurd (cc)
     ]
 
@@ -217,13 +218,13 @@ propose_positive m (l ∷ w) grown p i b z (inl e) =
 propose_positive m (l ∷ w) grown p i b z (inr h) = propose_positive m w grown.0 p i b z h
 
 vote_heard : (w : Trace) (k q p i : ℕ) → vote (Heard k q ∷ w) p i ≡ vote w p i
-vote_heard w k q p i = go (accepted w p i) where
-  go : (o : Option ℕ) → vote_of (Heard k q ∷ w) i (greater o None) ≡ vote_of w i o
+vote_heard w k q p i = go (accepted_ballot w p i) where
+  go : (o : Option ℕ) → vote_of (Heard k q ∷ w) i (greater_ballot o None) ≡ vote_of w i o
   go None = refl
-  go (Some b) = ap (vote_at b) (earlier_right (proposed w i b))
+  go (Some b) = ap (vote_at b) (earlier_right (proposal w i b))
 
 module _ (m : Membership) (w : Trace) (g : IsGrown m w) (k p : ℕ) (member : p < m.count) where
-  suggest_lines : (q i t : ℕ) → IsIn (Sent (Suggest q i t)) w → (a d : Bool) → (d ≡ true → promised w p i ≡ 0)
+  suggest_lines : (q i t : ℕ) → IsIn (Sent (Suggest q i t)) w → (a d : Bool) → (d ≡ true → promised_ballot w p i ≡ 0)
       → AllMay m (Heard k p ∷ w)
       ((if a then Sent (Skip p (front m w p) (first_owned m p (i + 1))) ∷ [] else [])
       ++ (if d then Sent (Accepted p q i 0) ∷ [] else []))
@@ -258,28 +259,28 @@ module _ (m : Membership) (w : Trace) (g : IsGrown m w) (k p : ℕ) (member : p 
   suggest_lines q i t h false false each = tt
 
   skip_lines : (q first stop : ℕ) (v : Trace) (xs : List ℕ) → IsIn (Sent (Skip q first stop)) v
-      → AllMay m v (map (λ j. Learned p j Noop) (filter (is_given_up m w p q first stop) xs))
+      → AllMay m v (map (λ j. Learned p j Noop) (filter (is_newly_skipped m w p q first stop) xs))
   skip_lines q first stop v [] h = tt
   skip_lines q first stop v (j ∷ xs) h =
-      elim (cases_Bool (is_given_up m w p q first stop j)) [
+      elim (cases_Bool (is_newly_skipped m w p q first stop j)) [
         | inl e ↦ rw e (skipped_here j e, skip_lines q first stop (Learned p j Noop ∷ v) xs (inr h))
         | inr e ↦ rw e (skip_lines q first stop v xs h)
       ] where
-        skipped_here : (j : ℕ) → is_given_up m w p q first stop j ≡ true → MayLearn m v j Noop
+        skipped_here : (j : ℕ) → is_newly_skipped m w p q first stop j ≡ true → MayLearn m v j Noop
         skipped_here j e =
-            let given = and_parts (gives_up m j (Skip q first stop)) (is_none (learned w p j)) e in
+            let given = and_parts (is_skipped_by m j (Skip q first stop)) (is_none (learned_value w p j)) e in
             let skip = in_sent (Skip q first stop) v h in
-            inl (inr (in_any (gives_up m j) (Skip q first stop) (sent v) skip given.0, refl))
+            inl (inr (in_any (is_skipped_by m j) (Skip q first stop) (sent_messages v) skip given.0, refl))
 
-  prepare_lines : (q i b : ℕ) → IsIn (Sent (Prepare q i b)) w → (o : Option Value) → learned w p i ≡ o
-      → AllMay m (Heard k p ∷ w) (answer_lines p q i b (acceptor_answer (promised w p i) (vote w p i) b o))
+  prepare_lines : (q i b : ℕ) → IsIn (Sent (Prepare q i b)) w → (o : Option Value) → learned_value w p i ≡ o
+      → AllMay m (Heard k p ∷ w) (answer_lines p q i b (prepare_answer_from (promised_ballot w p i) (vote w p i) b o))
   prepare_lines q i b h (Some x) e = (inr (learned_in w p i x e), tt)
   prepare_lines q i b h None e =
-      elim (cases_Bool (ltb (promised w p i) b)) [
+      elim (cases_Bool (ltb (promised_ballot w p i) b)) [
         | inl lt ↦ rw lt (
           record {
             asked = inr h;
-            above = omega (arith, ltb-true (promised w p i) b lt);
+            above = omega (arith, ltb-true (promised_ballot w p i) b lt);
             is = sym (vote_heard w k p p i);
           },
           tt,
@@ -289,28 +290,28 @@ module _ (m : Membership) (w : Trace) (g : IsGrown m w) (k p : ℕ) (member : p 
 
   promise_lines : (i b : ℕ) → AllMay m (Heard k p ∷ w) (on_promise m w (Heard k p ∷ w) p i b)
   promise_lines i b =
-      elim (cases_Bool (b == trying w p i)) [
-        | inl e ↦ rw e (lines_due (eqb-true b (trying w p i) e))
+      elim (cases_Bool (b == tried_ballot w p i)) [
+        | inl e ↦ rw e (lines_due (eqb-true b (tried_ballot w p i) e))
         | inr e ↦ rw e tt
       ]
     where
-      lines_due : b ≡ trying w p i
-          → AllMay m (Heard k p ∷ w) (proposal_lines p i b (proposal_due (learned w p i) (proposed w i b)
-          (are_majority m (promisers (Heard k p ∷ w) p i b)) (reported (Heard k p ∷ w) p i b)))
+      lines_due : b ≡ tried_ballot w p i
+          → AllMay m (Heard k p ∷ w) (proposal_lines p i b (due_proposal_from (learned_value w p i) (proposal w i b)
+          (are_majority m (promisers (Heard k p ∷ w) p i b)) (reported_vote (Heard k p ∷ w) p i b)))
       lines_due tried =
           let v = Heard k p ∷ w in
-          let unsaid = is_none (learned w p i) && is_none (proposed w i b) in
+          let unsaid = is_none (learned_value w p i) && is_none (proposal w i b) in
           elim (cases_Bool (unsaid && are_majority m (promisers v p i b))) [
             | inl e ↦
                 let r = and_parts unsaid (are_majority m (promisers v p i b)) e in
-                let s = and_parts (is_none (learned w p i)) (is_none (proposed w i b)) r.0 in
+                let s = and_parts (is_none (learned_value w p i)) (is_none (proposal w i b)) r.0 in
                 rw e (
                   record {
                     tried = omega (arith, tried);
-                    none = earlier_right (proposed w i b) ∙ none_is (proposed w i b) s.1;
+                    none = earlier_right (proposal w i b) ∙ none_is (proposal w i b) s.1;
                     among = promisers v p i b;
                     majority = r.1;
-                    highest = reported v p i b;
+                    highest = reported_vote v p i b;
                     promised = λ q a. promiser v p i b q a;
                     reported = λ x a. reported_promise v p i b x a;
                     is = refl;
@@ -323,13 +324,13 @@ module _ (m : Membership) (w : Trace) (g : IsGrown m w) (k p : ℕ) (member : p 
   propose_lines : (q i b : ℕ) (x : Value) → IsIn (Sent (Propose q i b x)) w
       → AllMay m (Heard k p ∷ w) (on_propose w p q i b)
   propose_lines q i b x h =
-      elim (cases_Bool (leb (promised w p i) b)) [
+      elim (cases_Bool (leb (promised_ballot w p i) b)) [
         | inl le ↦
             let r = propose_proposed w q i b x (propose_positive m w g q i b x h) h in
             rw le (
               record {
                 asked = inr (x, inr h);
-                free = omega (arith, leb-true (promised w p i) b le);
+                free = omega (arith, leb-true (promised_ballot w p i) b le);
                 value = r.0;
                 there = proposed_more (Heard k p) w i b r.0 r.1;
               },
@@ -338,7 +339,7 @@ module _ (m : Membership) (w : Trace) (g : IsGrown m w) (k p : ℕ) (member : p 
         | inr gt ↦ rw gt tt
       ]
 
-  decided_lines : (i b : ℕ) (o : Option Value) → proposed w i b ≡ o
+  decided_lines : (i b : ℕ) (o : Option Value) → proposal w i b ≡ o
       → are_majority m (accepters (Heard k p ∷ w) p i b) ≡ true
       → AllMay m (Heard k p ∷ w) (decision_lines p i o)
   decided_lines i b None e h = tt
@@ -355,12 +356,12 @@ module _ (m : Membership) (w : Trace) (g : IsGrown m w) (k p : ℕ) (member : p 
   accepted_lines : (i b : ℕ) → AllMay m (Heard k p ∷ w) (on_accepted m w (Heard k p ∷ w) p i b)
   accepted_lines i b =
       let v = Heard k p ∷ w in
-      elim (cases_Bool (b == trying w p i)) [
+      elim (cases_Bool (b == tried_ballot w p i)) [
         | inl tried ↦
-            elim (cases_Bool (is_none (learned w p i) && are_majority m (accepters v p i b))) [
+            elim (cases_Bool (is_none (learned_value w p i) && are_majority m (accepters v p i b))) [
               | inl e ↦
-                  let r = and_parts (is_none (learned w p i)) (are_majority m (accepters v p i b)) e in
-                  rw (tried, e) (decided_lines i b (proposed w i b) refl r.1)
+                  let r = and_parts (is_none (learned_value w p i)) (are_majority m (accepters v p i b)) e in
+                  rw (tried, e) (decided_lines i b (proposal w i b) refl r.1)
               | inr e ↦ rw (tried, e) tt
             ]
         | inr e ↦ rw e tt
@@ -368,7 +369,7 @@ module _ (m : Membership) (w : Trace) (g : IsGrown m w) (k p : ℕ) (member : p 
 
   learn_lines : (q i : ℕ) (x : Value) → IsIn (Sent (Learn q i x)) w → AllMay m (Heard k p ∷ w) (on_learn w p i x)
   learn_lines q i x h =
-      elim (cases_Bool (is_none (learned w p i))) [
+      elim (cases_Bool (is_none (learned_value w p i))) [
         | inl e ↦ rw e (inr (q, inr h), tt)
         | inr e ↦ rw e tt
       ]
@@ -378,18 +379,18 @@ module _ (m : Membership) (w : Trace) (g : IsGrown m w) (k p : ℕ) (member : p 
 
   message_lines : (x : Message) → IsIn (Sent x) w → AllMay m (Heard k p ∷ w) (on_message m w (Heard k p ∷ w) p x)
   message_lines (Suggest q i t) h =
-      suggest_lines q i t h (ltb (front m w p) i) (nat_le (promised w p i) 0) (leb_zero (promised w p i))
+      suggest_lines q i t h (ltb (front m w p) i) (nat_le (promised_ballot w p i) 0) (leb_zero (promised_ballot w p i))
   message_lines (Skip q first stop) h = skip_lines q first stop (Heard k p ∷ w) instances (inr h)
-  message_lines (Prepare q i b) h = prepare_lines q i b h (learned w p i) refl
+  message_lines (Prepare q i b) h = prepare_lines q i b h (learned_value w p i) refl
   message_lines (Promise q to i b v) h = promise_lines i b
   message_lines (Propose q i b x) h = propose_lines q i b x h
   message_lines (Accepted q to i b) h = accepted_lines i b
   message_lines (Learn q i x) h = learn_lines q i x h
 
-  delivery_lines : (o : Option Message) → slice_get (sent w) k ≡ o
+  delivery_lines : (o : Option Message) → slice_get (sent_messages w) k ≡ o
       → AllMay m (Heard k p ∷ w) (delivery m w (Heard k p ∷ w) p o)
   delivery_lines None e = tt
-  delivery_lines (Some x) e = message_lines x (sent_in x w (get_in (sent w) k x e))
+  delivery_lines (Some x) e = message_lines x (sent_in x w (get_in (sent_messages w) k x e))
 
 -- ---- every event
 
@@ -410,13 +411,14 @@ pub step_may : (m : Membership) (w : Trace) (e : Event) → IsGrown m w → None
     → May m w (head e) × AllMay m (head e ∷ w) (lines m w e)
 step_may m w (Submit p command) grown h = (h.1.0, submit_may m w p command)
 step_may m w (Deliver k p) grown h =
-    (tt, delivery_lines m w grown k p (leb-false m.count p h.0) (slice_get (sent w) k) refl)
+    (tt, delivery_lines m w grown k p (leb-false m.count p h.0) (slice_get (sent_messages w) k) refl)
 step_may m w (Lose k p) grown h = (tt, tt)
 step_may m w (Suspect p q) grown h =
     let parts = or_parts (leb m.count p) (leb m.count q) h.0 in
     (tt, suspect_may m w (Suspected p q ∷ w) p q instances (leb-false m.count p parts.0) h.1.0)
-step_may m w (Retry p) grown h = (tt, retry_may m w p (first_item (waiting w p)) (λ t e. waiting_lost m w p t e))
-step_may m w (Execute p) grown h = (some_is (learned w p (done w p)) h.1.0, tt)
+step_may m w (Retry p) grown h =
+    (tt, retry_may m w p (first_item (waiting_tickets w p)) (λ t e. waiting_lost m w p t e))
+step_may m w (Execute p) grown h = (some_is (learned_value w p (done w p)) h.1.0, tt)
 
 -- what is known of an event that is not refused
 pub record IsStep (m : Membership) (w v : Trace) (e : Event) : Type 0 where
@@ -425,7 +427,7 @@ pub record IsStep (m : Membership) (w v : Trace) (e : Event) : Type 0 where
 
 pub next_is : (m : Membership) (w v : Trace) (e : Event) → next m w e ≡ Ok v → IsStep m w v e
 next_is m w v e h =
-    let s = step_ok (followed_by (head e ∷ w) (lines m w e)) v (refused m w e) h in
+    let s = step_ok (followed_by (head e ∷ w) (lines m w e)) v (refusal_cause m w e) h in
     let r = none_holds ((nat_le most_events (events w), EventsFull) ∷ causes m w e) s.0 in
     record { allowed = r.1; is = s.1 }
 

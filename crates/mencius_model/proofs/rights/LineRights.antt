@@ -9,8 +9,8 @@ use Rattle.mencius_base.specs.declared.message.Value.{Value}
 use Rattle.mencius_base.specs.declared.message.Value.TheVariants.{Noop}
 use Rattle.mencius_base.specs.declared.message.Vote.{Vote}
 use Rattle.mencius_base.specs.Members.{Membership, owner}
-use Rattle.mencius_model.specs.Trace.{Line, Submitted, Heard, Lost, Suspected, Retried, Executed, Sent, Learned, Trace, submitted}
-use Rattle.mencius_model.specs.Instance.{promised, proposed, vote, learned, trying, are_majority, value_or_noop}
+use Rattle.mencius_model.specs.Trace.{Line, Submitted, Heard, Lost, Suspected, Retried, Executed, Sent, Learned, Trace, submitted_commands}
+use Rattle.mencius_model.specs.Instance.{promised_ballot, proposal, vote, learned_value, tried_ballot, are_majority, value_or_noop}
 use Rattle.mencius_model.specs.Server.{front, done}
 use Rattle.mencius_base.specs.Command.{is_same_id}
 use Rattle.mencius_model.specs.Decided.{IsDecided}
@@ -19,7 +19,7 @@ use Rattle.mencius_base.specs.Limits.{instance_count}
 
 -- the ticket of the command that was just submitted
 abbrev pub IsFresh : Trace → TicketNo → Type 0
-IsFresh (Submitted command p ∷ w) t = t ≡ length (submitted w)
+IsFresh (Submitted command p ∷ w) t = t ≡ length (submitted_commands w)
 IsFresh _ t = ⊥
 
 -- p suggested t, last at i, and learned no-op there
@@ -41,9 +41,9 @@ IsAsked w to i b =
 
 pub record MayAccept (w : Trace) (p to : ServerId) (i : Inst) (b : BallotNo) : Type 0 where
   pub asked : IsAsked w to i b
-  pub free : promised w p i ≤ b
+  pub free : promised_ballot w p i ≤ b
   pub value : Value
-  pub there : proposed w i b ≡ Some value
+  pub there : proposal w i b ≡ Some value
 
 -- p leads the ballot, and does not own the instance
 pub record MayPrepare (m : Membership) (p : ServerId) (i : Inst) (b : BallotNo) : Type 0 where
@@ -53,7 +53,7 @@ pub record MayPrepare (m : Membership) (p : ServerId) (i : Inst) (b : BallotNo) 
 
 pub record MayPromise (w : Trace) (p to : ServerId) (i : Inst) (b : BallotNo) (o : Option Vote) : Type 0 where
   pub asked : IsIn (Sent (Prepare to i b)) w
-  pub above : promised w p i < b
+  pub above : promised_ballot w p i < b
   pub is : o ≡ vote w p i
 
 -- the ballot is in the vote's reach
@@ -69,8 +69,8 @@ pub record HasPromised (w : Trace) (q : ServerId) (i : Inst) (b : BallotNo) (hig
   pub within : (z : Vote) → vote ≡ Some z → Reaches highest z.ballot
 
 pub record MayPropose (m : Membership) (w : Trace) (p : ServerId) (i : Inst) (b : BallotNo) (z : Value) : Type 0 where
-  pub tried : b ≡ trying w p i
-  pub none : proposed w i b ≡ None
+  pub tried : b ≡ tried_ballot w p i
+  pub none : proposal w i b ≡ None
   pub among : ServerId → Bool
   pub majority : are_majority m among ≡ true
   pub highest : Option Vote
@@ -93,12 +93,12 @@ MayLearn m w i x = IsDecided m w i x ⊎ ((p : ServerId) × IsIn (Sent (Learn p 
 
 abbrev pub May : Membership → Trace → Line → Type 0
 May m w (Submitted command p) =
-    list_any (λ (x : Command × ServerId). is_same_id x.0.id command.id) (submitted w) ≡ false
+    list_any (λ (x : Command × ServerId). is_same_id x.0.id command.id) (submitted_commands w) ≡ false
 May m w (Heard k p) = Unit {0}
 May m w (Lost k p) = Unit {0}
 May m w (Suspected p q) = Unit {0}
 May m w (Retried p) = Unit {0}
-May m w (Executed p) = (z : Value) × (learned w p (done w p) ≡ Some z)
+May m w (Executed p) = (z : Value) × (learned_value w p (done w p) ≡ Some z)
 May m w (Sent x) = MaySend m w x
 May m w (Learned p i z) = MayLearn m w i z
 

@@ -2,34 +2,34 @@
 use Rattle.std.proofs.Common.{◌≡◌, ℕ, ◌<◌, ◌≤◌, Bool, true, false, [], ◌∷◌, Option, Some, None, max, refl, ap, arith, cond, ltb, eqb, ◌&&◌, ⊎_elim}
 use Rattle.std.proofs.lemmas.Bool.{cases_lt, lt-ltb, le-ltb}
 use Rattle.mencius_base.specs.declared.message.Message.TheVariants.{Suggest, Skip, Accepted, Prepare, Promise, Propose, Learn}
-use Rattle.mencius_model.specs.Trace.{Line, Submitted, Heard, Lost, Suspected, Retried, Executed, Sent, Learned, Trace, earlier, greatest, oldest}
-use Rattle.mencius_model.specs.Instance.{promised_by, promised, proposed, accepted_by, accepted, greater, vote_at, vote_of, vote}
+use Rattle.mencius_model.specs.Trace.{Line, Submitted, Heard, Lost, Suspected, Retried, Executed, Sent, Learned, Trace, first_some, greatest_by, oldest_by}
+use Rattle.mencius_model.specs.Instance.{promised_by, promised_ballot, proposal, accepted_by, accepted_ballot, greater_ballot, vote_at, vote_of, vote}
 
 pub max-zero : (n : ℕ) → max n 0 ≡ n
 max-zero n = omega arith
 
-pub earlier-none : {A : Type 0} (x : Option A) → earlier x None ≡ x
-earlier-none None = refl
-earlier-none (Some x) = refl
+pub first_some-none : {A : Type 0} (x : Option A) → first_some x None ≡ x
+first_some-none None = refl
+first_some-none (Some x) = refl
 
-pub greater-none : (x : Option ℕ) → greater x None ≡ x
-greater-none None = refl
-greater-none (Some x) = refl
+pub greater_ballot-none : (x : Option ℕ) → greater_ballot x None ≡ x
+greater_ballot-none None = refl
+greater_ballot-none (Some x) = refl
 
 -- a line that gives nothing changes nothing
-pub greatest_quiet : (f : Line → ℕ) (l : Line) (w : Trace) → f l ≡ 0 → greatest f (l ∷ w) ≡ greatest f w
-greatest_quiet f l w e = rw e (max-zero (greatest f w))
+pub greatest_quiet : (f : Line → ℕ) (l : Line) (w : Trace) → f l ≡ 0 → greatest_by f (l ∷ w) ≡ greatest_by f w
+greatest_quiet f l w e = rw e (max-zero (greatest_by f w))
 
 pub oldest_quiet : {A : Type 0} (f : Line → Option A) (l : Line) (w : Trace) → f l ≡ None
-    → oldest f (l ∷ w) ≡ oldest f w
-oldest_quiet f l w e = rw e (earlier-none (oldest f w))
+    → oldest_by f (l ∷ w) ≡ oldest_by f w
+oldest_quiet f l w e = rw e (first_some-none (oldest_by f w))
 
 -- what was given first stays
-pub oldest_stays : {A : Type 0} (f : Line → Option A) (l : Line) (w : Trace) (x : A) → oldest f w ≡ Some x
-    → oldest f (l ∷ w) ≡ Some x
+pub oldest_stays : {A : Type 0} (f : Line → Option A) (l : Line) (w : Trace) (x : A) → oldest_by f w ≡ Some x
+    → oldest_by f (l ∷ w) ≡ Some x
 oldest_stays f l w x e = rw e
 
-pub vote_of_same : (v w : Trace) (i : ℕ) (o : Option ℕ) → ((b : ℕ) → proposed v i b ≡ proposed w i b)
+pub vote_of_same : (v w : Trace) (i : ℕ) (o : Option ℕ) → ((b : ℕ) → proposal v i b ≡ proposal w i b)
     → vote_of v i o ≡ vote_of w i o
 vote_of_same v w i None e = refl
 vote_of_same v w i (Some b) e = ap (vote_at b) (e b)
@@ -43,7 +43,7 @@ IsAtMost-cond : (a : Bool) (b : ℕ) → IsAtMost (cond a (Some b) None) (cond a
 IsAtMost-cond true b = omega arith
 IsAtMost-cond false b = tt
 
-IsAtMost-greater : (x y : Option ℕ) (n m : ℕ) → IsAtMost x n → IsAtMost y m → IsAtMost (greater x y) (max n m)
+IsAtMost-greater : (x y : Option ℕ) (n m : ℕ) → IsAtMost x n → IsAtMost y m → IsAtMost (greater_ballot x y) (max n m)
 IsAtMost-greater None None n m bounded also = tt
 IsAtMost-greater None (Some b) n m bounded also = omega arith
 IsAtMost-greater (Some a) None n m bounded also = omega arith
@@ -70,11 +70,11 @@ accepted_by-small p i (Executed server) = tt
 accepted_by-small p i (Learned server inst value) = tt
 
 -- an acceptance is never above the promise
-pub accepted_small : (w : Trace) (p i : ℕ) → IsAtMost (accepted w p i) (promised w p i)
+pub accepted_small : (w : Trace) (p i : ℕ) → IsAtMost (accepted_ballot w p i) (promised_ballot w p i)
 accepted_small [] p i = tt
 accepted_small (l ∷ w) p i = IsAtMost-greater _ _ _ _ (accepted_small w p i) (accepted_by-small p i l)
 
-pub greater_above : (o : Option ℕ) (n b : ℕ) → IsAtMost o n → n ≤ b → greater o (Some b) ≡ Some b
+pub greater_above : (o : Option ℕ) (n b : ℕ) → IsAtMost o n → n ≤ b → greater_ballot o (Some b) ≡ Some b
 greater_above None n b bounded below = refl
 greater_above (Some a) n b bounded below =
     ⊎_elim

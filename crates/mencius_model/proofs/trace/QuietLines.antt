@@ -6,13 +6,13 @@ use Rattle.mencius_base.specs.declared.message.Message.TheVariants.{Suggest, Ski
 use Rattle.mencius_base.specs.declared.message.Value.{Value}
 use Rattle.mencius_base.specs.declared.message.Vote.{Vote}
 use Rattle.mencius_model.specs.Trace.{Line, Heard, Sent, Learned}
-use Rattle.mencius_model.specs.Instance.{promised_by, proposed_by, accepted_by, learned_by, tried_by, is_promise, is_acceptance, vote_reported}
+use Rattle.mencius_model.specs.Instance.{promised_by, proposal_by, accepted_by, learned_by, tried_by, is_promise, is_acceptance, vote_reported}
 use Rattle.std.proofs.lemmas.Bool.{ne_eqb}
 
 -- a line that says nothing of p's slot for i
 pub record IsQuiet (p : ServerId) (i : Inst) (l : Line) : Type 0 where
   pub promised : promised_by p i l ≡ 0
-  pub proposed : (b : BallotNo) → proposed_by i b l ≡ None
+  pub proposed : (b : BallotNo) → proposal_by i b l ≡ None
   pub accepted : accepted_by p i l ≡ None
   pub learned : learned_by p i l ≡ None
   pub tried : tried_by p i l ≡ 0
@@ -20,7 +20,7 @@ pub record IsQuiet (p : ServerId) (i : Inst) (l : Line) : Type 0 where
 pub quiet_heard : (k p i : ℕ) → IsQuiet p i (Heard k p)
 quiet_heard k p i = record { promised = refl; proposed = λ b. refl; accepted = refl; learned = refl; tried = refl }
 
--- a message that counts in no tally of the ballot that p tries at i
+-- a message that counts in no set of the ballot that p tries at i
 pub record IsUncounted (i : Inst) (b : BallotNo) (x : Message) : Type 0 where
   pub promise : (q : ServerId) → is_promise i b q x ≡ false
   pub acceptance : (q : ServerId) → is_acceptance i b q x ≡ false

@@ -10,7 +10,7 @@ use Rattle.mencius_base.specs.declared.message.Message.{Message}
 use Rattle.mencius_base.specs.declared.message.Message.TheVariants.{Suggest, Skip, Accepted, Prepare, Promise, Propose, Learn}
 use Rattle.mencius_base.specs.declared.message.Vote.{Vote}
 use Rattle.mencius_model.specs.Instance.{higher_vote, highest_vote, vote_reported}
-use Rattle.mencius_model.proofs.trace.Tallies.{any_more}
+use Rattle.mencius_model.proofs.trace.ServerSets.{any_more}
 
 contains_here : {X : Type 0} (x : X) (xs : List X) → Contains (x ∷ xs) x
 contains_here x xs = Contains-append_left (x ∷ []) xs x (Contains-push [] x)
@@ -81,7 +81,7 @@ pub Stands-heard : (report : Message → Option Vote) (hs : List Message) (x : M
     → Stands (highest_vote (map report hs)) (report x)
 Stands-heard report hs x has = Stands-fold_heard report hs x None has
 
--- a tally's question has the same answer when a message comes again
+-- a set's question has the same answer when a message comes again
 pub any_again : (test : Message → Bool) (hs : List Message) (x : Message) → Contains hs x
     → list_any test (hs ++ x ∷ []) ≡ list_any test hs
 any_again test hs x has =

@@ -4,8 +4,8 @@ use Rattle.std.specs.Prelude.{slice_get, IsTrue}
 use Rattle.mencius_base.specs.Outbox.{outbox_full}
 use Rattle.mencius_base.specs.declared.message.Message.{Message}
 use Rattle.mencius_base.specs.declared.event.Event.TheVariants.{Deliver}
-use Rattle.mencius_model.specs.Trace.{Trace, sent, messages_of, Heard, Line, followed_by}
-use Rattle.mencius_model.specs.Next.{lines, learnings, delivery, on_accepted, on_message, on_promise}
+use Rattle.mencius_model.specs.Trace.{Trace, sent_messages, messages_of, Heard, Line, followed_by}
+use Rattle.mencius_model.specs.Next.{lines, learned_count, delivery, on_accepted, on_message, on_promise}
 use Rattle.mencius_server.specs.State.{ServerState}
 use Rattle.mencius_server.specs.Machine.{sent_on, after_hearing, learned_on}
 use Rattle.mencius_server.specs.Laws.{HearIsEvent, HearLearnsAsEvent}
@@ -15,12 +15,12 @@ use Rattle.mencius_base.specs.declared.message.Message.TheVariants.{Suggest, Ski
 use Rattle.mencius_base.specs.Members.{Membership}
 use Rattle.mencius_base.specs.Message.{goes_to, is_for, is_within}
 use Rattle.mencius_model.specs.Instance.{IsVoted}
-use Rattle.mencius_model.proofs.reached.ServerFacts.{IsSound, sound}
+use Rattle.mencius_model.proofs.reached.ServerFacts.{HasServerFacts, server_facts}
 use Rattle.mencius_server.proofs.events.ServerTrace.{Meets, meets_propose}
 use Rattle.mencius_server.proofs.events.HeardSkip.{meets_skip}
 use Rattle.mencius_server.proofs.events.HeardKinds.{meets_accepted, meets_learn, meets_prepare, meets_promise, meets_suggest}
 
-voted_at : (m : Membership) (w : Trace) (p i : ℕ) → IsSound m w → IsVoted w p i
+voted_at : (m : Membership) (w : Trace) (p i : ℕ) → HasServerFacts m w → IsVoted w p i
 voted_at m w p i facts = record { proposal = λ b e. facts.voted p i b e }
 
 -- what is addressed to a server goes to it, within all bounds
@@ -30,8 +30,8 @@ within_of m p x addressed = (and_parts _ _ (and_parts _ _ addressed).1).1
 goes_of : (m : Membership) (p : ℕ) (x : Message) → IsTrue (is_for m p x) → goes_to p x ≡ true
 goes_of m p x addressed = (and_parts _ _ (and_parts _ _ addressed).1).0
 
-meets_any : (m : Membership) (w : Trace) (k p : ℕ) (x : Message) → IsSound m w → IsTrue (is_for m p x)
-    → slice_get (sent w) k ≡ Some x
+meets_any : (m : Membership) (w : Trace) (k p : ℕ) (x : Message) → HasServerFacts m w → IsTrue (is_for m p x)
+    → slice_get (sent_messages w) k ≡ Some x
     → Meets m w k p x (on_message m w (Heard k p ∷ w) p x)
 meets_any m w k p (Suggest from inst ticket) facts addressed e =
     let to = and_parts _ _ (within_of m p (Suggest from inst ticket) addressed) in
@@ -41,12 +41,12 @@ meets_any m w k p (Accepted from to inst ballot) facts addressed e =
     let known = and_parts _ _ (within_of m p (Accepted from to inst ballot) addressed) in
     let here : to ≡ p = eqb-true _ _ (goes_of m p (Accepted from to inst ballot) addressed) in
     let P : ℕ → Type 0 =
-    λ d. slice_get (sent w) k ≡ Some (Accepted from d inst ballot)
+    λ d. slice_get (sent_messages w) k ≡ Some (Accepted from d inst ballot)
     → Meets m w k p (Accepted from d inst ballot) (on_accepted m w (Heard k p ∷ w) p inst ballot) in
     subst P (sym here)
     (λ said. meets_accepted m w k p from inst ballot (ltb-true _ _ known.1)
     (λ zero. facts.to_owner k from p inst
-    (subst (λ (b : ℕ). slice_get (sent w) k ≡ Some (Accepted from p inst b)) zero said)) said)
+    (subst (λ (b : ℕ). slice_get (sent_messages w) k ≡ Some (Accepted from p inst b)) zero said)) said)
     e
 meets_any m w k p (Prepare from inst ballot) facts addressed e =
     let known = and_parts _ _ (within_of m p (Prepare from inst ballot) addressed) in
@@ -56,7 +56,7 @@ meets_any m w k p (Promise from to inst ballot vote) facts addressed e =
     let inside = and_parts _ _ known.0 in
     let here : to ≡ p = eqb-true _ _ (goes_of m p (Promise from to inst ballot vote) addressed) in
     let P : ℕ → Type 0 =
-    λ d. slice_get (sent w) k ≡ Some (Promise from d inst ballot vote)
+    λ d. slice_get (sent_messages w) k ≡ Some (Promise from d inst ballot vote)
     → Meets m w k p (Promise from d inst ballot vote) (on_promise m w (Heard k p ∷ w) p inst ballot) in
     subst P (sym here)
     (λ said. meets_promise m w k p from inst ballot vote (ltb-true _ _ inside.1) (ltb-true _ _ known.1)
@@ -71,13 +71,13 @@ meets_any m w k p (Learn from inst value) facts addressed e =
     meets_learn m w k p from inst value (ltb-true _ _ known.1) e
 
 -- the row of the event has the message's lines
-delivery_row : (w : Trace) (s : ServerState) (k : ℕ) (x : Message) → slice_get (sent w) k ≡ Some x
+delivery_row : (w : Trace) (s : ServerState) (k : ℕ) (x : Message) → slice_get (sent_messages w) k ≡ Some x
     → on_message s.members w (Heard k s.id ∷ w) s.id x ≡ lines s.members w (Deliver k s.id)
 delivery_row w s k x heard = ap (delivery s.members w (Heard k s.id ∷ w) s.id) (sym heard)
 
 pub hear_is_event : HearIsEvent
 hear_is_event w s k x at addressed heard =
-    let meets = meets_any s.members w k s.id x (sound s.members w at.reached) addressed heard in
+    let meets = meets_any s.members w k s.id x (server_facts s.members w at.reached) addressed heard in
     let row = delivery_row w s k x heard in
     let sends : sent_on s x ≡ messages_of (lines s.members w (Deliver k s.id)) =
     ap (λ (y : ServerState). sent_on y x) at.state ∙ meets.sends ∙ ap messages_of row in
@@ -90,5 +90,5 @@ hear_is_event w s k x at addressed heard =
 
 pub hear_learns : HearLearnsAsEvent
 hear_learns w s k x at addressed heard =
-    let meets = meets_any s.members w k s.id x (sound s.members w at.reached) addressed heard in
-    ap (λ (y : ServerState). learned_on y x) at.state ∙ meets.learns ∙ ap learnings (delivery_row w s k x heard)
+    let meets = meets_any s.members w k s.id x (server_facts s.members w at.reached) addressed heard in
+    ap (λ (y : ServerState). learned_on y x) at.state ∙ meets.learns ∙ ap learned_count (delivery_row w s k x heard)

@@ -7,10 +7,10 @@ use Rattle.mencius_base.specs.declared.message.Message.TheVariants.{Skip}
 use Rattle.mencius_base.specs.declared.message.Value.{Value}
 use Rattle.mencius_base.specs.declared.message.Value.TheVariants.{Noop}
 use Rattle.mencius_base.specs.Members.{Membership, below, instances}
-use Rattle.mencius_model.specs.Trace.{Heard, Learned, Line, Trace, earlier, followed_by, sent, messages_of}
-use Rattle.mencius_model.specs.Instance.{learned, trying}
+use Rattle.mencius_model.specs.Trace.{Heard, Learned, Line, Trace, first_some, followed_by, sent_messages, messages_of}
+use Rattle.mencius_model.specs.Instance.{learned_value, tried_ballot}
 use Rattle.mencius_model.specs.Server.{front}
-use Rattle.mencius_model.specs.Next.{is_given_up, is_learning, learnings, on_skip}
+use Rattle.mencius_model.specs.Next.{is_learning, is_newly_skipped, learned_count, on_skip}
 use Rattle.mencius_model.proofs.trace.NumberLists.{map-instances_same}
 use Rattle.coord_paxos.specs.SlotState.{SlotState}
 use Rattle.coord_paxos.specs.Fresh.{new_slot}
@@ -29,21 +29,21 @@ noop_at p j = Learned p j Noop
 
 -- the first value that is learned stays
 after_learn_is : (s : SlotState) (z : Value) (o : Option Value) → s.learned ≡ o
-    → after_learn s z ≡ record s { learned = earlier s.learned (Some z) }
+    → after_learn s z ≡ record s { learned = first_some s.learned (Some z) }
 after_learn_is s z None e =
     ap (λ (o : Option Value). cond (is_none o) (record s { learned = Some z }) s) e
-    ∙ ap (λ (o : Option Value). record s { learned = earlier o (Some z) }) (sym e)
+    ∙ ap (λ (o : Option Value). record s { learned = first_some o (Some z) }) (sym e)
 after_learn_is s z (Some x) e =
     ap (λ (o : Option Value). cond (is_none o) (record s { learned = Some z }) s) e
     ∙ ap (λ (o : Option Value). record s { learned = o }) e
-    ∙ ap (λ (o : Option Value). record s { learned = earlier o (Some z) }) (sym e)
+    ∙ ap (λ (o : Option Value). record s { learned = first_some o (Some z) }) (sym e)
 
 -- one more line, for a slot that may know already
 noop_cases : (m : Membership) (v : Trace) (p i j : ℕ) (a : Bool) → eqb i j ≡ a
     → slot_at m (Learned p i Noop ∷ v) p j ≡ cond a (after_learn (slot_at m v p j) Noop) (slot_at m v p j)
 noop_cases m v p i j true e =
     ap (λ (i : ℕ). slot_at m (Learned p i Noop ∷ v) p j) (eqb-true i j e) ∙ slot_at-learning m v p j Noop
-    ∙ sym (after_learn_is (slot_at m v p j) Noop (learned v p j) refl)
+    ∙ sym (after_learn_is (slot_at m v p j) Noop (learned_value v p j) refl)
 noop_cases m v p i j false e =
     slot_at-quiet m v (Learned p i Noop) p j (quiet_learned p i j Noop (λ same. eqb-false i j e (sym same))) refl
 
@@ -51,15 +51,16 @@ learned_noop : (m : Membership) (v : Trace) (p i j : ℕ)
     → slot_at m (Learned p i Noop ∷ v) p j ≡ cond (eqb i j) (after_learn (slot_at m v p j) Noop) (slot_at m v p j)
 learned_noop m v p i j = noop_cases m v p i j (eqb i j) refl
 
-earlier-twice : (o : Option Value) (z : Value) → earlier (earlier o (Some z)) (Some z) ≡ earlier o (Some z)
-earlier-twice None z = refl
-earlier-twice (Some x) z = refl
+first_some-twice : (o : Option Value) (z : Value) → first_some (first_some o (Some z)) (Some z) ≡ first_some o (Some z)
+first_some-twice None z = refl
+first_some-twice (Some x) z = refl
 
 after_learn-twice : (x : SlotState) → after_learn (after_learn x Noop) Noop ≡ after_learn x Noop
 after_learn-twice x =
     ap (λ (s : SlotState). after_learn s Noop) (after_learn_is x Noop x.learned refl)
-    ∙ after_learn_is (record x { learned = earlier x.learned (Some Noop) }) Noop (earlier x.learned (Some Noop)) refl
-    ∙ ap (λ (o : Option Value). record x { learned = o }) (earlier-twice x.learned Noop)
+    ∙ after_learn_is (record x { learned = first_some x.learned (Some Noop) }) Noop
+    (first_some x.learned (Some Noop)) refl
+    ∙ ap (λ (o : Option Value). record x { learned = o }) (first_some-twice x.learned Noop)
     ∙ sym (after_learn_is x Noop x.learned refl)
 
 -- all the lines
@@ -144,7 +145,8 @@ counts_from p n test (a ∷ xs) = step (test a) (counts_from p (n + cond (test a
         e ∙ ap (λ (y : ℕ). fold (λ (total : ℕ) (l : Line). total + cond (is_learning l) 1 0) y
         (map (noop_at p) (filter test xs))) (add-zero n)
 
-counts_noops : (p : ℕ) (test : ℕ → Bool) (xs : List ℕ) → count_by test xs ≡ learnings (map (noop_at p) (filter test xs))
+counts_noops : (p : ℕ) (test : ℕ → Bool) (xs : List ℕ) → count_by test xs
+    ≡ learned_count (map (noop_at p) (filter test xs))
 counts_noops p test xs = counts_from p 0 test xs
 
 uncounted_skip : (q first stop : ℕ) (j c : ℕ) → IsUncounted j c (Skip q first stop)
@@ -185,29 +187,30 @@ after_skip_cond : (m : Membership) (q first stop j : ℕ) (x : SlotState) (o : O
     ≡ cond (is_skipped m q first stop j && is_none x.learned) (after_learn x Noop) x
 after_skip_cond m q first stop j x o e = after_skip_either x (is_skipped m q first stop j) o e
 
-pub meets_skip : (m : Membership) (w : Trace) (k p q first stop : ℕ) → slice_get (sent w) k ≡ Some (Skip q first stop)
+pub meets_skip : (m : Membership) (w : Trace) (k p q first stop : ℕ) → slice_get (sent_messages w) k
+    ≡ Some (Skip q first stop)
     → Meets m w k p (Skip q first stop) (on_skip m w p q first stop)
 meets_skip m w k p q first stop e = record {
-  sends = unsent_noops p (filter (is_given_up m w p q first stop) instances);
+  sends = unsent_noops p (filter (is_newly_skipped m w p q first stop) instances);
   learns =
-      count_by-instances_same _ (is_given_up m w p q first stop)
+      count_by-instances_same _ (is_newly_skipped m w p q first stop)
       (λ j small.
       ap (λ (x : SlotState). is_newly_skipped_slot m q first stop j x) (slot-server_at m w p j small))
-      ∙ counts_noops p (is_given_up m w p q first stop) instances;
+      ∙ counts_noops p (is_newly_skipped m w p q first stop) instances;
   state = skipped_state _ (followed_by (Heard k p ∷ w) (on_skip m w p q first stop))
-      (front_noops m p (filter (is_given_up m w p q first stop) instances) (Heard k p ∷ w) ∙ omega arith)
+      (front_noops m p (filter (is_newly_skipped m w p q first stop) instances) (Heard k p ∷ w) ∙ omega arith)
       (map-instances_same _ (slot_at m (followed_by (Heard k p ∷ w) (on_skip m w p q first stop)) p) (new_slot m)
       (λ j small.
       ap (λ (x : SlotState). slot_after_skip m q first stop j x) (slot-server_at m w p j small)
-      ∙ after_skip_cond m q first stop j (slot_at m w p j) (learned w p j) refl
+      ∙ after_skip_cond m q first stop j (slot_at m w p j) (learned_value w p j) refl
       ∙ ap (λ (a : Bool). cond a (after_learn (slot_at m w p j) Noop) (slot_at m w p j))
-      (sym (among (is_given_up m w p q first stop) instances j
-      ∙ ap (λ (a : Bool). is_given_up m w p q first stop j && a) (is_instance j small)
-      ∙ and-true (is_given_up m w p q first stop j)))
+      (sym (among (is_newly_skipped m w p q first stop) instances j
+      ∙ ap (λ (a : Bool). is_newly_skipped m w p q first stop j && a) (is_instance j small)
+      ∙ and-true (is_newly_skipped m w p q first stop j)))
       ∙ ap (λ (x : SlotState). cond
-      (list_any (λ (i : ℕ). eqb i j) (filter (is_given_up m w p q first stop) instances)) (after_learn x Noop) x)
-      (sym (slot_at-heard m w k p j _ e (uncounted_skip q first stop j (trying w p j))))
-      ∙ sym (learned_noops m p j (filter (is_given_up m w p q first stop) instances) (Heard k p ∷ w))));
+      (list_any (λ (i : ℕ). eqb i j) (filter (is_newly_skipped m w p q first stop) instances)) (after_learn x Noop) x)
+      (sym (slot_at-heard m w k p j _ e (uncounted_skip q first stop j (tried_ballot w p j))))
+      ∙ sym (learned_noops m p j (filter (is_newly_skipped m w p q first stop) instances) (Heard k p ∷ w))));
 }
   where
     and-true : (a : Bool) → (a && true) ≡ a

@@ -5,7 +5,7 @@ use Rattle.mencius_base.specs.declared.event.Event.TheVariants.{Lose, Execute}
 use Rattle.mencius_base.specs.declared.refusal.Refusal.{Refusal}
 use Rattle.mencius_base.specs.Members.{Membership}
 use Rattle.mencius_model.specs.Trace.{Trace}
-use Rattle.mencius_model.specs.Next.{next, refused, step_or, with_event}
+use Rattle.mencius_model.specs.Next.{next, refusal_cause, step_or, with_event}
 use Rattle.mencius_server.specs.Laws.{ExecutionLeavesAll, LeavesOthers, LossLeavesAll}
 use Rattle.mencius_server.specs.Reached.{server_at}
 use Rattle.mencius_server.proofs.events.OtherServers.{execution_stays, loss_stays, others_stay}
@@ -15,8 +15,8 @@ accepted_on w v None h = (refl, cc)
 accepted_on w v (Some r) h = absurd (cc)
 
 accepted : (m : Membership) (w v : Trace) (e : Event) → next m w e ≡ Ok v
-    → (refused m w e ≡ None) × (v ≡ with_event m w e)
-accepted m w v e h = accepted_on (with_event m w e) v (refused m w e) h
+    → (refusal_cause m w e ≡ None) × (v ≡ with_event m w e)
+accepted m w v e h = accepted_on (with_event m w e) v (refusal_cause m w e) h
 
 pub leaves_others : LeavesOthers
 leaves_others m w v e r h q ne =

@@ -11,9 +11,9 @@ use Rattle.mencius_base.specs.declared.message.Value.{Value}
 use Rattle.mencius_base.specs.declared.message.Vote.{Vote}
 use Rattle.mencius_base.specs.Members.{Membership, most_events, owner}
 use Rattle.mencius_model.specs.Trace.{Line, Submitted, Heard, Lost, Suspected, Retried, Executed, Sent, Learned, Trace, events, followed_by}
-use Rattle.mencius_model.specs.Instance.{proposed, proposed_by, trying, IsVoted}
+use Rattle.mencius_model.specs.Instance.{proposal, proposal_by, tried_ballot, IsVoted}
 use Rattle.mencius_model.specs.Server.{front_by}
-use Rattle.mencius_model.specs.Next.{IsReached, causes, head, lines, refused, with_event, server_of}
+use Rattle.mencius_model.specs.Next.{IsReached, causes, head, lines, refusal_cause, with_event, server_of}
 use Rattle.mencius_model.proofs.trace.OneMoreLine.{greatest_quiet, oldest_quiet}
 use Rattle.mencius_model.proofs.rights.LineRights.{IsGrown, MaySuggest}
 use Rattle.mencius_model.proofs.trace.AnswersLast.{accepted_in}
@@ -68,7 +68,7 @@ module _ (p q : ℕ) (ne : p ≡ q → ⊥) where
 
     -- a proposal of another is at no ballot that q tries
     suggest_other : (from j t b : ℕ) → owner m j ≡ p → (a : Bool) → (eqb j i && eqb b 0) ≡ a
-        → if_own m q i b (proposed (Sent (Suggest from j t) ∷ w) i b) ≡ if_own m q i b (proposed w i b)
+        → if_own m q i b (proposal (Sent (Suggest from j t) ∷ w) i b) ≡ if_own m q i b (proposal w i b)
     suggest_other from j t b own true e =
         let r = and_parts (eqb j i) (eqb b 0) e in
         let here = eqb-true j i r.0 in
@@ -76,25 +76,25 @@ module _ (p q : ℕ) (ne : p ≡ q → ⊥) where
         let theirs : eqb (owner m i) q ≡ false = not_q (owner m i) (ap (owner m) (sym here) ∙ own) in
         rw (zero, theirs)
     suggest_other from j t b own false e =
-        ap (if_own m q i b) (oldest_quiet (proposed_by i b) (Sent (Suggest from j t)) w (rw e))
+        ap (if_own m q i b) (oldest_quiet (proposal_by i b) (Sent (Suggest from j t)) w (rw e))
 
     propose_other : (from j b : ℕ) (z : Value) (c : ℕ) → owner m b ≡ p → (0 < c → owner m c ≡ q) → (a : Bool)
         → ((eqb j i && eqb b c) && ltb 0 c) ≡ a
-        → if_own m q i c (proposed (Sent (Propose from j b z) ∷ w) i c) ≡ if_own m q i c (proposed w i c)
+        → if_own m q i c (proposal (Sent (Propose from j b z) ∷ w) i c) ≡ if_own m q i c (proposal w i c)
     propose_other from j b z c own tried true e =
         let r = and_parts (eqb j i && eqb b c) (ltb 0 c) e in
         let here = eqb-true b c (and_parts (eqb j i) (eqb b c) r.0).1 in
         absurd (ne (sym own ∙ ap (owner m) here ∙ tried (ltb-true 0 c r.1)))
     propose_other from j b z c own tried false e =
-        ap (if_own m q i c) (oldest_quiet (proposed_by i c) (Sent (Propose from j b z)) w (rw e))
+        ap (if_own m q i c) (oldest_quiet (proposal_by i c) (Sent (Propose from j b z)) w (rw e))
 
     sent_other : (x : Message) → IsGrown m (Sent x ∷ w) → IsBy p (Sent x)
         → slot_at m (Sent x ∷ w) q i ≡ slot_at m w q i
     sent_other (Suggest from j t) grown by =
         let may : MaySuggest m w from j t = grown.1 in
         slot_at-proposing m w (Sent (Suggest from j t)) q i
-        (if_own m q i (trying w q i) (proposed w i (trying w q i))) (voted grown.0) refl refl refl refl refl
-        (suggest_other from j t (trying w q i) (may.own ∙ by) (eqb j i && eqb (trying w q i) 0) refl)
+        (if_own m q i (tried_ballot w q i) (proposal w i (tried_ballot w q i))) (voted grown.0) refl refl refl refl refl
+        (suggest_other from j t (tried_ballot w q i) (may.own ∙ by) (eqb j i && eqb (tried_ballot w q i) 0) refl)
     sent_other (Skip from first stop) grown by =
         slot_at-quiet m w (Sent (Skip from first stop)) q i (skip_quiet from first stop) refl
     sent_other (Accepted from to j b) grown by =
@@ -105,11 +105,11 @@ module _ (p q : ℕ) (ne : p ≡ q → ⊥) where
         slot_at-quiet m w (Sent (Promise from to j b o)) q i (promise_quiet from to j b o by) refl
     sent_other (Propose from j b z) grown by =
         slot_at-proposing m w (Sent (Propose from j b z)) q i
-        (if_own m q i (trying w q i) (proposed w i (trying w q i))) (voted grown.0) refl refl refl refl refl
-        (propose_other from j b z (trying w q i)
+        (if_own m q i (tried_ballot w q i) (proposal w i (tried_ballot w q i))) (voted grown.0) refl refl refl refl refl
+        (propose_other from j b z (tried_ballot w q i)
         ((propose_ballot m (Sent (Propose from j b z) ∷ w) grown from j b z (inl refl)).1
         ∙ by) (tried_owner m w grown.0 q i)
-        ((eqb j i && eqb b (trying w q i)) && ltb 0 (trying w q i)) refl)
+        ((eqb j i && eqb b (tried_ballot w q i)) && ltb 0 (tried_ballot w q i)) refl)
     sent_other (Learn from j z) grown by =
         slot_at-quiet m w (Sent (Learn from j z)) q i
         (record { promised = refl; proposed = λ b. refl; accepted = refl; learned = refl; tried = refl }) refl
@@ -171,7 +171,7 @@ module _ (p q : ℕ) (ne : p ≡ q → ⊥) where
       server_other m w l (grown, may.0) by.0 ∙ servers_other m ls (l ∷ w) (grown, may.0) may.1 by.1
 
 -- an event that is not refused leaves every server but its own as it was
-pub others_stay : (m : Membership) (w : Trace) (e : Event) → IsReached m w → refused m w e ≡ None → (q : ℕ)
+pub others_stay : (m : Membership) (w : Trace) (e : Event) → IsReached m w → refusal_cause m w e ≡ None → (q : ℕ)
     → (server_of e ≡ q → ⊥)
     → server_at m (with_event m w e) q ≡ server_at m w q
 others_stay m w e r allowed q ne =

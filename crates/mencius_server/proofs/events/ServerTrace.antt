@@ -6,10 +6,10 @@ use Rattle.mencius_base.specs.declared.message.Message.{Message}
 use Rattle.mencius_base.specs.declared.message.Message.TheVariants.{Accepted, Propose}
 use Rattle.mencius_base.specs.declared.message.Value.{Value}
 use Rattle.mencius_base.specs.Members.{Membership}
-use Rattle.mencius_model.specs.Trace.{Line, Heard, Sent, Trace, followed_by, sent, messages_of}
-use Rattle.mencius_model.specs.Instance.{promised, proposed, trying}
+use Rattle.mencius_model.specs.Trace.{Line, Heard, Sent, Trace, followed_by, sent_messages, messages_of}
+use Rattle.mencius_model.specs.Instance.{promised_ballot, proposal, tried_ballot}
 use Rattle.mencius_model.specs.Server.{front}
-use Rattle.mencius_model.specs.Next.{learnings, on_propose}
+use Rattle.mencius_model.specs.Next.{learned_count, on_propose}
 use Rattle.mencius_model.proofs.trace.NumberLists.{get_or-map-instances, map-instances_same, map-instances_set}
 use Rattle.coord_paxos.specs.SlotState.{SlotState}
 use Rattle.coord_paxos.specs.Fresh.{new_slot}
@@ -50,33 +50,35 @@ server_unchanged m w v p ahead there =
 -- what a server does on a message is these lines
 pub record Meets (m : Membership) (w : Trace) (k p : ℕ) (x : Message) (ls : List Line) : Type 0 where
   pub sends : sent_on (server_at m w p) x ≡ messages_of ls
-  pub learns : learned_on (server_at m w p) x ≡ learnings ls
+  pub learns : learned_on (server_at m w p) x ≡ learned_count ls
   pub state : after_hearing (server_at m w p) x ≡ server_at m (followed_by (Heard k p ∷ w) ls) p
 
 -- an acceptance after a message that is in no set
-accepting : (m : Membership) (w : Trace) (k p q i b : ℕ) (z : Value) (x : Message) → slice_get (sent w) k ≡ Some x
+accepting : (m : Membership) (w : Trace) (k p q i b : ℕ) (z : Value) (x : Message) → slice_get (sent_messages w) k
+    ≡ Some x
     → ((j c : ℕ) → IsUncounted j c x)
-    → promised w p i ≤ b → proposed w i b ≡ Some z
+    → promised_ballot w p i ≤ b → proposal w i b ≡ Some z
     → slot_at m (Sent (Accepted p q i b) ∷ Heard k p ∷ w) p i
     ≡ record (slot_at m w p i) { promised = b; vote = Some (record { ballot = b; value = z }) }
 accepting m w k p q i b z x e un high said =
     slot_at-accepted m (Heard k p ∷ w) p q i b z (omega arith) (rw said)
     ∙ ap (λ (s : SlotState). record s { promised = b; vote = Some (record { ballot = b; value = z }) })
-    (slot_at-heard m w k p i x e (un i (trying w p i)))
+    (slot_at-heard m w k p i x e (un i (tried_ballot w p i)))
 
-accepting_elsewhere : (m : Membership) (w : Trace) (k p q i b j : ℕ) (x : Message) → slice_get (sent w) k ≡ Some x
+accepting_elsewhere : (m : Membership) (w : Trace) (k p q i b j : ℕ) (x : Message) → slice_get (sent_messages w) k
+    ≡ Some x
     → ((j c : ℕ) → IsUncounted j c x)
     → (j ≡ i → ⊥) → slot_at m (Sent (Accepted p q i b) ∷ Heard k p ∷ w) p j ≡ slot_at m w p j
 accepting_elsewhere m w k p q i b j x e un ne =
     slot_at-quiet m (Heard k p ∷ w) (Sent (Accepted p q i b)) p j (quiet_accepted p q i b j ne) refl
-    ∙ slot_at-heard m w k p j x e (un j (trying w p j))
+    ∙ slot_at-heard m w k p j x e (un j (tried_ballot w p j))
 
 uncounted_propose : (q i b : ℕ) (z : Value) (j c : ℕ) → IsUncounted j c (Propose q i b z)
 uncounted_propose q i b z j c = record { promise = λ r. refl; acceptance = λ r. refl; report = refl }
 
 -- the state by whether the ballot is accepted
 propose_state : (m : Membership) (w : Trace) (p i b : ℕ) (z : Value) (a : Bool) → i < instance_count
-    → leb (promised w p i) b ≡ a
+    → leb (promised_ballot w p i) b ≡ a
     → after_propose (server_at m w p) i b z ≡ with_slot (server_at m w p) i
     (cond a (record (slot_at m w p i) { promised = b; vote = Some (record { ballot = b; value = z }) })
     (slot_at m w p i))
@@ -87,8 +89,8 @@ propose_state m w p i b z a small e =
     (slot_at m w p i))) e
 
 propose_cases : (m : Membership) (w : Trace) (k p q i b : ℕ) (z : Value) → i < instance_count
-    → slice_get (sent w) k ≡ Some (Propose q i b z) → proposed w i b ≡ Some z
-    → (a : Bool) → leb (promised w p i) b ≡ a
+    → slice_get (sent_messages w) k ≡ Some (Propose q i b z) → proposal w i b ≡ Some z
+    → (a : Bool) → leb (promised_ballot w p i) b ≡ a
     → Meets m w k p (Propose q i b z) (cond a (Sent (Accepted p q i b) ∷ []) [])
 propose_cases m w k p q i b z small e said true high = record {
   sends = rw (slot-server_at m w p i small, high);
@@ -105,11 +107,12 @@ propose_cases m w k p q i b z small e said false low = record {
   state =
       propose_state m w p i b z false small low
       ∙ server_written m w (Heard k p ∷ w) p i (front m w p) _ (omega arith)
-      (slot_at-heard m w k p i _ e (uncounted_propose q i b z i (trying w p i)))
-      (λ j ne. slot_at-heard m w k p j _ e (uncounted_propose q i b z j (trying w p j)));
+      (slot_at-heard m w k p i _ e (uncounted_propose q i b z i (tried_ballot w p i)))
+      (λ j ne. slot_at-heard m w k p j _ e (uncounted_propose q i b z j (tried_ballot w p j)));
 }
 
 pub meets_propose : (m : Membership) (w : Trace) (k p q i b : ℕ) (z : Value) → i < instance_count
-    → slice_get (sent w) k ≡ Some (Propose q i b z) → proposed w i b ≡ Some z
+    → slice_get (sent_messages w) k ≡ Some (Propose q i b z) → proposal w i b ≡ Some z
     → Meets m w k p (Propose q i b z) (on_propose w p q i b)
-meets_propose m w k p q i b z small e said = propose_cases m w k p q i b z small e said (leb (promised w p i) b) refl
+meets_propose m w k p q i b z small e said =
+    propose_cases m w k p q i b z small e said (leb (promised_ballot w p i) b) refl

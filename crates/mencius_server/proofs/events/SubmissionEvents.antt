@@ -7,14 +7,14 @@ use Rattle.mencius_base.specs.declared.event.Event.TheVariants.{Retry, Submit}
 use Rattle.mencius_base.specs.declared.message.Message.TheVariants.{Suggest}
 use Rattle.mencius_base.specs.declared.message.Value.TheVariants.{Ticket}
 use Rattle.mencius_base.specs.Members.{Membership, owner, first_item}
-use Rattle.mencius_base.specs.Outbox.{Outgoing}
-use Rattle.mencius_model.specs.Trace.{Line, Retried, Sent, Submitted, Trace, followed_by, greatest, heard, messages_of}
-use Rattle.mencius_model.specs.Instance.{accepted, proposed, proposed_by, tried_by, trying, IsVoted}
-use Rattle.mencius_model.specs.Server.{free_instance, front, front_by, is_free, waiting}
-use Rattle.mencius_model.specs.Next.{again, lines}
+use Rattle.mencius_base.specs.Outbox.{OutboxState}
+use Rattle.mencius_model.specs.Trace.{Line, Retried, Sent, Submitted, Trace, followed_by, greatest_by, heard_messages, messages_of}
+use Rattle.mencius_model.specs.Instance.{accepted_ballot, proposal, proposal_by, tried_by, tried_ballot, IsVoted}
+use Rattle.mencius_model.specs.Server.{free_instance, front, front_by, is_free, waiting_tickets}
+use Rattle.mencius_model.specs.Next.{lines, retry_lines}
 use Rattle.mencius_model.specs.Rules.{suggestion}
 use Rattle.mencius_model.proofs.trace.NumberLists.{IsFound, find-instances_found, find-instances_same}
-use Rattle.mencius_model.proofs.trace.OneMoreLine.{greater-none, greatest_quiet, oldest_quiet, oldest_stays}
+use Rattle.mencius_model.proofs.trace.OneMoreLine.{greater_ballot-none, greatest_quiet, oldest_quiet, oldest_stays}
 use Rattle.coord_paxos.specs.SlotState.{SlotState}
 use Rattle.coord_paxos.specs.Reached.{slot_at}
 use Rattle.mencius_model.proofs.trace.QuietLines.{IsQuiet, quiet_suggest}
@@ -25,7 +25,7 @@ use Rattle.mencius_server.specs.Laws.{RetryIsEvent, SubmitIsEvent, WaitingAnswer
 use Rattle.mencius_server.specs.Reached.{IsAt, refusal_of, server_at}
 use Rattle.mencius_server.proofs.events.ServerTrace.{server_unchanged, server_written, slot-server_at}
 use Rattle.mencius_server.proofs.events.WaitingByTrace.{first_waiting_same}
-use Rattle.mencius_model.proofs.reached.ServerFacts.{IsSound, sound}
+use Rattle.mencius_model.proofs.reached.ServerFacts.{HasServerFacts, server_facts}
 use Rattle.mencius_base.specs.Limits.{instance_count}
 
 -- the server finds the free instance that the trace has
@@ -38,7 +38,7 @@ free-server_at m w p =
 -- the first line of an event of p's own
 pub record IsHead (m : Membership) (p : ℕ) (l : Line) : Type 0 where
   pub quiet : (i : ℕ) → IsQuiet p i l
-  pub deaf : (w : Trace) → heard (l ∷ w) p ≡ heard w p
+  pub deaf : (w : Trace) → heard_messages (l ∷ w) p ≡ heard_messages w p
   pub still : front_by m p l ≡ 0
 
 head_submitted : (m : Membership) (x : Command) (q p : ℕ) → IsHead m p (Submitted x q)
@@ -55,7 +55,7 @@ head_retried m q p = record {
   still = refl;
 }
 
-suggest_state : (m : Membership) (w : Trace) (l : Line) (p t : ℕ) → IsHead m p l → IsSound m w → (o : Option ℕ)
+suggest_state : (m : Membership) (w : Trace) (l : Line) (p t : ℕ) → IsHead m p l → HasServerFacts m w → (o : Option ℕ)
     → free_instance m w p ≡ o
     → after_submit_at (server_at m w p) t o ≡ server_at m (followed_by (l ∷ w) (suggestion p o t)) p
 suggest_state m w l p t first facts None none =
@@ -72,22 +72,23 @@ suggest_state m w l p t first facts (Some i) found =
     let small : i < instance_count = place.small in
     let quiet : (j : ℕ) → slot_at m (l ∷ w) p j ≡ slot_at m w p j =
     λ j. slot_at-quiet m w l p j (first.quiet j) (first.deaf w) in
-    let same : accepted (l ∷ w) p i ≡ accepted w p i = rw (first.quiet i).accepted (greater-none (accepted w p i)) in
+    let same : accepted_ballot (l ∷ w) p i ≡ accepted_ballot w p i =
+    rw (first.quiet i).accepted (greater_ballot-none (accepted_ballot w p i)) in
     let voted : IsVoted (l ∷ w) p i = record {
       proposal = λ b e. let said =
-          facts.voted p i b (sym same ∙ e) in (said.0, oldest_stays (proposed_by i b) l w said.0 said.1);
+          facts.voted p i b (sym same ∙ e) in (said.0, oldest_stays (proposal_by i b) l w said.0 said.1);
     } in
-    let unsaid : proposed (l ∷ w) i 0 ≡ None =
-    oldest_quiet (proposed_by i 0) l w ((first.quiet i).proposed 0) ∙ facts.own_unsaid p i mine ahead in
-    let untried : trying (l ∷ w) p i ≡ 0 =
+    let unsaid : proposal (l ∷ w) i 0 ≡ None =
+    oldest_quiet (proposal_by i 0) l w ((first.quiet i).proposed 0) ∙ facts.own_unsaid p i mine ahead in
+    let untried : tried_ballot (l ∷ w) p i ≡ 0 =
     greatest_quiet (tried_by p i) l w (first.quiet i).tried ∙ facts.own_untried p i mine in
-    let still : greatest (front_by m p) (l ∷ w) ≡ greatest (front_by m p) w =
+    let still : greatest_by (front_by m p) (l ∷ w) ≡ greatest_by (front_by m p) w =
     greatest_quiet (front_by m p) l w first.still in
     ap (λ (s : SlotState). with_slot_and_front (server_at m w p) i
     (record s { proposal = Some (Ticket t) }) (i + m.count)) (slot-server_at m w p i small)
     ∙ server_written m w (Sent (Suggest p i t) ∷ l ∷ w) p i (i + m.count) _
     (rw (eq-eqb p p refl)
-    (grown_front p (greatest (front_by m p) w) (greatest (front_by m p) (l ∷ w)) i m.count still ahead))
+    (grown_front p (greatest_by (front_by m p) w) (greatest_by (front_by m p) (l ∷ w)) i m.count still ahead))
     (slot_at-suggested m (l ∷ w) p i t voted mine untried unsaid
     ∙ ap (λ (s : SlotState). record s { proposal = Some (Ticket t) }) (quiet i))
     (λ j ne. slot_at-quiet m (l ∷ w) (Sent (Suggest p i t)) p j (quiet_suggest p i t j ne) refl ∙ quiet j)
@@ -95,7 +96,7 @@ suggest_state m w l p t first facts (Some i) found =
     grown_front : (p f g i n : ℕ) → g ≡ f → max p f ≤ i → max p (max g (i + n)) ≡ i + n
     grown_front p f g i n e h = omega arith
 
-submit_causes : (w : Trace) (x : Command) (s : ServerState) (o : Outgoing) (y : Option ℕ)
+submit_causes : (w : Trace) (x : Command) (s : ServerState) (o : OutboxState) (y : Option ℕ)
     → free_instance s.members w s.id ≡ y → submit_cause o y ≡ refusal_of w (Submit s.id x) s o
 submit_causes w x s o None none = rw none
 submit_causes w x s o (Some y) found = rw found
@@ -110,7 +111,7 @@ submit_is_event w s c t at next =
       state = ap (after_submit_at s t) same
           ∙ ap (λ (x : ServerState). after_submit_at x t (free_instance s.members w s.id)) at.state
           ∙ suggest_state s.members w (Submitted c s.id) s.id t (head_submitted s.members c s.id s.id)
-          (sound s.members w at.reached) (free_instance s.members w s.id) refl
+          (server_facts s.members w at.reached) (free_instance s.members w s.id) refl
           ∙ ap (λ (ls : List Line). server_at s.members (followed_by (Submitted c s.id ∷ w) ls) s.id) row;
       refusal = λ o. ap (submit_cause o) same ∙ submit_causes w c s o (free_instance s.members w s.id) refl;
     }
@@ -121,12 +122,12 @@ pub first_waiting_at : WaitingAnswers
 first_waiting_at w s at = ap first_waiting at.state ∙ first_waiting_same s.members w s.id at.reached
 
 sends_again : (w : Trace) (s : ServerState) → free_at s ≡ free_instance s.members w s.id → (o : Option ℕ)
-    → retry_sent s o ≡ messages_of (again s.members w s.id o)
+    → retry_sent s o ≡ messages_of (retry_lines s.members w s.id o)
 sends_again w s same None = refl
 sends_again w s same (Some t) = ap (submit_sent s t) same
 
 again_state : (w : Trace) (s : ServerState) → IsAt w s → (o : Option ℕ)
-    → after_retry s o ≡ server_at s.members (followed_by (Retried s.id ∷ w) (again s.members w s.id o)) s.id
+    → after_retry s o ≡ server_at s.members (followed_by (Retried s.id ∷ w) (retry_lines s.members w s.id o)) s.id
 again_state w s at None =
     at.state ∙ server_unchanged s.members w (Retried s.id ∷ w) s.id
     (ap (max s.id) (greatest_quiet (front_by s.members s.id) (Retried s.id) w refl))
@@ -136,9 +137,10 @@ again_state w s at (Some t) =
     ap (after_submit_at s t) same
     ∙ ap (λ (x : ServerState). after_submit_at x t (free_instance s.members w s.id)) at.state
     ∙ suggest_state s.members w (Retried s.id) s.id t (head_retried s.members s.id s.id)
-    (sound s.members w at.reached) (free_instance s.members w s.id) refl
+    (server_facts s.members w at.reached) (free_instance s.members w s.id) refl
 
-retry_causes : (w : Trace) (s : ServerState) (o : Outgoing) (x y : Option ℕ) → first_item (waiting w s.id) ≡ x
+retry_causes : (w : Trace) (s : ServerState) (o : OutboxState) (x y : Option ℕ) → first_item (waiting_tickets w s.id)
+    ≡ x
     → free_at s ≡ y → free_instance s.members w s.id ≡ y
     → retry_cause s o x ≡ refusal_of w (Retry s.id) s o
 retry_causes w s o None y none here there = rw none
@@ -150,8 +152,8 @@ retry_is_event w s at =
     let same : free_at s ≡ free_instance s.members w s.id = ap free_at at.state ∙ free-server_at s.members w s.id in
     let first = first_waiting_at w s at in
     record {
-      sent = ap (retry_sent s) first ∙ sends_again w s same (first_item (waiting w s.id));
-      state = ap (after_retry s) first ∙ again_state w s at (first_item (waiting w s.id));
+      sent = ap (retry_sent s) first ∙ sends_again w s same (first_item (waiting_tickets w s.id));
+      state = ap (after_retry s) first ∙ again_state w s at (first_item (waiting_tickets w s.id));
       refusal = λ o. ap (retry_cause s o) first
-          ∙ retry_causes w s o (first_item (waiting w s.id)) (free_instance s.members w s.id) refl same refl;
+          ∙ retry_causes w s o (first_item (waiting_tickets w s.id)) (free_instance s.members w s.id) refl same refl;
     }

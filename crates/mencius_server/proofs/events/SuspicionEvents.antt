@@ -9,15 +9,15 @@ use Rattle.mencius_base.specs.declared.refusal.Refusal.TheVariants.{MessagesFull
 use Rattle.mencius_base.specs.declared.message.Message.{Message}
 use Rattle.mencius_base.specs.declared.message.Message.TheVariants.{Prepare, Propose}
 use Rattle.mencius_base.specs.declared.message.Value.{Value}
-use Rattle.mencius_base.specs.Members.{Membership, ballot_of, below, instances, most_rounds, owner, first_item}
-use Rattle.mencius_base.specs.Outbox.{Outgoing}
-use Rattle.mencius_model.specs.Trace.{Line, Sent, Suspected, Trace, followed_by, heard, messages_of}
-use Rattle.mencius_model.specs.Instance.{accepted, accepted_by, accepters, highest_vote, is_acceptance, is_promise, learned_by, promised_by, promisers, proposed, proposed_by, tried_by, trying, vote_of, vote_reported, IsUntried}
-use Rattle.mencius_model.specs.Server.{front, front_by, is_covered, is_open, covered_by, reach}
-use Rattle.mencius_model.specs.Next.{IsReached, first_cause, found_by_server, next_round, preparation}
+use Rattle.mencius_base.specs.Members.{Membership, ballot_of, below, instances, owner, first_item}
+use Rattle.mencius_base.specs.Outbox.{OutboxState}
+use Rattle.mencius_model.specs.Trace.{Line, Sent, Suspected, Trace, followed_by, heard_messages, messages_of}
+use Rattle.mencius_model.specs.Instance.{accepted_ballot, accepted_by, accepters, highest_vote, is_acceptance, is_promise, learned_by, promised_by, promisers, proposal, proposal_by, tried_by, tried_ballot, vote_of, vote_reported, IsUntried}
+use Rattle.mencius_model.specs.Server.{front, front_by, is_covered, is_open, covered_instances, reach}
+use Rattle.mencius_model.specs.Next.{IsReached, first_cause, next_round, preparation, server_causes}
 use Rattle.mencius_model.specs.Rules.{is_open_from, reach_from}
 use Rattle.mencius_model.proofs.trace.NumberLists.{any-map, filter-instances_same, find-instances_same, map-filter-instances_same, map-instances_same}
-use Rattle.mencius_model.proofs.trace.OneMoreLine.{greater-none, greatest_quiet, oldest_quiet, vote_of_same}
+use Rattle.mencius_model.proofs.trace.OneMoreLine.{greater_ballot-none, greatest_quiet, oldest_quiet, vote_of_same}
 use Rattle.mencius_model.proofs.trace.Lists.{IsIn}
 use Rattle.mencius_model.proofs.rights.LineRights.{IsGrown}
 use Rattle.mencius_model.proofs.trace.AnswersLast.{acceptance_in, proposal_in, same}
@@ -31,7 +31,7 @@ use Rattle.coord_paxos.specs.Reached.{if_own, slot_at}
 use Rattle.coord_paxos.proofs.SlotTrace.{same_slot}
 use Rattle.coord_paxos.proofs.SlotLaws.{slot_trying, slot_untried}
 use Rattle.mencius_server.specs.State.{ServerState, slot}
-use Rattle.mencius_server.specs.Machine.{after_suspect, is_covered_in, is_spent_at, is_covered_at, is_open_at, next_prepare, prepare_for, reach_at, round_after, slot_after_suspect, suspect_cause, suspect_sent}
+use Rattle.mencius_server.specs.Machine.{after_suspect, is_covered_in, is_spent_at, is_covered_at, is_open_at, next_prepare, prepare_for, reach_at, next_round_of, slot_after_suspect, suspect_cause, suspect_sent}
 use Rattle.mencius_server.specs.Laws.{SuspectIsEvent}
 use Rattle.mencius_server.specs.Reached.{server_at}
 use Rattle.mencius_server.proofs.suspicions.FirstPhases.{tried_below}
@@ -42,19 +42,21 @@ use Rattle.mencius_base.specs.Limits.{greatest_round, instance_count}
 -- a line that says nothing but which ballot is tried
 record IsTried (p j : ℕ) (l : Line) : Type 0 where
   promised : promised_by p j l ≡ 0
-  proposed : (b : ℕ) → proposed_by j b l ≡ None
+  proposed : (b : ℕ) → proposal_by j b l ≡ None
   accepted : accepted_by p j l ≡ None
   learned : learned_by p j l ≡ None
 
-trying_same : (m : Membership) (w : Trace) (l : Line) (p j b : ℕ) → IsTried p j l → heard (l ∷ w) p ≡ heard w p
+trying_same : (m : Membership) (w : Trace) (l : Line) (p j b : ℕ) → IsTried p j l → heard_messages (l ∷ w) p
+    ≡ heard_messages w p
     → slot_trying m (l ∷ w) p j b ≡ slot_trying m w p j b
 trying_same m w l p j b quiet deaf =
-    let proposals : (c : ℕ) → proposed (l ∷ w) j c ≡ proposed w j c =
-    λ c. oldest_quiet (proposed_by j c) l w (quiet.proposed c) in
-    let acceptance : accepted (l ∷ w) p j ≡ accepted w p j = rw quiet.accepted (greater-none (accepted w p j)) in
+    let proposals : (c : ℕ) → proposal (l ∷ w) j c ≡ proposal w j c =
+    λ c. oldest_quiet (proposal_by j c) l w (quiet.proposed c) in
+    let acceptance : accepted_ballot (l ∷ w) p j ≡ accepted_ballot w p j =
+    rw quiet.accepted (greater_ballot-none (accepted_ballot w p j)) in
     same_slot _ _ refl
     (greatest_quiet (promised_by p j) l w quiet.promised)
-    (ap (vote_of (l ∷ w) j) acceptance ∙ vote_of_same (l ∷ w) w j (accepted w p j) proposals)
+    (ap (vote_of (l ∷ w) j) acceptance ∙ vote_of_same (l ∷ w) w j (accepted_ballot w p j) proposals)
     (oldest_quiet (learned_by p j) l w quiet.learned)
     refl
     (ap (λ (hs : List Message). highest_vote (map (vote_reported j b) hs)) deaf)
@@ -83,14 +85,14 @@ max_twice : (b c : ℕ) → max (max b c) c ≡ max b c
 max_twice b c = omega arith
 
 tried_after : (m : Membership) (w0 : Trace) (p j : ℕ) (js : List ℕ) (v : Trace)
-    → trying (followed_by v (map (preparation m w0 p) js)) p j
-    ≡ cond (list_any (λ (i : ℕ). eqb i j) js) (max (trying v p j) (ballot_for m w0 p j)) (trying v p j)
+    → tried_ballot (followed_by v (map (preparation m w0 p) js)) p j
+    ≡ cond (list_any (λ (i : ℕ). eqb i j) js) (max (tried_ballot v p j) (ballot_for m w0 p j)) (tried_ballot v p j)
 tried_after m w0 p j [] v = refl
 tried_after m w0 p j (i ∷ js) v =
     tried_after m w0 p j js (preparation m w0 p i ∷ v)
     ∙ ap (λ (x : ℕ). cond (list_any (λ (i : ℕ). eqb i j) js) (max x (ballot_for m w0 p j)) x)
-    (tried_cond p i j 0 (trying v p j) (ballot_for m w0 p) (eqb i j) refl)
-    ∙ either (eqb i j) (list_any (λ (i : ℕ). eqb i j) js) (trying v p j) (ballot_for m w0 p j)
+    (tried_cond p i j 0 (tried_ballot v p j) (ballot_for m w0 p) (eqb i j) refl)
+    ∙ either (eqb i j) (list_any (λ (i : ℕ). eqb i j) js) (tried_ballot v p j) (ballot_for m w0 p j)
   where
     either : (a d : Bool) (x y : ℕ)
         → cond d (max (cond a (max x y) x) y) (cond a (max x y) x) ≡ cond (a || d) (max x y) x
@@ -113,19 +115,19 @@ sends_prepared m w p (j ∷ js) =
 
 -- a ballot of p's own, above all that it tried, is in nobody's message
 module _ (m : Membership) (w : Trace) (p j b : ℕ) (g : IsGrown m w) (mine : owner m b ≡ p)
-    (above : trying w p j < b) where
+    (above : tried_ballot w p j < b) where
   unprepared : (to : ℕ) → IsIn (Sent (Prepare to j b)) w → ⊥
   unprepared to h =
       let home : to ≡ p = sym (prepare_right m w g to j b h).own ∙ mine in
       let h' : IsIn (Sent (Prepare p j b)) w = subst (λ (q : ℕ). IsIn (Sent (Prepare q j b)) w) home h in
-      let within : b ≤ trying w p j = prepare_within w p j b h' in
+      let within : b ≤ tried_ballot w p j = prepare_within w p j b h' in
       omega arith
 
   unproposed : (q : ℕ) (z : Value) → IsIn (Sent (Propose q j b z)) w → ⊥
   unproposed q z h =
       let home : q ≡ p = sym (propose_ballot m w g q j b z h).1 ∙ mine in
       let h' : IsIn (Sent (Propose p j b z)) w = subst (λ (x : ℕ). IsIn (Sent (Propose x j b z)) w) home h in
-      let within : b ≤ trying w p j = propose_within m w g p j b z h' in
+      let within : b ≤ tried_ballot w p j = propose_within m w g p j b z h' in
       omega arith
 
   no_promiser : (q : ℕ) → promisers w p j b q ≡ false
@@ -148,28 +150,28 @@ module _ (m : Membership) (w : Trace) (p j b : ℕ) (g : IsGrown m w) (mine : ow
         | inr e ↦ e
       ]
 
-  no_proposal : (o : Option Value) → proposed w j b ≡ o → o ≡ None
+  no_proposal : (o : Option Value) → proposal w j b ≡ o → o ≡ None
   no_proposal None e = refl
   no_proposal (Some z) e = let h = proposal_in w j b z (omega arith) e in absurd (unproposed h.0 z h.1)
 
   untried : IsUntried w p j b
-  untried = record { unpromised = no_promiser; unaccepted = no_accepter; unsaid = no_proposal (proposed w j b) refl }
+  untried = record { unpromised = no_promiser; unaccepted = no_accepter; unsaid = no_proposal (proposal w j b) refl }
 
 module _ (m : Membership) (w : Trace) (p q : ℕ) (r : IsReached m w) (member : p < m.count) where
   abbrev covered : List ℕ
-  covered = covered_by m w p q
+  covered = covered_instances m w p q
 
   abbrev later : Trace
   later = followed_by (Suspected p q ∷ w) (map (preparation m w p) covered)
 
-  above : (j : ℕ) → trying w p j < ballot_for m w p j
+  above : (j : ℕ) → tried_ballot w p j < ballot_for m w p j
   above j = tried_below m p (slot_at m w p j) (omega arith)
 
   mine : (j : ℕ) → owner m (ballot_for m w p j) ≡ p
   mine j = mod-mul-add (next_round m w p j) m.count p member
 
   tried_here : (j : ℕ) → j < instance_count → (a : Bool) → is_covered m w p q j ≡ a
-      → trying later p j ≡ cond a (ballot_for m w p j) (trying w p j)
+      → tried_ballot later p j ≡ cond a (ballot_for m w p j) (tried_ballot w p j)
   tried_here j small a e =
       let which : list_any (λ (i : ℕ). eqb i j) covered ≡ a =
       among (is_covered m w p q) instances j ∙ ap (λ (d : Bool). is_covered m w p q j && d) (is_instance j small)
@@ -177,8 +179,8 @@ module _ (m : Membership) (w : Trace) (p q : ℕ) (r : IsReached m w) (member : 
       tried_after m w p j covered (Suspected p q ∷ w)
       ∙ ap (λ (b : ℕ). cond (list_any (λ (i : ℕ). eqb i j) covered) (max b (ballot_for m w p j)) b)
       (greatest_quiet (tried_by p j) (Suspected p q) w refl)
-      ∙ ap (λ (d : Bool). cond d (max (trying w p j) (ballot_for m w p j)) (trying w p j)) which
-      ∙ ap (λ (b : ℕ). cond a b (trying w p j)) (greater_one (trying w p j) (ballot_for m w p j) (above j))
+      ∙ ap (λ (d : Bool). cond d (max (tried_ballot w p j) (ballot_for m w p j)) (tried_ballot w p j)) which
+      ∙ ap (λ (b : ℕ). cond a b (tried_ballot w p j)) (greater_one (tried_ballot w p j) (ballot_for m w p j) (above j))
     where
       and-true : (d : Bool) → (d && true) ≡ d
       and-true true = refl
@@ -196,10 +198,11 @@ module _ (m : Membership) (w : Trace) (p q : ℕ) (r : IsReached m w) (member : 
   slot_after : (j : ℕ) → j < instance_count → (a : Bool) → is_covered m w p q j ≡ a
       → slot_at m later p j ≡ cond a (after_begin (slot_at m w p j) (ballot_for m w p j)) (slot_at m w p j)
   slot_after j small true e =
-      slot_same j (trying later p j) ∙ ap (slot_trying m w p j) (tried_here j small true e)
+      slot_same j (tried_ballot later p j) ∙ ap (slot_trying m w p j) (tried_here j small true e)
       ∙ slot_untried m w p j (ballot_for m w p j)
       (untried m w p j (ballot_for m w p j) (reached_grown m w r) (mine j) (above j))
-  slot_after j small false e = slot_same j (trying later p j) ∙ ap (slot_trying m w p j) (tried_here j small false e)
+  slot_after j small false e =
+      slot_same j (tried_ballot later p j) ∙ ap (slot_trying m w p j) (tried_here j small false e)
 
   same_state : (xs : List SlotState) → xs ≡ map (slot_at m later p) instances
       → ◌≡◌ {A = ServerState} (record { members = m; id = p; front = front m w p; slots = xs }) (server_at m later p)
@@ -241,10 +244,9 @@ same_causes : (a x b' y c' d d' : Bool) → x ≡ b' → y ≡ c' → d ≡ d'
     ≡ first_cause ((a, SelfSuspect) ∷ (b', NothingToRevoke) ∷ (c', RoundsFull) ∷ (d', MessagesFull) ∷ [])
 same_causes a x b' y c' d d' e same equal = rw (e, same, equal)
 
-suspect_causes : (m : Membership) (w : Trace) (p q : ℕ) (s : ServerState) (o : Outgoing) → s ≡ server_at m w p
+suspect_causes : (m : Membership) (w : Trace) (p q : ℕ) (s : ServerState) (o : OutboxState) → s ≡ server_at m w p
     → IsReached m w → p < m.count
-    → suspect_cause (server_at m w p) o q ≡ first_cause (found_by_server m w (Suspect p q) (length o.messages) o.limit)
-unfolding most_rounds
+    → suspect_cause (server_at m w p) o q ≡ first_cause (server_causes m w (Suspect p q) (length o.messages) o.limit)
 suspect_causes m w p q s o e r member =
     same_causes (eqb p q) _ _ _ _ _ _
     (ap (λ (xs : List ℕ). is_none (first_item xs))
@@ -253,8 +255,8 @@ suspect_causes m w p q s o e r member =
     ∙ ap (list_any (λ (a : Bool). a))
     (map-filter-instances_same (is_spent_at (server_at m w p)) (λ (i : ℕ). ltb greatest_round (next_round m w p i))
     (is_covered_at (server_at m w p) q) (is_covered m w p q)
-    (λ j small. ap (λ (x : SlotState). ltb greatest_round (round_after m x)) (slot-server_at m w p j small)) is_same)
-    ∙ sym (any-map (λ (i : ℕ). ltb greatest_round (next_round m w p i)) (covered_by m w p q)))
+    (λ j small. ap (λ (x : SlotState). ltb greatest_round (next_round_of m x)) (slot-server_at m w p j small)) is_same)
+    ∙ sym (any-map (λ (i : ℕ). ltb greatest_round (next_round m w p i)) (covered_instances m w p q)))
     (ap (λ (ms : List Message). ltb o.limit (length o.messages + length ms)) (suspect_messages m w p q r member))
   where
     is_same : (j : ℕ) → j < instance_count → is_covered_at (server_at m w p) q j ≡ is_covered m w p q j

@@ -11,7 +11,7 @@ use Rattle.coord_paxos.specs.Fresh.{new_slot}
 use Rattle.coord_paxos.specs.Slot.{after_begin, after_learn}
 use Rattle.mencius_server.specs.Inside.{IsServerInside}
 use Rattle.mencius_server.specs.Notes.{NotesState}
-use Rattle.mencius_server.specs.Machine.{IsFree, after_skip, after_submit, after_suspect, is_free_at, is_covered_in, is_spent_at, is_skipped, is_covered_at, is_ticket, next_prepare, reach_at, round_after, slot_after_skip, slot_after_suspect, suggested_at, suggested_in, suspect_sent}
+use Rattle.mencius_server.specs.Machine.{IsFree, after_skip, after_submit, after_suspect, is_free_at, is_covered_in, is_spent_at, is_skipped, is_covered_at, is_ticket, next_prepare, reach_at, next_round_of, slot_after_skip, slot_after_suspect, suggested_at, suggested_in, suspect_sent}
 use Rattle.mencius_model.specs.Server.{ticket_of}
 use Rattle.mencius_server.specs.State.{FitsAt, IsServer, ServerState, slot, with_slot_and_front}
 use Rattle.mencius_server.specs.Instances.{InstancesState, instance_slot, instances_after_skip, instances_after_suspect, is_covered_stored, is_spent_stored, prepares_stored, reach_stored, with_instance_slot}
@@ -267,14 +267,14 @@ module _ (m : Membership) (p f : ℕ) (y : InstancesState) (now : ServerState) (
       ∙ ap (λ (s : ServerState). count_by (is_covered_at s q) instances) shown
 
   pub open_rounds : ((j : ℕ) → j < instance_count → is_covered_at now q j ≡ true
-      → round_after now.members (slot now j) ≤ greatest_round)
+      → next_round_of now.members (slot now j) ≤ greatest_round)
       → (j : ℕ) → j < instance_count → is_covered_stored y q reach j ≡ true
-      → round_after y.members (instance_slot y j) ≤ greatest_round
+      → next_round_of y.members (instance_slot y j) ≤ greatest_round
   open_rounds rounds j small e =
       let there = rounds j small (sym (open_shown j) ∙ e) in
-      let is : round_after y.members (instance_slot y j) ≡ round_after now.members (slot now j) =
-      ap (λ (n : Membership). round_after n (get_or y.slots j (new_slot n))) same
-      ∙ ap (λ (s : ServerState). round_after s.members (slot s j)) shown in
+      let is : next_round_of y.members (instance_slot y j) ≡ next_round_of now.members (slot now j) =
+      ap (λ (n : Membership). next_round_of n (get_or y.slots j (new_slot n))) same
+      ∙ ap (λ (s : ServerState). next_round_of s.members (slot s j)) shown in
       rw is there
 
   pub spent_shown : list_any (is_spent_stored y) (filter (is_covered_stored y q reach) instances)
@@ -282,7 +282,7 @@ module _ (m : Membership) (p f : ℕ) (y : InstancesState) (now : ServerState) (
   spent_shown =
       ap (λ (r : ℕ). list_any (is_spent_stored y) (filter (is_covered_stored y q r) instances)) reach_shown
       ∙ ap (λ (n : Membership). list_any
-      (λ (j : ℕ). ltb greatest_round (round_after n (get_or y.slots j (new_slot n))))
+      (λ (j : ℕ). ltb greatest_round (next_round_of n (get_or y.slots j (new_slot n))))
       (filter (λ (j : ℕ). is_covered_in n q (reach_at shown_state q) j (get_or y.slots j (new_slot n))) instances)) same
       ∙ ap (λ (s : ServerState). list_any (is_spent_at s) (filter (is_covered_at s q) instances)) shown
 

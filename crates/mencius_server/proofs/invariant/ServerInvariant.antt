@@ -7,7 +7,7 @@ use Rattle.mencius_base.specs.declared.message.Value.{Value}
 use Rattle.mencius_base.specs.Members.{Membership, owner}
 use Rattle.coord_paxos.specs.SlotState.{SlotState}
 use Rattle.coord_paxos.specs.Fresh.{new_slot}
-use Rattle.mencius_server.specs.Machine.{suggested_at, suggested_in, waits_at, waits_with}
+use Rattle.mencius_server.specs.Machine.{own_waiting_at, own_waiting_of, suggested_at, suggested_in}
 use Rattle.mencius_model.specs.Server.{ticket_of}
 use Rattle.mencius_server.specs.State.{ServerState, FitsAt, IsServer, new_server, slot, with_slot_and_front}
 use Rattle.mencius_base.specs.Limits.{greatest_front, instance_count, most_servers}
@@ -40,8 +40,8 @@ none_said m p j false = refl
 pub new_unsaid : (m : Membership) (p j t : ℕ) → suggested_at (new_server m p) j ≡ Some t → ⊥
 new_unsaid m p j t e = let none : suggested_at (new_server m p) j ≡ None = none_said m p j (eqb (owner m j) p) in cc
 
-pub new_waits : (m : Membership) (p j : ℕ) → waits_at (new_server m p) j ≡ None
-new_waits m p j = ap (waits_with (new_server m p) j) (none_said m p j (eqb (owner m j) p))
+pub new_waits : (m : Membership) (p j : ℕ) → own_waiting_at (new_server m p) j ≡ None
+new_waits m p j = ap (own_waiting_of (new_server m p) j) (none_said m p j (eqb (owner m j) p))
 
 -- only at an instance is anything suggested
 pub said_inside : (s : ServerState) (i t : ℕ) → length s.slots ≡ instance_count → suggested_at s i ≡ Some t

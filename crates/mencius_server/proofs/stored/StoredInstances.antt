@@ -10,9 +10,9 @@ use Rattle.mencius_base.specs.Members.{Membership, below, instances, owner}
 use Rattle.mencius_model.proofs.trace.NumberLists.{get_or-map-instances, instances-below, map-below_by, map-instances_same, map-instances_set}
 use Rattle.coord_paxos.specs.SlotState.{SlotState}
 use Rattle.coord_paxos.specs.Fresh.{new_slot}
-use Rattle.coord_paxos.specs.Slot.{after_answer, learning, prepare_answer, proposing, to_learn, to_propose, with_acceptance, with_promise}
+use Rattle.coord_paxos.specs.Slot.{after_answer, due_decision, due_proposal, prepare_answer, with_acceptance, with_learned, with_promise, with_proposal}
 use Rattle.mencius_base.specs.declared.message.Answer.{Answer}
-use Rattle.mencius_base.specs.declared.message.Answer.TheVariants.{Promise as Promised, Known as Told, Silent}
+use Rattle.mencius_base.specs.declared.message.Answer.TheVariants.{Promise as Promised, Learn as Told, Silent}
 use Rattle.mencius_base.specs.declared.message.Value.{Value}
 use Rattle.mencius_server.specs.Instances.{AreSlotsAndSkips, InstancesState, has_slot, instance_slot, instance_slot_in, instances_in, is_in_skipped, new_instances, slot_by_skip, with_stored}
 use Rattle.mencius_server.specs.Slots.{stored_at}
@@ -308,23 +308,23 @@ change_learned s (Accept b y) h = either (nat_le s.promised b)
     either false = h
 change_learned s (CountPromise q b y) h = counted (eqb b s.trying)
   where
-    noted : (o : Option Value) → is_none (proposing (with_promise s q y) o).learned ≡ false
+    noted : (o : Option Value) → is_none (with_proposal (with_promise s q y) o).learned ≡ false
     noted None = h
     noted (Some x) = h
 
     counted : (x : Bool)
-        → is_none (cond x (proposing (with_promise s q y) (to_propose (with_promise s q y))) s).learned ≡ false
-    counted true = noted (to_propose (with_promise s q y))
+        → is_none (cond x (with_proposal (with_promise s q y) (due_proposal (with_promise s q y))) s).learned ≡ false
+    counted true = noted (due_proposal (with_promise s q y))
     counted false = h
 change_learned s (CountAcceptance q b) h = counted (eqb b s.trying)
   where
-    noted : (o : Option Value) → is_none (learning (with_acceptance s q) o).learned ≡ false
+    noted : (o : Option Value) → is_none (with_learned (with_acceptance s q) o).learned ≡ false
     noted None = h
     noted (Some x) = refl
 
     counted : (x : Bool)
-        → is_none (cond x (learning (with_acceptance s q) (to_learn (with_acceptance s q))) s).learned ≡ false
-    counted true = noted (to_learn (with_acceptance s q))
+        → is_none (cond x (with_learned (with_acceptance s q) (due_decision (with_acceptance s q))) s).learned ≡ false
+    counted true = noted (due_decision (with_acceptance s q))
     counted false = h
 change_learned s (Learn y) h = rw h h
 

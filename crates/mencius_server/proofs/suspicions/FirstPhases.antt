@@ -8,14 +8,14 @@ use Rattle.std.proofs.lemmas.List.{get_or_past, length-map, map-append}
 use Rattle.std.proofs.lemmas.List.Sums.{length-filter}
 use Rattle.std.proofs.lemmas.Bool.{and_parts, cases_Bool, cases_eq, cases_lt, eqb-true, ltb-false, ne_eqb}
 use Rattle.mencius_base.specs.declared.refusal.Refusal.TheVariants.{NothingToRevoke, RoundsFull}
-use Rattle.mencius_base.specs.Outbox.{Outgoing, outbox_full}
+use Rattle.mencius_base.specs.Outbox.{OutboxState, outbox_full}
 use Rattle.mencius_base.specs.Members.{first_item, Membership, below, instances, owner}
 use Rattle.mencius_base.specs.declared.message.Message.{Message}
 use Rattle.mencius_model.proofs.trace.NumberLists.{any-filter, any-instances, count_by-below_le, count_by-below_more, filter-below_more, filter-below_zero, get_or-map-instances, length-map-instances}
 use Rattle.coord_paxos.specs.SlotState.{SlotState}
 use Rattle.coord_paxos.specs.Fresh.{new_slot}
 use Rattle.mencius_server.specs.State.{FitsAt, IsServer, ServerState, slot}
-use Rattle.mencius_server.specs.Machine.{after_suspect, ballot_after, is_covered_in, is_spent_at, is_covered_at, prepare_for, reach_at, round_after, slot_after_suspect, suspect_cause, suspect_sent, with_next_phase}
+use Rattle.mencius_server.specs.Machine.{after_suspect, next_ballot, is_covered_in, is_spent_at, is_covered_at, prepare_for, reach_at, next_round_of, slot_after_suspect, suspect_cause, suspect_sent, with_next_phase}
 use Rattle.mencius_server.proofs.invariant.ServerInvariant.{FitsAt-slot, KeepsAt, KeepsAt-fits, KeepsAt-new}
 use Rattle.mencius_server.proofs.invariant.SlotFits.{FitsAt-cond}
 use Rattle.mencius_base.specs.Limits.{greatest_round, instance_count}
@@ -65,7 +65,7 @@ pub room_more : (test : ℕ → Bool) (n room new i : ℕ) → new + cond (test 
 room_more test n room new i used has = record { enough = omega (arith, count_by-below_more test i, used, has.enough) }
 
 -- the new ballot is above the one that was tried
-pub tried_below : (m : Membership) (p : ℕ) (s : SlotState) → 1 ≤ m.count → s.trying < ballot_after m p s
+pub tried_below : (m : Membership) (p : ℕ) (s : SlotState) → 1 ≤ m.count → s.trying < next_ballot m p s
 tried_below m p s some = above s.trying (s.promised / m.count) m.count p some where
   above : (b promised n p : ℕ) → 1 ≤ n → b < (max (b / n) promised + 1) * n + p
   above b promised n p some =
@@ -82,9 +82,10 @@ rounds_ordered (suc k) a b less =
 
 -- the round after it is the next one
 pub round_next : (m : Membership) (p : ℕ) (s : SlotState) → p < m.count
-    → round_after m (with_next_phase m p s) ≡ round_after m s + 1
+    → next_round_of m (with_next_phase m p s) ≡ next_round_of m s + 1
 round_next m p s member =
-    let tried : (round_after m s * m.count + p) / m.count ≡ round_after m s = div-mul-add (round_after m s) m.count p member in
+    let tried : (next_round_of m s * m.count + p) / m.count ≡ next_round_of m s =
+    div-mul-add (next_round_of m s) m.count p member in
     ap (λ n. max n (s.promised / m.count) + 1) tried ∙ omega arith
 
 abbrev slots_after_suspect : ServerState → ℕ → List SlotState
@@ -136,7 +137,7 @@ none_given g xs = go (filter g xs) ∙ ap (λ (n : ℕ). eqb n 0) (length-filter
   go [] = refl
   go (y ∷ ys) = sym (ne_eqb (length (y ∷ ys)) 0 (λ e. absurd (omega arith)))
 
-pub suspect_cause_is : (s : ServerState) (o : Outgoing) (q : ℕ) (a d : Bool) → eqb s.id q ≡ false
+pub suspect_cause_is : (s : ServerState) (o : OutboxState) (q : ℕ) (a d : Bool) → eqb s.id q ≡ false
     → eqb (count_by (is_covered_at s q) instances) 0 ≡ a
     → list_any (is_spent_at s) (filter (is_covered_at s q) instances) ≡ d
     → suspect_cause s o q
@@ -148,7 +149,7 @@ suspect_cause_is s o q a d other none full =
     rw (other, none_given (is_covered_at s q) instances, none, full, many)
 
 pub rounds_small : (s : ServerState) (q : ℕ) → list_any (is_spent_at s) (filter (is_covered_at s q) instances) ≡ false
-    → (j : ℕ) → j < instance_count → is_covered_at s q j ≡ true → round_after s.members (slot s j) ≤ greatest_round
+    → (j : ℕ) → j < instance_count → is_covered_at s q j ≡ true → next_round_of s.members (slot s j) ≤ greatest_round
 rounds_small s q none j small covered =
     ⊎_elim
     (λ (full : is_spent_at s j ≡ true).
@@ -156,7 +157,7 @@ rounds_small s q none j small covered =
     any-instances (λ (i : ℕ). is_covered_at s q i && is_spent_at s i) j small (rw covered full) in
     let no = sym (any-filter (is_covered_at s q) (is_spent_at s) instances) ∙ none in
     absurd (cc))
-    (λ (room : is_spent_at s j ≡ false). ltb-false greatest_round (round_after s.members (slot s j)) room)
+    (λ (room : is_spent_at s j ≡ false). ltb-false greatest_round (next_round_of s.members (slot s j)) room)
     (cases_Bool (is_spent_at s j))
 
 -- what holds of each slot at which a first phase began, where it holds of one more

@@ -5,10 +5,10 @@ use Rattle.std.specs.Prelude.{nat_lt}
 use Rattle.std.proofs.lemmas.Bool.{ne_eqb}
 use Rattle.mencius_base.specs.declared.refusal.Refusal.TheVariants.{NothingToRevoke, RoundsFull}
 use Rattle.mencius_base.specs.Members.{Membership, instances}
-use Rattle.mencius_base.specs.Outbox.{Outgoing, outbox_full}
+use Rattle.mencius_base.specs.Outbox.{OutboxState, outbox_full}
 use Rattle.mencius_server.specs.declared.tally.Tally.{Tally}
 use Rattle.mencius_server.specs.Instances.{InstancesState, instance_slot, is_covered_stored, reach_stored}
-use Rattle.mencius_server.specs.Machine.{is_spent_at, is_covered_at, round_after, suspect_cause}
+use Rattle.mencius_server.specs.Machine.{is_spent_at, is_covered_at, next_round_of, suspect_cause}
 use Rattle.mencius_server.specs.State.{ServerState}
 use Rattle.mencius_server.specs.Tallies.{IsSurvey, tally_cause}
 use Rattle.mencius_server.proofs.suspicions.FirstPhases.{rounds_small, suspect_cause_is}
@@ -25,7 +25,7 @@ module _ (m : Membership) (p f : ℕ) (x : InstancesState) (now : ServerState) (
   spent_is = survey.spent_count ∙ spent_shown m p f x now q shown same reach at
 
   -- the suspicion is refused for what the survey shows
-  pub cause_is : (o : Outgoing) → (p ≡ q → ⊥) → suspect_cause now o q ≡ tally_cause a o
+  pub cause_is : (o : OutboxState) → (p ≡ q → ⊥) → suspect_cause now o q ≡ tally_cause a o
   cause_is o other =
       suspect_cause_is now o q (eqb a.open_count 0) (nat_lt 0 a.spent_count)
       (ne_eqb now.id q (λ e. other (ap (λ (s : ServerState). s.id) shown ∙ e)))
@@ -35,5 +35,5 @@ module _ (m : Membership) (p f : ℕ) (x : InstancesState) (now : ServerState) (
       (sym count_is)
 
   pub rounds_left : a.spent_count ≡ 0 → (j : ℕ) → j < instance_count → is_covered_stored x q reach j ≡ true
-      → round_after x.members (instance_slot x j) ≤ greatest_round
+      → next_round_of x.members (instance_slot x j) ≤ greatest_round
   rounds_left room = open_rounds m p f x now q shown same reach at (rounds_small now q (sym spent_is ∙ ap (nat_lt 0) room))

@@ -11,7 +11,7 @@ use Rattle.mencius_base.specs.Members.{Membership, below, instances, owner}
 use Rattle.mencius_model.proofs.trace.NumberLists.{count_by-below_none, filter-below_more, filter-below_none, filter-below_zero, get_or-map-instances, instances-below}
 use Rattle.coord_paxos.specs.SlotState.{SlotState}
 use Rattle.coord_paxos.specs.Fresh.{new_slot}
-use Rattle.mencius_server.specs.Machine.{is_spent, next_prepare, round_after, with_next_phase}
+use Rattle.mencius_server.specs.Machine.{is_spent, next_prepare, next_round_of, with_next_phase}
 use Rattle.mencius_server.specs.Intervals.{is_in_any}
 use Rattle.mencius_server.specs.LearnedIntervals.{AreLearnedIntervals}
 use Rattle.mencius_server.specs.Slots.{PassesLearnedIntervals, is_covered_slot, is_in, is_lacking, is_unlearned, new_slot_at, prepare_of, slot_after_phase, stored_after_phase, stored_at}
@@ -233,14 +233,14 @@ module _ (m : Membership) (slots : List (Option SlotState)) (rs : List (List Int
         (λ j l. phase_is j (omega (arith, small)) (stored_at slots j) refl)
 
     pub phase_rounds : ((j : ℕ) → j < instance_count → is_open_in now a j ≡ true
-        → round_after now.members (instance_slot now j) ≤ greatest_round)
+        → next_round_of now.members (instance_slot now j) ≤ greatest_round)
         → (j : ℕ) (s : SlotState) → is_covered_slot a slots j ≡ true → stored_at slots j ≡ Some s
-        → round_after a.members s ≤ greatest_round
+        → next_round_of a.members s ≤ greatest_round
     phase_rounds rounds j s z e =
         let l = in_small j (and_parts _ _ z).0 in
         let opens = sym (phase_is j l (stored_at slots j) refl) ∙ z in
-        subst (λ n. round_after n s ≤ greatest_round) (sym alike)
-        (subst (λ (s : SlotState). round_after now.members s ≤ greatest_round)
+        subst (λ n. next_round_of n s ≤ greatest_round) (sym alike)
+        (subst (λ (s : SlotState). next_round_of now.members s ≤ greatest_round)
         (seen_some m slots rs now shown j s l e) (rounds j l opens))
 
     pub phase_sent : (p : ℕ)
@@ -369,7 +369,7 @@ module _ (m : Membership) (slots : List (Option SlotState)) (rs : List (List Int
 
       -- where no first phase is in the last round, as many instances are open, and none of them is spent
       module _ (rounds : (j : ℕ) → j < instance_count → is_open_in now a j ≡ true
-          → round_after now.members (instance_slot now j) ≤ greatest_round)
+          → next_round_of now.members (instance_slot now j) ≤ greatest_round)
           (last : (j : ℕ) (s : SlotState) → is_covered_slot a slots j ≡ true → stored_at new j ≡ Some s
           → is_spent a.members s ≡ false) where
         unspent_new : (j : ℕ) → is_covered_slot a slots j ≡ true → (o : Option SlotState) → stored_at new j ≡ o
@@ -385,7 +385,7 @@ module _ (m : Membership) (slots : List (Option SlotState)) (rs : List (List Int
         unspent_old j l e =
             ap (is_spent m) (sym (seen m slots rs now shown j l))
             ∙ ap (λ n. is_spent n (instance_slot now j)) (ap (λ (y : InstancesState). y.members) shown)
-            ∙ le-ltb greatest_round (round_after now.members (instance_slot now j)) (rounds j l e)
+            ∙ le-ltb greatest_round (next_round_of now.members (instance_slot now j)) (rounds j l e)
 
         pub phase_alike : (j : ℕ) → j < instance_count
             → IsAlike m (instance_slot_in m slots rs j) (instance_slot_in m new rs j)

@@ -12,7 +12,7 @@ use Rattle.mencius_model.proofs.trace.Lists.{eqb_swap}
 use Rattle.mencius_model.proofs.trace.NumberLists.{any-instances, any-instances_found}
 use Rattle.coord_paxos.specs.SlotState.{SlotState}
 use Rattle.coord_paxos.specs.Fresh.{new_slot}
-use Rattle.mencius_server.specs.Machine.{after_submit, is_suggested_past, is_ticket, suggested_at, waits_at, waits_with}
+use Rattle.mencius_server.specs.Machine.{after_submit, is_suggested_again, is_ticket, own_waiting_at, own_waiting_of, suggested_at}
 use Rattle.mencius_model.specs.Server.{ticket_of}
 use Rattle.mencius_server.specs.State.{IsServer, ServerState, slot}
 use Rattle.mencius_base.specs.Limits.{instance_count}
@@ -29,14 +29,14 @@ pub record SaysSame (s x : ServerState) : Type 0 where
   pub same : (j : ℕ) → j < instance_count → suggested_at x j ≡ suggested_at s j
 
 pub past_same : (s x : ServerState) → SaysSame s x → (t i : ℕ)
-    → list_any (is_suggested_past x t i) instances ≡ list_any (is_suggested_past s t i) instances
+    → list_any (is_suggested_again x t i) instances ≡ list_any (is_suggested_again s t i) instances
 past_same s x said t i =
     both_ways _ _
-    (λ h. let found = any-instances_found (is_suggested_past x t i) h in
-    any-instances (is_suggested_past s t i) found.0 found.1
+    (λ h. let found = any-instances_found (is_suggested_again x t i) h in
+    any-instances (is_suggested_again s t i) found.0 found.1
     (ap (λ (o : Option ℕ). ltb i found.0 && is_ticket t o) (sym (said.same found.0 found.1)) ∙ found.2))
-    (λ h. let so = any-instances_found (is_suggested_past s t i) h in
-    any-instances (is_suggested_past x t i) so.0 so.1
+    (λ h. let so = any-instances_found (is_suggested_again s t i) h in
+    any-instances (is_suggested_again x t i) so.0 so.1
     (ap (λ (o : Option ℕ). ltb i so.0 && is_ticket t o) (said.same so.0 so.1) ∙ so.2))
 
 unless_none : (d : Bool) (t : ℕ) → unless d (Some t) ≡ None → d ≡ true
@@ -44,15 +44,15 @@ unless_none true t h = refl
 unless_none false t h = absurd (cc)
 
 -- a ticket waits where it waited, unless no-op was learned there since
-waits_cases : (s x : ServerState) → SaysSame s x → (j : ℕ) → waits_at s j ≡ None
+waits_cases : (s x : ServerState) → SaysSame s x → (j : ℕ) → own_waiting_at s j ≡ None
     → (is_noop (slot x j).learned ≡ true → (is_noop (slot s j).learned ≡ true) ⊎ (suggested_at s j ≡ None))
-    → (o : Option ℕ) → suggested_at s j ≡ o → waits_with x j o ≡ None
+    → (o : Option ℕ) → suggested_at s j ≡ o → own_waiting_of x j o ≡ None
 waits_cases s x said j none since None e = refl
 waits_cases s x said j none since (Some t) e =
     elim (cases_Bool (is_noop (slot x j).learned)) [
       | inl lost ↦ elim (since lost) [
         | inl before ↦
-            let past : list_any (is_suggested_past s t j) instances ≡ true =
+            let past : list_any (is_suggested_again s t j) instances ≡ true =
             unless_none _ t (rw before at (rw e at none)) in
             rw (lost, past_same s x said t j, past) refl
         | inr nothing ↦ let turned = sym e ∙ nothing in absurd (cc)
@@ -60,11 +60,11 @@ waits_cases s x said j none since (Some t) e =
       | inr kept ↦ rw kept refl
     ]
 
-pub waits_none : (s x : ServerState) → SaysSame s x → (j : ℕ) → j < instance_count → waits_at s j ≡ None
+pub waits_none : (s x : ServerState) → SaysSame s x → (j : ℕ) → j < instance_count → own_waiting_at s j ≡ None
     → (is_noop (slot x j).learned ≡ true → (is_noop (slot s j).learned ≡ true) ⊎ (suggested_at s j ≡ None))
-    → waits_at x j ≡ None
+    → own_waiting_at x j ≡ None
 waits_none s x said j small none since =
-    ap (waits_with x j) (said.same j small) ∙ waits_cases s x said j none since (suggested_at s j) refl
+    ap (own_waiting_of x j) (said.same j small) ∙ waits_cases s x said j none since (suggested_at s j) refl
 
 -- ---- one more suggestion
 
@@ -117,56 +117,57 @@ module _ (s : ServerState) (i t : ℕ) (kept : IsServer s) (mine : owner s.membe
   unsaid_here u e = let low : i < s.front = said_before s kept i u e in omega arith
 
   past_more : (u j : ℕ)
-      → list_any (is_suggested_past later u j) instances
-      ≡ (list_any (is_suggested_past s u j) instances || (eqb t u && ltb j i))
+      → list_any (is_suggested_again later u j) instances
+      ≡ (list_any (is_suggested_again s u j) instances || (eqb t u && ltb j i))
   past_more u j = both_ways _ _ more fewer
     where
       found : (further : ℕ) → (ltb j further && is_ticket u (suggested_at later further)) ≡ true
           → further < instance_count
-          → (list_any (is_suggested_past s u j) instances || (eqb t u && ltb j i)) ≡ true
+          → (list_any (is_suggested_again s u j) instances || (eqb t u && ltb j i)) ≡ true
       found further e small =
           let parts = and_parts (ltb j further) (is_ticket u (suggested_at later further)) e in
           ⊎_elim
           (λ (at : further ≡ i).
           let ticket : Some t ≡ Some u = sym said_here ∙ ap (suggested_at later) (sym at) ∙ ticket_is u _ parts.1 in
           let same : t ≡ u = cc in
-          or_right (list_any (is_suggested_past s u j) instances) _ (rw (eq-eqb t u same) (rw (← at) parts.0)))
+          or_right (list_any (is_suggested_again s u j) instances) _ (rw (eq-eqb t u same) (rw (← at) parts.0)))
           (λ (off : further ≡ i → ⊥).
           or_left _ (eqb t u && ltb j i)
-          (any-instances (is_suggested_past s u j) further small
+          (any-instances (is_suggested_again s u j) further small
           (ap (λ (o : Option ℕ). ltb j further && is_ticket u o) (sym (said_there further off)) ∙ e)))
           (cases_eq further i)
 
-      more : list_any (is_suggested_past later u j) instances ≡ true
-          → (list_any (is_suggested_past s u j) instances || (eqb t u && ltb j i)) ≡ true
-      more h = let so = any-instances_found (is_suggested_past later u j) h in found so.0 so.2 so.1
+      more : list_any (is_suggested_again later u j) instances ≡ true
+          → (list_any (is_suggested_again s u j) instances || (eqb t u && ltb j i)) ≡ true
+      more h = let so = any-instances_found (is_suggested_again later u j) h in found so.0 so.2 so.1
 
-      fewer : (list_any (is_suggested_past s u j) instances || (eqb t u && ltb j i)) ≡ true
-          → list_any (is_suggested_past later u j) instances ≡ true
+      fewer : (list_any (is_suggested_again s u j) instances || (eqb t u && ltb j i)) ≡ true
+          → list_any (is_suggested_again later u j) instances ≡ true
       fewer h =
           ⊎_elim
-          (λ (e : list_any (is_suggested_past s u j) instances ≡ true).
-          let found = any-instances_found (is_suggested_past s u j) e in
+          (λ (e : list_any (is_suggested_again s u j) instances ≡ true).
+          let found = any-instances_found (is_suggested_again s u j) e in
           let parts = and_parts (ltb j found.0) (is_ticket u (suggested_at s found.0)) found.2 in
           let off : found.0 ≡ i → ⊥ = λ at. unsaid_here u (ap (suggested_at s) (sym at) ∙ ticket_is u _ parts.1) in
-          any-instances (is_suggested_past later u j) found.0 found.1
+          any-instances (is_suggested_again later u j) found.0 found.1
           (ap (λ (o : Option ℕ). ltb j found.0 && is_ticket u o) (said_there found.0 off) ∙ found.2))
           (λ (e : (eqb t u && ltb j i) ≡ true).
           let parts = and_parts (eqb t u) (ltb j i) e in
           let same : t ≡ u = eqb-true t u parts.0 in
-          any-instances (is_suggested_past later u j) i small
+          any-instances (is_suggested_again later u j) i small
           (ap (λ (o : Option ℕ). ltb j i && is_ticket u o) said_here ∙ rw (parts.1, parts.0) refl))
           (or_cases _ _ h)
 
   -- a ticket that waits later waited before
-  pub waits_later : (j : ℕ) → is_none (slot s i).learned ≡ true → waits_at s j ≡ None → waits_at later j ≡ None
+  pub waits_later : (j : ℕ) → is_none (slot s i).learned ≡ true → own_waiting_at s j ≡ None → own_waiting_at later j
+      ≡ None
   waits_later j blank none =
       ⊎_elim
-      (λ (at : j ≡ i). rw at (ap (waits_with later i) said_here ∙ free (slot s i).learned refl))
-      (λ (off : j ≡ i → ⊥). ap (waits_with later j) (said_there j off) ∙ kept_waiting off (suggested_at s j) refl)
+      (λ (at : j ≡ i). rw at (ap (own_waiting_of later i) said_here ∙ free (slot s i).learned refl))
+      (λ (off : j ≡ i → ⊥). ap (own_waiting_of later j) (said_there j off) ∙ kept_waiting off (suggested_at s j) refl)
       (cases_eq j i)
     where
-      free : (o : Option Value) → (slot s i).learned ≡ o → waits_with later i (Some t) ≡ None
+      free : (o : Option Value) → (slot s i).learned ≡ o → own_waiting_of later i (Some t) ≡ None
       free None e =
           let known : (slot later i).learned ≡ None = ap (λ (y : SlotState). y.learned) here ∙ e in rw known refl
       free (Some x) e = let no = rw e at blank in absurd (cc)
@@ -176,30 +177,30 @@ module _ (s : ServerState) (i t : ℕ) (kept : IsServer s) (mine : owner s.membe
       longer false true z u h = refl
       longer false false z u h = absurd (cc)
 
-      kept_waiting : (j ≡ i → ⊥) → (o : Option ℕ) → suggested_at s j ≡ o → waits_with later j o ≡ None
+      kept_waiting : (j ≡ i → ⊥) → (o : Option ℕ) → suggested_at s j ≡ o → own_waiting_of later j o ≡ None
       kept_waiting off None e = refl
       kept_waiting off (Some u) e =
           let before = unless_none _ u (rw e at none) in
           rw (there j off, past_more u j)
           (longer (not (is_noop (slot s j).learned))
-          (list_any (is_suggested_past s u j) instances) (eqb t u && ltb j i) u before)
+          (list_any (is_suggested_again s u j) instances) (eqb t u && ltb j i) u before)
 
   -- the marks after it
   pub suggested_again_later : (old new : List Bool) → length old ≤ s.front
       → ((j u : ℕ) → j < instance_count → suggested_at s j ≡ Some u
-      → list_any (is_suggested_past s u j) instances ≡ get_or old j false)
+      → list_any (is_suggested_again s u j) instances ≡ get_or old j false)
       → ((j : ℕ) → get_or new j false ≡ (get_or old j false || is_ticket t (suggested_at s j)))
       → (j u : ℕ) → j < instance_count → suggested_at later j ≡ Some u
-      → list_any (is_suggested_past later u j) instances ≡ get_or new j false
+      → list_any (is_suggested_again later u j) instances ≡ get_or new j false
   suggested_again_later old new short marks marked j u inside e = past_more u j
       ∙ ⊎_elim at_place elsewhere (cases_eq j i)
     where
-      at_place : j ≡ i → (list_any (is_suggested_past s u j) instances || (eqb t u && ltb j i)) ≡ get_or new j false
+      at_place : j ≡ i → (list_any (is_suggested_again s u j) instances || (eqb t u && ltb j i)) ≡ get_or new j false
       at_place at =
           let none : length old ≤ j = omega arith in
           either_no _ _
           (λ h.
-          let found = any-instances_found (is_suggested_past s u j) h in
+          let found = any-instances_found (is_suggested_again s u j) h in
           let parts = and_parts (ltb j found.0) (is_ticket u (suggested_at s found.0)) found.2 in
           let low : found.0 < s.front = said_before s kept found.0 u (ticket_is u _ parts.1) in
           let high : j < found.0 = ltb-true j found.0 parts.0 in
@@ -210,12 +211,12 @@ module _ (s : ServerState) (i t : ℕ) (kept : IsServer s) (mine : owner s.membe
           absurd (cc)) (λ h. absurd (unsaid_here t (ap (suggested_at s) (sym at) ∙ ticket_is t _ h))))
 
       elsewhere : (j ≡ i → ⊥)
-          → (list_any (is_suggested_past s u j) instances || (eqb t u && ltb j i)) ≡ get_or new j false
+          → (list_any (is_suggested_again s u j) instances || (eqb t u && ltb j i)) ≡ get_or new j false
       elsewhere off =
           let said : suggested_at s j ≡ Some u = sym (said_there j off) ∙ e in
           let low : j < s.front = said_before s kept j u said in
           let before : j < i = omega arith in
-          ap (λ (d : Bool). list_any (is_suggested_past s u j) instances || (eqb t u && d)) (lt-ltb j i before)
+          ap (λ (d : Bool). list_any (is_suggested_again s u j) instances || (eqb t u && d)) (lt-ltb j i before)
           ∙ ap (λ (d : Bool). d || (eqb t u && true)) (marks j u inside said)
           ∙ ap (λ (d : Bool). get_or old j false || d) (and-true (eqb t u) ∙ eqb_swap t u)
           ∙ sym (marked j ∙ ap (λ (o : Option ℕ). get_or old j false || is_ticket t o) said)

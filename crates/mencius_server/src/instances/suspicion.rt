@@ -2,7 +2,7 @@
 ghost use Rattle.mencius_base.specs.Limits.{greatest_front, greatest_round, instance_count};
 ghost use Rattle.mencius_base.specs.Members.{below, instances};
 ghost use Rattle.mencius_server.specs.Instances.{has_slot, instance_slot, instances_after_suspect, is_covered_stored, is_open_in, prepares_in, prepares_stored, reach_stored, with_first_phases, with_open_stored};
-ghost use Rattle.mencius_server.specs.Machine.{round_after};
+ghost use Rattle.mencius_server.specs.Machine.{next_round_of};
 ghost use Rattle.mencius_server.specs.OwnedIntervals.{IsOwnedInterval};
 ghost use Rattle.mencius_server.specs.Tallies.{IsOpenInterval, IsSurvey};
 ghost use Rattle.std.specs.List.{count_by};
@@ -82,7 +82,7 @@ impl Instances {
         requires suspected { suspected < self.old.members.count }
         requires few { count_by (is_covered_stored self.old suspected reach) instances ≤ open_count }
         requires rounds { (j : ℕ) → j < instance_count → is_covered_stored self.old suspected reach j ≡ true
-            → round_after self.old.members (instance_slot self.old j) ≤ greatest_round }
+            → next_round_of self.old.members (instance_slot self.old j) ≤ greatest_round }
         requires room { count_by (is_covered_stored self.old suspected reach) instances ≤ out.old.room }
         ensures sent { OnOk result (out.new.messages
             ≡ out.old.messages ++ prepares_stored self.old id suspected reach) }
@@ -124,7 +124,7 @@ impl Instances {
         requires stored { (j : ℕ) → j < instance_count → is_open_in self.old interval.now j ≡ true
             → has_slot self.old j ≡ true }
         requires rounds { (j : ℕ) → j < instance_count → is_open_in self.old interval.now j ≡ true
-            → round_after self.old.members (instance_slot self.old j) ≤ greatest_round }
+            → next_round_of self.old.members (instance_slot self.old j) ≤ greatest_round }
         requires room { count_by (is_open_in self.old interval.now) (below interval.now.stop)
             ≤ out.old.room }
         ensures after { self.new ≡ with_first_phases self.old id interval.now }

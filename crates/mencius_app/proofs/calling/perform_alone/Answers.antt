@@ -1,7 +1,7 @@
 use Rattle.std.proofs.Common.{◌≡◌, Some, arith, false, refl, true}
 use Rattle.std.proofs.lemmas.Result.{IfErr-weaker}
 use Rattle.mencius_command_line.specs.CommandLine.{asked_check, asked_draw, asked_replay, asked_trace}
-use Rattle.mencius_app.specs.Ending.{tells_of_refusals}
+use Rattle.mencius_app.specs.Ending.{reports_refusals}
 use Rattle.mencius_app.proofs.inputs.EndingCauses.{as_text, done_not_board, found_not_board, of_finding, of_result, text_of_replay}
 use Rattle.mencius_app.proofs.inputs.LogFaults.{judged_done, judged_never_bad, judged_not_board, of_judgement, text_of_judgement, told_of_judgement}
 use Rattle.mencius_app.proofs.inputs.FindingWords.{told_of_finding, told_of_result}
@@ -63,7 +63,7 @@ returns-then-not-all_accepted-clause-done g c e = absurd (cc e)
 pub returns-then-not-all_accepted-clause-refused : goal.returns-then-not-all_accepted-clause-refused
 returns-then-not-all_accepted-clause-refused g c e =
     let done = c.in-Ok.ensures.done in
-    let told : true ≡ tells_of_refusals c.in-Replay.is_strict c.in-Ok.all_accepted = grind arith in
+    let told : true ≡ reports_refusals c.in-Replay.is_strict c.in-Ok.all_accepted = grind arith in
     rw c.in-Replay.is (done.0, (c.in-Ok.all_accepted, done.1, told), done.2)
 
 pub returns-in-Judge-clause-fault : goal.returns-in-Judge-clause-fault

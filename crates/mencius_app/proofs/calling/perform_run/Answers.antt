@@ -1,5 +1,5 @@
 use Rattle.std.proofs.lemmas.Result.{IfErr-weaker}
-use Rattle.mencius_app.specs.Ending.{asked_with}
+use Rattle.mencius_app.specs.Ending.{task_with}
 use Rattle.mencius_app.proofs.inputs.EndingCauses.{as_text, board_of_run, of_run, text_of_run}
 use Rattle.mencius_app.proofs.inputs.FindingWords.{told_of_run}
 use Rattle.mencius_app.proofs.inputs.Inputs.{also_found}
@@ -16,5 +16,5 @@ returns-clause-fault g c =
 
 pub returns-clause-words : goal.returns-clause-words
 returns-clause-words g c =
-    told_of_run (asked_with c.args.options.now) (g.R.Source.remaining c.args.source.now) c.run.result _
+    told_of_run (task_with c.args.options.now) (g.R.Source.remaining c.args.source.now) c.run.result _
     c.ending_of_run.ensures c.run.ensures.words

@@ -1,8 +1,8 @@
 use Rattle.std.proofs.Common.{Err, inl, ◌∙◌, subst, sym}
 use Rattle.mencius_trace.specs.Closing.{trace_text}
 use Rattle.mencius_input.specs.declared.kind.Kind.TheVariants.{Replay}
-use Rattle.mencius_app.specs.Drawing.{IsPictureOf, IsToldOfPicture}
-use Rattle.mencius_app.specs.Findings.{IsToldAs}
+use Rattle.mencius_app.specs.Drawing.{ExplainsPicture, IsPictureOf}
+use Rattle.mencius_app.specs.Findings.{ExplainsAs}
 use Rattle.mencius_app.proofs.inputs.Inputs.{at_err, at_finding, made, unwritable, unwritten}
 use Rattle.mencius_app.proofs.inputs.PictureFaults.{found_as, refused_cause, refused_words}
 use Rattle.mencius_app.proofs.drawing.draw.Goals as goal
@@ -11,7 +11,8 @@ pub returns-in_err-scenario-clause-words : goal.returns-in_err-scenario-clause-w
 returns-in_err-scenario-clause-words g c =
     let found = c.in_err-scenario.field-0.0 in
     at_err c.from_residual.result found _ c.from_residual.ensures.1
-    (found_as (IsToldAs Replay) (IsToldOfPicture c.args.options.now) (λ fault bytes words told. inl told) _ found.fault
+    (found_as (ExplainsAs Replay) (ExplainsPicture c.args.options.now) (λ fault bytes words told. inl told) _
+    found.fault
     found.words c.in_err-scenario.ensures.words)
 
 pub returns-in_err-text-clause-fault : goal.returns-in_err-text-clause-fault

@@ -5,7 +5,7 @@ returns-clause-text g c = (
   record {
     written = c.in_ok-scenario.scenario;
     says = c.in_ok-scenario.ensures.said;
-    is = c.in_ok-told.ensures.text;
+    is = c.in_ok-made.ensures.text;
   },
-  c.in_ok-told.ensures.judged,
+  c.in_ok-made.ensures.judged,
 )

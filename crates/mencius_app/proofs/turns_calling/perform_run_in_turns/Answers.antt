@@ -1,5 +1,5 @@
 use Rattle.std.proofs.lemmas.Result.{IfErr-weaker}
-use Rattle.mencius_app.specs.Ending.{asked_with}
+use Rattle.mencius_app.specs.Ending.{task_with}
 use Rattle.mencius_app.proofs.inputs.EndingCauses.{as_text, done_not_board, of_result, text_of_run}
 use Rattle.mencius_app.proofs.inputs.FindingWords.{told_of_result}
 use Rattle.mencius_app.proofs.turns_calling.perform_run_in_turns.Goals as goal
@@ -14,5 +14,5 @@ returns-clause-fault g c =
 
 pub returns-clause-words : goal.returns-clause-words
 returns-clause-words g c =
-    told_of_result (asked_with c.args.options.now) (g.R.Source.remaining c.args.source.now) c.run_in_turns.result _
+    told_of_result (task_with c.args.options.now) (g.R.Source.remaining c.args.source.now) c.run_in_turns.result _
     c.ending_of.ensures c.run_in_turns.ensures.words

@@ -2,10 +2,10 @@ use Rattle.std.proofs.Common.{◌≡◌, ◌++◌, ℕ, List, arith, rules, sym,
 use Rattle.mencius_base.specs.declared.command.Command.{Command}
 use Rattle.mencius_model.specs.Trace.{option_to_list}
 use Rattle.mencius_model.specs.Server.{done}
-use Rattle.mencius_model.specs.Executed.{executed}
+use Rattle.mencius_model.specs.Executed.{history}
 use Rattle.mencius_model.specs.Replying.{command_at, commands_of}
 use Rattle.mencius_cluster.specs.State.{trace_of}
-use Rattle.mencius_board.specs.Boards.{longest}
+use Rattle.mencius_board.specs.Boards.{longest_of}
 use Rattle.mencius_board.proofs.LongestCopy.{commands_next, longest_few, take_whole}
 use Rattle.mencius_board.proofs.longest.copy_longest.Goals as goal
 
@@ -18,21 +18,21 @@ loop-ticket-preserved c =
     ∙ sym (commands_next w c.unwrap-tickets.result.now c.loop-ticket.ticket-index c.loop-ticket-test.true))
 
 pub returns-clause-list : goal.returns-clause-list
-unfolding longest
+unfolding longest_of
 returns-clause-list c =
     let x = c.args.cluster.now in
     let w = trace_of x in
-    let tickets : c.unwrap-tickets.result.now ≡ executed w c.longest-server.result = search rules in
+    let tickets : c.unwrap-tickets.result.now ≡ history w c.longest-server.result = search rules in
     let all : take c.loop-ticket.ticket-index c.unwrap-tickets.result.now ≡ c.unwrap-tickets.result.now =
     take_whole c.loop-ticket.ticket-index c.unwrap-tickets.result.now c.loop-ticket-test.false in
     c.loop-ticket.invariant ∙ (ap (commands_of w) (all ∙ tickets)
-    ∙ ap (λ (s : ℕ). commands_of w (executed w s)) c.longest-server.ensures.place)
+    ∙ ap (λ (s : ℕ). commands_of w (history w s)) c.longest-server.ensures.place)
 
 pub returns-clause-limit : goal.returns-clause-limit
 returns-clause-limit c =
     let x = c.args.cluster.now in
-    let is : c.loop-ticket.list.items ≡ longest x = returns-clause-list c in
+    let is : c.loop-ticket.list.items ≡ longest_of x = returns-clause-list c in
     let done_is : c.unwrap-done.result ≡ done (trace_of x) c.longest-server.result = search rules in
     let few = longest_few x c.longest-server.result c.unwrap-done.result c.longest-server.ensures.place done_is in
-    let same : length c.loop-ticket.list.items ≡ length (longest x) = ap length is in
+    let same : length c.loop-ticket.list.items ≡ length (longest_of x) = ap length is in
     omega (arith, few, same, c.unwrap-done.type_inv)

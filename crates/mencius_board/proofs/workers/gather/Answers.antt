@@ -2,7 +2,7 @@ use Rattle.std.specs.Prelude.{◌≡◌, ℕ, ◌+◌, ◌<◌, get_or, length, 
 use Rattle.std.proofs.Common.{rules, arith, add-zero, subst, sym}
 use Rattle.std.specs.Vec.Iter.{into_iter_items, into_iter_len}
 use Rattle.mencius_base.specs.Plan.{PlanState}
-use Rattle.mencius_board.specs.Running.{Answers, EndState, IsEndOf}
+use Rattle.mencius_board.specs.Running.{Answers, EndState, IsWorkerEnd}
 use Rattle.mencius_board.proofs.runs.JoinedWorkers.{ended}
 use Rattle.mencius_board.proofs.logs.ListSteps.{first_of, more_of}
 use Rattle.mencius_board.proofs.workers.gather.Goals as goal
@@ -17,7 +17,7 @@ loop-child-preserved g c =
     let two = first_of (λ m o. Answers plan (done + m) o) many left _ _ c.in-Some.child step.0 step.1 was.2 in
     let next : Answers plan done c.in-Some.child = rw add-zero at two.0 in
     let end : EndState = c.join_started-end.result in
-    let is_end : IsEndOf c.args.plan.now done end =
+    let is_end : IsWorkerEnd c.args.plan.now done end =
     ended c.in-Some.child c.args.plan.now done end next c.join_started-end.ensures in
     let longer : vec_len c.push_reserved.new.self ≡ done + 1 = c.push_reserved.ensures.len in (
       omega (arith, was.0, longer, step.1),
@@ -28,7 +28,7 @@ loop-child-preserved g c =
       λ m d below.
           let len : length c.loop-child.ends.items ≡ done = sym c.loop-child.ends.ok.0 in
           let small : m < length c.loop-child.ends.items + 1 = omega (arith, len, longer, below) in
-          let is : IsEndOf c.args.plan.now (length c.loop-child.ends.items) end = rw len is_end in
-          rw c.push_reserved.ensures.items (more_of (IsEndOf c.args.plan.now) m c.loop-child.ends.items end d
+          let is : IsWorkerEnd c.args.plan.now (length c.loop-child.ends.items) end = rw len is_end in
+          rw c.push_reserved.ensures.items (more_of (IsWorkerEnd c.args.plan.now) m c.loop-child.ends.items end d
           (λ l e under. was.3 l e (omega (arith, len, under))) is small),
     )

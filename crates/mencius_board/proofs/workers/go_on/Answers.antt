@@ -1,5 +1,5 @@
 use Rattle.std.proofs.Common.{◌≡◌, sym, subst, ap, ◌∙◌}
-use Rattle.mencius_choices.specs.Choices.{ChooserState, chooser_at, drawn}
+use Rattle.mencius_choices.specs.Choices.{ChooserState, after_words, chooser_at}
 use Rattle.mencius_board.specs.Turns.{TakesTurn}
 use Rattle.mencius_board.proofs.runs.WorkerTurns.{turn_plan}
 use Rattle.mencius_board.proofs.workers.go_on.Goals as goal
@@ -21,6 +21,6 @@ returns g c =
       turn = subst (λ (y : ChooserState). TakesTurn first y before after c.args.shows answer) (sym to) took;
       drawn =
           ap (λ (y : ChooserState). y.drawing) to
-          ∙ (c.take_turn-answer.ensures.drawn ∙ ap (λ (y : ChooserState). drawn y.drawing) from);
+          ∙ (c.take_turn-answer.ensures.drawn ∙ ap (λ (y : ChooserState). after_words y.drawing) from);
       fault = c.take_turn-answer.ensures.fault;
     }

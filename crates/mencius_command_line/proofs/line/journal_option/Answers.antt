@@ -3,8 +3,8 @@ use Rattle.clap.specs.Words.{Rule, rule_of}
 use Rattle.clap.specs.declared.builder.action.ArgAction.TheVariants.{SetTrue}
 use Rattle.mencius_command_line.proofs.line.journal_option.Goals as goal
 
-abbrev named : Rule → Rule
-named rule = record rule { long = Some (codes "journal") }
+abbrev with_long : Rule → Rule
+with_long rule = record rule { long = Some (codes "journal") }
 
 abbrev set_true : Rule → Rule
 set_true rule = record rule { action = Some SetTrue }
@@ -12,4 +12,4 @@ set_true rule = record rule { action = Some SetTrue }
 pub returns-clause-rule : goal.returns-clause-rule
 returns-clause-rule c =
     ap rule_of c.action.ensures
-    ∙ ap set_true (ap rule_of c.long.ensures ∙ ap named c.new.ensures.rule)
+    ∙ ap set_true (ap rule_of c.long.ensures ∙ ap with_long c.new.ensures.rule)

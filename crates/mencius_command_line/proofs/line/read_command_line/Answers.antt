@@ -3,13 +3,13 @@ use Rattle.std.proofs.lemmas.Bool.{and_parts}
 use Rattle.std.proofs.lemmas.Result.{IfOk-weaker}
 use Rattle.clap.specs.Kinds.{FailsBy, HasKind, or_else}
 use Rattle.clap.specs.Words.{Kinds, Text, app_of, fault_of, is_simple, is_simple_and_free, subcommand_of, subcommand_rows_of}
-use Rattle.mencius_command_line.specs.CommandLine.{Asked, asked_by, asked_in, value_faults, program, words_read}
+use Rattle.mencius_command_line.specs.CommandLine.{TaskState, task_by_name, task_state, value_faults, program, words_read}
 use Rattle.mencius_command_line.proofs.CommandLines.{err_first, err_of, kinds_next, program_simple}
 use Rattle.mencius_command_line.proofs.line.read_command_line.Goals as goal
 
 -- what words ask for that were joined
-abbrev asked_there : List Text → Asked
-asked_there words = asked_by (subcommand_of program words)
+abbrev asked_there : List Text → TaskState
+asked_there words = task_by_name (subcommand_of program words)
 
 plain_program : is_simple program ≡ true
 plain_program = (and_parts (is_simple program) _ program_simple).0
@@ -39,12 +39,12 @@ returns-in_err-task-clause-faults c =
     let found : subcommand_rows_of c.in_ok-matches.matches ≡ subcommand_of program words =
     (c.in_ok-matches.ensures.ok.2 (ap is_simple c.in_ok-command.ensures ∙ plain_program)).1
     ∙ ap (λ a. subcommand_of a words) c.in_ok-command.ensures in
-    let there : asked_by (subcommand_rows_of c.in_ok-matches.matches) ≡ asked_there words = ap asked_by found in
+    let there : task_by_name (subcommand_rows_of c.in_ok-matches.matches) ≡ asked_there words = ap task_by_name found in
     subst (λ ws. FailsBy (or_else (fault_of program ws) (value_faults (asked_there ws)))
     c.from_residual-in_err-task.result) joined
     (rw (kinds_next (fault_of program words) (value_faults (asked_there words)) none)
     (err_of (value_faults (asked_there words)) _ c.in_err-task.field-0.0 c.from_residual-in_err-task.ensures.1
-    (subst (λ (a : Asked). HasKind (value_faults a) c.in_err-task.field-0.0) there c.in_err-task.ensures.faults)))
+    (subst (λ (a : TaskState). HasKind (value_faults a) c.in_err-task.field-0.0) there c.in_err-task.ensures.faults)))
 
 pub returns-clause-faults : goal.returns-clause-faults
 returns-clause-faults c =
@@ -57,7 +57,7 @@ returns-clause-faults c =
     let found : subcommand_rows_of c.in_ok-matches.matches ≡ subcommand_of program words =
     (c.in_ok-matches.ensures.ok.2 (ap is_simple c.in_ok-command.ensures ∙ plain_program)).1
     ∙ ap (λ a. subcommand_of a words) c.in_ok-command.ensures in
-    let said : asked_in c.in_ok-task.task ≡ asked_there words = c.in_ok-task.ensures.task ∙ ap asked_by found in
+    let said : task_state c.in_ok-task.task ≡ asked_there words = c.in_ok-task.ensures.task ∙ ap task_by_name found in
     subst (λ ws. FailsBy (or_else (fault_of program ws) (value_faults (asked_there ws))) c.with_good_key.result) joined
     (subst (λ (ks : Kinds). FailsBy ks c.with_good_key.result) (ap value_faults said
     ∙ sym (kinds_next (fault_of program words) (value_faults (asked_there words)) none)) c.with_good_key.ensures.faults)
@@ -69,5 +69,5 @@ returns-clause-task c =
     let found : subcommand_rows_of c.in_ok-matches.matches ≡ subcommand_of program words =
     (c.in_ok-matches.ensures.ok.2 (ap is_simple c.in_ok-command.ensures ∙ plain_program)).1
     ∙ ap (λ a. subcommand_of a words) c.in_ok-command.ensures in
-    let said : asked_in c.in_ok-task.task ≡ asked_there words = c.in_ok-task.ensures.task ∙ ap asked_by found in
+    let said : task_state c.in_ok-task.task ≡ asked_there words = c.in_ok-task.ensures.task ∙ ap task_by_name found in
     IfOk-weaker c.with_good_key.result _ _ (λ task h. h ∙ said ∙ ap asked_there joined) c.with_good_key.ensures.task

@@ -1,7 +1,7 @@
 use Rattle.std.proofs.Common.{◌≡◌, ◌≤◌, Ok, arith, rules, subst}
 use Rattle.mencius_base.specs.Members.{Membership}
 use Rattle.mencius_model.specs.Next.{replay}
-use Rattle.mencius_model.specs.Executed.{executed}
+use Rattle.mencius_model.specs.Executed.{history}
 use Rattle.mencius_cluster.specs.State.{trace_of}
 use Rattle.mencius_conclusions.proofs.JournalMoments.{comparable, grows}
 use Rattle.mencius_conclusions.proofs.conclusions.note_across.Goals as goal
@@ -10,8 +10,8 @@ pub returns-clause-comparable : goal.returns-clause-comparable
 returns-clause-comparable c =
     let old = c.args.cluster.now in
     let new = c.step_all.new.cluster in
-    let earlier : c.in_ok-earlier.earlier.items ≡ executed (trace_of old) c.args.server = search rules in
-    let later : c.in_ok-later.later.items ≡ executed (trace_of new) c.args.other = search rules in
+    let earlier : c.in_ok-earlier.earlier.items ≡ history (trace_of old) c.args.server = search rules in
+    let later : c.in_ok-later.later.items ≡ history (trace_of new) c.args.other = search rules in
     let some : 1 ≤ old.members.count = omega arith in
     let after = subst (λ (m : Membership). replay m new.journal ≡ Ok (trace_of new)) c.in_ok-step_all.ensures.members
     c.replays-2.ensures in
@@ -23,8 +23,8 @@ pub returns-clause-grows : goal.returns-clause-grows
 returns-clause-grows c same =
     let old = c.args.cluster.now in
     let new = c.step_all.new.cluster in
-    let earlier : c.in_ok-earlier.earlier.items ≡ executed (trace_of old) c.args.server = search rules in
-    let later : c.in_ok-later.later.items ≡ executed (trace_of new) c.args.other = search rules in
+    let earlier : c.in_ok-earlier.earlier.items ≡ history (trace_of old) c.args.server = search rules in
+    let later : c.in_ok-later.later.items ≡ history (trace_of new) c.args.other = search rules in
     let some : 1 ≤ old.members.count = omega arith in
     let after = subst (λ (m : Membership). replay m new.journal ≡ Ok (trace_of new)) c.in_ok-step_all.ensures.members
     c.replays-2.ensures in

@@ -12,5 +12,5 @@ returns c =
       omega (arith, end),
       is_picture c.args.options.now c.args.trace.now _ c.servers_of-servers.result c.end_of-end.result _
           c.servers_of-servers.ensures c.end_of-end.ensures
-          (ap (map outline) c.as_slice.ensures.value ∙ c.in_ok-shapes.ensures) c.in_ok-painted.ensures,
+          (ap (map outline) c.as_slice.ensures.value ∙ c.in_ok-shapes.ensures) c.in_ok-picture_text.ensures,
     )

@@ -6,7 +6,7 @@ pub returns : goal.returns
 returns c =
     let old = string_bytes c.args.text.now in
     last_part c.push_fixed-7.result old _ _ _ _ (then old _ _ _ _ (then old _ _ _ _ (then old _ _ _ _ (then old _ _ _ _ (then old _ _ _ _ (then old _ _ _ _ (then old _ _ _ _ (then old _ _ _ _ (then old _ _ _ _ (then old _ _ _ _ (then old _ _ _ _ (c.in_ok-push_fixed.ensures)
-    c.in_ok-push_moved_below.ensures)
+    c.in_ok-push_transform_below.ensures)
     c.in_ok-push_fixed-2.ensures)
     c.in_ok-push_word.ensures)
     c.in_ok-push_fixed-3.ensures)

@@ -12,7 +12,7 @@ returns c =
     c.in_ok-push_between-3.ensures)
     c.in_ok-push_rest.ensures)
     c.in_ok-push_fixed.ensures)
-    c.in_ok-push_moved_to.ensures)
+    c.in_ok-push_transform_at.ensures)
     c.in_ok-push_fixed-2.ensures)
     c.in_ok-push_cause.ensures)
     c.in_ok-push_mark.ensures)

@@ -10,7 +10,7 @@ returns c =
     c.in_ok-push_between.ensures)
     c.in_ok-push_over.ensures)
     c.in_ok-push_fixed-2.ensures)
-    c.in_ok-push_moved_to.ensures)
+    c.in_ok-push_transform_at.ensures)
     c.in_ok-push_fixed-3.ensures)
     c.in_ok-push_note_label.ensures)
     c.push_fixed-4.ensures

@@ -6,5 +6,5 @@ pub returns : goal.returns
 returns c =
     let old = string_bytes c.args.text.now in
     last_part c.push_fixed.result old _ _ _ _ (then old _ _ _ _ (c.in_ok-push_owner_between.ensures)
-    c.in_ok-push_moved_to.ensures)
+    c.in_ok-push_transform_at.ensures)
     c.push_fixed.ensures

@@ -8,7 +8,7 @@ returns c =
     last_part c.push_fixed-2.result old _ _ _ _ (then old _ _ _ _ (then old _ _ _ _ (then old _ _ _ _ (then old _ _ _ _ (then old _ _ _ _ (then old _ _ _ _ (then old _ _ _ _ (c.in_ok-push_between.ensures)
     c.in_ok-push_kind.ensures)
     c.in_ok-push_between-2.ensures)
-    c.in_ok-push_moved_to.ensures)
+    c.in_ok-push_transform_at.ensures)
     c.in_ok-push_owner_between.ensures)
     c.in_ok-push_tick.ensures)
     c.in_ok-push_fixed.ensures)

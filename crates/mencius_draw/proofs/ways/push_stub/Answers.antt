@@ -7,5 +7,6 @@ pub returns : goal.returns
 returns c =
     let old = string_bytes c.args.text.now in
     last_part c.push_command-2.result old _ _ _ _
-    (command_at _ _ _ _ _ _ _ c.beside-far.ensures c.saturating_sub-above.ensures c.in_ok-push_command.ensures)
-    (last_command_at _ _ _ _ _ _ _ _ c.beside-near.ensures c.saturating_sub-before.ensures c.push_command-2.ensures)
+    (command_at _ _ _ _ _ _ _ c.place_beside-far.ensures c.saturating_sub-above.ensures c.in_ok-push_command.ensures)
+    (last_command_at _ _ _ _ _ _ _ _ c.place_beside-near.ensures c.saturating_sub-before.ensures
+    c.push_command-2.ensures)

@@ -1,6 +1,6 @@
 use Rattle.std.proofs.Common.{◌≡◌, ◌++◌, string_bytes, take}
-use Rattle.mencius_draw.specs.Words.{plain}
+use Rattle.mencius_draw.specs.Words.{plain_text}
 use Rattle.mencius_draw.proofs.words.push_plain.Given as goal
 
 abbrev pub invariant-loop-byte : goal.invariant-loop-byte
-invariant-loop-byte l = string_bytes l.text ≡ string_bytes l.initial.text ++ plain (take l.byte-index l.bytes)
+invariant-loop-byte l = string_bytes l.text ≡ string_bytes l.initial.text ++ plain_text (take l.byte-index l.bytes)

@@ -33,4 +33,4 @@ items-preserved c =
 pub returns-clause-ok : goal.returns-clause-ok
 returns-clause-ok c =
     let read = list_close c.items.invariant c.take_end_array.new.self (grind arith) in
-    (read.0, read.1, c.told.ensures ∙ read.2, read.3)
+    (read.0, read.1, c.items_or_fault.ensures ∙ read.2, read.3)

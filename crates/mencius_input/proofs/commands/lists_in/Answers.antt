@@ -3,17 +3,17 @@ use Rattle.std.specs.List.{list_all}
 use Rattle.json.specs.Json.{after_end_array}
 use Rattle.mencius_base.specs.Limits.{most_servers}
 use Rattle.mencius_format.specs.Grammar.{command_within, newest_version}
-use Rattle.mencius_format.specs.Judged.{seen}
+use Rattle.mencius_format.specs.ValuesOrFaults.{map_ok}
 use Rattle.mencius_input.specs.Newest.{command_item_version, list_version}
-use Rattle.mencius_input.specs.Plan.{commands_of}
+use Rattle.mencius_input.specs.Plan.{commands_read}
 use Rattle.mencius_input.specs.FieldValues.{lists_within}
 use Rattle.mencius_input.proofs.Stops.{stops_at, stops_whole}
-use Rattle.mencius_input.proofs.lists.NotedItems.{list_close, few_further, few_seen, list_start, list_stop, seen_seen, told_seen}
+use Rattle.mencius_input.proofs.lists.NotedItems.{list_close, few_further, few_mapped, list_start, list_stop, map_ok_twice, items_mapped}
 use Rattle.mencius_input.proofs.commands.lists_in.Goals as goal
 
 pub items-init : goal.items-init
 items-init c =
-    list_start (commands_of newest_version) lists_within (list_version command_item_version) _ _ _ refl
+    list_start (commands_read newest_version) lists_within (list_version command_item_version) _ _ _ refl
     (ap (λ lists. Ok (map (λ list. list.items) lists)) c.new-lists.ensures.items)
 
 pub returns-in_err-commands-clause-err : goal.returns-in_err-commands-clause-err
@@ -34,7 +34,7 @@ items-preserved c =
     (rw (← going.1) done.ok.1)
     (c.max-version.ensures ∙ ap (max l.version) done.ok.3)
     (sym done.ok.2)
-    (few_seen (λ list. list.items) most_servers _ _ _ _ _ _ _ c.where_room-commands.ensures
+    (few_mapped (λ list. list.items) most_servers _ _ _ _ _ _ _ c.where_room-commands.ensures
     (ap (λ n. nat_lt n most_servers) many) c.in_ok-note.ensures)
 
 pub returns-clause-ok : goal.returns-clause-ok
@@ -42,8 +42,8 @@ returns-clause-ok c =
     let read = list_close c.items.invariant c.take_end_array.new.self (grind arith) in (
       read.0,
       read.1,
-      seen_seen _ _ c.told.result ∙ ap (seen (map (λ list. list.items))) c.told.ensures
-          ∙ told_seen (λ list. list.items) _ _
+      map_ok_twice _ _ c.items_or_fault.result ∙ ap (map_ok (map (λ list. list.items))) c.items_or_fault.ensures
+          ∙ items_mapped (λ list. list.items) _ _
           ∙ read.2,
       read.3,
     )

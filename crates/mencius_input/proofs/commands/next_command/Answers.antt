@@ -1,6 +1,6 @@
 use Rattle.std.proofs.Common.{inr, refl, ap, ◌∙◌}
 use Rattle.mencius_ends.specs.declared.fault.AppFault.TheVariants.{BadShape}
-use Rattle.mencius_input.specs.Noted.{told}
+use Rattle.mencius_input.specs.Noted.{items_or_fault}
 use Rattle.mencius_input.proofs.lists.NotedItems.{noted_fault}
 use Rattle.mencius_input.proofs.Stops.{stops_at}
 use Rattle.mencius_input.proofs.commands.next_command.Goals as goal
@@ -21,6 +21,6 @@ returns-in-None-clause-ok c =
     let kept = c.args.commands.now.items in (
       read.0,
       read.1,
-      rw (← none) (ap (told kept) c.note_fault.ensures ∙ noted_fault kept c.args.fault.now BadShape),
+      rw (← none) (ap (items_or_fault kept) c.note_fault.ensures ∙ noted_fault kept c.args.fault.now BadShape),
       rw (← none) refl,
     )

@@ -5,9 +5,9 @@ use Rattle.mencius_input.specs.Explanations.{further_names, kind_name, unknown_w
 use Rattle.mencius_input.proofs.explaining.push_unknown.Goals as goal
 
 -- six texts, each put behind what there is
-joined : (w u v x y z all a k b f e l : List ℕ) → u ≡ w ++ a → v ≡ u ++ k → x ≡ v ++ b → y ≡ x ++ f → z ≡ y ++ e
+one_text : (w u v x y z all a k b f e l : List ℕ) → u ≡ w ++ a → v ≡ u ++ k → x ≡ v ++ b → y ≡ x ++ f → z ≡ y ++ e
     → all ≡ z ++ l → all ≡ w ++ (a ++ k ++ b ++ f ++ e ++ l)
-joined w u v x y z all a k b f e l h i j m n o = rw (o, n, m, j, i, h) (simp append_assoc refl)
+one_text w u v x y z all a k b f e l h i j m n o = rw (o, n, m, j, i, h) (simp append_assoc refl)
 
 pub returns : goal.returns
 unfolding unknown_words
@@ -15,7 +15,7 @@ returns c =
     let kind = c.args.kind in
     let names : string_bytes c.loop-field.words
     ≡ string_bytes c.push_str-3.new.self ++ further_names (drop 1 (whole_fields kind)) = grind (arith, common_steps) in
-    joined (string_bytes c.args.words.now) (string_bytes c.push_str.new.self) (string_bytes c.push_str-2.new.self)
+    one_text (string_bytes c.args.words.now) (string_bytes c.push_str.new.self) (string_bytes c.push_str-2.new.self)
     (string_bytes c.push_str-3.new.self) (string_bytes c.loop-field.words) (string_bytes c.push_str-4.new.self)
     (string_bytes c.push_str-5.new.self)
     (codes " is no field: a scenario of ") (kind_name kind) (codes " has version")

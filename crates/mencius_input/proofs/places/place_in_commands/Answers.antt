@@ -14,4 +14,4 @@ returns c =
     ∙ ap (λ count. count_place c.args.fault count (number_of Servers (view c.args.scenario.now)))
     (sym (items_len-items_view c.args.lists.now))
     ∙ sym (place_behind c.in_ok-place.place _ _ (search rules)
-    (c.in_ok-place.ensures ∙ ap (λ version. first_of (list_place c.args.fault version) 0 lists) c.version_of.ensures))
+    (c.in_ok-place.ensures ∙ ap (λ version. first_of (list_place c.args.fault version) 0 lists) c.version_in.ensures))

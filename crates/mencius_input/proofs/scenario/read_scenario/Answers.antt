@@ -1,6 +1,6 @@
 use Rattle.std.proofs.Common.{ap, sym, ◌∙◌}
-use Rattle.mencius_format.specs.Judged.{judged}
-use Rattle.mencius_format.proofs.JudgedParts.{given, passed_on}
+use Rattle.mencius_format.specs.ValuesOrFaults.{value_or_fault}
+use Rattle.mencius_format.proofs.ValuesOfParts.{given, passed_on}
 use Rattle.mencius_input.specs.declared.kind.Kind.TheVariants.{Replay}
 use Rattle.mencius_input.specs.Scenario.{or_not_json, read_there, scenario_of, scenario_within, schedule_of, schedule_within}
 use Rattle.mencius_input.proofs.objects.ScenarioFields.{fields_say}
@@ -15,5 +15,6 @@ pub returns : goal.returns
 returns c =
     let all = c.in_ok-fields.ensures.ok in
     given _ _ (c.schedule_of.ensures ∙ fields_say c.in_ok-fields.fields all.ms all.fields all.only
-    ∙ ap (λ o. read_there (λ d. judged (scenario_within schedule_within) (scenario_of Replay schedule_of d)) (or_not_json o))
+    ∙ ap (λ o. read_there (λ d. value_or_fault (scenario_within schedule_within) (scenario_of Replay schedule_of d))
+    (or_not_json o))
     (sym all.there))

@@ -1,15 +1,15 @@
 use Rattle.std.proofs.Common.{◌≡◌, ◌∷◌, ◌∙◌, ◌⊎◌, inl, inr, true, ◌==◌, not, ℕ, List, ap, arith, drop, sym}
 use Rattle.std.proofs.lemmas.Bool.{and_parts}
 use Rattle.json.specs.Lex.{between, class, lex, punctuate}
-use Rattle.mencius_json.specs.Tokens.{first, is_plain}
+use Rattle.mencius_json.specs.Tokens.{first_or_zero, is_plain}
 use Rattle.mencius_json.proofs.FirstBytes.{not_true, other_class}
 use Rattle.mencius_json.proofs.Punctuation.{opens_array, opens_object, stray}
 use Rattle.mencius_json.proofs.plain.begin.Goals as goal
 
 -- a text that begins with a byte, once that byte is known
-begun : (text behind : List ℕ) (x other : ℕ) → text ≡ x ∷ drop 1 text → text ≡ first text ∷ behind → x ≡ other
+begun : (text behind : List ℕ) (x other : ℕ) → text ≡ x ∷ drop 1 text → text ≡ first_or_zero text ∷ behind → x ≡ other
     → text ≡ other ∷ behind
-begun text behind x other e same equal = same ∙ ap (λ (byte : ℕ). byte ∷ behind) (ap first e ∙ equal)
+begun text behind x other e same equal = same ∙ ap (λ (byte : ℕ). byte ∷ behind) (ap first_or_zero e ∙ equal)
 
 either : {A B C : Type 0} → A ⊎ (B × C) → A ⊎ C
 either (inl a) = inl a
@@ -45,6 +45,6 @@ pass_word-requires-clause-other c =
     let plainly : is_plain (x ∷ drop 1 c.args.text.now) ≡ true =
     ap is_plain (sym c.requires.first) ∙ c.requires.plain in
     let off = not_true (x == 92) (and_parts (not (x == 92)) (is_plain (drop 1 c.args.text.now)) plainly).0 in
-    ap class (ap first c.requires.first)
+    ap class (ap first_or_zero c.requires.first)
     ∙ other_class x c.if-byte-eq34.false off c.if-byte-eq123.false c.requires.opening.1 c.if-byte-eq91.false
     c.requires.opening.0 c.if-byte-eq58.false c.if-byte-eq44.false c.requires.solid

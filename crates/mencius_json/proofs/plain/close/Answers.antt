@@ -1,7 +1,7 @@
 use Rattle.std.proofs.Common.{◌≡◌, ◌∷◌, inl, inr, ℕ, ap, sym, ◌∙◌, drop, true}
 use Rattle.json.specs.Reads.{token_of}
 use Rattle.mencius_json.specs.declared.plain.Position.TheVariants.{AfterValue}
-use Rattle.mencius_json.specs.Tokens.{first, may_close, refused_at, tokens_at}
+use Rattle.mencius_json.specs.Tokens.{first_or_zero, may_close, refused_at, tokens_at}
 use Rattle.mencius_json.proofs.Punctuation.{closes_array, closes_object, not_closed}
 use Rattle.mencius_json.proofs.plain.close.Goals.{then-byte-eq93, else-byte-eq93}
 use Rattle.mencius_json.proofs.plain.close.Goals as goal
@@ -17,7 +17,7 @@ returns-then-not-may_close-clause-value c =
 pub returns-clause-value : goal.returns-clause-value
 returns-clause-value c =
     let open_here : may_close c.args.place ≡ true = sym c.may_close.ensures ∙ c.if-not-may_close.false in
-    let here : first c.args.text.now ≡ c.args.byte = ap first c.requires.first in
+    let here : first_or_zero c.args.text.now ≡ c.args.byte = ap first_or_zero c.requires.first in
     let text = c.behind_first.ensures.value ∙ ap (λ (byte : ℕ). byte ∷ c.behind_first.result.now) here in
     elim c.if-byte-eq93.branch [
       | then-byte-eq93 way ↦

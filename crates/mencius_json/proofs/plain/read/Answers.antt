@@ -1,6 +1,6 @@
 use Rattle.std.proofs.Common.{◌≡◌, ◌<◌, ◌∙◌, ℕ, List, ap, arith, drop, sym, length}
 use Rattle.mencius_json.specs.declared.plain.Position.{Position}
-use Rattle.mencius_json.specs.Tokens.{first, refused_at, tokens_at}
+use Rattle.mencius_json.specs.Tokens.{first_or_zero, refused_at, tokens_at}
 use Rattle.mencius_json.proofs.FirstBytes.{some_first}
 use Rattle.mencius_json.proofs.ClosedLists.{not_begun}
 use Rattle.mencius_json.proofs.plain.read.Goals as goal
@@ -13,7 +13,8 @@ returns-then-not-may_begin-clause-value c =
     let is : tokens_at c.args.place c.args.text.now ≡ refused_at place =
     sym c.past_comma-place.ensures.same
     ∙ ap (tokens_at place) (some_first text some)
-    ∙ not_begun place (first text) (drop 1 text) (sym c.may_begin.ensures ∙ c.if-not-may_begin.true)
+    ∙ not_begun place (first_or_zero text) (drop 1 text) (sym c.may_begin.ensures ∙ c.if-not-may_begin.true)
     c.past_comma-place.ensures.solid c.past_comma-place.ensures.no_comma
-    (rw (← c.first-byte.ensures) c.if-byte-eq93.false) (rw (← c.first-byte.ensures) c.if-byte-eq125.false) in
+    (rw (← c.first_or_zero-byte.ensures) c.if-byte-eq93.false)
+    (rw (← c.first_or_zero-byte.ensures) c.if-byte-eq125.false) in
     rw is c.refused.ensures.value

@@ -3,7 +3,7 @@ use Rattle.mencius_base.specs.Limits.{most_servers}
 use Rattle.mencius_cluster.specs.Answers.{if_member}
 use Rattle.mencius_cluster.specs.State.{trace_of}
 use Rattle.mencius_model.specs.Server.{front}
-use Rattle.mencius_trace.specs.Before.{IsGivenUp, IsTaken, heard_in}
+use Rattle.mencius_trace.specs.Before.{IsReaction, IsSkippedText, heard_in}
 use Rattle.mencius_trace.proofs.before.note.Goals as goal
 
 pub returns : goal.returns
@@ -16,14 +16,16 @@ returns c =
       server = c.server_of-server.ensures;
       front = c.front.ensures ∙ ap (λ p. if_member m p (front m w p)) c.server_of-server.ensures;
       heard = c.heard_in-heard.ensures;
-      hearing = subst (λ p. IsTaken m w p (heard_in w c.args.event.now) c.hearing_in-hearing.result)
+      reaction = subst (λ p. IsReaction m w p (heard_in w c.args.event.now) c.reaction_in-reaction.result)
           c.server_of-server.ensures
-          (subst (λ o. IsTaken m w c.server_of-server.result o c.hearing_in-hearing.result) c.heard_in-heard.ensures
-          c.hearing_in-hearing.ensures);
-      given_up = subst (λ p. IsGivenUp m w p (heard_in w c.args.event.now) (string_bytes c.in_ok-given_up.given_up))
+          (subst (λ o. IsReaction m w c.server_of-server.result o c.reaction_in-reaction.result)
+          c.heard_in-heard.ensures
+          c.reaction_in-reaction.ensures);
+      skipped_text = subst (λ p. IsSkippedText m w p (heard_in w c.args.event.now)
+          (string_bytes c.in_ok-skipped_text.skipped_text))
           c.server_of-server.ensures
-          (subst (λ o. IsGivenUp m w c.server_of-server.result o (string_bytes c.in_ok-given_up.given_up))
-          c.heard_in-heard.ensures c.in_ok-given_up.ensures);
-      executing = c.executing_in-executing.ensures;
+          (subst (λ o. IsSkippedText m w c.server_of-server.result o (string_bytes c.in_ok-skipped_text.skipped_text))
+          c.heard_in-heard.ensures c.in_ok-skipped_text.ensures);
+      execution = c.execution_in-execution.ensures;
       awaited = c.is_awaited-is_awaited.ensures;
     }

@@ -1,7 +1,7 @@
 use Rattle.std.proofs.Common.{◌≡◌, ◌++◌, OnOk, sym, subst, string_bytes}
 use Rattle.std.specs.Prelude.{codes}
 use Rattle.mencius_trace.specs.Facts.{tally_line}
-use Rattle.mencius_trace.specs.Told.{count_line}
+use Rattle.mencius_trace.specs.Effects.{count_line}
 use Rattle.mencius_trace.proofs.telling.push_count_of.Goals as goal
 
 pub returns-in-Accepted : goal.returns-in-Accepted

@@ -7,12 +7,12 @@ pub returns-in-Accepted : goal.returns-in-Accepted
 returns-in-Accepted c =
     subst (λ x. OnOk c.push_learned_at.result (c.args.server < c.args.cluster.now.members.count
     → string_bytes c.push_learned_at.new.text ≡ string_bytes c.args.text.now
-    ++ learned_of (trace_of c.args.cluster.now) c.args.server c.args.given_up.now c.args.learned x))
+    ++ learned_of (trace_of c.args.cluster.now) c.args.server c.args.skipped_text.now c.args.learned x))
     (sym c.in-Accepted.is) c.push_learned_at.ensures
 
 pub returns-in-Learn : goal.returns-in-Learn
 returns-in-Learn c =
     subst (λ x. OnOk c.push_learned_at-in-Learn.result (c.args.server < c.args.cluster.now.members.count
     → string_bytes c.push_learned_at-in-Learn.new.text ≡ string_bytes c.args.text.now
-    ++ learned_of (trace_of c.args.cluster.now) c.args.server c.args.given_up.now c.args.learned x))
+    ++ learned_of (trace_of c.args.cluster.now) c.args.server c.args.skipped_text.now c.args.learned x))
     (sym c.in-Learn.is) c.push_learned_at-in-Learn.ensures

@@ -2,9 +2,9 @@ use Rattle.std.specs.Prelude.{◌≡◌, [], Some}
 use Rattle.std.proofs.Common.{rules, drop}
 use Rattle.left_right.specs.Sides.{view}
 use Rattle.mencius_board.specs.Marks.{MarkState, mark_of}
-use Rattle.mencius_board.specs.Pending.{added}
+use Rattle.mencius_board.specs.Pending.{added_commands}
 use Rattle.mencius_board.specs.Shown.{book_of}
-use Rattle.mencius_board.specs.Boards.{longest}
+use Rattle.mencius_board.specs.Boards.{longest_of}
 use Rattle.mencius_board.proofs.BoardInvariant.{sound_shown}
 use Rattle.mencius_board.proofs.board.Board.show.Goals as goal
 
@@ -14,10 +14,10 @@ invariant_of-self-2 g c =
     let mark : MarkState = c.mark-mark.result in
     let same : mark ≡ c.record.new.log = search rules in
     let whole : c.record.new.log.log ≡ c.in_ok-list.list.items = search rules in
-    let all : c.in_ok-list.list.items ≡ longest c.self.inside.cluster = search rules in
+    let all : c.in_ok-list.list.items ≡ longest_of c.self.inside.cluster = search rules in
     let opening : c.self.inside.opening ≡ mark_of c.record.new.log.book [] = search rules in
     let shown : now.desk.shown.value ≡ record { mark = mark; list = mark.log } = search rules in
-    let none : added (drop now.behind now.log.items) ≡ [] = search rules in
+    let none : added_commands (drop now.behind now.log.items) ≡ [] = search rules in
     let seen : book_of (view now.desk.place) ≡ Some mark.book = search rules in
     let was = c.hand_over.new.writer in
     sound_shown c.self.inside.cluster c.record.new.log c.self.inside.opening mark (view now.desk.place)

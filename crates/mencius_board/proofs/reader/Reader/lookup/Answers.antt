@@ -1,7 +1,7 @@
 use Rattle.std.specs.Prelude.{◌≡◌, ◌≤◌, length, option_map, string_bytes}
 use Rattle.std.proofs.Common.{arith, rules, subst}
 use Rattle.mencius_model.specs.Executed.{IsPrefix}
-use Rattle.mencius_model.specs.Store.{value_at}
+use Rattle.mencius_model.specs.KeyMap.{value_at}
 use Rattle.mencius_model.proofs.trace.Prefixes.{shorter_begins}
 use Rattle.mencius_board.specs.Marks.{MarkState}
 use Rattle.mencius_board.proofs.reader.Reader.lookup.Goals as goal

@@ -30,7 +30,7 @@ returns-clause-done c =
           c.self.view_is;
       command = c.execute.ensures.command;
       home = c.execute.ensures.home;
-      answer = answer;
+      reply = answer;
     })
     c.execute.ensures.executed c.execute.ensures.answer
 

@@ -2,7 +2,7 @@ use Rattle.std.proofs.Common.{◌≡◌, ◌≢◌, ◌<◌, ◌≤◌, ◌+◌,
 use Rattle.std.specs.List.{Contains}
 use Rattle.std.specs.BTreeMap.{Updates, get}
 use Rattle.std.specs.Ordering.{nat_cmp}
-use Rattle.mencius_model.specs.Store.{out}
+use Rattle.mencius_model.specs.KeyMap.{out}
 use Rattle.mencius_judge.specs.declared.observation.Observation.TheVariants.{Execute, Reply}
 use Rattle.mencius_judge.specs.Log.{command_of, commands_of, reply_of}
 use Rattle.mencius_judge.specs.Tables.{AreSettled, IsNoOther, identity_key, number_count}

@@ -1,6 +1,6 @@
 use Rattle.std.proofs.Common.{Option, Result, Ok, Err, IfOk}
 use Rattle.mencius_judge.specs.declared.violation.Violation.{Violation}
-use Rattle.mencius_judge.specs.Judged.{IsAt, IsJudged}
+use Rattle.mencius_judge.specs.Judged.{HasSeenLog, IsJudged}
 use Rattle.mencius_judge.specs.Log.{Log}
 use Rattle.mencius_judge.proofs.promises.Kept.{judged_kept}
 use Rattle.mencius_judge.proofs.judge.Judge.observe.Goals as goal
@@ -13,6 +13,6 @@ pub returns-clause-kept : goal.returns-clause-kept
 returns-clause-kept c =
     let o = c.args.observation.now in
     if_ok _ _ c.step.result
-    (λ (x : Option Violation) (h : (w : Log) → IsAt c.args.self.now w → IsJudged w o x c.step.new.self).
-    (λ (w : Log) (at : IsAt c.args.self.now w). judged_kept w o x c.step.new.self (h w at)))
+    (λ (x : Option Violation) (h : (w : Log) → HasSeenLog c.args.self.now w → IsJudged w o x c.step.new.self).
+    (λ (w : Log) (at : HasSeenLog c.args.self.now w). judged_kept w o x c.step.new.self (h w at)))
     c.step.ensures

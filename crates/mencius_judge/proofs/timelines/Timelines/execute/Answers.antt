@@ -1,7 +1,7 @@
 use Rattle.std.proofs.Common.{◌≡◌, ◌∷◌, [], ◌++◌, sym, subst, ap, ◌∙◌}
 use Rattle.std.specs.BTreeMap.{get_by_text}
 use Rattle.mencius_base.specs.declared.command.Command.{Command}
-use Rattle.mencius_model.specs.Store.{key_of}
+use Rattle.mencius_model.specs.KeyMap.{key_of}
 use Rattle.mencius_judge.specs.Timelines.{AreTimelines, Becomes, text_of}
 use Rattle.mencius_judge.proofs.keys.Changes.{IsChange, answer_is, with_change, without_change}
 use Rattle.mencius_judge.proofs.timelines.Timelines.execute.Goals as goal

@@ -1,7 +1,7 @@
 use Rattle.std.proofs.Common.{◌≡◌, ℕ, ◌<◌, ◌≤◌, ◌++◌, true, ap, arith, subst, sym, ◌∙◌}
 use Rattle.std.specs.List.{count_by}
 use Rattle.mencius_base.specs.Members.{below}
-use Rattle.mencius_server.specs.Machine.{round_after}
+use Rattle.mencius_server.specs.Machine.{next_round_of}
 use Rattle.mencius_server.specs.Instances.{InstancesState, has_slot, instance_slot, is_open_in, prepares_in, with_first_phases}
 use Rattle.mencius_server.proofs.suspicions.SuspicionBySlots.{open_count, open_sent, stored_has, suspect_is}
 use Rattle.mencius_server.proofs.suspicions.OpenInstances.{open_same}
@@ -27,7 +27,7 @@ pub begin_open-requires-clause-rounds : goal.begin_open-requires-clause-rounds
 begin_open-requires-clause-rounds c =
     let P : InstancesState → Type 0 =
     λ s. (j : ℕ) → j < instance_count → is_open_in s c.open_interval-interval.result j ≡ true
-    → round_after s.members (instance_slot s j) ≤ greatest_round in
+    → next_round_of s.members (instance_slot s j) ≤ greatest_round in
     subst P (sym c.in_ok-store_open.ensures.ok)
     (λ j l e. c.requires.rounds j l
     (sym (open_same _ _ _ _ c.open_interval-interval.ensures j l) ∙ e))

@@ -1,8 +1,0 @@
-use Rattle.std.proofs.Common.{◌≡◌, None, take}
-use Rattle.mencius_cluster.specs.State.{trace_of}
-use Rattle.mencius_model.specs.Trace.{sent}
-use Rattle.mencius_app.proofs.texts.SentAcceptances.{proposed_among}
-use Rattle.mencius_app.proofs.votes.proposed.Given as goal
-
-abbrev pub invariant-loop-number : goal.invariant-loop-number
-invariant-loop-number l = proposed_among l.inst l.ballot (take l.number (sent (trace_of l.cluster))) ≡ None

@@ -1,8 +1,0 @@
--- What contracts see of a command.
-use Rattle.mencius_base.specs.declared.command.CommandId.{CommandId}
-use Rattle.mencius_base.specs.declared.command.Op.{Op}
-
--- who asks, and for what
-pub record Request : Type 0 where
-  pub id : CommandId
-  pub op : Op

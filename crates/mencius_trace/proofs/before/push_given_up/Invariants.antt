@@ -1,9 +1,0 @@
-use Rattle.std.proofs.Common.{string_bytes}
-use Rattle.mencius_cluster.specs.State.{trace_of}
-use Rattle.mencius_trace.proofs.SkippedLines.{IsGivenTo}
-use Rattle.mencius_trace.proofs.before.push_given_up.Given as goal
-
-abbrev pub invariant-loop-inst : goal.invariant-loop-inst
-invariant-loop-inst l =
-    IsGivenTo l.cluster.members (trace_of l.cluster) l.server l.from l.first l.stop l.inst
-    (string_bytes l.initial.text) (string_bytes l.text)

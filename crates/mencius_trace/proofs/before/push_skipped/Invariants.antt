@@ -1,0 +1,9 @@
+use Rattle.std.proofs.Common.{string_bytes}
+use Rattle.mencius_cluster.specs.State.{trace_of}
+use Rattle.mencius_trace.proofs.SkippedLines.{IsSkippedTo}
+use Rattle.mencius_trace.proofs.before.push_skipped.Given as goal
+
+abbrev pub invariant-loop-inst : goal.invariant-loop-inst
+invariant-loop-inst l =
+    IsSkippedTo l.cluster.members (trace_of l.cluster) l.server l.from l.first l.stop l.inst
+    (string_bytes l.initial.text) (string_bytes l.text)
