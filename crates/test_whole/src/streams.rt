@@ -212,19 +212,19 @@ struct Paper {
 
 // What came of a call: its answer, how often its reader and its writer failed, and what was written.
 #[derive(Drop)]
-struct Made {
+struct CallResult {
     answer: Result<(), AppFault>,
     failures: (u64, u64),
     taken: Vec<u8>,
 }
 
-fn made<R: Abort + Threads + Wait + Sync>(
+fn make_call<R: Abort + Threads + Wait + Sync>(
     rt: &R,
     alloc: Global,
     call: Call,
     mut source: Std<Pieces>,
     paper: Paper,
-) -> Made {
+) -> CallResult {
     let mut taken = Vec::new(alloc);
     let mut sink = Std::new(Page {
         taken: &mut taken,
@@ -236,7 +236,7 @@ fn made<R: Abort + Threads + Wait + Sync>(
     });
     let answer = make(rt, alloc, call, &mut source, &mut sink);
     let failures = (source.failures(), sink.failures());
-    Made {
+    CallResult {
         answer,
         failures,
         taken,
@@ -257,7 +257,7 @@ fn assert_reads_at<R: Abort + Threads + Wait + Sync>(
         trouble: Trouble::None,
         trouble_at: 0,
     };
-    let made = made(rt, alloc, call, reader(input, 3, 0, Some(at)), paper);
+    let made = make_call(rt, alloc, call, reader(input, 3, 0, Some(at)), paper);
     let failed = Err(AppFault::ReadFailed);
     assert_eq!(rt; made.answer, failed, "{call:?} at {at}");
     assert_eq!(rt; made.failures, (1, 0));
@@ -297,7 +297,7 @@ fn assert_answers<R: Abort + Threads + Wait + Sync>(
         trouble: Trouble::None,
         trouble_at: 0,
     };
-    let made = made(rt, alloc, call, reader(input, 3, reads, None), paper);
+    let made = make_call(rt, alloc, call, reader(input, 3, reads, None), paper);
     assert_eq!(rt; made.answer, want, "{call:?} at {reads} and {writes}");
     assert_eq!(rt; made.failures, (reads as u64, writes as u64));
     let whole = if want == Ok(()) { text } else { "" };
@@ -365,7 +365,7 @@ fn assert_stops_at<R: Abort + Threads + Wait + Sync>(
         trouble,
         trouble_at: at,
     };
-    let made = made(rt, alloc, call, reader(input, 100, 0, None), paper);
+    let made = make_call(rt, alloc, call, reader(input, 100, 0, None), paper);
     let failed = Err(AppFault::WriteFailed);
     assert_eq!(rt; made.answer, failed, "{call:?} at {at}");
     assert_eq!(rt; made.failures, (0, 1));
