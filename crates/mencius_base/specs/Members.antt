@@ -1,5 +1,5 @@
 -- Who there is, who owns which instance, and who leads which ballot.
-use Rattle.std.specs.Prelude.{ℕ, Bool, nat_le, ◌+◌, ◌-◌, ◌*◌, ◌/◌, ◌%◌, List, [], ◌∷◌, Option, Some, None, if◌then◌else◌, ◌==◌}
+use Rattle.std.specs.Prelude.{ℕ, Bool, nat_le, ◌<◌, ◌+◌, ◌-◌, ◌*◌, ◌/◌, ◌%◌, List, [], ◌∷◌, Option, Some, None, if◌then◌else◌, ◌==◌}
 use Rattle.std.specs.List.{range_with_len}
 use Rattle.mencius_base.specs.Numbers.{ServerId, Inst, BallotNo}
 use Rattle.mencius_base.specs.Limits.{event_limit, instance_count, message_limit}
@@ -12,6 +12,14 @@ pub record Membership : Type 0 where
 -- so many servers, of whom nothing else is said: what they share is 0
 abbrev pub new_members : ℕ → Membership
 new_members count = record { count = count; beta = 0 }
+
+-- a server is one of them
+abbrev pub IsMember : Membership → ServerId → Type 0
+IsMember m p = p < m.count
+
+-- each of them, by number
+abbrev pub servers_of : Membership → List ServerId
+servers_of m = range_with_len 0 m.count
 
 -- more than half of them
 abbrev pub majority : Membership → ℕ
