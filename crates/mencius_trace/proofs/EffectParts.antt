@@ -4,7 +4,7 @@ use Rattle.std.specs.Prelude.{IfSome, option_map, nat_lt, nat_le, slice_get}
 use Rattle.std.specs.List.{filter}
 use Rattle.std.proofs.lemmas.Bool.{leb-false, or_parts}
 use Rattle.mencius_base.specs.Limits.{instance_count, most_servers}
-use Rattle.mencius_base.specs.Members.{Membership, first_item, instances}
+use Rattle.mencius_base.specs.Members.{IsMember, Membership, first_item, instances}
 use Rattle.mencius_base.specs.declared.event.Event.{Event}
 use Rattle.mencius_base.specs.declared.event.Event.TheVariants.{Submit, Deliver, Lose, Suspect, Retry, Execute}
 use Rattle.mencius_base.specs.declared.message.Answer.{Answer}
@@ -31,7 +31,7 @@ use Rattle.mencius_trace.specs.Facts.{learned_line, sent_line}
 use Rattle.mencius_trace.proofs.MessageLines.{of_messages_are}
 
 -- an accepted event happens at a member
-pub server_member : (m : Membership) (w : Trace) (e : Event) → NoneHolds (causes m w e) → server_of e < m.count
+pub server_member : (m : Membership) (w : Trace) (e : Event) → NoneHolds (causes m w e) → IsMember m (server_of e)
 server_member m w (Submit p command) h = leb-false m.count p h.0
 server_member m w (Deliver k p) h = leb-false m.count p h.0
 server_member m w (Lose k p) h = leb-false m.count p h.0

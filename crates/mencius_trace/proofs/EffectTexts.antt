@@ -1,8 +1,8 @@
 -- The parts of what is told of an accepted event, put together.
-use Rattle.std.proofs.Common.{◌≡◌, ℕ, ◌-◌, ◌<◌, List, ◌++◌, Some, eqb, ◌&&◌, length, sym, ap, subst, ◌∙◌, append_assoc}
+use Rattle.std.proofs.Common.{◌≡◌, ℕ, ◌-◌, ◌<◌, ◌≤◌, List, ◌++◌, Some, eqb, ◌&&◌, length, sym, ap, subst, ◌∙◌, append_assoc}
 use Rattle.std.specs.Prelude.{IfSome, string_bytes}
-use Rattle.mencius_base.specs.Limits.{instance_count}
-use Rattle.mencius_base.specs.Members.{Membership}
+use Rattle.mencius_base.specs.Limits.{instance_count, most_servers}
+use Rattle.mencius_base.specs.Members.{IsMember, Membership}
 use Rattle.mencius_base.specs.declared.event.Event.{Event}
 use Rattle.mencius_cluster.specs.State.{ClusterState, IsStepped, trace_of}
 use Rattle.mencius_cluster.specs.declared.cluster.Effect.{Effect}
@@ -25,7 +25,7 @@ five t0 t1 t2 t3 t4 t5 =
     ∙ ap (λ xs. xs ++ t5) (append_assoc t0 ((t1 ++ t2) ++ t3) t4) ∙ append_assoc t0 (((t1 ++ t2) ++ t3) ++ t4) t5
 
 module _ (old new : ClusterState) (e : Event) (before : Before) (effect : Effect) (noted : IsBefore old e before)
-    (step : IsStepped old new e effect) where
+    (step : IsStepped old new e effect) (few : new.members.count ≤ most_servers) where
   abbrev m : Membership
   m = old.members
 
@@ -41,15 +41,15 @@ module _ (old new : ClusterState) (e : Event) (before : Before) (effect : Effect
   reached : IsReached m w
   reached = record { journal = old.journal; replays = noted.replays }
 
-  member : server_of e < m.count
+  member : IsMember m (server_of e)
   member = server_member m w e (next_is m w v e step.trace).allowed
 
-  here : before.server < new.members.count
-  here = subst (λ (n : Membership). before.server < n.count) (sym step.members)
-      (subst (λ p. p < m.count) (sym noted.server) member)
+  here : IsMember new.members before.server
+  here = subst (λ (n : Membership). IsMember n before.server) (sym step.members)
+      (subst (λ p. IsMember m p) (sym noted.server) member)
 
   small : IfSome (heard_in w e) (λ x. instance_of x < instance_count)
-  small = small_heard m noted.few w reached e
+  small = small_heard m (subst (λ (n : Membership). n.count ≤ most_servers) step.members few) w reached e
 
   small_here : IfSome before.heard (λ x. instance_of x < instance_count)
   small_here = subst (λ o. IfSome o (λ x. instance_of x < instance_count)) (sym noted.heard) small
@@ -110,13 +110,13 @@ module _ (old new : ClusterState) (e : Event) (before : Before) (effect : Effect
       ∙ execution_same w v e
 
   pub effect_text_is : (t0 t1 t2 t3 t4 t5 : List ℕ)
-      → (before.server < new.members.count → IfSome before.heard (λ x. instance_of x < instance_count)
+      → (IsMember new.members before.server → IfSome before.heard (λ x. instance_of x < instance_count)
       → t1 ≡ t0 ++ notice_after new.members v before.server (eqb effect.sent 0 && eqb effect.learned 0) before.reaction
       before.heard)
-      → (before.server < new.members.count
+      → (IsMember new.members before.server
       → t2 ≡ t1 ++ learned_after v before.server (string_bytes before.skipped_text) effect.learned before.heard)
       → t3 ≡ t2 ++ messages_from v effect.first (length (sent_messages v) - effect.first)
-      → ((former : ℕ) → before.front ≡ Some former → before.server < new.members.count
+      → ((former : ℕ) → before.front ≡ Some former → IsMember new.members before.server
       → t4 ≡ t3 ++ front_lines before.server former (front new.members v before.server))
       → t5 ≡ t4 ++ execution_after v before.server before.is_awaited before.execution
       → t5 ≡ t0 ++ effect_text m w v e

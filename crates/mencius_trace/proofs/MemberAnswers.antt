@@ -3,7 +3,7 @@ use Rattle.std.proofs.Common.{◌≡◌, ℕ, ◌<◌, ◌++◌, List, Result, O
 use Rattle.std.specs.declared.alloc.AllocError.{AllocError}
 use Rattle.std.proofs.lemmas.Bool.{lt-ltb}
 use Rattle.mencius_base.specs.Limits.{instance_count}
-use Rattle.mencius_base.specs.Members.{Membership}
+use Rattle.mencius_base.specs.Members.{IsMember, Membership}
 use Rattle.mencius_base.specs.declared.message.Message.{Message}
 use Rattle.mencius_server.specs.declared.glance.Glance.{Glance}
 use Rattle.mencius_trace.specs.Effects.{count_line, glance, instance_of}
@@ -15,13 +15,13 @@ use Rattle.mencius_model.specs.Server.{done}
 use Rattle.mencius_cluster.specs.Answers.{if_member, of_member}
 use Rattle.mencius_trace.specs.Before.{execution_in}
 
-pub of_member_is : {A : Type 0} (m : Membership) (p : ℕ) (o : Option A) → p < m.count → of_member m p o ≡ o
+pub of_member_is : {A : Type 0} (m : Membership) (p : ℕ) (o : Option A) → IsMember m p → of_member m p o ≡ o
 of_member_is m p o h = ap (λ (a : Bool). cond a o None) (lt-ltb p m.count h)
 
-pub if_member_is : {A : Type 0} (m : Membership) (p : ℕ) (x y : A) → p < m.count → Some y ≡ if_member m p x → y ≡ x
+pub if_member_is : {A : Type 0} (m : Membership) (p : ℕ) (x y : A) → IsMember m p → Some y ≡ if_member m p x → y ≡ x
 if_member_is m p x y h e = let so = e ∙ of_member_is m p (Some x) h in cc
 
-pub execution_in_is : (m : Membership) (w : Trace) (p i : ℕ) (x : Value) → p < m.count
+pub execution_in_is : (m : Membership) (w : Trace) (p i : ℕ) (x : Value) → IsMember m p
     → Some i ≡ if_member m p (done w p) → Some x ≡ of_member m p (learned_value w p i)
     → Some (i, x) ≡ execution_in w (Execute p)
 execution_in_is m w p i x h e same =
@@ -34,7 +34,7 @@ pub counted_by : (m n : Membership) (w : Trace) (p i j : ℕ) (x : Message) (g :
     (result : Result (Unit {0}) AllocError) (old new : List ℕ) → i ≡ instance_of x → n ≡ m
     → (i < instance_count → Some g ≡ if_member m p (glance m w p i))
     → OnOk result (new ≡ old ++ count_line n p g x)
-    → OnOk result (p < m.count → instance_of x < instance_count
+    → OnOk result (IsMember m p → instance_of x < instance_count
     → new ≡ old ++ count_line m p (glance m w p (instance_of x)) x)
 counted_by m n w p i j x g (Ok _) old new at same known h = λ member small.
     let here : g ≡ glance m w p (instance_of x) =

@@ -6,7 +6,7 @@ use Rattle.std.proofs.lemmas.Grind.{flat_map-append}
 use Rattle.std.proofs.lemmas.List.{map-append}
 use Rattle.std.proofs.lemmas.Bool.{le-leb, lt-ltb, le-ltb, lt-leb}
 use Rattle.mencius_base.specs.Limits.{instance_count}
-use Rattle.mencius_base.specs.Members.{Membership, below, owner}
+use Rattle.mencius_base.specs.Members.{IsMember, Membership, below, owner}
 use Rattle.mencius_base.specs.declared.message.Value.TheVariants.{Noop}
 use Rattle.mencius_model.specs.Trace.{Learned, Trace}
 use Rattle.mencius_model.specs.Instance.{learned_value}
@@ -62,7 +62,7 @@ late m w p q first stop j h = rw (le-ltb j stop h) (by (eqb q (owner m j) && nat
 
 -- a text has the lines of the instances from the first up to a place
 pub record IsSkippedTo (m : Membership) (w : Trace) (p q first stop i : ℕ) (before now : List ℕ) : Type 0 where
-  pub text : p < m.count → first < instance_count
+  pub text : IsMember m p → first < instance_count
       → (i ≤ instance_count) × (now ≡ before ++ skipped_below (is_newly_skipped m w p q first stop) w p i)
 
 none_before : (m : Membership) (w : Trace) (p q first stop : ℕ)
@@ -87,7 +87,7 @@ skipped_start m w p q first stop before = record {
 
 pub skipped_next : (m : Membership) (w : Trace) (p q first stop i : ℕ) (before old new : List ℕ)
     → first ≤ i → i < stop → i < instance_count → IsSkippedTo m w p q first stop i before old
-    → (p < m.count → new ≡ old ++ cond (eqb (owner m i) q && is_none (learned_value w p i)) (learned_line w p i Noop) [])
+    → (IsMember m p → new ≡ old ++ cond (eqb (owner m i) q && is_none (learned_value w p i)) (learned_line w p i Noop) [])
     → IsSkippedTo m w p q first stop (i + 1) before new
 skipped_next m w p q first stop i before old new low high fits had got = record {
   text = λ member small.
@@ -105,7 +105,7 @@ skipped_next m w p q first stop i before old new low high fits had got = record 
 
 pub skipped_whole : (m : Membership) (w : Trace) (p q first stop i : ℕ) (before now : List ℕ)
     → (i < instance_count → stop ≤ i) → IsSkippedTo m w p q first stop i before now
-    → p < m.count → first < instance_count → now ≡ before ++ learned_lines w (on_skip m w p q first stop)
+    → IsMember m p → first < instance_count → now ≡ before ++ learned_lines w (on_skip m w p q first stop)
 skipped_whole m w p q first stop i before now past had member small =
     let was = had.text member small in
     let rest : i + (instance_count - i) ≡ instance_count = omega (arith, was.0) in

@@ -1,7 +1,7 @@
 -- What is noted before an event, so that what came of it can be told after it.
-use Rattle.std.specs.Prelude.{◌≡◌, Ok, ◌≤◌, ℕ, ◌<◌, Bool, false, List, [], Option, Some, None, option_map, slice_get, string_bytes, IfSome}
-use Rattle.mencius_base.specs.Limits.{instance_count, most_servers}
-use Rattle.mencius_base.specs.Members.{Membership}
+use Rattle.std.specs.Prelude.{◌≡◌, Ok, ℕ, ◌<◌, Bool, false, List, [], Option, Some, None, option_map, slice_get, string_bytes, IfSome}
+use Rattle.mencius_base.specs.Limits.{instance_count}
+use Rattle.mencius_base.specs.Members.{IsMember, Membership}
 use Rattle.mencius_base.specs.Numbers.{ServerId, Inst}
 use Rattle.mencius_base.specs.declared.event.Event.{Event}
 use Rattle.mencius_base.specs.declared.event.Event.TheVariants.{Deliver, Execute}
@@ -42,16 +42,15 @@ is_awaited w _ = false
 
 -- how a message is taken, where the server is one and the message is within its limits
 abbrev pub IsReaction : Membership → Trace → ServerId → Option Message → Reaction → Type 0
-IsReaction m w p heard h = p < m.count → IfSome heard (λ x. instance_of x < instance_count → h ≡ reaction m w p x)
+IsReaction m w p heard h = IsMember m p → IfSome heard (λ x. instance_of x < instance_count → h ≡ reaction m w p x)
 
 -- the lines of what a Skip teaches, likewise
 abbrev pub IsSkippedText : Membership → Trace → ServerId → Option Message → List ℕ → Type 0
 IsSkippedText m w p heard text =
-    p < m.count → IfSome heard (λ x. instance_of x < instance_count) → text ≡ skipped_text m w p heard
+    IsMember m p → IfSome heard (λ x. instance_of x < instance_count) → text ≡ skipped_text m w p heard
 
 -- the notes are those of this event
 pub record IsBefore (x : ClusterState) (e : Event) (notes : Before) : Type 0 where
-  pub few : x.members.count ≤ most_servers
   pub replays : replay x.members x.journal ≡ Ok (trace_of x)
   pub server : notes.server ≡ server_of e
   pub front : notes.front ≡ if_member x.members (server_of e) (front x.members (trace_of x) (server_of e))
@@ -59,5 +58,5 @@ pub record IsBefore (x : ClusterState) (e : Event) (notes : Before) : Type 0 whe
   pub reaction : IsReaction x.members (trace_of x) (server_of e) (heard_in (trace_of x) e) notes.reaction
   pub skipped_text : IsSkippedText x.members (trace_of x) (server_of e) (heard_in (trace_of x) e)
       (string_bytes notes.skipped_text)
-  pub execution : server_of e < x.members.count → notes.execution ≡ execution_in (trace_of x) e
+  pub execution : IsMember x.members (server_of e) → notes.execution ≡ execution_in (trace_of x) e
   pub awaited : notes.is_awaited ≡ is_awaited (trace_of x) notes.execution

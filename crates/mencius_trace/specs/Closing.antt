@@ -1,10 +1,10 @@
 -- What is told after the last event, and the whole text.
 use Rattle.std.specs.Prelude.{Option, Some, None, ℕ, ◌+◌, Bool, List, [], ◌∷◌, ◌++◌, codes, decimal, ◌&&◌, not, if◌then◌else◌}
-use Rattle.std.specs.List.{enumerate_from, flat_map, list_any, range_with_len}
+use Rattle.std.specs.List.{enumerate_from, flat_map, list_any}
 use Rattle.mencius_base.specs.Numbers.{ServerId, Inst, TicketNo, MessageNo}
 use Rattle.mencius_base.specs.declared.event.Event.{Event}
 use Rattle.mencius_base.specs.declared.message.Message.{Message}
-use Rattle.mencius_base.specs.Members.{Membership, below}
+use Rattle.mencius_base.specs.Members.{Membership, servers_of}
 use Rattle.mencius_base.specs.Message.{goes_to}
 use Rattle.mencius_model.specs.Trace.{Line, Heard, Lost, Trace, sent_messages}
 use Rattle.mencius_model.specs.Server.{done, front, waiting_tickets}
@@ -31,8 +31,8 @@ progress_text p front done =
 abbrev pub server_line : Membership → Trace → ServerId → List ℕ
 server_line m w p = progress_text p (front m w p) (done w p) ++ tickets_text w (waiting_tickets w p) ++ line_feed
 
-abbrev pub server_lines : Membership → Trace → ℕ → List ℕ
-server_lines m w n = flat_map (server_line m w) (range_with_len 0 n)
+abbrev pub server_lines : Membership → Trace → List ℕ
+server_lines m w = flat_map (server_line m w) (servers_of m)
 
 -- ---- each message that may still be heard
 
@@ -52,7 +52,7 @@ unheard_line w k x p =
     else []
 
 abbrev pub unheard_lines : Membership → Trace → MessageNo × Message → List ℕ
-unheard_lines m w (k, x) = flat_map (unheard_line w k x) (below m.count)
+unheard_lines m w (k, x) = flat_map (unheard_line w k x) (servers_of m)
 
 abbrev pub unheard_text : Membership → Trace → List ℕ
 unheard_text m w = flat_map (unheard_lines m w) (enumerate_from 0 (sent_messages w))
@@ -61,7 +61,7 @@ unheard_text m w = flat_map (unheard_lines m w) (enumerate_from 0 (sent_messages
 
 -- the servers, and then the messages
 abbrev pub closing_text : Membership → Trace → List ℕ
-closing_text m w = server_lines m w m.count ++ unheard_text m w
+closing_text m w = server_lines m w ++ unheard_text m w
 
 -- the events from a place on, and then what is told after the last
 abbrev pub events_text : Membership → Trace → ℕ → List Event → List ℕ

@@ -2,6 +2,7 @@
 
 ghost use Rattle.std.specs.Prelude.{◌≡◌, ◌<◌, ◌++◌, ◌&&◌, [], IfOk, OnOk, if◌then◌else◌, is_none, string_bytes};
 ghost use Rattle.mencius_base.specs.Limits.{instance_count};
+ghost use Rattle.mencius_base.specs.Members.{IsMember};
 ghost use Rattle.mencius_base.specs.declared.message.Value.TheVariants.{Noop};
 ghost use Rattle.mencius_model.specs.Instance.{learned_value};
 ghost use Rattle.mencius_model.specs.Next.{on_skip, server_of};
@@ -39,9 +40,8 @@ pub(crate) struct Before {
 pub(crate) fn note(alloc: Global, cluster: &Cluster, event: &Event) -> Result<Before, AllocError>
     ensures { IfOk result (IsBefore cluster.now event.now) }
 {
-    // For the proof: the journal replays, and there are few members.
+    // For the proof: the journal replays.
     cluster.replays();
-    let _few = cluster.servers();
     let server = server_of(event);
     let heard = heard_in(cluster, event);
     let execution = execution_in(cluster, event);
@@ -84,7 +84,7 @@ fn heard_in(cluster: &Cluster, event: &Event) -> Option<Message>
 }
 
 fn execution_in(cluster: &Cluster, event: &Event) -> Option<(u32, Value)>
-    ensures { server_of event.now < cluster.now.members.count
+    ensures { IsMember cluster.now.members (server_of event.now)
         → result ≡ execution_in (trace_of cluster.now) event.now }
 {
     let Event::Execute { server } = event else {
@@ -118,7 +118,7 @@ fn reaction_in(cluster: &Cluster, server: u8, heard: &Option<Message>) -> Reacti
 
 /// How a server takes a message.
 fn reaction_of(cluster: &Cluster, server: u8, message: &Message) -> Reaction
-    ensures { server < cluster.now.members.count → instance_of message.now < instance_count
+    ensures { IsMember cluster.now.members server → instance_of message.now < instance_count
         → result ≡ reaction cluster.now.members (trace_of cluster.now) server message.now }
 {
     match cluster.glance(server, instance_of(message)) {
@@ -223,7 +223,7 @@ fn push_skipped(
     first: u32,
     stop: u32,
 ) -> Result<(), AllocError>
-    ensures { OnOk result (server < cluster.now.members.count → first < instance_count
+    ensures { OnOk result (IsMember cluster.now.members server → first < instance_count
         → string_bytes text.new
         ≡ string_bytes text.old ++ learned_lines (trace_of cluster.now)
         (on_skip cluster.now.members (trace_of cluster.now) server from first stop)) }
@@ -244,7 +244,7 @@ fn push_where_unlearned(
     inst: u32,
     is_wanted: bool,
 ) -> Result<(), AllocError>
-    ensures { OnOk result (server < cluster.now.members.count → string_bytes text.new
+    ensures { OnOk result (IsMember cluster.now.members server → string_bytes text.new
         ≡ string_bytes text.old
         ++ (if is_wanted && is_none (learned_value (trace_of cluster.now) server inst)
         then learned_line (trace_of cluster.now) server inst Noop else [])) }

@@ -2,6 +2,7 @@
 
 ghost use Rattle.std.specs.Prelude.{◌≡◌, ◌<◌, ◌++◌, IfOk, OnOk, is_some, string_bytes};
 ghost use Rattle.mencius_base.specs.Limits.{instance_count};
+ghost use Rattle.mencius_base.specs.Members.{IsMember};
 ghost use Rattle.mencius_cluster.specs.State.{trace_of};
 ghost use Rattle.mencius_model.specs.Server.{waiting_at, waiting_tickets};
 ghost use Rattle.mencius_trace.specs.Closing.{closing_text, progress_text, server_line, server_lines, ticket_in};
@@ -28,7 +29,7 @@ pub fn push_closing(alloc: Global, text: &mut String, cluster: &Cluster) -> Resu
 // A line for each server: its front, how far it is, and the tickets that wait at it.
 fn push_servers(text: &mut String, cluster: &Cluster) -> Result<(), AllocError>
     ensures { OnOk result (string_bytes text.new ≡ string_bytes text.old
-        ++ server_lines cluster.now.members (trace_of cluster.now) cluster.now.members.count) }
+        ++ server_lines cluster.now.members (trace_of cluster.now)) }
 {
     for server in 0..cluster.servers() {
         push_server(text, cluster, server)?;
@@ -37,7 +38,7 @@ fn push_servers(text: &mut String, cluster: &Cluster) -> Result<(), AllocError>
 }
 
 fn push_server(text: &mut String, cluster: &Cluster, server: u8) -> Result<(), AllocError>
-    requires { server < cluster.now.members.count }
+    requires { IsMember cluster.now.members server }
     ensures { OnOk result (string_bytes text.new
         ≡ string_bytes text.old ++ server_line cluster.now.members (trace_of cluster.now) server) }
 {
@@ -64,7 +65,7 @@ fn push_progress(text: &mut String, server: u8, front: u32, done: u32) -> Result
 
 // The tickets that wait at a server, or a dash.
 fn push_waiting(text: &mut String, cluster: &Cluster, server: u8) -> Result<(), AllocError>
-    requires { server < cluster.now.members.count }
+    requires { IsMember cluster.now.members server }
     ensures { OnOk result (string_bytes text.new ≡ string_bytes text.old
         ++ tickets_text (trace_of cluster.now) (waiting_tickets (trace_of cluster.now) server)) }
 {
@@ -85,7 +86,7 @@ fn push_waiting_at(
     server: u8,
     inst: u32,
 ) -> Result<bool, AllocError>
-    requires member { server < cluster.now.members.count }
+    requires member { IsMember cluster.now.members server }
     requires small { inst < instance_count }
     ensures text { OnOk result (string_bytes text.new ≡ string_bytes text.old
         ++ ticket_in (trace_of cluster.now) (waiting_at (trace_of cluster.now) server inst)) }

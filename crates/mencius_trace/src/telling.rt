@@ -2,6 +2,7 @@
 
 ghost use Rattle.std.specs.Prelude.{ℕ, ◌≡◌, ◌≢◌, ◌==◌, ◌&&◌, false, slice_get, ◌<◌, ◌++◌, ◌-◌, [], Some, IfErr, IfSome, OnOk, length, string_bytes};
 ghost use Rattle.mencius_base.specs.Limits.{instance_count};
+ghost use Rattle.mencius_base.specs.Members.{IsMember};
 ghost use Rattle.mencius_base.specs.declared.event.Event.{Event};
 ghost use Rattle.mencius_base.specs.declared.refusal.Refusal.TheVariants.{NoMemory as Unreserved};
 ghost use Rattle.mencius_cluster.specs.State.{ClusterState, IsStepped, trace_of};
@@ -73,6 +74,8 @@ fn push_effect(
         → IsStepped x cluster.now e effect → string_bytes text.new
         ≡ string_bytes text.old ++ effect_text x.members (trace_of x) (trace_of cluster.now) e) }
 {
+    // For the proof: there are few members.
+    let _few = cluster.servers();
     push_notice(text, cluster, before, is_ignored(effect))?;
     push_learned_lines(text, cluster, before, effect.learned)?;
     push_sent_lines(text, cluster, effect.first)?;
@@ -93,7 +96,7 @@ fn push_notice(
     before: &Before,
     is_ignored: bool,
 ) -> Result<(), AllocError>
-    ensures { OnOk result (before.now.server < cluster.now.members.count
+    ensures { OnOk result (IsMember cluster.now.members before.now.server
         → IfSome before.now.heard (λ x. instance_of x < instance_count)
         → string_bytes text.new ≡ string_bytes text.old ++ notice_after cluster.now.members
         (trace_of cluster.now) before.now.server is_ignored before.now.reaction before.now.heard) }
@@ -121,7 +124,7 @@ fn push_notice_of(
     is_ignored: bool,
     reaction: Reaction,
 ) -> Result<(), AllocError>
-    ensures { OnOk result (server < cluster.now.members.count
+    ensures { OnOk result (IsMember cluster.now.members server
         → instance_of message.now < instance_count
         → string_bytes text.new ≡ string_bytes text.old ++ notice cluster.now.members
         (trace_of cluster.now) server message.now is_ignored reaction) }
@@ -144,7 +147,7 @@ fn push_count(
     server: u8,
     message: &Message,
 ) -> Result<(), AllocError>
-    ensures { OnOk result (server < cluster.now.members.count
+    ensures { OnOk result (IsMember cluster.now.members server
         → instance_of message.now < instance_count
         → string_bytes text.new ≡ string_bytes text.old ++ notice cluster.now.members
         (trace_of cluster.now) server message.now false Reaction.Counted) }
@@ -234,7 +237,7 @@ fn push_learned_lines(
     before: &Before,
     learned: u32,
 ) -> Result<(), AllocError>
-    ensures { OnOk result (before.now.server < cluster.now.members.count
+    ensures { OnOk result (IsMember cluster.now.members before.now.server
         → string_bytes text.new ≡ string_bytes text.old ++ learned_after (trace_of cluster.now)
         before.now.server (string_bytes before.now.skipped_text) learned before.now.heard) }
 {
@@ -255,7 +258,7 @@ fn push_learned_of(
     learned: u32,
     message: &Message,
 ) -> Result<(), AllocError>
-    ensures { OnOk result (server < cluster.now.members.count → string_bytes text.new
+    ensures { OnOk result (IsMember cluster.now.members server → string_bytes text.new
         ≡ string_bytes text.old
         ++ learned_of (trace_of cluster.now) server skipped_text.now learned message.now) }
 {
@@ -277,7 +280,7 @@ fn push_learned_at(
     inst: u32,
     learned: u32,
 ) -> Result<(), AllocError>
-    ensures { OnOk result (server < cluster.now.members.count → string_bytes text.new
+    ensures { OnOk result (IsMember cluster.now.members server → string_bytes text.new
         ≡ string_bytes text.old ++ learned_at (trace_of cluster.now) server inst learned) }
 {
     if learned == 0 {
@@ -320,7 +323,7 @@ fn push_front_line(
     server: u8,
     before: Option<u32>,
 ) -> Result<(), AllocError>
-    ensures { OnOk result ((old : ℕ) → before ≡ Some old → server < cluster.now.members.count
+    ensures { OnOk result ((old : ℕ) → before ≡ Some old → IsMember cluster.now.members server
         → string_bytes text.new ≡ string_bytes text.old
         ++ front_lines server old (front cluster.now.members (trace_of cluster.now) server)) }
 {

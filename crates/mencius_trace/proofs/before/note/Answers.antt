@@ -1,5 +1,4 @@
-use Rattle.std.proofs.Common.{◌≤◌, ap, ◌∙◌, subst, string_bytes}
-use Rattle.mencius_base.specs.Limits.{most_servers}
+use Rattle.std.proofs.Common.{ap, ◌∙◌, subst, string_bytes}
 use Rattle.mencius_cluster.specs.Answers.{if_member}
 use Rattle.mencius_cluster.specs.State.{trace_of}
 use Rattle.mencius_model.specs.Server.{front}
@@ -11,7 +10,6 @@ returns c =
     let m = c.args.cluster.now.members in
     let w = trace_of c.args.cluster.now in
     record {
-      few = subst (λ n. n ≤ most_servers) c.servers-few.ensures.count c.servers-few.ensures.few;
       replays = c.replays.ensures;
       server = c.server_of-server.ensures;
       front = c.front.ensures ∙ ap (λ p. if_member m p (front m w p)) c.server_of-server.ensures;
