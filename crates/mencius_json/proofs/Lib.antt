@@ -9,3 +9,5 @@ pub mod Conversions
 pub mod NextValues
 pub mod TokenKinds
 pub mod FirstTokens
+pub mod Counts
+pub mod Columns

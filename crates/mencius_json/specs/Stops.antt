@@ -1,6 +1,6 @@
 -- How it is told where a text stops being JSON.
-use Rattle.std.specs.Prelude.{ℕ, ◌≡◌, ◌≤◌, ◌+◌, ◌++◌, ◌==◌, List, [], ◌∷◌, Bool, true, false, bit_and, codes, decimal, fold, length, take, if◌then◌else◌}
-use Rattle.std.specs.List.{starts_with}
+use Rattle.std.specs.Prelude.{ℕ, ◌≡◌, ◌≤◌, ◌+◌, ◌++◌, ◌==◌, List, [], ◌∷◌, Bool, true, false, bit_and, codes, decimal, fold, length, not, take, if◌then◌else◌}
+use Rattle.std.specs.List.{filter, starts_with}
 use Rattle.std.specs.Str.{IsUtf8}
 use Rattle.std.specs.Str.Lossy.{utf8_valid_len}
 
@@ -15,6 +15,10 @@ behind_one place byte =
 -- of what stands behind the front of a text
 abbrev pub place_behind : List ℕ → ℕ × ℕ
 place_behind front = fold behind_one (1, 1) front
+
+-- the characters that begin in some bytes
+abbrev pub characters_in : List ℕ → ℕ
+characters_in bytes = length (filter (λ byte. not (bit_and byte 0xc0 == 0x80)) bytes)
 
 -- ---- what is said of it
 

@@ -4,6 +4,8 @@ ghost use Rattle.std.specs.Prelude.{◌≡◌, ◌==◌, ◌||◌, length};
 ghost use Rattle.std.specs.List.{filter};
 ghost use Rattle.mencius_json.specs.Crowds.{braces_in, brackets_in, crowd_in, separators_in};
 
+use crate::counting::count_of;
+
 /// A sign that stands so often in a text that no tree is made of it.
 #[derive(Clone, Copy, Debug, PartialEq, Eq)]
 pub enum Crowd {
@@ -28,24 +30,22 @@ const MOST_SEPARATORS: usize = 1_700_000;
 fn braces_in(bytes: &[u8]) -> usize
     ensures { result ≡ braces_in bytes.now }
 {
-    bytes.iter().filter(|byte| **byte == b'{').count()
+    count_of(bytes, b'{')
 }
 
 // How many lists may begin in a text.
 fn brackets_in(bytes: &[u8]) -> usize
     ensures { result ≡ brackets_in bytes.now }
 {
-    bytes.iter().filter(|byte| **byte == b'[').count()
+    count_of(bytes, b'[')
 }
 
 // How many items and fields may be followed by another one in a text, and how many names by a value.
+#[tactic(auto, using(crate::proofs::Counts::of_either, crate::proofs::Counts::either_within))]
 fn separators_in(bytes: &[u8]) -> usize
     ensures { result ≡ separators_in bytes.now }
 {
-    bytes
-        .iter()
-        .filter(|byte| **byte == b',' || **byte == b':')
-        .count()
+    count_of(bytes, b',') + count_of(bytes, b':')
 }
 
 /// The first sign that stands more often in a text than in any of which a tree is made, if one does.

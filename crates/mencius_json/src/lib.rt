@@ -5,10 +5,11 @@
 //! value from its tokens and makes no tree of it: a number or a text, a list or an object that is
 //! entered, or any value that is passed. What comes of that is what `serde_json` finds in the tree,
 //! or `Invalid` where the text is no JSON. Where such a text stops being JSON, `stops` says in a
-//! person's words. `crowd` says of which texts a tree would be too large. What a text is about is for
-//! the crates above.
+//! person's words. `crowd` says of which texts a tree would be too large, by the bytes that `counting`
+//! counts. What a text is about is for the crates above.
 #![tactic(auto)]
 
+mod counting;
 mod crowd;
 mod plain;
 mod stops;

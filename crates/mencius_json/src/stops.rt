@@ -1,8 +1,10 @@
 //! Where a text stops being JSON.
 
-ghost use Rattle.std.specs.Prelude.{◌≡◌, IfOk, string_bytes};
-ghost use Rattle.mencius_json.specs.Stops.{IsStop, IsWrongAt, place_behind, stop_words};
+ghost use Rattle.std.specs.Prelude.{◌≡◌, ◌≤◌, ◌<◌, ◌-◌, ◌==◌, IfOk, drop, get_or, length, string_bytes};
+ghost use Rattle.std.specs.List.{filter};
+ghost use Rattle.mencius_json.specs.Stops.{IsStop, IsWrongAt, characters_in, place_behind, stop_words};
 
+use crate::counting::count_of;
 use crate::crowd::crowd_in;
 use crate::plain::is_blank;
 use crate::tokens::Tokens;
@@ -22,21 +24,37 @@ const NO_NAME: &str = "a name in double quotes has to stand here";
 
 const GOES_ON: &str = "the text goes on behind its value";
 
+// Where the last line of a text begins that has so many line feeds.
+fn last_line_start(front: &[u8], feeds: usize) -> usize
+    requires { feeds ≡ length (filter (λ byte. byte == 10) front.now) }
+    ensures within { result ≤ length front.now }
+    ensures last { length (filter (λ byte. byte == 10) (drop result front.now)) ≡ 0 }
+    ensures line { 0 < result → get_or front.now (result - 1) 0 ≡ 10 }
+{
+    if feeds == 0 {
+        return 0;
+    }
+    let mut start = front.len();
+    'bytes: while start > 0 && front[start - 1] != b'\n' {
+        start -= 1;
+    }
+    start
+}
+
+// How many characters begin in some bytes.
+fn characters_in(bytes: &[u8]) -> usize
+    ensures { result ≡ characters_in bytes.now }
+{
+    bytes.iter().filter(|byte| **byte & 0xc0 != 0x80).count()
+}
+
 // The line and the column of what stands behind the front of a text, in characters and both from 1.
 fn line_and_column(front: &[u8]) -> (usize, usize)
     ensures { result ≡ place_behind front.now }
 {
-    let mut line = 1usize;
-    let mut column = 1usize;
-    'bytes: for byte in front {
-        if *byte == b'\n' {
-            line += 1;
-            column = 1;
-        } else if *byte & 0xc0 != 0x80 {
-            column += 1;
-        }
-    }
-    (line, column)
+    let feeds = count_of(front, b'\n');
+    let (_, last_line) = front.split_at(last_line_start(front, feeds));
+    (1 + feeds, 1 + characters_in(last_line))
 }
 
 // How far the text was read when it turned out to be no JSON.
@@ -95,6 +113,13 @@ fn token_start(bytes: &[u8], offset: usize) -> usize {
     let behind = &bytes[offset.min(bytes.len())..];
     let passed = behind.iter().position(|b| !is_blank(*b) && *b != b',');
     offset.saturating_add(passed.unwrap_or(0))
+}
+
+// How many blanks a text begins with.
+fn blanks_before(text: &str) -> usize {
+    let bytes = text.as_bytes();
+    let first = bytes.iter().position(|b| !is_blank(*b));
+    first.unwrap_or(bytes.len())
 }
 
 // What is known of the last token that begins before an offset.
@@ -212,8 +237,8 @@ fn wrong_end(alloc: Global, front: &str) -> Result<&'static str, NoMemory> {
     })
 }
 
-// Where reading stopped in a text that is no JSON, and what is wrong there.
-fn stop_of(alloc: Global, text: &str) -> Result<(usize, &'static str), NoMemory> {
+// Where reading stopped in a text that is no JSON and begins with no blank, and what is wrong there.
+fn stop_of_solid(alloc: Global, text: &str) -> Result<(usize, &'static str), NoMemory> {
     let offset = read_to(alloc, text)?.min(text.len());
     let (front, rest) = text.as_bytes().split_at(offset);
     // To tell more takes a tree of the front.
@@ -233,6 +258,14 @@ fn stop_of(alloc: Global, text: &str) -> Result<(usize, &'static str), NoMemory>
     }
     let wrong = wrong_behind(front, rest, is_whole, last.is_in_object);
     Ok((offset, wrong))
+}
+
+// Where reading stopped in a text that is no JSON, and what is wrong there. No blank before its first token is looked
+// at twice.
+fn stop_of(alloc: Global, text: &str) -> Result<(usize, &'static str), NoMemory> {
+    let solid = text.get(blanks_before(text)..).unwrap_or(text);
+    let (offset, wrong) = stop_of_solid(alloc, solid)?;
+    Ok(((text.len() - solid.len()).saturating_add(offset), wrong))
 }
 
 // Where bytes that are no JSON stop being it, and what is wrong there.
