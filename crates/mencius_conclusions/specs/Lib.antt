@@ -2,3 +2,5 @@ pub mod Hands
 pub mod Longest
 pub mod Ballots
 pub mod OneWorker
+pub mod HistoriesAcross
+pub mod Readings

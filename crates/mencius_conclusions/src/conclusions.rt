@@ -4,11 +4,12 @@
 //! journal replays, that a step puts its event at the journal's end, and what the laws say of each
 //! journal that replays.
 
-ghost use Rattle.std.specs.Prelude.{List, ◌≡◌, ◌≤◌, ◌<◌, ◌⊎◌, ◌++◌, ◌↔◌, OnOk, OnErr, IfOk, IfErr, IfSome, IsErrOf, IsSome};
+ghost use Rattle.std.specs.Prelude.{List, ◌≡◌, ◌<◌, ◌++◌, ◌↔◌, OnOk, OnErr, IfOk, IfErr, IfSome, IsSome};
 ghost use Rattle.mencius_base.specs.declared.event.Event.{Event};
-ghost use Rattle.mencius_model.specs.Executed.{IsComparable, IsPrefix, history};
+ghost use Rattle.mencius_model.specs.Executed.{IsComparable, history};
 ghost use Rattle.mencius_cluster.specs.State.{trace_of};
 ghost use Rattle.mencius_model.specs.Outcomes.{accepted_from};
+ghost use Rattle.mencius_conclusions.specs.HistoriesAcross.{AgreeAcross, AreHistoriesAcross, IsRefusalAcross, SameMembersAndHasher};
 
 use mencius_base::{Event, NoMemory, Refusal};
 use mencius_cluster::{Cluster, laws};
@@ -37,26 +38,15 @@ pub fn note_across(
     other: u8,
 ) -> Result<TwoHistories, Refusal>
     // Which histories were noted, and what became of the cluster.
-    ensures inside { OnOk result ((server < cluster.old.members.count)
-        × (other < cluster.old.members.count)) }
-    ensures earlier { IfOk result (λ n. n.earlier.items ≡ history (trace_of cluster.old) server) }
-    ensures later { IfOk result (λ n. n.later.items ≡ history (trace_of cluster.new) other) }
+    ensures histories { IfOk result (AreHistoriesAcross cluster.old cluster.new server other) }
     ensures journal { OnOk result (cluster.new.journal ≡ cluster.old.journal
         ++ accepted_from cluster.old.members (trace_of cluster.old) events.items) }
-    ensures members { cluster.new.members ≡ cluster.old.members }
-    ensures hasher { cluster.new.hasher ≡ cluster.old.hasher }
+    ensures same { SameMembersAndHasher cluster.old cluster.new }
 
     // What a caller concludes.
-    ensures comparable { IfOk result (λ n. IsComparable n.earlier.items n.later.items) }
-    ensures grows { IfOk result (λ n. server ≡ other → IsPrefix n.earlier.items n.later.items) }
+    ensures agree { IfOk result (AgreeAcross server other) }
 
-    // The errors.
-    ensures refusal { IfErr result (λ r. (r ≡ Refusal.BadServer) ⊎ (r ≡ Refusal.NoMemory)) }
-    ensures outside { IsErrOf result Refusal.BadServer
-        → (cluster.old.members.count ≤ server) ⊎ (cluster.old.members.count ≤ other) }
-    ensures nothing { IsErrOf result Refusal.BadServer → cluster.new ≡ cluster.old }
-    ensures taken { OnErr result ((taken : List Event)
-        × (cluster.new.journal ≡ cluster.old.journal ++ taken)) }
+    ensures refusal { IfErr result (IsRefusalAcross cluster.old cluster.new server other) }
 {
     // The laws, and `replays` below, are called for their promises alone.
     laws::agreement();
@@ -92,8 +82,7 @@ pub fn histories(cluster: &Cluster, first: u8, second: u8) -> Option<(&[u32], &[
 fn step_all(cluster: &mut Cluster, events: Vec<Event>) -> Result<(), NoMemory>
     ensures journal { OnOk result (cluster.new.journal ≡ cluster.old.journal
         ++ accepted_from cluster.old.members (trace_of cluster.old) events.items) }
-    ensures members { cluster.new.members ≡ cluster.old.members }
-    ensures hasher { cluster.new.hasher ≡ cluster.old.hasher }
+    ensures same { SameMembersAndHasher cluster.old cluster.new }
     ensures taken { OnErr result ((taken : List Event)
         × (cluster.new.journal ≡ cluster.old.journal ++ taken)) }
 {

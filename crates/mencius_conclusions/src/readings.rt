@@ -1,12 +1,11 @@
 //! What a caller can conclude of lookups from the public clauses of a board, its News and its readers
 //! alone.
 
-ghost use Rattle.std.specs.Prelude.{◌≡◌, ◌⊎◌, IfErr, IfOk, OnOk, length, option_map};
-ghost use Rattle.std.specs.String.{string_bytes};
+ghost use Rattle.std.specs.Prelude.{◌≡◌, ◌⊎◌, IfErr, IfOk, OnOk};
 ghost use mathlib.Core.List.{IsPrefix};
 ghost use Rattle.mencius_board.specs.Boards.{longest_of};
 ghost use Rattle.mencius_board.specs.Faults.{IsLookupFault, IsShowFault};
-ghost use Rattle.mencius_model.specs.KeyMap.{value_at};
+ghost use Rattle.mencius_conclusions.specs.Readings.{IsReading};
 
 use mencius_board::{Board, BoardFault, News, Reader};
 use std::alloc::Global;
@@ -29,9 +28,7 @@ pub fn look_up_told(
 ) -> Result<Reading, BoardFault>
     requires { news.book ≡ reader.old.book }
     ensures told { OnOk result (IsPrefix news.log reader.new.log) }
-    ensures text { IfOk result (λ x. option_map string_bytes x.text
-        ≡ value_at key.now reader.new.log) }
-    ensures count { IfOk result (λ x. x.count ≡ length reader.new.log) }
+    ensures reading { IfOk result (IsReading key.now reader.new.log) }
     ensures board { reader.new.book ≡ reader.old.book }
     ensures fault { IfErr result IsLookupFault }
 {
@@ -50,9 +47,7 @@ pub fn look_up_within(
     requires { reader.old.book ≡ board.old.book }
     ensures begins { IsPrefix reader.new.log (longest_of board.old.cluster) }
     ensures grows { IsPrefix reader.old.log reader.new.log }
-    ensures text { IfOk result (λ x. option_map string_bytes x.text
-        ≡ value_at key.now reader.new.log) }
-    ensures count { IfOk result (λ x. x.count ≡ length reader.new.log) }
+    ensures reading { IfOk result (IsReading key.now reader.new.log) }
     ensures board { reader.new.book ≡ reader.old.book }
     ensures same { board.new ≡ board.old }
     ensures fault { IfErr result IsLookupFault }
@@ -74,8 +69,7 @@ pub fn look_up_shown<R: Wait>(
 ) -> Result<Reading, BoardFault>
     requires { reader.old.book ≡ board.old.book }
     ensures shown { OnOk result (reader.new.log ≡ longest_of board.old.cluster) }
-    ensures text { IfOk result (λ x. option_map string_bytes x.text
-        ≡ value_at key.now (longest_of board.old.cluster)) }
+    ensures reading { IfOk result (IsReading key.now (longest_of board.old.cluster)) }
     ensures board { (reader.new.book ≡ reader.old.book) × (board.new.book ≡ board.old.book) }
     ensures cluster { board.new.cluster ≡ board.old.cluster }
     ensures fault { IfErr result (λ f. IsShowFault f ⊎ IsLookupFault f) }
@@ -91,9 +85,7 @@ pub fn look_up_shown<R: Wait>(
 fn look_up(alloc: Global, reader: &mut Reader, key: &str) -> Result<Reading, BoardFault>
     ensures board { reader.new.book ≡ reader.old.book }
     ensures grows { IsPrefix reader.old.log reader.new.log }
-    ensures text { IfOk result (λ x. option_map string_bytes x.text
-        ≡ value_at key.now reader.new.log) }
-    ensures count { IfOk result (λ x. x.count ≡ length reader.new.log) }
+    ensures reading { IfOk result (IsReading key.now reader.new.log) }
     ensures fault { IfErr result IsLookupFault }
 {
     let text = reader.lookup(alloc, key)?;

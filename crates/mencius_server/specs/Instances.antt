@@ -3,13 +3,13 @@ use Rattle.std.specs.Prelude.{◌≡◌, ℕ, ◌<◌, ◌≤◌, Bool, true, fa
 use Rattle.std.specs.List.{count_by, filter, find}
 use Rattle.mencius_base.specs.declared.message.Message.{Message}
 use Rattle.mencius_base.specs.declared.message.Value.TheVariants.{Noop, Ticket}
-use Rattle.mencius_base.specs.Members.{Membership, below, first_owned, owner, instances}
+use Rattle.mencius_base.specs.Members.{Membership, below, owner, instances}
 use Rattle.coord_paxos.specs.SlotState.{SlotState}
 use Rattle.coord_paxos.specs.Slot.{after_learn}
 use Rattle.coord_paxos.specs.Fresh.{new_slot}
 use Rattle.mencius_model.specs.Rules.{is_open_from, reach_from}
 use Rattle.mencius_server.specs.Machine.{is_covered_in, is_newly_skipped_slot, is_spent, next_prepare, slot_after_skip, slot_after_suspect, with_next_phase}
-use Rattle.mencius_server.specs.Intervals.{IsOwned, IsRising, is_in_any}
+use Rattle.mencius_server.specs.Intervals.{AreSkippedIntervals, is_in_any}
 use Rattle.mencius_server.specs.Slots.{is_in, is_learned, stored_at}
 use Rattle.mencius_server.specs.declared.skipped_intervals.Interval.{Interval}
 use Rattle.mencius_server.specs.declared.owned_interval.OwnedInterval.{OwnedInterval}
@@ -65,11 +65,10 @@ instances_in m slots rs = record {
   is_stored = map (λ j. is_some (stored_at slots j)) instances;
 }
 
--- there are intervals for each server, which are that server's
+-- there are intervals for each server, which are of its skipped instances
 pub record IsSorted (m : Membership) (rs : List (List Interval)) : Type 0 where
   pub count : length rs ≡ m.count
-  pub rising : (q : ServerId) → q < m.count → IsRising 0 (slice_index_or rs q [])
-  pub owned : (q : ServerId) → q < m.count → IsOwned m q (first_owned m q instance_count) (slice_index_or rs q [])
+  pub intervals : (q : ServerId) → q < m.count → AreSkippedIntervals m q (slice_index_or rs q [])
 
 -- a slot that is stored at a skipped instance knows it, and a place is the least instance that is not learned
 pub record AreSlotsAndSkips (m : Membership) (slots : List (Option SlotState)) (rs : List (List Interval))

@@ -1,6 +1,7 @@
 -- Intervals of the instances that one server skipped.
 use Rattle.std.specs.Prelude.{◌≡◌, ℕ, ◌+◌, ◌-◌, ◌<◌, ◌≤◌, Bool, false, List, [], ◌∷◌, nat_lt, nat_le, if◌then◌else◌, ◌&&◌, ◌||◌, max, min}
-use Rattle.mencius_base.specs.Members.{Membership, owner}
+use Rattle.mencius_base.specs.Limits.{instance_count}
+use Rattle.mencius_base.specs.Members.{Membership, first_owned, owner}
 use Rattle.mencius_base.specs.Numbers.{Inst, ServerId}
 use Rattle.mencius_server.specs.declared.skipped_intervals.Interval.{Interval}
 
@@ -21,6 +22,11 @@ IsRising low (r ∷ rs) = (low ≤ r.first) × (r.first < r.stop) × IsRising (r
 abbrev pub IsOwned : Membership → ServerId → Inst → List Interval → Type 0
 IsOwned m q top [] = Unit {0}
 IsOwned m q top (r ∷ rs) = (owner m r.first ≡ q) × (owner m r.stop ≡ q) × (r.stop ≤ top) × IsOwned m q top rs
+
+-- intervals of the instances that a server q skipped
+pub record AreSkippedIntervals (m : Membership) (q : ServerId) (rs : List Interval) : Type 0 where
+  pub rising : IsRising 0 rs
+  pub owned : IsOwned m q (first_owned m q instance_count) rs
 
 -- the intervals with one more, joined with those that it meets
 abbrev pub with_interval : List Interval → Inst → Inst → List Interval

@@ -137,6 +137,12 @@ pub record IsUndone (old new : ServerState) (before after : OutboxState) : Type 
   pub messages : after.messages ≡ before.messages
   pub room : before.room ≤ after.room
 
+-- the server is of the same members, with its number, and the outbox has its limit
+pub record SameServerAndLimit (old new : ServerState) (before after : OutboxState) : Type 0 where
+  pub members : new.members ≡ old.members
+  pub id : new.id ≡ old.id
+  pub limit : after.limit ≡ before.limit
+
 -- the suggestion of a ticket, where there is a free instance
 abbrev pub submit_sent : ServerState → TicketNo → Option Inst → List Message
 submit_sent s t free = messages_of (suggestion s.id free t)

@@ -4,7 +4,7 @@ ghost use Rattle.mencius_base.specs.Message.{is_for};
 ghost use Rattle.mencius_base.specs.Outbox.{outbox_full};
 ghost use Rattle.mencius_base.specs.Refusal.{IsRefusedFor};
 ghost use Rattle.mencius_base.specs.declared.message.Message.TheVariants.{Prepare};
-ghost use Rattle.mencius_server.specs.Machine.{IsUndone, accepted_sent, after_accepted, after_hearing, after_learn_at, after_skip, newly_skipped_count, after_prepare_at, after_promise_at, after_propose, after_suggest, learned_on, decided_on, prepare_sent, promise_sent, propose_sent, sent_on, own_skip, suggest_sent, next_front};
+ghost use Rattle.mencius_server.specs.Machine.{IsUndone, SameServerAndLimit, accepted_sent, after_accepted, after_hearing, after_learn_at, after_skip, newly_skipped_count, after_prepare_at, after_promise_at, after_propose, after_suggest, learned_on, decided_on, prepare_sent, promise_sent, propose_sent, sent_on, own_skip, suggest_sent, next_front};
 ghost use Rattle.mencius_model.specs.Next.{learned_count};
 ghost use Rattle.mencius_server.specs.State.{slot};
 ghost use Rattle.std.specs.Prelude.{◌≡◌, ◌+◌, ◌<◌, ◌++◌, ◌==◌, length, is_none, OnOk, OnErr, IfOk, if◌then◌else◌, IsTrue, Some};
@@ -50,9 +50,7 @@ impl Server {
         ensures refusal { IsRefusedFor
             (outbox_full out.old (length (sent_on self.old message.now))) result }
         ensures err { OnErr result (IsUndone self.old self.new out.old out.new) }
-        ensures members { self.new.members ≡ self.old.members }
-        ensures id { self.new.id ≡ self.old.id }
-        ensures limit { out.new.limit ≡ out.old.limit }
+        ensures same { SameServerAndLimit self.old self.new out.old out.new }
     {
         // For the proof: the outbox is within its limit.
         let _few = out.len();

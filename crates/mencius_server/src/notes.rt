@@ -95,9 +95,7 @@ impl Notes {
     /// Makes room for the marks of a ticket, where it was suggested before.
     pub(crate) fn reserve(&mut self, front: u32, ticket: u32) -> Result<(), NoMemory>
         requires short { length self.old.suggested_again ≤ front }
-        ensures lost { self.new.lost_from ≡ self.old.lost_from }
-        ensures free { self.new.free_from ≡ self.old.free_from }
-        ensures next { self.new.next_ticket ≡ self.old.next_ticket }
+        ensures others { self.new ≡ record self.old { suggested_again = self.new.suggested_again } }
         ensures reach { OnOk result (ticket < self.old.next_ticket
             → min front instance_count ≤ length self.new.suggested_again) }
         ensures short { length self.new.suggested_again ≤ front }

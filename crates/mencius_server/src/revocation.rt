@@ -1,7 +1,7 @@
 //! Rule 3: first phases at the instances of a server that is suspected.
 ghost use Rattle.mencius_base.specs.Limits.{greatest_round};
 ghost use Rattle.mencius_base.specs.Refusal.{IsRefusedFor};
-ghost use Rattle.mencius_server.specs.Machine.{IsUndone, after_suspect, is_spent, next_round_of, suspect_cause, suspect_sent};
+ghost use Rattle.mencius_server.specs.Machine.{IsUndone, SameServerAndLimit, after_suspect, is_spent, next_round_of, suspect_cause, suspect_sent};
 ghost use Rattle.mencius_server.specs.Slots.{prepare_at, slot_after_phase};
 ghost use Rattle.mencius_server.specs.State.{slot};
 ghost use Rattle.std.specs.Prelude.{◌≡◌, false, is_none, is_some, ◌+◌, ◌<◌, ◌≤◌, ◌++◌, ◌==◌, OnOk, OnErr, if◌then◌else◌, Some, true};
@@ -36,9 +36,7 @@ impl Server {
         ensures after { OnOk result (self.new ≡ after_suspect self.old suspected) }
         ensures refusal { IsRefusedFor (suspect_cause self.old out.old suspected) result }
         ensures err { OnErr result (IsUndone self.old self.new out.old out.new) }
-        ensures members { self.new.members ≡ self.old.members }
-        ensures id { self.new.id ≡ self.old.id }
-        ensures limit { out.new.limit ≡ out.old.limit }
+        ensures same { SameServerAndLimit self.old self.new out.old out.new }
     {
         if self.id == suspected {
             return Err(Refusal::SelfSuspect);

@@ -9,7 +9,7 @@ ghost use Rattle.mencius_server.specs.Instances.{is_newly_skipped_in, slot_by_sk
 ghost use Rattle.mencius_server.specs.Lending.{LendsSlot};
 ghost use Rattle.mencius_server.specs.Machine.{is_spent, next_round_of};
 ghost use Rattle.mencius_server.specs.SlotTable.{IsSlotTable, stored_slots};
-ghost use Rattle.mencius_server.specs.Intervals.{IsOwned, IsRising, is_between, is_in_any};
+ghost use Rattle.mencius_server.specs.Intervals.{AreSkippedIntervals, is_between, is_in_any};
 ghost use Rattle.mencius_server.specs.LearnedIntervals.{AreLearnedIntervals};
 ghost use Rattle.mencius_server.specs.Slots.{PassesLearnedIntervals, is_covered_slot, is_lacking, is_learned, is_learned_before, is_unlearned, new_slot_at, prepare_at, prepare_of, slot_after_phase, slot_after_skip_in, stored_after_phase, stored_at};
 ghost use Rattle.mencius_server.specs.OwnedIntervals.{IsOwnedInterval};
@@ -259,18 +259,14 @@ impl Slots {
     ) -> Result<u32, NoMemory>
         requires interval { IsOwnedInterval interval.now }
         requires some { interval.now.first < interval.now.stop }
-        requires owned { IsOwned interval.now.members interval.now.server
-            (first_owned interval.now.members interval.now.server instance_count) intervals.old }
-        requires rising { IsRising 0 intervals.old }
+        requires skipped { AreSkippedIntervals interval.now.members interval.now.server intervals.old }
         requires end { owner interval.now.members interval.now.stop ≡ interval.now.server }
         requires low { interval.now.stop
             ≤ first_owned interval.now.members interval.now.server instance_count }
         requires learned_where_skipped { (j : ℕ) (s : SlotState) → j < instance_count
             → owner interval.now.members j ≡ interval.now.server → is_in_any intervals.old j ≡ true
             → stored_at self.old j ≡ Some s → is_none s.learned ≡ false }
-        ensures rising { IsRising 0 intervals.new }
-        ensures owned { IsOwned interval.now.members interval.now.server
-            (first_owned interval.now.members interval.now.server instance_count) intervals.new }
+        ensures skipped { AreSkippedIntervals interval.now.members interval.now.server intervals.new }
         ensures covers { OnOk result ((j : ℕ) → j < instance_count
             → owner interval.now.members j ≡ interval.now.server
             → is_in_any intervals.new j
@@ -279,8 +275,7 @@ impl Slots {
             → stored_at self.new j ≡ option_map (slot_after_skip_in interval.now j) (stored_at self.old j)) }
         ensures learned { IfOk result (λ n. n
             ≡ count_by (is_newly_skipped_in interval.now intervals.old self.old) instances) }
-        ensures same { OnErr result (intervals.new ≡ intervals.old) }
-        ensures kept { OnErr result (self.new ≡ self.old) }
+        ensures err { OnErr result ((intervals.new ≡ intervals.old) × (self.new ≡ self.old)) }
     {
         let first = interval.first;
         let stop = interval.stop;

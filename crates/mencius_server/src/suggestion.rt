@@ -3,7 +3,7 @@ ghost use Rattle.mencius_base.specs.Limits.{instance_count};
 ghost use Rattle.mencius_base.specs.Members.{instances, owner};
 ghost use Rattle.mencius_base.specs.Refusal.{IsRefusedFor};
 ghost use Rattle.mencius_base.specs.declared.message.Value.TheVariants.{Noop};
-ghost use Rattle.mencius_server.specs.Machine.{IsFree, is_free_at, after_submit, IsUndone, after_submit_at, free_at, submit_cause, submit_sent, after_retry, first_waiting, is_suggested_again, retry_cause, retry_sent, suggested_at, own_waiting_at};
+ghost use Rattle.mencius_server.specs.Machine.{IsFree, IsUndone, SameServerAndLimit, is_free_at, after_submit, after_submit_at, free_at, submit_cause, submit_sent, after_retry, first_waiting, is_suggested_again, retry_cause, retry_sent, suggested_at, own_waiting_at};
 ghost use Rattle.mencius_server.specs.State.{slot};
 ghost use Rattle.std.specs.List.{list_any};
 ghost use Rattle.std.specs.Prelude.{◌≡◌, ℕ, ◌||◌, IfNone, None, false, is_none, min, ◌+◌, ◌<◌, ◌++◌, OnOk, OnErr, IfSome, Some};
@@ -32,9 +32,7 @@ impl Server {
             ≡ after_submit_at self.old ticket (free_at self.old)) }
         ensures refusal { IsRefusedFor (submit_cause out.old (free_at self.old)) result }
         ensures err { OnErr result (IsUndone self.old self.new out.old out.new) }
-        ensures members { self.new.members ≡ self.old.members }
-        ensures id { self.new.id ≡ self.old.id }
-        ensures limit { out.new.limit ≡ out.old.limit }
+        ensures same { SameServerAndLimit self.old self.new out.old out.new }
     {
         let Some(inst) = self.free() else {
             return Err(Refusal::InstancesFull);
@@ -190,9 +188,7 @@ impl Server {
         ensures refusal { IsRefusedFor
             (retry_cause self.old out.old (first_waiting self.old)) result }
         ensures err { OnErr result (IsUndone self.old self.new out.old out.new) }
-        ensures members { self.new.members ≡ self.old.members }
-        ensures id { self.new.id ≡ self.old.id }
-        ensures limit { out.new.limit ≡ out.old.limit }
+        ensures same { SameServerAndLimit self.old self.new out.old out.new }
     {
         match self.first_lost() {
             Some((inst, ticket)) => {

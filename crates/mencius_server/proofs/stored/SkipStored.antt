@@ -7,13 +7,13 @@ use Rattle.std.proofs.lemmas.List.{get_or-set_other, length-set}
 use Rattle.std.proofs.lemmas.Grind.{get_or-set_at}
 use Rattle.std.proofs.lemmas.Bool.{cases_Bool, cases_eq, cases_lt, eq-eqb, eqb-true, leb-true, ltb-true, ne_eqb, and_left, and_parts, and_right}
 use Rattle.mencius_base.specs.declared.message.Value.TheVariants.{Noop}
-use Rattle.mencius_base.specs.Members.{Membership, first_owned, instances, owner}
+use Rattle.mencius_base.specs.Members.{Membership, instances, owner}
 use Rattle.mencius_model.proofs.trace.NumberLists.{instances-below, map-instances_same}
 use Rattle.coord_paxos.specs.SlotState.{SlotState}
 use Rattle.coord_paxos.specs.Slot.{after_learn}
 use Rattle.coord_paxos.specs.Fresh.{new_slot}
 use Rattle.mencius_server.specs.Machine.{is_newly_skipped_slot, is_skipped, slot_after_skip}
-use Rattle.mencius_server.specs.Intervals.{IsOwned, IsRising, is_between, is_in_any}
+use Rattle.mencius_server.specs.Intervals.{AreSkippedIntervals, is_between, is_in_any}
 use Rattle.mencius_server.specs.Slots.{is_in, is_learned, slot_after_skip_in, stored_at}
 use Rattle.mencius_server.specs.Instances.{AreSlotsAndSkips, InstancesState, IsSorted, instance_slot, instance_slot_in, instances_after_skip, instances_in, is_in_skipped, is_newly_skipped_in, newly_skipped_stored, slot_by_skip}
 use Rattle.mencius_server.specs.Tallies.{LearnedWhereSkipped}
@@ -147,22 +147,17 @@ module _ (m : Membership) (a : OwnedInterval) (members : a.members ≡ m) (slots
         ∙ ap (λ (y : InstancesState).
         record y { slots = map (λ j. slot_after_skip_in a j (instance_slot now j)) instances }) shown
 
-    pub skip_sorted : IsRising 0 ys → IsOwned m a.server (first_owned m a.server instance_count) ys → IsSorted m rs
-        → IsSorted m (set rs a.server ys)
-    skip_sorted rising owned h = record {
+    pub skip_sorted : AreSkippedIntervals m a.server ys → IsSorted m rs → IsSorted m (set rs a.server ys)
+    skip_sorted skipped h = record {
       count = length-set rs a.server ys ∙ h.count;
-      rising = λ p inside. at_place (λ p xs. IsRising 0 xs) p (λ e. rising) (h.rising p inside);
-      owned = λ p inside. at_place (λ p xs. IsOwned m p (first_owned m p instance_count) xs) p
-          (λ e. subst (λ q. IsOwned m q (first_owned m q instance_count) ys) (sym e) owned) (h.owned p inside);
+      intervals = λ p inside. ⊎_elim
+          (λ (e : p ≡ a.server).
+          subst (AreSkippedIntervals m p) (sym (get_or-set_at rs a.server p ys [] e member))
+          (subst (λ q. AreSkippedIntervals m q ys) (sym e) skipped))
+          (λ (ne : p ≡ a.server → ⊥).
+          subst (AreSkippedIntervals m p) (sym (get_or-set_other rs a.server p ys [] ne)) (h.intervals p inside))
+          (cases_eq p a.server);
     }
-      where
-        at_place : (P : ℕ → List Interval → Type 0) (p : ℕ) → (p ≡ a.server → P p ys) → P p (get_or rs p [])
-            → P p (get_or (set rs a.server ys) p [])
-        at_place P p new_one old =
-            ⊎_elim
-            (λ (e : p ≡ a.server). subst (P p) (sym (get_or-set_at rs a.server p ys [] e member)) (new_one e))
-            (λ (ne : p ≡ a.server → ⊥). subst (P p) (sym (get_or-set_other rs a.server p ys [] ne)) old)
-            (cases_eq p a.server)
 
     pub skip_sound : (low more : ℕ) → IsSorted m (set rs a.server ys) → more ≤ instance_count
         → ((j : ℕ) → low ≤ j → j < more → is_none (instance_slot_in m new (set rs a.server ys) j).learned ≡ false)

@@ -81,8 +81,7 @@ module _ (m : Membership) (slots : List (Option SlotState)) (rs : List (List Int
   new_sound count = record {
     sorted = record {
       count = count;
-      rising = λ q member. rw (none q) tt;
-      owned = λ q member. rw (none q) tt;
+      intervals = λ q member. record { rising = rw (none q) tt; owned = rw (none q) tt };
     };
     learned_where_skipped = λ j t small passed stored. let no : Some t ≡ None = sym stored ∙ empty j in absurd (cc);
     small = omega arith;

@@ -6,28 +6,22 @@ use Rattle.mencius_cluster.specs.State.{trace_of}
 use Rattle.mencius_conclusions.proofs.JournalMoments.{comparable, grows}
 use Rattle.mencius_conclusions.proofs.conclusions.note_across.Goals as goal
 
-pub returns-clause-comparable : goal.returns-clause-comparable
-returns-clause-comparable c =
+pub returns-clause-agree : goal.returns-clause-agree
+returns-clause-agree c =
     let old = c.args.cluster.now in
     let new = c.step_all.new.cluster in
     let earlier : c.in_ok-earlier.earlier.items ≡ history (trace_of old) c.args.server = search rules in
     let later : c.in_ok-later.later.items ≡ history (trace_of new) c.args.other = search rules in
     let some : 1 ≤ old.members.count = omega arith in
-    let after = subst (λ (m : Membership). replay m new.journal ≡ Ok (trace_of new)) c.in_ok-step_all.ensures.members
+    let after = subst (λ (m : Membership). replay m new.journal ≡ Ok (trace_of new)) c.in_ok-step_all.ensures.same.members
     c.replays-2.ensures in
-    rw (earlier, later) (comparable c.agreement.ensures.histories old.members old.journal new.journal _ (trace_of old)
-    (trace_of new) c.args.server c.args.other
-    some c.in_ok-step_all.ensures.journal c.replays.ensures after)
-
-pub returns-clause-grows : goal.returns-clause-grows
-returns-clause-grows c same =
-    let old = c.args.cluster.now in
-    let new = c.step_all.new.cluster in
-    let earlier : c.in_ok-earlier.earlier.items ≡ history (trace_of old) c.args.server = search rules in
-    let later : c.in_ok-later.later.items ≡ history (trace_of new) c.args.other = search rules in
-    let some : 1 ≤ old.members.count = omega arith in
-    let after = subst (λ (m : Membership). replay m new.journal ≡ Ok (trace_of new)) c.in_ok-step_all.ensures.members
-    c.replays-2.ensures in
-    rw (earlier, later, same) (grows c.growth.ensures.histories old.members old.journal new.journal _ (trace_of old)
-    (trace_of new) c.args.other
-    some c.in_ok-step_all.ensures.journal c.replays.ensures after)
+    record {
+      comparable = rw (earlier, later)
+          (comparable c.agreement.ensures.histories old.members old.journal new.journal _ (trace_of old)
+          (trace_of new) c.args.server c.args.other
+          some c.in_ok-step_all.ensures.journal c.replays.ensures after);
+      grows = λ same. rw (earlier, later, same)
+          (grows c.growth.ensures.histories old.members old.journal new.journal _ (trace_of old)
+          (trace_of new) c.args.other
+          some c.in_ok-step_all.ensures.journal c.replays.ensures after);
+    }

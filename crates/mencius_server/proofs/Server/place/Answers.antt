@@ -1,5 +1,6 @@
 use Rattle.std.proofs.Common.{◌≡◌, ◌∙◌, ap, arith, subst, sym}
 use Rattle.mencius_server.specs.Machine.{IsFree}
+use Rattle.mencius_server.specs.Notes.{NotesState}
 use Rattle.mencius_server.specs.State.{ServerState}
 use Rattle.mencius_server.proofs.invariant.InvariantByCall.{place_kept, seen}
 use Rattle.mencius_server.proofs.Server.place.Goals as goal
@@ -14,7 +15,9 @@ invariant_of-self-2 c =
     c.args.ticket c.from.result (c.from.ensures ∙ c.count.ensures.count)
     (omega (arith, c.from.ensures, c.count.ensures.some)) (omega (arith, c.from.ensures, c.count.ensures.few)) free
     c.in_ok-suggest.ensures.ok
-    c.reserve.ensures.lost c.reserve.ensures.next c.reserve.ensures.same c.reserve.ensures.free c.pass_on.ensures.free
+    (ap (λ (n : NotesState). n.lost_from) c.reserve.ensures.others)
+    (ap (λ (n : NotesState). n.next_ticket) c.reserve.ensures.others) c.reserve.ensures.same
+    (ap (λ (n : NotesState). n.free_from) c.reserve.ensures.others) c.pass_on.ensures.free
     c.pass_on.ensures.lost
     c.pass_on.ensures.above c.pass_on.ensures.short
     c.pass_on.ensures.marked c.pass_on.ensures.rest

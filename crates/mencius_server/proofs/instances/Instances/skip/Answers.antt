@@ -4,7 +4,7 @@ use Rattle.std.proofs.lemmas.Bool.{eq-eqb, ne_eqb}
 use Rattle.std.proofs.lemmas.List.{get_or_default}
 use Rattle.mencius_base.proofs.LeastOwned.{first_owned_owner}
 use Rattle.mencius_base.specs.Members.{Membership, first_owned, instances, owner}
-use Rattle.mencius_server.specs.Intervals.{is_between, is_in_any}
+use Rattle.mencius_server.specs.Intervals.{AreSkippedIntervals, is_between, is_in_any}
 use Rattle.mencius_server.specs.declared.skipped_intervals.Interval.{Interval}
 use Rattle.coord_paxos.specs.SlotState.{SlotState}
 use Rattle.mencius_server.specs.Instances.{InstancesState, IsSorted, instance_slot_in, instances_in, is_newly_skipped_in}
@@ -74,7 +74,7 @@ invariant_of-self-2 c =
     (skip_sorted m interval refl c.self.inside.stored.slots c.skip.new.self rs member c.skip.new.intervals
     covered
     c.in_ok-learned.ensures.slots
-    c.skip.ensures.rising c.skip.ensures.owned c.self.invariant.sound.sorted)
+    c.skip.ensures.skipped c.self.invariant.sound.sorted)
     c.learned_from-self-inside.ensures.small c.learned_from-self-inside.ensures.learned
     c.learned_from-self-inside.ensures.least c.self.invariant.sound)
     (λ j small other. alike_same m _ _ (sym (skip_theirs m interval refl c.self.inside.stored.slots
@@ -136,6 +136,18 @@ returns-clause-learned c =
     c.args.self.now (ap (λ (x : InstancesState). x.members) c.self.view_is)
     m c.self.inside.stored.slots rs c.self.inside.learned_below c.self.view_is c.self.invariant.sound
 
+pub skip-requires-clause-skipped : goal.skip-requires-clause-skipped
+skip-requires-clause-skipped c =
+    let m = c.self.inside.stored.members in
+    let rs = c.self.inside.stored.skipped.items in
+    let sorted = c.self.invariant.sound.sorted in
+    let member = has_intervals m c.self.inside.stored.slots rs c.args.self.now c.args.from c.self.view_is sorted
+    c.requires.member in
+    let same_intervals : c.index_mut-intervals.result.now ≡ get_or rs c.args.from [] =
+    c.index_mut-intervals.ensures.value ∙ get_or_default rs c.args.from _ [] member in
+    subst (AreSkippedIntervals m c.args.from) (sym same_intervals)
+    (sorted.intervals c.args.from (omega (arith, member, sorted.count)))
+
 pub skip-requires-clause-learned_where_skipped : goal.skip-requires-clause-learned_where_skipped
 skip-requires-clause-learned_where_skipped c =
     let m = c.self.inside.stored.members in
@@ -159,7 +171,7 @@ learned_from-self-inside-requires-clause-sorted c =
     let interval = skipped m c.args.from c.first_owned-first.result c.first_owned-stop.result in
     skip_sorted m interval refl c.self.inside.stored.slots c.skip.new.self rs member c.skip.new.intervals
     covered
-    c.in_ok-learned.ensures.slots c.skip.ensures.rising c.skip.ensures.owned
+    c.in_ok-learned.ensures.slots c.skip.ensures.skipped
     c.self.invariant.sound.sorted
 
 -- an interval that was skipped before
