@@ -8,7 +8,7 @@ ghost use Rattle.mencius_app.specs.Input.{IsFaultOf};
 ghost use Rattle.mencius_app.specs.Replay.{salt_of_events};
 ghost use Rattle.mencius_app.specs.States.{IsStateOf, acceptor_text, is_heard_of, learner_text, proposer_text, server_state, server_states, slot_line, slot_line_at, slot_lines, slot_text, state_text, value_or_none};
 ghost use Rattle.mencius_base.specs.Limits.{instance_count};
-ghost use Rattle.mencius_cluster.specs.Salt.{salted};
+ghost use Rattle.mencius_cluster.specs.Salt.{hasher_with};
 ghost use Rattle.mencius_cluster.specs.State.{trace_of};
 ghost use Rattle.mencius_model.specs.Instance.{accepted_ballot};
 ghost use Rattle.mencius_trace.specs.Facts.{vote_text, value_text};
@@ -74,7 +74,7 @@ fn push_state(
     events: Events,
 ) -> Result<(), NoMemory>
     requires journal { cluster.old.journal ≡ [] }
-    requires salt { cluster.old.hasher ≡ salted (salt_of_events events) }
+    requires salt { cluster.old.hasher ≡ hasher_with (salt_of_events events) }
     ensures { OnOk result (string_bytes text.new
         ≡ string_bytes text.old ++ state_text cluster.old.members events) }
 {

@@ -7,7 +7,7 @@ ghost use Rattle.mencius_app.specs.Findings.{ExplainsAs, IsFoundIn};
 ghost use Rattle.mencius_app.specs.Input.{IsFaultOf};
 ghost use Rattle.mencius_app.specs.Replay.{salt_of_events};
 ghost use Rattle.mencius_app.specs.Trace.{IsTraceOf};
-ghost use Rattle.mencius_cluster.specs.Salt.{salted};
+ghost use Rattle.mencius_cluster.specs.Salt.{hasher_with};
 ghost use Rattle.mencius_cluster.specs.State.{trace_of};
 ghost use Rattle.mencius_trace.specs.Closing.{events_text, trace_text};
 
@@ -65,7 +65,7 @@ fn push_trace(
     events: Events,
 ) -> Result<(), NoMemory>
     requires journal { cluster.old.journal ≡ [] }
-    requires salt { cluster.old.hasher ≡ salted (salt_of_events events) }
+    requires salt { cluster.old.hasher ≡ hasher_with (salt_of_events events) }
     ensures { OnOk result (string_bytes text.new
         ≡ string_bytes text.old ++ trace_text cluster.old.members events) }
 {

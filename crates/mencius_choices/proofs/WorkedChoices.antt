@@ -5,7 +5,7 @@ use Rattle.mencius_base.specs.declared.command.Op.TheVariants.{Get}
 use Rattle.mencius_base.specs.declared.event.Event.{Event}
 use Rattle.mencius_base.specs.declared.event.Event.TheVariants.{Submit, Deliver, Execute, Lose, Retry, Suspect}
 use Rattle.mencius_base.specs.Members.{new_members, below, instances, most_messages, most_events}
-use Rattle.mencius_cluster.specs.Salt.{salted}
+use Rattle.mencius_cluster.specs.Salt.{hasher_with}
 use Rattle.mencius_cluster.specs.State.{ClusterState}
 use Rattle.mencius_choices.specs.declared.choice.Pick.TheVariants.{NextCommand, Is}
 use Rattle.mencius_choices.specs.Picks.{pick_of}
@@ -19,7 +19,7 @@ get number = record { id = record { client = 1; number = number }; op = Get (97 
 -- ---- the table of choices
 
 abbrev three_after : List Event → ClusterState
-three_after journal = record { members = new_members 3; hasher = salted 0; journal = journal }
+three_after journal = record { members = new_members 3; hasher = hasher_with 0; journal = journal }
 
 -- three servers, after a command that nobody suspects: four messages were sent
 abbrev after_one_command : ClusterState

@@ -11,8 +11,8 @@ abbrev pub identity_word : CommandId → ℕ
 identity_word id = id.client * 2 ^ 32 + id.number
 
 -- a hasher that has hashed a salt
-abbrev pub salted : ℕ → DefaultHasher
-salted salt = fold sip.write sip.initial (fed.u64 salt)
+abbrev pub hasher_with : ℕ → DefaultHasher
+hasher_with salt = fold sip.write sip.initial (fed.u64 salt)
 
 -- the hash of an identity, by a hasher that has hashed what comes before it
 abbrev pub hash_by : DefaultHasher → CommandId → ℕ
@@ -24,4 +24,4 @@ after_identity write hasher command = fold write hasher (fed.u64 (identity_word 
 
 -- the hash of a salt and of the identities of commands
 abbrev pub salt_after : ℕ → List Command → ℕ
-salt_after salt commands = sip.finish (fold (after_identity sip.write) (salted salt) commands)
+salt_after salt commands = sip.finish (fold (after_identity sip.write) (hasher_with salt) commands)

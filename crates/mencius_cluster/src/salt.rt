@@ -2,7 +2,7 @@ ghost use Rattle.std.specs.Prelude.{◌≡◌};
 ghost use Rattle.std.proofs.Common.{rules};
 ghost use Rattle.std.specs.Cmp.Rules.{hashing};
 ghost use Rattle.std.specs.Hash as fed;
-ghost use Rattle.mencius_cluster.specs.Salt.{identity_word, salt_after, salted};
+ghost use Rattle.mencius_cluster.specs.Salt.{identity_word, salt_after, hasher_with};
 
 use mencius_base::{Command, CommandId};
 use std::hash::{BuildHasher, DefaultHasher, Hash, Hasher};
@@ -60,7 +60,7 @@ pub struct BuildSaltedHasher {
 impl BuildSaltedHasher {
     /// By this salt. Which keys of a map share a place depends on all its bits.
     pub fn new(salt: u64) -> BuildSaltedHasher
-        ensures { result.first ≡ salted salt }
+        ensures { result.first ≡ hasher_with salt }
     {
         let mut first = DefaultHasher::new();
         first.write_u64(salt);

@@ -3,7 +3,7 @@ ghost use Rattle.std.specs.Map.{lookup};
 ghost use Rattle.mencius_base.specs.Command.{is_same_id};
 ghost use Rattle.mencius_cluster.specs.declared.submission.Reply.TheVariants.{Pending};
 ghost use Rattle.mencius_cluster.specs.Performed.{IsExecution, IsPerformed};
-ghost use Rattle.mencius_cluster.specs.Salt.{hash_by, salted};
+ghost use Rattle.mencius_cluster.specs.Salt.{hash_by, hasher_with};
 ghost use Rattle.mencius_model.specs.WithinLimits.{IsTicketBelow};
 
 use crate::salt::{BuildSaltedHasher, Identity};
@@ -47,7 +47,7 @@ impl Submissions {
     /// No command yet. It takes no memory.
     pub fn new(alloc: Global, salt: u64) -> Submissions
         ensures entries { result.entries ≡ [] }
-        ensures hasher { result.hasher ≡ salted salt }
+        ensures hasher { result.hasher ≡ hasher_with salt }
     {
         Submissions {
             rows: IndexMap::with_hasher(alloc, BuildSaltedHasher::new(salt)),
