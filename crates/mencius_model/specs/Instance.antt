@@ -1,6 +1,6 @@
 -- What a server p knows of an instance i, asked of the trace w. A question that ends in `_by` is
 -- asked of one line.
-use Rattle.std.specs.Prelude.{Bool, false, List, [], ◌∷◌, Option, Some, None, ◌==◌, nat_lt, if◌then◌else◌, ◌&&◌, map, nat_le, ◌≡◌}
+use Rattle.std.specs.Prelude.{Bool, false, List, [], ◌∷◌, Option, Some, None, ◌==◌, nat_lt, if◌then◌else◌, ◌&&◌, map, ◌≡◌}
 use Rattle.std.specs.List.{list_any, fold, count_by}
 use Rattle.mencius_base.specs.Numbers.{ServerId, Inst, BallotNo}
 use Rattle.mencius_base.specs.declared.message.Message.{Message}

@@ -1,5 +1,5 @@
 -- What a server knows beyond single instances, asked of the trace.
-use Rattle.std.specs.Prelude.{ℕ, ◌+◌, Bool, false, List, [], ◌∷◌, Option, Some, None, ◌==◌, max, nat_lt, if◌then◌else◌, ◌&&◌, not}
+use Rattle.std.specs.Prelude.{ℕ, ◌+◌, Bool, false, List, [], ◌∷◌, Option, Some, None, ◌==◌, max, nat_lt, if◌then◌else◌, ◌&&◌}
 use Rattle.std.specs.List.{list_any, filter, filter_map, find}
 use Rattle.mencius_base.specs.Numbers.{ServerId, Inst, TicketNo}
 use Rattle.mencius_base.specs.declared.message.Message.TheVariants.{Suggest, Skip}

@@ -1,21 +1,20 @@
 -- With a beta of 0 a suspicion covers what lies up to the own front.
-use Rattle.std.proofs.Common.{◌≡◌, ℕ, suc, ◌+◌, ◌*◌, ◌<◌, ◌≤◌, Bool, true, false, cond, ◌&&◌, ◌||◌, eqb, leb, ltb, List, [], ◌∷◌, Option, Some, None, filter, length, map, inl, inr, refl, sym, ◌∙◌, ap, arith, eqb-true, is_none}
+use Rattle.std.proofs.Common.{◌≡◌, ℕ, suc, ◌+◌, ◌*◌, ◌<◌, ◌≤◌, Bool, true, false, cond, ◌&&◌, ◌||◌, eqb, leb, ltb, List, [], ◌∷◌, Option, Some, None, length, map, inl, inr, refl, sym, ◌∙◌, ap, arith, eqb-true, is_none}
 use Rattle.std.specs.List.{list_any}
-use Rattle.std.proofs.lemmas.Bool.{and_parts, cases_Bool, cases_eq, cases_lt, eq-eqb, le-leb, le-ltb, lt-leb, lt-ltb, leb-false, ltb-false, ltb-true, or_parts}
-use Rattle.mencius_base.specs.declared.event.Event.TheVariants.{Suspect}
+use Rattle.std.proofs.lemmas.Bool.{and_parts, cases_eq, cases_lt, eq-eqb, le-leb, le-ltb, lt-leb, lt-ltb, leb-false, ltb-false, or_parts}
 use Rattle.mencius_base.specs.declared.refusal.Refusal.{Refusal}
 use Rattle.mencius_base.specs.declared.refusal.Refusal.TheVariants.{BadServer, EventsFull, MessagesFull, NothingToRevoke, RoundsFull, SelfSuspect}
 use Rattle.mencius_base.specs.Limits.{greatest_round, instance_count}
 use Rattle.mencius_base.specs.Members.{Membership, first_item, most_events, most_messages, owner}
 use Rattle.mencius_base.specs.Outbox.{is_too_many}
-use Rattle.mencius_model.specs.Trace.{Line, Trace, events, messages_of, sent_messages}
+use Rattle.mencius_model.specs.Trace.{Trace, events, sent_messages}
 use Rattle.mencius_model.specs.Instance.{learned_value}
 use Rattle.mencius_model.specs.Server.{covered_instances, first_open, front, is_covered, is_open}
 use Rattle.mencius_model.specs.Next.{IsReached, first_cause, message_count, next_round, preparation}
-use Rattle.mencius_model.specs.Rules.{is_covered_from, reach_from}
-use Rattle.mencius_model.specs.Laws.{BetaZeroRefuses, BetaZeroSends, open_to_front, causes_to_front, is_open_to_front}
+use Rattle.mencius_model.specs.Rules.{reach_from}
+use Rattle.mencius_model.specs.Laws.{BetaZeroRefuses, BetaZeroSends, open_to_front, is_open_to_front}
 use Rattle.mencius_model.proofs.trace.NumberLists.{filter-instances_same, find-instances_before, find-instances_nothing}
-use Rattle.mencius_model.proofs.rights.EventRights.{NoneHolds, none_holds}
+use Rattle.mencius_model.proofs.rights.EventRights.{none_holds}
 use Rattle.mencius_model.proofs.reached.FrontOwners.{front_owner}
 use Rattle.mencius_model.proofs.rights.Journals.{reached_grown}
 
