@@ -200,3 +200,12 @@ same_tokens Fresh text other e = ap (punctuate fresh) e
 same_tokens AfterValue text other e = ap (punctuate after_value) e
 same_tokens AfterComma text other e = ap (punctuate after_comma) e
 same_tokens Failed text other e = refl
+
+-- a string that is no key, wherever a value may begin
+pub text_here : (place : Position) (xs s rest : List ℕ) → at.may_begin place ≡ true → content plain xs ≡ Some s
+    → lex in_string xs ≡ lex between rest → is_space (first_or_zero rest) ≡ false → first_or_zero rest ≢ 58
+    → tokens_at place (34 ∷ xs) ≡ string s ∷ tokens_at AfterValue rest
+text_here Fresh xs s rest may e same solid none = text_read fresh xs s rest refl e same solid none
+text_here AfterValue xs s rest may e same solid none = absurd (cc)
+text_here AfterComma xs s rest may e same solid none = text_read after_comma xs s rest refl e same solid none
+text_here Failed xs s rest may e same solid none = absurd (cc)

@@ -411,6 +411,26 @@ fn read<'a>(text: &'a str, place: Position) -> TokenStep<'a>
     begin(text, byte)
 }
 
+// The text that is next, if one is, and what is left behind it.
+#[inline(always)]
+fn text_at<'a>(text: &'a str, place: Position) -> Option<(&'a str, &'a str)>
+    requires { is_plain text.now ≡ true }
+    ensures value { IfSome result (λ x. tokens_at place text.now
+        ≡ SpecToken.string x.0.now ∷ tokens_at Position.AfterValue x.1.now) }
+    ensures plain { IfSome result (λ x. is_plain x.1.now ≡ true) }
+{
+    let (text, place) = past_comma(text, place);
+    if !place.may_begin() || first_or_zero(text) != b'"' {
+        return None;
+    }
+    let (inside, behind) = closed(behind_first(text))?;
+    let rest = past_blanks(behind);
+    if first_or_zero(rest) == b':' {
+        return None;
+    }
+    Some((inside, rest))
+}
+
 /// A reader of the tokens of a text without a backslash.
 #[derive(Drop)]
 pub(crate) struct Plain<'a> {
@@ -454,6 +474,18 @@ impl<'a> Plain<'a> {
         self.rest = step.rest;
         self.place = step.place;
         step.token
+    }
+
+    /// Takes the text that is next, if one is: a shorter way than `next` to most tokens of a scenario.
+    #[inline(always)]
+    pub(crate) fn take_text(&mut self) -> Option<&'a str>
+        ensures { MatchOption result (self.new ≡ self.old)
+            (λ text. self.old ≡ SpecToken.string text.now ∷ self.new) }
+    {
+        let (text, rest) = text_at(self.rest, self.place)?;
+        self.rest = rest;
+        self.place = Position::AfterValue;
+        Some(text)
     }
 
     /// Takes the bracket that closes a list, if it is next.

@@ -5,6 +5,7 @@ ghost use Rattle.std.specs.Bool.{MatchBool};
 ghost use Rattle.json.specs.Json.{after_end_array};
 ghost use Rattle.json.specs.Lex.{tokens};
 ghost use Rattle.json.specs.Reads.{token_of};
+ghost use Rattle.json.specs.Token.{Token as SpecToken};
 ghost use Rattle.mencius_json.specs.Tokens.{is_plain};
 
 use crate::plain::Plain;
@@ -85,6 +86,18 @@ impl<'a> Tokens<'a> {
         match &mut self.source {
             TokenSource::Plain(plain) => plain.next(),
             TokenSource::Any(reader) => reader.next(),
+        }
+    }
+
+    /// Takes the text that is next, if one is and the whole text has no backslash.
+    #[inline(always)]
+    pub(crate) fn take_text(&mut self) -> Option<&'a str>
+        ensures { MatchOption result (self.new ≡ self.old)
+            (λ text. self.old ≡ SpecToken.string text.now ∷ self.new) }
+    {
+        match &mut self.source {
+            TokenSource::Plain(plain) => plain.take_text(),
+            TokenSource::Any(_) => None,
         }
     }
 

@@ -214,6 +214,9 @@ pub fn next_text<'a>(reader: &mut Tokens<'a>, depth: usize) -> Result<Option<&'a
     ensures shorter { OnOk result (length reader.new < length reader.old) }
     ensures err { IfErr result (λ _. next_value depth reader.old ≡ None) }
 {
+    if let Some(text) = reader.take_text() {
+        return Ok(Some(text));
+    }
     let token = reader.next().ok_or(Invalid)?;
     match text_in(token) {
         Some(text) => Ok(Some(text)),
