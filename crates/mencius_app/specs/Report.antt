@@ -3,7 +3,7 @@ use Rattle.std.specs.Prelude.{ℕ, List, [], ◌++◌, codes, decimal, length, O
 use Rattle.std.specs.List.{flat_map, range_with_len}
 use Rattle.mencius_base.specs.declared.command.Command.{Command}
 use Rattle.mencius_model.specs.Trace.{Trace, events, sent_messages, submitted_commands}
-use Rattle.mencius_base.specs.Members.{Membership}
+use Rattle.mencius_base.specs.Members.{Membership, servers_of}
 use Rattle.mencius_base.specs.Numbers.{ServerId, TicketNo}
 use Rattle.mencius_model.specs.Server.{done, front}
 use Rattle.mencius_model.specs.Replying.{command_at, reply_of}
@@ -28,12 +28,12 @@ counts_line m w =
     codes "servers " ++ decimal m.count ++ codes " messages " ++ decimal (length (sent_messages w)) ++ codes " events "
     ++ decimal (events w) ++ line_feed
 
-abbrev pub server_lines : Membership → Trace → ℕ → List ℕ
-server_lines m w n = flat_map (server_line m w) (range_with_len 0 n)
+abbrev pub server_lines : Membership → Trace → List ℕ
+server_lines m w = flat_map (server_line m w) (servers_of m)
 
 abbrev pub reply_lines : Trace → ℕ → List ℕ
 reply_lines w n = flat_map (reply_line w) (range_with_len 0 n)
 
 -- the counts, then each server, then each command in order of submission
 unfoldable pub report_text : Membership → Trace → List ℕ
-report_text m w = counts_line m w ++ server_lines m w m.count ++ reply_lines w (length (submitted_commands w))
+report_text m w = counts_line m w ++ server_lines m w ++ reply_lines w (length (submitted_commands w))

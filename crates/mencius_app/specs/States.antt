@@ -2,7 +2,7 @@
 use Rattle.std.specs.Prelude.{◌≡◌, ◌<◌, ℕ, Bool, List, [], ◌++◌, ◌||◌, codes, decimal, if◌then◌else◌, is_some, nat_lt, Option, Some, None, slice_index_or}
 use Rattle.std.specs.List.{flat_map, range_with_len}
 use Rattle.mencius_base.specs.Limits.{instance_count}
-use Rattle.mencius_base.specs.Members.{Membership}
+use Rattle.mencius_base.specs.Members.{Membership, servers_of}
 use Rattle.mencius_base.specs.Numbers.{ServerId, Inst, BallotNo}
 use Rattle.mencius_base.specs.declared.event.Event.{Event}
 use Rattle.mencius_base.specs.declared.message.Value.{Value}
@@ -63,14 +63,14 @@ slot_lines m w p n = flat_map (slot_line_at m w p) (range_with_len 0 n)
 abbrev pub server_state : Membership → Trace → ServerId → List ℕ
 server_state m w p = server_line m w p ++ slot_lines m w p instance_count
 
-abbrev pub server_states : Membership → Trace → ℕ → List ℕ
-server_states m w n = flat_map (server_state m w) (range_with_len 0 n)
+abbrev pub server_states : Membership → Trace → List ℕ
+server_states m w = flat_map (server_state m w) (servers_of m)
 
 -- the refused events, and then each server of the cluster after all events
 abbrev pub state_text : Membership → List Event → List ℕ
 state_text m es =
     refused_lines (outcomes_from m [] es)
-    ++ server_states (cluster_of_replay m es).members (trace_of (cluster_of_replay m es)) m.count
+    ++ server_states (cluster_of_replay m es).members (trace_of (cluster_of_replay m es))
 
 -- a text of the state of that
 abbrev pub IsStateOf : Option (List ℕ) → List ℕ → Type 0

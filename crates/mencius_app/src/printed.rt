@@ -2,6 +2,7 @@
 
 ghost use Rattle.std.specs.Prelude.{ℕ, ◌≡◌, ◌<◌, ◌≤◌, ◌+◌, ◌⊎◌, ◌++◌, length, string_bytes, Some, IfErr, IsErrOf, OnOk, slice_get};
 ghost use Rattle.std.specs.Io.KnownBytes.{Appends};
+ghost use Rattle.mencius_base.specs.Members.{IsMember};
 ghost use Rattle.mencius_ends.specs.Ends.{HasFailed, WritesFront, most_failed_calls};
 ghost use Rattle.mencius_app.specs.Report.{counts_line, reply_line, reply_lines, reply_of_command, report_text, server_line, server_lines};
 ghost use Rattle.mencius_model.specs.Trace.{submitted_commands};
@@ -58,7 +59,7 @@ fn push_cluster_counts(text: &mut String, cluster: &Cluster) -> Result<(), Alloc
 
 fn push_servers(text: &mut String, cluster: &Cluster) -> Result<(), AllocError>
     ensures { OnOk result (string_bytes text.new ≡ string_bytes text.old
-        ++ server_lines cluster.now.members (trace_of cluster.now) cluster.now.members.count) }
+        ++ server_lines cluster.now.members (trace_of cluster.now)) }
 {
     for server in 0..cluster.servers() {
         push_server(text, cluster, server)?;
@@ -72,7 +73,7 @@ pub(crate) fn push_server(
     cluster: &Cluster,
     server: u8,
 ) -> Result<(), AllocError>
-    requires { server < cluster.now.members.count }
+    requires { IsMember cluster.now.members server }
     ensures { OnOk result (string_bytes text.new
         ≡ string_bytes text.old ++ server_line cluster.now.members (trace_of cluster.now) server) }
 {

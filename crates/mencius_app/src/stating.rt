@@ -8,6 +8,7 @@ ghost use Rattle.mencius_app.specs.Input.{IsFaultOf};
 ghost use Rattle.mencius_app.specs.Replay.{salt_of_events};
 ghost use Rattle.mencius_app.specs.States.{IsStateOf, acceptor_text, is_heard_of, learner_text, proposer_text, server_state, server_states, slot_line, slot_line_at, slot_lines, slot_text, state_text, value_or_none};
 ghost use Rattle.mencius_base.specs.Limits.{instance_count};
+ghost use Rattle.mencius_base.specs.Members.{IsMember};
 ghost use Rattle.mencius_cluster.specs.Salt.{hasher_with};
 ghost use Rattle.mencius_cluster.specs.State.{trace_of};
 ghost use Rattle.mencius_model.specs.Instance.{accepted_ballot};
@@ -85,7 +86,7 @@ fn push_state(
 
 fn push_states(alloc: Global, text: &mut String, cluster: &Cluster) -> Result<(), AllocError>
     ensures { OnOk result (string_bytes text.new ≡ string_bytes text.old
-        ++ server_states cluster.now.members (trace_of cluster.now) cluster.now.members.count) }
+        ++ server_states cluster.now.members (trace_of cluster.now)) }
 {
     for server in 0..cluster.servers() {
         push_server_state(alloc, text, cluster, server)?;
@@ -99,7 +100,7 @@ fn push_server_state(
     cluster: &Cluster,
     server: u8,
 ) -> Result<(), AllocError>
-    requires { server < cluster.now.members.count }
+    requires { IsMember cluster.now.members server }
     ensures { OnOk result (string_bytes text.new
         ≡ string_bytes text.old ++ server_state cluster.now.members (trace_of cluster.now) server) }
 {
@@ -114,7 +115,7 @@ fn push_slots(
     cluster: &Cluster,
     server: u8,
 ) -> Result<(), AllocError>
-    requires { server < cluster.now.members.count }
+    requires { IsMember cluster.now.members server }
     ensures { OnOk result (string_bytes text.new ≡ string_bytes text.old
         ++ slot_lines cluster.now.members (trace_of cluster.now) server instance_count) }
 {
@@ -133,7 +134,7 @@ fn push_slot_at(
     inst: u32,
     ballot: Option<Ballot>,
 ) -> Result<(), AllocError>
-    requires member { server < cluster.now.members.count }
+    requires member { IsMember cluster.now.members server }
     requires small { inst < instance_count }
     requires ballot { ballot ≡ accepted_ballot (trace_of cluster.now) server inst }
     ensures { OnOk result (string_bytes text.new ≡ string_bytes text.old
