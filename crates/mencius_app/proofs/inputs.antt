@@ -1,6 +1,8 @@
 -- What is read of an input, and why a task ended at a fault.
 pub mod Inputs
 pub mod EndingCauses
+pub mod CallTasks
+pub mod ArgumentAnswers
 pub mod FindingWords
 pub mod PictureFaults
 pub mod LogFaults

@@ -19,8 +19,8 @@ use Rattle.mencius_app.specs.Findings.{AreWordsOfInput, ExplainsAs, ExplainsByFi
 use Rattle.mencius_app.specs.Trace.{IsTraceOf}
 use Rattle.mencius_app.specs.Drawing.{ExplainsPicture, IsDrawingFaultOf, IsPictureOf}
 use Rattle.mencius_app.specs.Run.{IsRunOf}
-use Rattle.mencius_app.specs.declared.calling.RunOptions.{RunOptions}
-use Rattle.mencius_app.specs.declared.calling.TheConstants.{NOT_TEXT}
+use Rattle.mencius_app.specs.declared.alone_calling.RunOptions.{RunOptions}
+use Rattle.mencius_app.specs.declared.answering.TheConstants.{NOT_TEXT}
 use Rattle.mencius_app.specs.declared.finding.Finding.{Finding}
 use Rattle.mencius_app.specs.declared.run_finding.RunFinding.{RunFinding}
 use Rattle.mencius_app.specs.declared.run_finding.RunFinding.TheVariants as at
@@ -128,11 +128,14 @@ abbrev pub IsMistaken : List Text → Type 0
 IsMistaken arguments = (are_texts arguments ≡ false) ⊎ ((error : ErrorKind)
     × IsAmong error (faults (line_of arguments)) × (shown_for error arguments ≡ None))
 
--- what is said of that: of an argument that is no text, one message, and of a mistake, words behind `error: `
+-- what `clap` says of a mistake
+abbrev pub IsMistakeText : List ℕ → Type 0
+IsMistakeText text = (words : List ℕ) × (text ≡ codes "error: " ++ words)
+
+-- what is said where the arguments are refused: of one that is no text always the same, and else of a mistake
 abbrev pub IsComplaint : List Text → List ℕ → Type 0
 IsComplaint arguments text =
-    ((are_texts arguments ≡ false) × (text ≡ NOT_TEXT.now))
-    ⊎ ((are_texts arguments ≡ true) × (words : List ℕ) × (text ≡ codes "error: " ++ words))
+    ((are_texts arguments ≡ false) × (text ≡ NOT_TEXT.now)) ⊎ ((are_texts arguments ≡ true) × IsMistakeText text)
 
 -- the text of a task, of all that a reader has, and whether refused events or a broken promise are told of
 abbrev pub IsTaskOf : TaskState → Option (List ℕ) → Bool → List ℕ → Type 0

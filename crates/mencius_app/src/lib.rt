@@ -2,6 +2,8 @@
 //! trace, a state, a check, a judgement and a run make of their input, and the texts that they print.
 #![tactic(auto)]
 
+mod alone_calling;
+mod answering;
 mod arguments;
 mod calling;
 mod checking;
@@ -38,4 +40,4 @@ pub use running::run;
 pub use stating::state;
 pub use tracing::trace;
 pub use turns::run_in_turns;
-pub use turns_calling::perform_in_turns;
+pub use turns_calling::{perform_in_turns, perform_without_pictures};

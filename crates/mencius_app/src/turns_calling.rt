@@ -1,17 +1,17 @@
 //! A call of the program that starts no thread, from its words to how it ends.
 
-ghost use Rattle.std.specs.Prelude.{◌≡◌, ◌≢◌, ◌⊎◌, ℕ, List, false, true, IfSome, []};
-ghost use Rattle.std.specs.Io.KnownBytes.{Appends};
-ghost use Rattle.mencius_command_line.specs.CommandLine.{are_texts, bytes_of, faults, line_of, task_in};
-ghost use Rattle.mencius_ends.specs.Ends.{HasFailed, WritesFront};
+ghost use Rattle.std.specs.Prelude.{◌≡◌, ◌≢◌, IfSome};
+ghost use Rattle.mencius_command_line.specs.CommandLine.{bytes_of, line_of, task_in};
 ghost use Rattle.mencius_app.specs.Calls.{AsksAs, AsksLittle, IsCause};
-ghost use Rattle.mencius_app.specs.Ending.{Did, DidTask, IsAskedFor, IsComplaint, IsFaultFor, IsInputFaultOf, IsMistaken, IsTextOf, TellsOf, fault_in, is_explained, task_with};
+ghost use Rattle.mencius_app.specs.CallEndings.{AsksToDraw, EndsForCause, RefusesArguments, RefusesPicture, WritesOrFails, WritesWhole};
+ghost use Rattle.mencius_app.specs.Ending.{Did, DidTask, IsInputFaultOf, IsTextOf, TellsOf, fault_in, task_with};
 
-use crate::calling::{NOT_TEXT, RunOptions, answer_command_line, ending_of, perform_alone};
+use crate::alone_calling::{LeftTask, RunOptions, perform_alone};
+use crate::answering::refuse_picture;
+use crate::calling::{ending_of, perform_drawing};
 use crate::ending::Ending;
 use crate::turns::run_in_turns;
-use mencius_command_line::{are_texts, read_arguments};
-use mencius_input::{Sink, Source, write_all};
+use mencius_input::{Sink, Source};
 use std::alloc::Global;
 
 /// Does what [`perform`](crate::perform) does, and starts no thread: a run is one of
@@ -25,68 +25,79 @@ pub fn perform_in_turns<R: Source, W: Sink, E: Sink>(
     errors: &mut E,
 ) -> Ending
     // What was asked for was written, whole.
-    ensures done { result ≡ Ending.Done →
-        Did (bytes_of arguments.now) (R.remaining source.old) (W.contents sink.old)
-        (W.contents sink.new) false }
-    ensures refused { result ≡ Ending.Refused →
-        Did (bytes_of arguments.now) (R.remaining source.old) (W.contents sink.old)
-        (W.contents sink.new) true }
+    ensures written { WritesWhole (Did (bytes_of arguments.now) (R.remaining source.old)
+        (W.contents sink.old) (W.contents sink.new)) result }
 
-    // The arguments are refused, and nothing was read or written to `sink`. Standard error has why,
+    // Of arguments that are refused nothing was read or written to `sink`. Standard error has why,
     // and is left alone otherwise.
-    ensures not_text { are_texts (bytes_of arguments.now) ≡ false → result ≡ Ending.BadCommandLine }
-    ensures misused { result ≡ Ending.BadCommandLine →
-        IsMistaken (bytes_of arguments.now) × (source.new ≡ source.old) × (sink.new ≡ sink.old) }
-    ensures complaint { result ≡ Ending.BadCommandLine → (text : List ℕ)
-        × IsComplaint (bytes_of arguments.now) text
-        × WritesFront (E.contents errors.old) (E.contents errors.new) text
-        × (Appends (E.contents errors.old) (E.contents errors.new) text
-        ⊎ HasFailed (E.failed errors.old) (E.failed errors.new)) }
-    ensures quiet { result ≢ Ending.BadCommandLine → errors.new ≡ errors.old }
-
-    // Where it is help or the version that is asked for, nothing is read either.
-    ensures unread { faults (line_of (bytes_of arguments.now)) ≢ [] → source.new ≡ source.old }
+    ensures refused { RefusesArguments (bytes_of arguments.now)
+        (source.new ≡ source.old) (sink.new ≡ sink.old)
+        (WritesOrFails (E.contents errors.old) (E.contents errors.new)
+        (E.failed errors.old) (E.failed errors.new)) (errors.new ≡ errors.old) result }
 
     // Which fault, and when; and how much was asked of reader and writer, whatever the answer.
-    ensures fault { IfSome (fault_in result)
-        (IsCause (IsFaultFor (bytes_of arguments.now) (R.remaining source.old))
-        (IsAskedFor (bytes_of arguments.now) (R.remaining source.old))
+    ensures fault { EndsForCause (bytes_of arguments.now) (R.remaining source.old)
         (R.failed source.old) (R.failed source.new) (W.failed sink.old) (W.failed sink.new)
-        (W.contents sink.old) (W.contents sink.new)) }
-    ensures no_board { result ≢ Ending.BoardFailed }
-    ensures explained { is_explained result ≡ true → faults (line_of (bytes_of arguments.now)) ≡ [] }
-    ensures words { TellsOf (task_in (line_of (bytes_of arguments.now))) (R.remaining source.old)
-        result }
+        (W.contents sink.old) (W.contents sink.new) result }
+    ensures board { result ≢ Ending.BoardFailed }
     ensures asked { AsksAs (task_in (line_of (bytes_of arguments.now)))
         (R.remaining source.old) (R.remaining source.new)
         (R.failed source.old) (R.failed source.new) (W.failed sink.old) (W.failed sink.new) }
 {
-    if !are_texts(arguments) {
-        // Nobody is left to tell where standard error fails.
-        let _ = write_all(errors, NOT_TEXT.as_bytes());
-        return Ending::BadCommandLine;
-    }
-    match read_arguments(alloc, arguments) {
-        Ok(task) => match perform_alone(alloc, task, source, sink) {
-            Ok(ending) => ending,
-            Err(options) => perform_run_in_turns(alloc, &options, source, sink),
-        },
-        Err(error) => answer_command_line(alloc, arguments, &error, sink, errors),
+    match perform_alone(alloc, arguments, source, sink, errors) {
+        Ok(ending) => ending,
+        Err(LeftTask::Run(options)) => perform_run_in_turns(alloc, &options, source, sink),
+        Err(LeftTask::Draw(options)) => perform_drawing(alloc, &options, source, sink),
     }
 }
 
-/// Does a run, whose workers take turns.
+/// Does what [`perform_in_turns`] does, for a library without drawing: arguments that ask for a picture are refused,
+/// with one line to `errors` that names the task whose text a picture shows.
+pub fn perform_without_pictures<R: Source, W: Sink, E: Sink>(
+    alloc: Global,
+    arguments: &[Vec<u8>],
+    source: &mut R,
+    sink: &mut W,
+    errors: &mut E,
+) -> Ending
+    // Arguments that ask for a picture are refused, and of all others those that `perform_in_turns` refuses.
+    ensures picture { AsksToDraw (bytes_of arguments.now) → RefusesPicture
+        (source.new ≡ source.old) (sink.new ≡ sink.old)
+        (WritesOrFails (E.contents errors.old) (E.contents errors.new)
+        (E.failed errors.old) (E.failed errors.new)) (errors.new ≡ errors.old) result }
+    ensures refused { (AsksToDraw (bytes_of arguments.now) → ⊥)
+        → RefusesArguments (bytes_of arguments.now) (source.new ≡ source.old)
+        (sink.new ≡ sink.old) (WritesOrFails (E.contents errors.old) (E.contents errors.new)
+        (E.failed errors.old) (E.failed errors.new)) (errors.new ≡ errors.old) result }
+
+    // All else is as there.
+    ensures written { WritesWhole (Did (bytes_of arguments.now) (R.remaining source.old)
+        (W.contents sink.old) (W.contents sink.new)) result }
+    ensures fault { EndsForCause (bytes_of arguments.now) (R.remaining source.old)
+        (R.failed source.old) (R.failed source.new) (W.failed sink.old) (W.failed sink.new)
+        (W.contents sink.old) (W.contents sink.new) result }
+    ensures board { result ≢ Ending.BoardFailed }
+    ensures asked { AsksAs (task_in (line_of (bytes_of arguments.now)))
+        (R.remaining source.old) (R.remaining source.new)
+        (R.failed source.old) (R.failed source.new) (W.failed sink.old) (W.failed sink.new) }
+{
+    match perform_alone(alloc, arguments, source, sink, errors) {
+        Ok(ending) => ending,
+        Err(LeftTask::Run(options)) => perform_run_in_turns(alloc, &options, source, sink),
+        Err(LeftTask::Draw(_)) => refuse_picture(errors),
+    }
+}
+
+// Does a run, whose workers take turns.
 fn perform_run_in_turns<R: Source, W: Sink>(
     alloc: Global,
     options: &RunOptions,
     source: &mut R,
     sink: &mut W,
 ) -> Ending
-    ensures done { result ≡ Ending.Done →
-        DidTask (task_with options.now) (R.remaining source.old) (W.contents sink.old)
-        (W.contents sink.new) false }
-    ensures no_other { (result ≢ Ending.Refused) × (result ≢ Ending.BadCommandLine) }
-    ensures no_board { result ≢ Ending.BoardFailed }
+    ensures written { WritesWhole (DidTask (task_with options.now) (R.remaining source.old)
+        (W.contents sink.old) (W.contents sink.new)) result }
+    ensures ended { (result ≢ Ending.BadCommandLine) × (result ≢ Ending.BoardFailed) }
     ensures fault { IfSome (fault_in result)
         (IsCause (IsInputFaultOf (task_with options.now) (R.remaining source.old))
         (IsTextOf (task_with options.now) (R.remaining source.old))

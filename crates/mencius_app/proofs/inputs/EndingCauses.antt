@@ -1,5 +1,5 @@
 -- Why a task ended at a fault.
-use Rattle.std.proofs.Common.{◌≡◌, ◌≢◌, ◌≤◌, ◌+◌, ◌∙◌, arith, inr, ℕ, Bool, false, List, [], Option, Some, None, IfSome, IfErr, Result, Ok, Err, String, Global, refl, sym, subst}
+use Rattle.std.proofs.Common.{◌≡◌, ◌≢◌, ◌≤◌, ◌+◌, ◌∙◌, arith, inr, ℕ, Bool, false, List, [], Option, Some, None, IfSome, IfErr, Result, Ok, Err, String, Global, refl, sym, subst, ap}
 use Rattle.clap.specs.Words.{Text}
 use Rattle.mencius_ends.specs.declared.fault.AppFault.{AppFault}
 use Rattle.mencius_ends.specs.Ends.{TakesAtMost, most_bytes, most_failed_calls}
@@ -12,7 +12,7 @@ use Rattle.mencius_app.specs.RunFindings.{IfFound}
 use Rattle.mencius_app.specs.declared.run_finding.RunFinding.{RunFinding}
 use Rattle.mencius_app.specs.declared.run_finding.RunFinding.TheVariants as at
 use Rattle.mencius_app.specs.declared.ending.Ending.{Ending}
-use Rattle.mencius_app.specs.declared.ending.Ending.TheVariants.{BoardFailed}
+use Rattle.mencius_app.specs.declared.ending.Ending.TheVariants.{Done, BoardFailed}
 use Rattle.mencius_command_line.specs.CommandLine.{TaskState, asked_check, asked_draw, asked_judge, asked_replay, asked_run, asked_trace, faults, line_of, task_in}
 
 -- where its text is also one of another kind
@@ -61,23 +61,24 @@ of_run (Ok x) ending P e h = subst (λ d. IfSome (fault_in d) P) (sym e) tt
 of_run (Err (at.Found found)) ending P e h = of_finding found ending P e h
 of_run (Err at.BoardFailed) ending P e h = subst (λ d. IfSome (fault_in d) P) (sym e) tt
 
--- a finding is no board's
-pub found_not_board : (found : Finding) (ending : Ending) → ending ≡ ending_at found → ending ≢ BoardFailed
-found_not_board found ending e is = worded found.words (sym e ∙ is) where
-  worded : (words : Option (String Global)) → ending_with found.fault words ≡ BoardFailed → ⊥
-  worded None g = absurd (cc)
-  worded (Some line) g = absurd (cc)
+-- a finding ends at a fault
+pub found_no_other : (found : Finding) (ending other : Ending) → ending ≡ ending_at found → fault_in other ≡ None
+    → ending ≢ other
+found_no_other found ending other e none is = worded found.words (sym e ∙ is) where
+  worded : (words : Option (String Global)) → ending_with found.fault words ≡ other → ⊥
+  worded None g = (let both : Some found.fault ≡ None = ap fault_in g ∙ none in absurd (cc))
+  worded (Some line) g = (let both : Some found.fault ≡ None = ap fault_in g ∙ none in absurd (cc))
 
-pub done_not_board : {T : Type 0} (done : Result T Finding) (ending : Ending) → ending ≡ ending_of done
-    → ending ≢ BoardFailed
-done_not_board (Ok x) ending e is = (let both = sym e ∙ is in absurd (cc))
-done_not_board (Err found) ending e is = found_not_board found ending e is
+pub done_no_other : {T : Type 0} (done : Result T Finding) (ending other : Ending) → ending ≡ ending_of done
+    → fault_in other ≡ None → Done ≢ other → ending ≢ other
+done_no_other (Ok x) ending other e none differs is = differs (sym e ∙ is)
+done_no_other (Err found) ending other e none differs is = found_no_other found ending other e none is
 
 -- only a run whose board failed ends so
 pub board_of_run : {T K : Type 0} (done : Result T RunFinding) (ending : Ending) → ending ≡ ending_of_run done
     → (done ≡ Err at.BoardFailed → K) → ending ≡ BoardFailed → K
 board_of_run (Ok x) ending e failed is = (let both = sym e ∙ is in absurd (cc))
-board_of_run (Err (at.Found found)) ending e failed is = absurd (found_not_board found ending e is)
+board_of_run (Err (at.Found found)) ending e failed is = absurd (found_no_other found ending BoardFailed e refl is)
 board_of_run (Err at.BoardFailed) ending e failed is = failed refl
 
 -- what holds of a task holds of the arguments that ask for it

@@ -5,13 +5,13 @@ use Rattle.std.specs.Io.KnownBytes.{Appends}
 use Rattle.mencius_ends.specs.declared.fault.AppFault.{AppFault}
 use Rattle.mencius_trace.specs.Words.{line_feed}
 use Rattle.mencius_command_line.specs.CommandLine.{asked_judge}
-use Rattle.mencius_app.specs.Ending.{DidTask, IsTextOf, TellsOf, ending_of_judgement, ending_with, fault_in}
+use Rattle.mencius_app.specs.Ending.{DidTask, IsTextOf, TellsOf, ending_of_judgement, fault_in}
 use Rattle.mencius_app.specs.Findings.{IsFoundIn}
 use Rattle.mencius_app.specs.Judging.{ExplainsByLine, IsJudgement, IsJudgementOf}
 use Rattle.mencius_app.specs.declared.finding.Finding.{Finding}
 use Rattle.mencius_app.specs.declared.ending.Ending.{Ending}
-use Rattle.mencius_app.specs.declared.ending.Ending.TheVariants.{Done, Refused, BadCommandLine, BoardFailed}
-use Rattle.mencius_app.proofs.inputs.EndingCauses.{found_not_board, of_finding}
+use Rattle.mencius_app.specs.declared.ending.Ending.TheVariants.{Done, Refused}
+use Rattle.mencius_app.proofs.inputs.EndingCauses.{found_no_other, of_finding}
 use Rattle.mencius_app.proofs.inputs.FindingWords.{told_of_finding}
 
 pub text_of_judgement : (known : Option (List ℕ)) (text : List ℕ) → IsJudgement known text
@@ -40,29 +40,14 @@ judged_done known old new (Ok true) ending false e h is = (h.0, (true, h.1, refl
 judged_done known old new (Ok false) ending true e h is = (h.0, (false, h.1, refl), h.2)
 judged_done known old new (Ok true) ending true e h is = (let both = sym e ∙ is in absurd (cc))
 judged_done known old new (Ok false) ending false e h is = (let both = sym e ∙ is in absurd (cc))
-judged_done known old new (Err found) ending is_refused e h is = absurd (no_fault found.words is_refused (sym e ∙ is))
-  where
-    no_fault : (words : Option (String Global)) (d : Bool) → ending_with found.fault words ≡ cond d Refused Done → ⊥
-    no_fault None true g = absurd (cc)
-    no_fault None false g = absurd (cc)
-    no_fault (Some line) true g = absurd (cc)
-    no_fault (Some line) false g = absurd (cc)
+judged_done known old new (Err found) ending true e h is = absurd (found_no_other found ending Refused e refl is)
+judged_done known old new (Err found) ending false e h is = absurd (found_no_other found ending Done e refl is)
 
-pub judged_never_bad : (done : Result Bool Finding) (ending : Ending) → ending ≡ ending_of_judgement done
-    → ending ≢ BadCommandLine
-judged_never_bad (Ok true) ending e is = (let both = sym e ∙ is in absurd (cc))
-judged_never_bad (Ok false) ending e is = (let both = sym e ∙ is in absurd (cc))
-judged_never_bad (Err found) ending e is = no_fault found.words (sym e ∙ is)
-  where
-    no_fault : (words : Option (String Global)) → ending_with found.fault words ≡ BadCommandLine → ⊥
-    no_fault None g = absurd (cc)
-    no_fault (Some line) g = absurd (cc)
-
-pub judged_not_board : (done : Result Bool Finding) (ending : Ending) → ending ≡ ending_of_judgement done
-    → ending ≢ BoardFailed
-judged_not_board (Ok true) ending e is = (let both = sym e ∙ is in absurd (cc))
-judged_not_board (Ok false) ending e is = (let both = sym e ∙ is in absurd (cc))
-judged_not_board (Err found) ending e is = found_not_board found ending e is
+pub judged_no_other : (done : Result Bool Finding) (ending other : Ending) → ending ≡ ending_of_judgement done
+    → fault_in other ≡ None → Done ≢ other → Refused ≢ other → ending ≢ other
+judged_no_other (Ok true) ending other e none done refused is = done (sym e ∙ is)
+judged_no_other (Ok false) ending other e none done refused is = refused (sym e ∙ is)
+judged_no_other (Err found) ending other e none done refused is = found_no_other found ending other e none is
 
 -- words with a line feed are the line of them
 pub line_of_words : (line : Option (String Global)) (given : Option (String Global)) (words : String Global)

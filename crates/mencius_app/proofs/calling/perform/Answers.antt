@@ -1,41 +1,43 @@
-use Rattle.std.proofs.Common.{◌∙◌, IfSome, inl, inr, refl, subst, sym}
-use Rattle.clap.specs.Words.{kind_of}
-use Rattle.mencius_command_line.specs.CommandLine.{bytes_of}
-use Rattle.mencius_app.specs.Calls.{IsCause}
-use Rattle.mencius_app.specs.Ending.{IsAskedFor, IsFaultFor, fault_in}
-use Rattle.mencius_app.proofs.inputs.EndingCauses.{asks_as, of_task}
-use Rattle.mencius_app.proofs.inputs.FindingWords.{unexplained}
+use Rattle.std.proofs.Common.{◌∙◌, Some, ap}
+use Rattle.mencius_command_line.specs.CommandLine.{asked_draw, bytes_of}
+use Rattle.mencius_app.specs.Ending.{is_run, task_with}
+use Rattle.mencius_app.proofs.inputs.CallTasks.{call_accepted, call_of_task}
 use Rattle.mencius_app.proofs.calling.perform.Goals as goal
 
-pub returns-in-Err-clause-misused : goal.returns-in-Err-clause-misused
-returns-in-Err-clause-misused g c = λ ended.
-    let told = c.answer_command_line.ensures.misused ended in
-    elim c.in-Err.ensures.faults [
-      | inl memory ↦ absurd (told.0 memory)
-      | inr among ↦ (inr (kind_of c.in-Err.error, among, told.1), refl, told.2)
-    ]
-
-pub returns-in-Err-clause-words : goal.returns-in-Err-clause-words
-returns-in-Err-clause-words g c = unexplained _ _ _ c.answer_command_line.ensures.plain
-
-pub returns-in-Err-clause-asked : goal.returns-in-Err-clause-asked
-returns-in-Err-clause-asked g c = asks_as _ _ _ _ _ c.answer_command_line.ensures.tried
-
-pub returns-then-not-are_texts-clause-not_text : goal.returns-then-not-are_texts-clause-not_text
-returns-then-not-are_texts-clause-not_text g c e = refl
-
-pub returns-in-Err-perform_alone-clause-fault : goal.returns-in-Err-perform_alone-clause-fault
-returns-in-Err-perform_alone-clause-fault g c =
+pub returns-in-Err-Run : goal.returns-in-Err-Run
+returns-in-Err-Run g c =
     let arguments = bytes_of c.args.arguments.now in
-    let run = c.perform_run in
+    let task = task_with c.in-Err-Run.options in
+    let was = rw c.in-Err-Run.field-0-is at c.in-Err-Run.ensures.left in
     let alone = c.perform_alone.new in
-    let cause = of_task arguments _ _ _ _ _ _ _ _ (fault_in run.result) c.in-Ok.ensures.faults
-    (sym c.in-Err-perform_alone.ensures.run ∙ c.in-Ok.ensures.task) run.ensures.fault in
-    subst (λ sink. IfSome (fault_in run.result) (IsCause (IsFaultFor arguments (g.R.Source.remaining c.args.source.now))
-    (IsAskedFor arguments (g.R.Source.remaining c.args.source.now)) (g.R.Source.failed c.args.source.now)
-    (g.R.Source.failed run.new.source) (g.W.Sink.failed sink) (g.W.Sink.failed run.new.sink) (g.W.Sink.contents sink)
-    (g.W.Sink.contents run.new.sink))) c.in-Err-perform_alone.ensures.untouched.1
-    (subst (λ source. IfSome (fault_in run.result) (IsCause (IsFaultFor arguments (g.R.Source.remaining source))
-    (IsAskedFor arguments (g.R.Source.remaining source)) (g.R.Source.failed source)
-    (g.R.Source.failed run.new.source) (g.W.Sink.failed alone.sink) (g.W.Sink.failed run.new.sink)
-    (g.W.Sink.contents alone.sink) (g.W.Sink.contents run.new.sink))) c.in-Err-perform_alone.ensures.untouched.0 cause)
+    let task_done = c.perform_run in
+    let call = call_of_task arguments task was.0 g.R.Source.remaining g.R.Source.failed g.W.Sink.contents
+    g.W.Sink.failed task_done.result c.args.source.now alone.source task_done.new.source c.args.sink.now
+    alone.sink task_done.new.sink was.1 was.2 task_done.ensures.written task_done.ensures.fault
+    task_done.ensures.words task_done.ensures.asked in
+    record {
+      written = call.0;
+      refused = call_accepted arguments task was.0 task_done.result task_done.ensures.ended.0 was.3;
+      fault = call.1;
+      board = λ e. ((was.0.1, ap is_run was.0.2), task_done.ensures.ended.1 e ∙ was.2);
+      asked = call.2;
+    }
+
+pub returns-in-Err-Draw : goal.returns-in-Err-Draw
+returns-in-Err-Draw g c =
+    let arguments = bytes_of c.args.arguments.now in
+    let task = asked_draw (Some c.in-Err-Draw.options) in
+    let was = rw c.in-Err-Draw.field-0-is at c.in-Err-Draw.ensures.left in
+    let alone = c.perform_alone.new in
+    let task_done = c.perform_drawing in
+    let call = call_of_task arguments task was.0 g.R.Source.remaining g.R.Source.failed g.W.Sink.contents
+    g.W.Sink.failed task_done.result c.args.source.now alone.source task_done.new.source c.args.sink.now
+    alone.sink task_done.new.sink was.1 was.2 task_done.ensures.written task_done.ensures.fault
+    task_done.ensures.words task_done.ensures.asked in
+    record {
+      written = call.0;
+      refused = call_accepted arguments task was.0 task_done.result task_done.ensures.ended.0 was.3;
+      fault = call.1;
+      board = λ e. absurd (task_done.ensures.ended.1 e);
+      asked = call.2;
+    }

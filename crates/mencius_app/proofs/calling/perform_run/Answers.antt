@@ -1,3 +1,4 @@
+use Rattle.std.proofs.Common.{rules}
 use Rattle.std.proofs.lemmas.Result.{IfErr-weaker}
 use Rattle.mencius_app.specs.Ending.{task_with}
 use Rattle.mencius_app.proofs.inputs.EndingCauses.{as_text, board_of_run, of_run, text_of_run}
@@ -5,8 +6,9 @@ use Rattle.mencius_app.proofs.inputs.FindingWords.{told_of_run}
 use Rattle.mencius_app.proofs.inputs.Inputs.{also_found}
 use Rattle.mencius_app.proofs.calling.perform_run.Goals as goal
 
-pub returns-clause-board : goal.returns-clause-board
-returns-clause-board g c = board_of_run c.run.result _ c.ending_of_run.ensures c.run.ensures.board
+pub returns-clause-ended : goal.returns-clause-ended
+returns-clause-ended g c =
+    (search rules, board_of_run c.run.result _ c.ending_of_run.ensures c.run.ensures.board)
 
 pub returns-clause-fault : goal.returns-clause-fault
 returns-clause-fault g c =

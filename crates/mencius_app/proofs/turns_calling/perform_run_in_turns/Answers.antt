@@ -1,11 +1,16 @@
+use Rattle.std.proofs.Common.{refl}
 use Rattle.std.proofs.lemmas.Result.{IfErr-weaker}
 use Rattle.mencius_app.specs.Ending.{task_with}
-use Rattle.mencius_app.proofs.inputs.EndingCauses.{as_text, done_not_board, of_result, text_of_run}
+use Rattle.mencius_app.specs.declared.ending.Ending.TheVariants.{BadCommandLine, BoardFailed}
+use Rattle.mencius_app.proofs.inputs.EndingCauses.{as_text, done_no_other, of_result, text_of_run}
 use Rattle.mencius_app.proofs.inputs.FindingWords.{told_of_result}
 use Rattle.mencius_app.proofs.turns_calling.perform_run_in_turns.Goals as goal
 
-pub returns-clause-no_board : goal.returns-clause-no_board
-returns-clause-no_board g c = done_not_board c.run_in_turns.result _ c.ending_of.ensures
+pub returns-clause-ended : goal.returns-clause-ended
+returns-clause-ended g c = (
+  done_no_other c.run_in_turns.result _ BadCommandLine c.ending_of.ensures refl (λ e. absurd (cc)),
+  done_no_other c.run_in_turns.result _ BoardFailed c.ending_of.ensures refl (λ e. absurd (cc)),
+)
 
 pub returns-clause-fault : goal.returns-clause-fault
 returns-clause-fault g c =

@@ -1,0 +1,41 @@
+use Rattle.std.proofs.Common.{◌∙◌, ◌++◌, ap, refl, subst}
+use Rattle.mencius_command_line.specs.CommandLine.{bytes_of}
+use Rattle.mencius_app.specs.Ending.{lines_of_ending, status_of_ending}
+use Rattle.mencius_calls.specs.Calls.{IsCallWithoutPictures, words_in}
+use Rattle.mencius_calls.proofs.CallEnds.{call_ended, ended_call, picture_refused}
+use Rattle.mencius_calls.proofs.call.call_without_pictures.Goals as goal
+
+pub returns : goal.returns
+returns c =
+    let performed = c.perform_without_pictures-ending in
+    let words = words_in c.args.words.now in
+    let args = bytes_of c.as_slice-arguments.result.now in
+    let rest = c.new-source.result.rest.now in
+    let before = c.new-sink.result.bytes.items in
+    let out = performed.new.sink.bytes.items in
+    let err_0 = c.new-errors.result.bytes.items in
+    let err_1 = performed.new.errors.bytes.items in
+    let err = err_1 ++ lines_of_ending performed.result in
+    let is_asked = performed.new.source.is_asked in
+    let args_is = ap bytes_of c.as_slice-arguments.ensures.value ∙ c.in_ok-arguments.ensures in
+    let ended = c.end_call in
+    ended_call (IsCallWithoutPictures words c.args.input.now) ended.result (status_of_ending performed.result)
+    performed.new.sink.failures performed.new.errors.failures out err is_asked ended.ensures.whole
+    ended.ensures.status ended.ensures.printed ended.ensures.said ended.ensures.read
+    (λ none still.
+    subst (λ i. IsCallWithoutPictures words i (status_of_ending performed.result) out err is_asked) c.new-source.ensures.rest
+    (subst (λ a. IsCallWithoutPictures a rest (status_of_ending performed.result) out err is_asked) args_is (
+      performed.result,
+      refl,
+      λ other. call_ended args rest before out err_0 err_1 err c.new-sink.result.failures
+          performed.new.sink.failures c.new-errors.result.failures performed.new.errors.failures is_asked
+          performed.result c.new-sink.ensures.bytes c.new-errors.ensures.bytes c.new-sink.ensures.none none
+          still refl (λ e. ap (λ source. source.is_asked) e ∙ c.new-source.ensures.unread)
+          (ap (λ sink. sink.bytes.items)) (ap (λ errors. errors.bytes.items)) performed.ensures.written
+          (performed.ensures.refused other) performed.ensures.fault performed.ensures.board,
+      λ draws. picture_refused args rest before out err_0 err_1 err c.new-sink.result.failures
+          performed.new.sink.failures c.new-errors.result.failures performed.new.errors.failures is_asked
+          performed.result c.new-sink.ensures.bytes c.new-errors.ensures.bytes c.new-sink.ensures.none none
+          still refl (λ e. ap (λ source. source.is_asked) e ∙ c.new-source.ensures.unread)
+          (ap (λ sink. sink.bytes.items)) (ap (λ errors. errors.bytes.items)) (performed.ensures.picture draws),
+    )))
