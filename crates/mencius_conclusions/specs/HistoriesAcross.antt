@@ -1,5 +1,6 @@
 -- What is noted of a cluster before and after further events.
-use Rattle.std.specs.Prelude.{◌≡◌, ◌<◌, ◌≤◌, ◌⊎◌, ◌++◌, List}
+use Rattle.std.specs.Prelude.{◌≡◌, ◌≤◌, ◌⊎◌, ◌++◌, List}
+use Rattle.mencius_base.specs.Members.{IsMember}
 use Rattle.mencius_base.specs.Numbers.{ServerId}
 use Rattle.mencius_base.specs.declared.event.Event.{Event}
 use Rattle.mencius_base.specs.declared.refusal.Refusal.{Refusal}
@@ -10,7 +11,7 @@ use Rattle.mencius_conclusions.specs.declared.conclusions.TwoHistories.{TwoHisto
 
 -- the histories of two members, of one before the events and of the other after them
 pub record AreHistoriesAcross (old new : ClusterState) (p q : ServerId) (histories : TwoHistories) : Type 0 where
-  pub inside : (p < old.members.count) × (q < old.members.count)
+  pub inside : IsMember old.members p × IsMember old.members q
   pub earlier : histories.earlier.items ≡ history (trace_of old) p
   pub later : histories.later.items ≡ history (trace_of new) q
 

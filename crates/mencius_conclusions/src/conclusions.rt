@@ -4,7 +4,8 @@
 //! journal replays, that a step puts its event at the journal's end, and what the laws say of each
 //! journal that replays.
 
-ghost use Rattle.std.specs.Prelude.{List, ◌≡◌, ◌<◌, ◌++◌, ◌↔◌, OnOk, OnErr, IfOk, IfErr, IfSome, IsSome};
+ghost use Rattle.std.specs.Prelude.{List, ◌≡◌, ◌++◌, ◌↔◌, OnOk, OnErr, IfOk, IfErr, IfSome, IsSome};
+ghost use Rattle.mencius_base.specs.Members.{IsMember};
 ghost use Rattle.mencius_base.specs.declared.event.Event.{Event};
 ghost use Rattle.mencius_model.specs.Executed.{IsComparable, history};
 ghost use Rattle.mencius_cluster.specs.State.{trace_of};
@@ -67,7 +68,7 @@ pub fn note_across(
 /// one of them is no member.
 pub fn histories(cluster: &Cluster, first: u8, second: u8) -> Option<(&[u32], &[u32])>
     ensures some { IsSome result
-        ↔ ((first < cluster.now.members.count) × (second < cluster.now.members.count)) }
+        ↔ ((IsMember cluster.now.members first) × (IsMember cluster.now.members second)) }
     ensures first { IfSome result (λ h. h.0.now ≡ history (trace_of cluster.now) first) }
     ensures second { IfSome result (λ h. h.1.now ≡ history (trace_of cluster.now) second) }
     ensures comparable { IfSome result (λ h. IsComparable h.0.now h.1.now) }
