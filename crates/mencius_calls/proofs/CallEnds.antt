@@ -45,7 +45,7 @@ module _ {IsUnread IsUnwritten IsQuiet : Type 0} (arguments : List Text) (input 
         not_text = refused.not_text;
         misused = λ is. let told = refused.misused is in (told.0, unread told.1, unwritten told.2 ∙ before_is);
         complaint = (
-          λ is. let told = refused.complaint.0 is in (told.0, told.1, said_of told.0 is (told.2, told.3)),
+          λ is. let told = refused.complaint.0 is in (told.0, told.1, said_of told.0 is told.2),
           λ other. lines_said (refused.complaint.1 other),
         );
         unread = λ some. unread (refused.unread some);

@@ -1,7 +1,7 @@
 -- A call for a state whose texts were all written ends at its text or at a fault.
 use Rattle.std.specs.Prelude.{IfErr, IfSome, OnOk}
 use Rattle.std.specs.Io.KnownBytes.{Appends}
-use Rattle.std.proofs.Common.{◌≡◌, ◌≢◌, ◌++◌, ◌∙◌, ℕ, List, [], Some, Result, Ok, Err, ap, subst, sym, refl}
+use Rattle.std.proofs.Common.{◌≡◌, ◌++◌, ◌∙◌, ℕ, List, [], Some, Result, Ok, Err, ap, subst, sym, refl}
 use Rattle.mencius_command_line.specs.CommandLine.{asked_trace}
 use Rattle.mencius_input.specs.declared.kind.Kind.TheVariants.{Replay}
 use Rattle.mencius_app.specs.Calls.{IsCause}
