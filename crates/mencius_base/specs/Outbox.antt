@@ -1,5 +1,5 @@
 -- Messages that are about to be sent.
-use Rattle.std.specs.Prelude.{ℕ, ◌+◌, Bool, List, length, nat_lt, Option, Some, None, if◌then◌else◌}
+use Rattle.std.specs.Prelude.{◌≡◌, ℕ, ◌+◌, ◌++◌, Bool, List, length, nat_lt, Option, Some, None, if◌then◌else◌}
 use Rattle.mencius_base.specs.declared.refusal.Refusal.{Refusal}
 use Rattle.mencius_base.specs.declared.refusal.Refusal.TheVariants.{MessagesFull}
 use Rattle.mencius_base.specs.declared.message.Message.{Message}
@@ -9,6 +9,12 @@ pub record OutboxState : Type 0 where
   pub messages : List Message
   pub limit : ℕ
   pub room : ℕ
+
+-- these messages, so many, were sent, for which there was room
+pub record IsPushed (sent : List Message) (count : ℕ) (before after : OutboxState) : Type 0 where
+  pub messages : after.messages ≡ before.messages ++ sent
+  pub room : after.room + count ≡ before.room
+  pub limit : after.limit ≡ before.limit
 
 -- where there are so many already, that many more would pass the limit
 abbrev pub is_too_many : ℕ → ℕ → ℕ → Bool

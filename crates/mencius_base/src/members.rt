@@ -93,8 +93,7 @@ impl Members {
     /// and `from` is at most 4,102.
     #[tactic(auto, using(crate::proofs::LeastOwned::first_owned_owner, crate::proofs::LeastOwned::first_owned_least))]
     pub fn first_owned(self, server: u8, from: u32) -> u32
-        requires member { server < self.count }
-        requires small { from ≤ greatest_front }
+        requires { (server < self.count) × (from ≤ greatest_front) }
         ensures owned { owner self result ≡ server }
         ensures above { from ≤ result }
         ensures least { (i : ℕ) → from ≤ i → owner self i ≡ server → result ≤ i }

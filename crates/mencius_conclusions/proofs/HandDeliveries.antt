@@ -1,6 +1,6 @@
 -- One delivery among servers that are stepped by hand, from the laws of a server alone.
 use Rattle.std.proofs.Common.{◌≡◌, ℕ, Bool, true, false, cond, List, [], ◌∷◌, ◌++◌, length, Option, None, Some, leb, Result, Ok, Err, OnOk, refl, sym, ap, ◌∙◌, subst}
-use Rattle.std.specs.Prelude.{IsTrue, slice_get}
+use Rattle.std.specs.Prelude.{IfOk, IsTrue, slice_get}
 use Rattle.mencius_base.specs.declared.event.Event.TheVariants.{Deliver}
 use Rattle.mencius_base.specs.declared.message.Message.{Message}
 use Rattle.mencius_base.specs.declared.refusal.Refusal.{Refusal}
@@ -9,15 +9,15 @@ use Rattle.mencius_base.specs.Refusal.{IsRefusedFor}
 use Rattle.mencius_base.specs.Members.{Membership, most_events, most_messages}
 use Rattle.mencius_base.specs.Message.{is_for}
 use Rattle.mencius_base.specs.Outbox.{OutboxState, outbox_full}
-use Rattle.mencius_model.specs.Trace.{Trace, events, messages_of, sent_messages}
-use Rattle.mencius_model.specs.Next.{IsReached, cluster_cause, cluster_causes, first_cause, lines, refusal_cause, server_causes, with_event}
+use Rattle.mencius_model.specs.Trace.{Trace, events, sent_messages}
+use Rattle.mencius_model.specs.Next.{IsReached, cluster_cause, cluster_causes, first_cause, refusal_cause, server_causes, with_event}
 use Rattle.mencius_model.proofs.events.EventLines.{sent_messages-event}
 use Rattle.mencius_model.proofs.rights.Journals.{next-accepted, reached_next}
 use Rattle.mencius_server.specs.Laws.{HearIsEvent, LeavesOthers}
-use Rattle.mencius_server.specs.Machine.{after_hearing, sent_on}
+use Rattle.mencius_server.specs.Machine.{IsHeard, after_hearing, sent_on}
 use Rattle.mencius_server.specs.Reached.{IsAt, server_at}
 use Rattle.mencius_server.specs.State.{ServerState}
-use Rattle.mencius_conclusions.specs.Hands.{AreAt}
+use Rattle.mencius_conclusions.specs.Hands.{AreAt, AreOthers}
 
 on_first : (a : Bool) (r : Refusal) (o x : Option Refusal) → cond a (Some r) o ≡ None → (o ≡ None → x ≡ None)
     → cond a (Some r) x ≡ None
@@ -46,7 +46,7 @@ stays law m w k p s at same fine ne =
     }
 
 -- the message is what the receiver heard, and this is what the call left
-pub record IsHeard (k : ℕ) (x : Message) (w : Trace) (r after : ServerState) (o sends : OutboxState) : Type 0 where
+pub record IsDelivered (k : ℕ) (x : Message) (w : Trace) (r after : ServerState) (o sends : OutboxState) : Type 0 where
   pub addressed : IsTrue (is_for r.members r.id x)
   pub number : slice_get (sent_messages w) k ≡ Some x
   pub early : cluster_cause r.members w (Deliver k r.id) ≡ None
@@ -56,10 +56,9 @@ pub record IsHeard (k : ℕ) (x : Message) (w : Trace) (r after : ServerState) (
   pub room : outbox_full o (length (sent_on r x)) ≡ None
 
 pub delivered : HearIsEvent → LeavesOthers → (w : Trace) (k : ℕ) (x : Message) (r after s z : ServerState)
-    (o sends : OutboxState) → AreAt w r s z o → IsHeard k x w r after o sends → s.members ≡ r.members
-    → z.members ≡ r.members
-    → (r.id ≡ s.id → ⊥) → (r.id ≡ z.id → ⊥) → AreAt (with_event r.members w (Deliver k r.id)) after s z sends
-delivered hear law w k x r after s z o sends at h ms mt ns nt =
+    (o sends : OutboxState) → AreAt w r s z o → IsDelivered k x w r after o sends → AreOthers r s z
+    → AreAt (with_event r.members w (Deliver k r.id)) after s z sends
+delivered hear law w k x r after s z o sends at h others =
     let m = r.members in
     let e = Deliver k r.id in
     let part = hear w r k x at.first h.addressed h.number in
@@ -75,8 +74,8 @@ delivered hear law w k x r after s z o sends at h ms mt ns nt =
     record {
       first = subst (λ (y : ServerState). IsAt (with_event m w e) y) (sym is)
           (record { reached = longer; state = refl });
-      second = stays law m w k r.id s at.second ms fine ns;
-      third = stays law m w k r.id z at.third mt fine nt;
+      second = stays law m w k r.id s at.second others.second fine others.apart.0;
+      third = stays law m w k r.id z at.third others.third fine others.apart.1;
       messages = h.messages ∙ ap (λ xs. xs ++ sent_on r x) at.messages ∙ ap (λ ys. sent_messages w ++ ys) part.sent
           ∙ sym (sent_messages-event m w e);
       limit = h.limit ∙ at.limit;
@@ -85,21 +84,21 @@ delivered hear law w k x r after s z o sends at h ms mt ns nt =
 -- so it is after a call that was not refused
 pub delivered_then : HearIsEvent → LeavesOthers → (result : Result ℕ Refusal) (x : Message)
     (r after s y : ServerState) (o z : OutboxState) → IsTrue (is_for r.members r.id x)
-    → OnOk result (z.messages ≡ o.messages ++ sent_on r x) → OnOk result (after ≡ after_hearing r x)
+    → IfOk result (λ n. IsHeard r after o z x n)
     → IsRefusedFor (outbox_full o (length (sent_on r x))) result → z.limit ≡ o.limit
-    → s.members ≡ r.members → y.members ≡ r.members → (r.id ≡ s.id → ⊥) × (r.id ≡ y.id → ⊥)
+    → AreOthers r s y
     → OnOk result ((w : Trace) (k : ℕ) → AreAt w r s y o → slice_get (sent_messages w) k ≡ Some x
     → cluster_cause r.members w (Deliver k r.id) ≡ None
     → AreAt (with_event r.members w (Deliver k r.id)) after s y z)
-delivered_then hear law (Err f) x r after s y o z addressed sends becomes room limit ms mt apart = tt
-delivered_then hear law (Ok n) x r after s y o z addressed sends becomes room limit ms mt apart = λ w k at number early.
+delivered_then hear law (Err f) x r after s y o z addressed heard room limit others = tt
+delivered_then hear law (Ok n) x r after s y o z addressed heard room limit others = λ w k at number early.
     delivered hear law w k x r after s y o z at
     (record {
       addressed = addressed;
       number = number;
       early = early;
-      state = becomes;
-      messages = sends;
+      state = heard.after;
+      messages = heard.sent;
       limit = limit;
       room = room;
-    }) ms mt apart.0 apart.1
+    }) others

@@ -10,8 +10,8 @@ ghost use Rattle.mencius_base.specs.declared.event.Event.TheVariants.{Deliver};
 ghost use Rattle.mencius_model.specs.Next.{cluster_cause, with_event};
 ghost use Rattle.mencius_model.specs.Trace.{Trace, sent_messages};
 ghost use Rattle.mencius_server.specs.Machine.{IsUndone, learned_on, sent_on};
-ghost use Rattle.mencius_conclusions.specs.Hands.{AreAt};
-ghost use Rattle.std.specs.Prelude.{IfOk, IsTrue, None, OnErr, OnOk, Some, length, slice_get, ◌≡◌, ◌≢◌, ℕ};
+ghost use Rattle.mencius_conclusions.specs.Hands.{AreAt, AreOthers};
+ghost use Rattle.std.specs.Prelude.{IfOk, IsTrue, None, OnErr, OnOk, Some, length, slice_get, ◌≡◌, ℕ};
 
 use mencius_base::{Message, Outbox, Refusal};
 use mencius_server::{Server, laws};
@@ -35,9 +35,7 @@ pub fn deliver(
     message: &Message,
 ) -> Result<u32, Refusal>
     requires addressed { IsTrue (is_for receiver.old.members receiver.old.id message.now) }
-    requires second { second.now.members ≡ receiver.old.members }
-    requires third { third.now.members ≡ receiver.old.members }
-    requires others { (receiver.old.id ≢ second.now.id) × (receiver.old.id ≢ third.now.id) }
+    requires others { AreOthers receiver.old second.now third.now }
     ensures delivery { OnOk result ((w : Trace) (k : ℕ)
         → AreAt w receiver.old second.now third.now out.old
         → slice_get (sent_messages w) k ≡ Some message.now

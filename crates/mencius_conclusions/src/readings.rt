@@ -48,8 +48,7 @@ pub fn look_up_within(
     ensures begins { IsPrefix reader.new.log (longest_of board.old.cluster) }
     ensures grows { IsPrefix reader.old.log reader.new.log }
     ensures reading { IfOk result (IsReading key.now reader.new.log) }
-    ensures board { reader.new.book ≡ reader.old.book }
-    ensures same { board.new ≡ board.old }
+    ensures board { (reader.new.book ≡ reader.old.book) × (board.new ≡ board.old) }
     ensures fault { IfErr result IsLookupFault }
 {
     let reading = look_up(alloc, reader, key);

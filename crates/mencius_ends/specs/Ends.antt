@@ -3,7 +3,7 @@ use Rattle.std.specs.Prelude.{◌≡◌, ◌⊎◌, ℕ, ◌+◌, ◌-◌, ◌^�
 use Rattle.std.specs.Io.KnownBytes.{Appends, Consumes}
 
 -- a reader or a writer, and how many of its calls failed
-pub record Counted (T : Type 0) : Type 0 where
+pub record WithFailures (T : Type 0) : Type 0 where
   pub inner : T
   pub failures : ℕ
 

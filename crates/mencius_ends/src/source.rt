@@ -36,9 +36,9 @@ pub struct Std<T> {
 }
 
 impl<T> Model for Std<T> {
-    ghost use Rattle.mencius_ends.specs.Ends.{Counted};
+    ghost use Rattle.mencius_ends.specs.Ends.{WithFailures};
 
-    ghost Value = { Counted T };
+    ghost Value = { WithFailures T };
 
     ghost view = { λ s. record { inner = s.inner; failures = s.failures } };
 }

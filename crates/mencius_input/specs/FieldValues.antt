@@ -24,7 +24,7 @@ use Rattle.mencius_input.specs.declared.scenario.Scenario.{Scenario}
 use Rattle.mencius_input.specs.declared.scenario.Shared.{Shared}
 use Rattle.mencius_input.specs.FieldsOf.{field_name, list_field, names, whole_fields}
 use Rattle.mencius_input.specs.Newest.{command_item_version, event_item_version, in_version, list_version}
-use Rattle.mencius_input.specs.Noted.{list_in}
+use Rattle.mencius_input.specs.ItemFaults.{list_in}
 use Rattle.mencius_input.specs.Plan.{commands_read, numbers_within}
 use Rattle.mencius_input.specs.Scenario.{◌>>=◌, all_in, cluster_within, has_only, number_of}
 

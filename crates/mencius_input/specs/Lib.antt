@@ -3,7 +3,7 @@ pub mod Stops
 pub mod Scenario
 pub mod Plan
 pub mod Newest
-pub mod Noted
+pub mod ItemFaults
 pub mod FieldValues
 pub mod Events
 pub mod Kinds

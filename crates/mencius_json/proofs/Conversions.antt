@@ -2,7 +2,7 @@
 use Rattle.std.proofs.Common.{◌≡◌, ℕ, zero, suc, ◌-◌, ◌<◌, ◌≤◌, List, length, Option, Some, None, option_map, option_and_then, refl, ap, ◌∙◌}
 use Rattle.json.specs.Token.{Token}
 use Rattle.json.specs.Json as json
-use Rattle.json.specs.Json.{Parse, parse_map, after_end_array, read_key, items, items_step, members, members_step}
+use Rattle.json.specs.Json.{Parse, parse_map, after_end_array, read_key, items, items_step, members}
 use Rattle.json.proofs.Grammar.{items_end, items_more, members_end, members_more, members_no_key}
 use Rattle.serde_json.specs.Data.{Data, Members, array, item, no_items, no_members, object, put}
 use Rattle.serde_json.specs.Read.{converted, of_items, of_json, of_members}

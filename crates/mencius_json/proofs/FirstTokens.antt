@@ -8,7 +8,7 @@ use Rattle.serde_json.specs.Data.{Data, Num, Items, Members, array, boolean, nul
 use Rattle.serde_json.specs.Find.{as_array, as_number, as_object, as_str, as_u64}
 use Rattle.serde_json.specs.Read.{converted, number_of, of_json}
 use Rattle.mencius_json.specs.Next.{EntersObject, next_items, next_members, next_value, number_text, opens_array, opens_object, text_of}
-use Rattle.mencius_json.proofs.NextValues.{array_too_deep, object_too_deep, next_counted, next_number, next_string, next_uncounted, opened_array, opened_object, paired}
+use Rattle.mencius_json.proofs.NextValues.{array_too_deep, object_too_deep, next_counted, next_number, next_string, next_uncounted, opened_array, opened_object, paired_with}
 
 -- the value that begins with the token
 abbrev pub Begins : Token → Data → Type 0
@@ -30,11 +30,11 @@ module _ (d : Data) (r : List Token) where
   made make None e = absurd (cc)
   made make (Some pair) e = (pair.0, ap value_or (sym e))
 
-  same : (e : Data) (ts : List Token) (o : Option (Data × List Token)) → o ≡ Some (d, r) → o ≡ paired ts (Some e)
+  same : (e : Data) (ts : List Token) (o : Option (Data × List Token)) → o ≡ Some (d, r) → o ≡ paired_with ts (Some e)
       → d ≡ e
   same e ts o h is = ap value_or (sym h ∙ is)
 
-  numbered : (ts : List Token) (o : Option Num) → paired ts (option_map number o) ≡ Some (d, r)
+  numbered : (ts : List Token) (o : Option Num) → paired_with ts (option_map number o) ≡ Some (d, r)
       → (n : Num) × (d ≡ number n)
   numbered ts None e = absurd (cc)
   numbered ts (Some n) e = (n, ap value_or (sym e))

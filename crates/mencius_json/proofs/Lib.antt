@@ -1,10 +1,4 @@
-pub mod FirstBytes
-pub mod StringEnds
-pub mod StringTexts
-pub mod Punctuation
-pub mod ClosedLists
-pub mod NumeralEnds
-pub mod FirstWords
+pub mod texts
 pub mod Conversions
 pub mod NextValues
 pub mod TokenKinds

@@ -135,9 +135,9 @@ members_start depth whole = record {
 -- ---- a value by its first token
 
 -- what is paired with the tokens behind it
-abbrev pub paired : {A : Type 0} → List Token → Option A → Option (A × List Token)
-paired ts None = None
-paired ts (Some a) = Some (a, ts)
+abbrev pub paired_with : {A : Type 0} → List Token → Option A → Option (A × List Token)
+paired_with ts None = None
+paired_with ts (Some a) = Some (a, ts)
 
 pub opened_array : (depth : ℕ) (ts : List Token) → 0 < depth
     → next_value depth (Token.begin_array ∷ ts) ≡ parse_map array (next_items (depth - 1) ts)
@@ -167,13 +167,13 @@ pub next_string : (depth : ℕ) (s : List ℕ) (ts : List Token)
 next_string depth s ts = ap (converted of_json) (value_is depth (Token.string s ∷ ts))
 
 pub next_number : (depth : ℕ) (s : List ℕ) (ts : List Token)
-    → next_value depth (Token.number s ∷ ts) ≡ paired ts (option_map number (number_of s))
+    → next_value depth (Token.number s ∷ ts) ≡ paired_with ts (option_map number (number_of s))
 next_number depth s ts = ap (converted of_json) (value_is depth (Token.number s ∷ ts))
 
 module _ (depth : ℕ) (s : List ℕ) (ts : List Token) where
   first : (o : Option Num) → number_of s ≡ o
-      → next_value depth (Token.number s ∷ ts) ≡ paired ts (option_map number o)
-  first o e = next_number depth s ts ∙ ap (λ o. paired ts (option_map number o)) e
+      → next_value depth (Token.number s ∷ ts) ≡ paired_with ts (option_map number o)
+  first o e = next_number depth s ts ∙ ap (λ o. paired_with ts (option_map number o)) e
 
   counted : (whole : Option ℕ) (o : Option Num) → number_of s ≡ o → Some whole ≡ option_map as_u64 o
       → (n : Num) × (next_value depth (Token.number s ∷ ts) ≡ Some (number n, ts)) × (whole ≡ as_u64 n)

@@ -14,3 +14,4 @@ pub mod Lending
 pub mod Changes
 pub mod Instances
 pub mod Tallies
+pub mod Calls

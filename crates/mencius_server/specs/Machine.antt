@@ -114,6 +114,17 @@ learned_on s (Skip from first stop) = newly_skipped_count s from first stop
 learned_on s (Learn from inst value) = learned_count (learning_lines s.id inst value (slot s inst).learned)
 learned_on s _ = 0
 
+-- a message was heard: these messages were sent on it, and so many instances learned
+pub record IsHeard (old new : ServerState) (out out_new : OutboxState) (x : Message) (n : ℕ) : Type 0 where
+  pub sent : out_new.messages ≡ out.messages ++ sent_on old x
+  pub after : new ≡ after_hearing old x
+  pub learned : n ≡ learned_on old x
+
+-- an answer to a Prepare or a Propose comes from a member and is of an instance
+pub record IsAnswer (s : ServerState) (q : ServerId) (i : Inst) : Type 0 where
+  pub member : q < s.members.count
+  pub small : i < instance_count
+
 -- an own unlearned instance from the front on
 abbrev pub is_free_at : ServerState → Inst → Bool
 is_free_at s i = is_free_from s.members s.id s.front i (slot s i).learned

@@ -1,13 +1,12 @@
 //! What a server does on each message, Rule 2 among it.
 ghost use Rattle.mencius_base.specs.Limits.{instance_count};
 ghost use Rattle.mencius_base.specs.Message.{is_for};
-ghost use Rattle.mencius_base.specs.Outbox.{outbox_full};
+ghost use Rattle.mencius_base.specs.Outbox.{outbox_full, IsPushed};
 ghost use Rattle.mencius_base.specs.Refusal.{IsRefusedFor};
-ghost use Rattle.mencius_base.specs.declared.message.Message.TheVariants.{Prepare};
-ghost use Rattle.mencius_server.specs.Machine.{IsUndone, SameServerAndLimit, accepted_sent, after_accepted, after_hearing, after_learn_at, after_skip, newly_skipped_count, after_prepare_at, after_promise_at, after_propose, after_suggest, learned_on, decided_on, prepare_sent, promise_sent, propose_sent, sent_on, own_skip, suggest_sent, next_front};
-ghost use Rattle.mencius_model.specs.Next.{learned_count};
+ghost use Rattle.mencius_base.specs.declared.message.Message.TheVariants.{Prepare, Accepted, Promise, Propose, Suggest};
+ghost use Rattle.mencius_server.specs.Machine.{IsUndone, SameServerAndLimit, accepted_sent, after_learn_at, after_skip, newly_skipped_count, prepare_sent, promise_sent, propose_sent, sent_on, own_skip, suggest_sent, next_front, IsAnswer, IsHeard};
 ghost use Rattle.mencius_server.specs.State.{slot};
-ghost use Rattle.std.specs.Prelude.{◌≡◌, ◌+◌, ◌<◌, ◌++◌, ◌==◌, length, is_none, OnOk, OnErr, IfOk, if◌then◌else◌, IsTrue, Some};
+ghost use Rattle.std.specs.Prelude.{◌≡◌, ◌+◌, ◌<◌, ◌==◌, length, is_none, OnOk, OnErr, IfOk, if◌then◌else◌, IsTrue, Some};
 
 use crate::Server;
 use crate::change::Change;
@@ -43,10 +42,7 @@ impl Server {
         requires { IsTrue (is_for self.old.members self.old.id message.now) }
         // What it does by the server's own state, whatever was heard before; `laws::events` says
         // that in every reached trace it is the delivery.
-        ensures sent { OnOk result (out.new.messages
-            ≡ out.old.messages ++ sent_on self.old message.now) }
-        ensures after { OnOk result (self.new ≡ after_hearing self.old message.now) }
-        ensures learned { IfOk result (λ n. n ≡ learned_on self.old message.now) }
+        ensures heard { IfOk result (λ n. IsHeard self.old self.new out.old out.new message.now n) }
         ensures refusal { IsRefusedFor
             (outbox_full out.old (length (sent_on self.old message.now))) result }
         ensures err { OnErr result (IsUndone self.old self.new out.old out.new) }
@@ -103,10 +99,8 @@ impl Server {
         out: &mut Outbox,
     ) -> Result<u32, Refusal>
         requires small { inst < instance_count }
-        ensures sent { OnOk result (out.new.messages
-            ≡ out.old.messages ++ suggest_sent self.old from inst) }
-        ensures after { OnOk result (self.new ≡ after_suggest self.old inst ticket) }
-        ensures learned { IfOk result (λ n. n ≡ 0) }
+        ensures heard { IfOk result (λ n. IsHeard self.old self.new out.old out.new
+            (Suggest from inst ticket) n) }
         ensures limit { out.new.limit ≡ out.old.limit }
         ensures err { OnErr result (IsUndone self.old self.new out.old out.new) }
         ensures refusal { IsRefusedFor
@@ -141,10 +135,8 @@ impl Server {
         out: &mut Outbox,
     ) -> Result<u32, Refusal>
         requires small { inst < instance_count }
-        ensures sent { OnOk result (out.new.messages
-            ≡ out.old.messages ++ prepare_sent self.old from inst ballot) }
-        ensures after { OnOk result (self.new ≡ after_prepare_at self.old inst ballot) }
-        ensures learned { IfOk result (λ n. n ≡ 0) }
+        ensures heard { IfOk result (λ n. IsHeard self.old self.new out.old out.new
+            (Prepare from inst ballot) n) }
         ensures limit { out.new.limit ≡ out.old.limit }
         ensures err { OnErr result (IsUndone self.old self.new out.old out.new) }
         ensures refusal { IsRefusedFor
@@ -185,13 +177,10 @@ impl Server {
         vote: Option<Vote>,
         out: &mut Outbox,
     ) -> Result<u32, Refusal>
-        requires member { from < self.old.members.count }
-        requires small { inst < instance_count }
+        requires answer { IsAnswer self.old from inst }
         requires tried { 0 < ballot }
-        ensures sent { OnOk result (out.new.messages
-            ≡ out.old.messages ++ promise_sent self.old from inst ballot vote) }
-        ensures after { OnOk result (self.new ≡ after_promise_at self.old from inst ballot vote) }
-        ensures learned { IfOk result (λ n. n ≡ 0) }
+        ensures heard { IfOk result (λ n. IsHeard self.old self.new out.old out.new
+            (Promise from self.old.id inst ballot vote) n) }
         ensures limit { out.new.limit ≡ out.old.limit }
         ensures err { OnErr result (IsUndone self.old self.new out.old out.new) }
         ensures refusal { IsRefusedFor
@@ -227,10 +216,8 @@ impl Server {
         out: &mut Outbox,
     ) -> Result<u32, Refusal>
         requires small { inst < instance_count }
-        ensures sent { OnOk result (out.new.messages
-            ≡ out.old.messages ++ propose_sent self.old from inst ballot) }
-        ensures after { OnOk result (self.new ≡ after_propose self.old inst ballot value) }
-        ensures learned { IfOk result (λ n. n ≡ 0) }
+        ensures heard { IfOk result (λ n. IsHeard self.old self.new out.old out.new
+            (Propose from inst ballot value) n) }
         ensures limit { out.new.limit ≡ out.old.limit }
         ensures err { OnErr result (IsUndone self.old self.new out.old out.new) }
         ensures refusal { IsRefusedFor
@@ -273,12 +260,9 @@ impl Server {
         ballot: Ballot,
         out: &mut Outbox,
     ) -> Result<u32, Refusal>
-        requires member { from < self.old.members.count }
-        requires small { inst < instance_count }
-        ensures sent { OnOk result (out.new.messages
-            ≡ out.old.messages ++ accepted_sent self.old from inst ballot) }
-        ensures after { OnOk result (self.new ≡ after_accepted self.old from inst ballot) }
-        ensures learned { IfOk result (λ n. n ≡ learned_count (decided_on self.old from inst ballot)) }
+        requires { IsAnswer self.old from inst }
+        ensures heard { IfOk result (λ n. IsHeard self.old self.new out.old out.new
+            (Accepted from self.old.id inst ballot) n) }
         ensures limit { out.new.limit ≡ out.old.limit }
         ensures err { OnErr result (IsUndone self.old self.new out.old out.new) }
         ensures refusal { IsRefusedFor
@@ -315,10 +299,8 @@ impl Server {
         requires small { inst < instance_count }
         requires ahead { self.old.front < inst }
         requires room { 0 < out.old.room }
-        ensures sent { out.new.messages ≡ out.old.messages ++ own_skip self.old inst }
+        ensures pushed { IsPushed (own_skip self.old inst) 1 out.old out.new }
         ensures after { self.new ≡ record self.old { front = next_front self.old inst } }
-        ensures room { out.new.room + 1 ≡ out.old.room }
-        ensures limit { out.new.limit ≡ out.old.limit }
     {
         let first = self.front;
         // For the proof: there are few members.

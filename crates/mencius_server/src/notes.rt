@@ -4,6 +4,7 @@ ghost use Rattle.mencius_server.specs.Instances.{instance_slot};
 ghost use Rattle.mencius_server.specs.Machine.{is_ticket, suggested_in};
 ghost use Rattle.mencius_server.specs.Notes.{nothing_noted};
 ghost use Rattle.mencius_model.specs.Server.{ticket_of};
+ghost use Rattle.mencius_server.specs.Calls.{CanPassOn, HasMember};
 ghost use Rattle.std.specs.Prelude.{◌≡◌, ℕ, ◌<◌, ◌≤◌, ◌⊎◌, ◌||◌, Some, false, length, min, slice_index_or, vec_len, OnErr, OnOk};
 
 use crate::instances::Instances;
@@ -119,16 +120,11 @@ impl Notes {
         front: u32,
         ticket: u32,
     )
-        requires member { id < members.count }
-        requires same { instances.now.members ≡ members }
-        requires room { ticket < self.old.next_ticket
-            → min front instance_count ≤ length self.old.suggested_again }
-        requires short { length self.old.suggested_again ≤ front }
-        requires tickets { (j t : ℕ) → j < front → j < instance_count
-            → suggested_in members id j (instance_slot instances.now j) ≡ Some t
-            → t < self.old.next_ticket }
-        ensures lost { self.new.lost_from ≡ self.old.lost_from }
-        ensures free { self.new.free_from ≡ self.old.free_from }
+        requires { CanPassOn self.old instances.now members id front ticket }
+        ensures others { self.new ≡ record self.old {
+          next_ticket = self.new.next_ticket;
+          suggested_again = self.new.suggested_again;
+        } }
         ensures above { (self.old.next_ticket ≤ self.new.next_ticket)
             × (ticket < self.new.next_ticket) }
         ensures short { length self.new.suggested_again ≤ front }
@@ -182,8 +178,7 @@ fn mark(
     end: usize,
     ticket: u32,
 )
-    requires member { id < members.count }
-    requires same { instances.now.members ≡ members }
+    requires own { HasMember instances.now members id }
     requires few { end ≤ instance_count }
     requires suggested_again { end ≤ vec_len suggested_again.old }
     ensures len { vec_len suggested_again.new ≡ vec_len suggested_again.old }

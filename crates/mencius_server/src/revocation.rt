@@ -1,10 +1,11 @@
 //! Rule 3: first phases at the instances of a server that is suspected.
-ghost use Rattle.mencius_base.specs.Limits.{greatest_round};
 ghost use Rattle.mencius_base.specs.Refusal.{IsRefusedFor};
 ghost use Rattle.mencius_server.specs.Machine.{IsUndone, SameServerAndLimit, after_suspect, is_spent, next_round_of, suspect_cause, suspect_sent};
 ghost use Rattle.mencius_server.specs.Slots.{prepare_at, slot_after_phase};
 ghost use Rattle.mencius_server.specs.State.{slot};
-ghost use Rattle.std.specs.Prelude.{◌≡◌, false, is_none, is_some, ◌+◌, ◌<◌, ◌≤◌, ◌++◌, ◌==◌, OnOk, OnErr, if◌then◌else◌, Some, true};
+ghost use Rattle.mencius_server.specs.Calls.{CanBegin};
+ghost use Rattle.mencius_base.specs.Outbox.{IsPushed};
+ghost use Rattle.std.specs.Prelude.{◌≡◌, false, is_none, is_some, ◌+◌, ◌<◌, ◌≤◌, ◌++◌, ◌==◌, OnOk, OnErr, if◌then◌else◌, Some};
 
 use crate::Server;
 use coord_paxos::Slot;
@@ -69,15 +70,10 @@ pub(crate) fn begin_slot(
     inst: u32,
     out: &mut Outbox,
 ) -> Option<bool>
-    requires member { id < members.count }
-    requires rounds { is_none slot.old.learned ≡ true
-        → next_round_of members slot.old ≤ greatest_round }
-    requires room { is_none slot.old.learned ≡ true → 0 < out.old.room }
+    requires { CanBegin members id slot.old out.old }
     ensures after { slot.new ≡ slot_after_phase members id slot.old }
-    ensures sent { out.new.messages
-        ≡ out.old.messages ++ prepare_at members id inst (Some slot.old) }
-    ensures room { out.new.room + (if is_none slot.old.learned then 1 else 0) ≡ out.old.room }
-    ensures limit { out.new.limit ≡ out.old.limit }
+    ensures pushed { IsPushed (prepare_at members id inst (Some slot.old))
+        (if is_none slot.old.learned then 1 else 0) out.old out.new }
     ensures begun { is_some result ≡ is_none slot.old.learned }
     ensures last { result ≡ Some false → is_spent members slot.new ≡ false }
 {

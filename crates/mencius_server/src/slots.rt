@@ -1,13 +1,13 @@
 //! The slots that are stored, by instance.
-ghost use Rattle.mencius_base.specs.Limits.{greatest_round, instance_count};
+ghost use Rattle.mencius_base.specs.Limits.{instance_count};
 ghost use Rattle.coord_paxos.specs.Fresh.{new_slot};
 ghost use Rattle.coord_paxos.specs.Slot.{after_learn};
 ghost use Rattle.coord_paxos.specs.SlotState.{SlotState};
-ghost use Rattle.mencius_base.specs.Members.{below, first_owned, instances, owner};
+ghost use Rattle.mencius_base.specs.Members.{below, instances, owner};
 ghost use Rattle.mencius_base.specs.declared.message.Value.TheVariants.{Noop};
 ghost use Rattle.mencius_server.specs.Instances.{is_newly_skipped_in, slot_by_skip};
 ghost use Rattle.mencius_server.specs.Lending.{LendsSlot};
-ghost use Rattle.mencius_server.specs.Machine.{is_spent, next_round_of};
+ghost use Rattle.mencius_server.specs.Machine.{is_spent};
 ghost use Rattle.mencius_server.specs.SlotTable.{IsSlotTable, stored_slots};
 ghost use Rattle.mencius_server.specs.Intervals.{AreSkippedIntervals, is_between, is_in_any};
 ghost use Rattle.mencius_server.specs.LearnedIntervals.{AreLearnedIntervals};
@@ -16,6 +16,8 @@ ghost use Rattle.mencius_server.specs.OwnedIntervals.{IsOwnedInterval};
 ghost use Rattle.std.specs.Borrow.{sem};
 ghost use Rattle.std.specs.List.{count_by, filter};
 ghost use Rattle.std.specs.Option.{option_map};
+ghost use Rattle.mencius_server.specs.Calls.{CanBeginAll, CanBeginAt, CanSkip, HasPlaces};
+ghost use Rattle.mencius_base.specs.Outbox.{IsPushed};
 ghost use Rattle.std.specs.Prelude.{◌≡◌, ℕ, ◌+◌, ◌<◌, ◌≤◌, ◌==◌, ◌++◌, ◌&&◌, ◌||◌, not, false, true, is_none, is_some, length, map, slice_index_or, vec_capacity, vec_len, IfNone, IfOk, IfSome, IsSome, None, OnErr, OnOk, Some, if◌then◌else◌};
 
 use crate::learned_intervals::LearnedIntervals;
@@ -167,15 +169,7 @@ impl Slots {
         learned_intervals: &mut LearnedIntervals,
         out: &mut Outbox,
     ) -> bool
-        requires interval { IsOwnedInterval interval }
-        requires small { interval.stop ≤ instance_count }
-        requires id { id < interval.members.count }
-        requires rounds { (j : ℕ) (s : SlotState) → is_covered_slot interval self.old j ≡ true
-            → stored_at self.old j ≡ Some s
-            → next_round_of interval.members s ≤ greatest_round }
-        requires room { count_by (is_covered_slot interval self.old) (below interval.stop) ≤ out.old.room }
-        requires learned_intervals { AreLearnedIntervals interval.members (is_covered_slot interval self.old)
-            learned_intervals.old }
+        requires { CanBeginAll interval id self.old learned_intervals.old out.old }
         ensures slots { (j : ℕ) → stored_at self.new j
             ≡ stored_after_phase interval id j (stored_at self.old j) }
         ensures sent { out.new.messages
@@ -214,21 +208,13 @@ impl Slots {
     // Starts a first phase at an instance where a slot is stored that has learned nothing: whether it is in the last
     // round. Elsewhere it starts none.
     fn begin(&mut self, members: Members, id: u8, inst: u32, out: &mut Outbox) -> Option<bool>
-        requires small { inst < instance_count }
-        requires member { id < members.count }
-        requires rounds { (s : SlotState) → stored_at self.old inst ≡ Some s
-            → is_none s.learned ≡ true
-            → next_round_of members s ≤ greatest_round }
-        requires room { is_unlearned (stored_at self.old inst) ≡ true → 0 < out.old.room }
+        requires { CanBeginAt members id inst self.old out.old }
         ensures slots { (j : ℕ) → stored_at self.new j
             ≡ (if j == inst
             then option_map (slot_after_phase members id) (stored_at self.old j)
             else stored_at self.old j) }
-        ensures sent { out.new.messages
-            ≡ out.old.messages ++ prepare_at members id inst (stored_at self.old inst) }
-        ensures room { out.new.room + (if is_unlearned (stored_at self.old inst) then 1 else 0)
-            ≡ out.old.room }
-        ensures limit { out.new.limit ≡ out.old.limit }
+        ensures pushed { IsPushed (prepare_at members id inst (stored_at self.old inst))
+            (if is_unlearned (stored_at self.old inst) then 1 else 0) out.old out.new }
         ensures begun { is_some result ≡ is_unlearned (stored_at self.old inst) }
         ensures last { result ≡ Some false → (s : SlotState)
             → stored_at self.new inst ≡ Some s → is_spent members s ≡ false }
@@ -257,15 +243,7 @@ impl Slots {
         intervals: &mut SkippedIntervals,
         interval: &OwnedInterval,
     ) -> Result<u32, NoMemory>
-        requires interval { IsOwnedInterval interval.now }
-        requires some { interval.now.first < interval.now.stop }
-        requires skipped { AreSkippedIntervals interval.now.members interval.now.server intervals.old }
-        requires end { owner interval.now.members interval.now.stop ≡ interval.now.server }
-        requires low { interval.now.stop
-            ≤ first_owned interval.now.members interval.now.server instance_count }
-        requires learned_where_skipped { (j : ℕ) (s : SlotState) → j < instance_count
-            → owner interval.now.members j ≡ interval.now.server → is_in_any intervals.old j ≡ true
-            → stored_at self.old j ≡ Some s → is_none s.learned ≡ false }
+        requires { CanSkip interval.now intervals.old self.old }
         ensures skipped { AreSkippedIntervals interval.now.members interval.now.server intervals.new }
         ensures covers { OnOk result ((j : ℕ) → j < instance_count
             → owner interval.now.members j ≡ interval.now.server
@@ -405,8 +383,7 @@ fn push_lacking(
     learned_intervals: &LearnedIntervals,
 )
     requires interval { IsOwnedInterval interval }
-    requires wide { interval.stop ≤ vec_len places.old }
-    requires placed { IsSlotTable places.old.items (vec_len slots.old) }
+    requires places { HasPlaces (vec_len places.old) places.old.items (vec_len slots.old) interval.stop }
     requires room { vec_len slots.old
         + count_by (is_lacking interval skipped.now (stored_slots places.old.items slots.old.items))
         (below interval.stop)
@@ -436,16 +413,14 @@ fn push_lacking(
 
 // Stores a new slot at an instance if none is stored there, for which there is room then.
 fn push_at(places: &mut Vec<Option<usize>>, slots: &mut Vec<Slot>, members: Members, inst: u32)
-    requires wide { inst < vec_len places.old }
-    requires placed { IsSlotTable places.old.items (vec_len slots.old) }
+    requires places { HasPlaces (vec_len places.old) places.old.items (vec_len slots.old) (inst + 1) }
     requires room { is_none (stored_at (stored_slots places.old.items slots.old.items) inst) ≡ true
         → vec_len slots.old < vec_capacity slots.old }
-    ensures placed { IsSlotTable places.new.items (vec_len slots.new) }
+    ensures places { HasPlaces (vec_len places.new) places.new.items (vec_len slots.new) (vec_len places.old) }
     ensures stored { (j : ℕ) → stored_at (stored_slots places.new.items slots.new.items) j
         ≡ (if j == inst && is_none (stored_at (stored_slots places.old.items slots.old.items) inst)
         then Some (new_slot members)
         else stored_at (stored_slots places.old.items slots.old.items) j) }
-    ensures wide { vec_len places.new ≡ vec_len places.old }
     ensures room { vec_capacity slots.new ≡ vec_capacity slots.old }
     ensures more { vec_len slots.new
         ≡ vec_len slots.old

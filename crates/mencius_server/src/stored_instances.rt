@@ -3,6 +3,7 @@ ghost use Rattle.mencius_base.specs.Limits.{greatest_front, instance_count};
 ghost use Rattle.mencius_base.specs.Members.{owner};
 ghost use Rattle.mencius_server.specs.Instances.{IsSorted, instance_slot_in, is_in_skipped, slot_by_skip};
 ghost use Rattle.mencius_server.specs.LearnedIntervals.{AreLearnedIntervals};
+ghost use Rattle.mencius_server.specs.Calls.{IsFirstOpen};
 ghost use Rattle.std.specs.Prelude.{◌≡◌, ℕ, ◌<◌, ◌≤◌, false, true, is_none};
 
 use crate::learned_intervals::LearnedIntervals;
@@ -92,12 +93,9 @@ impl StoredInstances {
         requires learned_intervals { AreLearnedIntervals self.now.members
             (λ j. is_none (instance_slot_in self.now.members self.now.slots self.now.skipped.items j).learned)
             learned_intervals.old }
-        ensures owned { owner self.now.members result ≡ owner self.now.members from }
-        ensures learned { (j : ℕ) → from ≤ j → j < result → owner self.now.members j ≡ owner self.now.members from
-            → j < instance_count
-            → is_none (instance_slot_in self.now.members self.now.slots self.now.skipped.items j).learned ≡ false }
-        ensures least { result < stop
-            → is_none (instance_slot_in self.now.members self.now.slots self.now.skipped.items result).learned ≡ true }
+        ensures first { IsFirstOpen self.now.members
+            (λ j. is_none (instance_slot_in self.now.members self.now.slots self.now.skipped.items j).learned)
+            from stop result }
         ensures learned_intervals { AreLearnedIntervals self.now.members
             (λ j. is_none (instance_slot_in self.now.members self.now.slots self.now.skipped.items j).learned)
             learned_intervals.new }

@@ -3,12 +3,13 @@ ghost use Rattle.mencius_base.specs.Limits.{instance_count, most_servers};
 ghost use Rattle.mencius_base.specs.Members.{owner};
 ghost use Rattle.mencius_base.specs.Refusal.{IsRefusedFor};
 ghost use Rattle.mencius_server.specs.Changes.{IsSaid, slot_after_change};
-ghost use Rattle.mencius_server.specs.Instances.{IsSorted, instance_slot_in};
+ghost use Rattle.mencius_server.specs.Instances.{instance_slot_in};
 ghost use Rattle.mencius_server.specs.Machine.{is_spent};
 ghost use Rattle.mencius_server.specs.Slots.{slot_after_skip_in, stored_or_new};
-ghost use Rattle.mencius_server.specs.Tallies.{HasCounted, IsTally, IsTallyFrom, LearnedWhereSkipped, no_tally, tally_after, tally_cause, tally_difference, tally_of, tally_sum, with_counted, without_counted};
+ghost use Rattle.mencius_server.specs.Tallies.{HasCounted, IsTally, IsTallyFrom, no_tally, tally_after, tally_cause, tally_difference, tally_of, tally_sum, with_counted, without_counted};
 ghost use Rattle.mencius_server.specs.declared.tally.Tally.{Tally};
-ghost use Rattle.std.specs.Prelude.{◌≡◌, ℕ, ◌+◌, ◌<◌, ◌≤◌, ◌==◌, ◌⊎◌, OnOk, false, if◌then◌else◌, is_none};
+ghost use Rattle.mencius_server.specs.Calls.{AreSkipsLearned};
+ghost use Rattle.std.specs.Prelude.{◌≡◌, ℕ, ◌+◌, ◌<◌, ◌≤◌, ◌==◌, ◌⊎◌, OnOk, false, if◌then◌else◌};
 
 use crate::change::Change;
 use crate::owned_interval::{OwnedInterval, next_owned};
@@ -223,8 +224,7 @@ impl StoredInstances {
     ///
     /// It jumps over the skipped intervals, and goes from one instance to the next where there is none.
     pub(crate) fn tally_from(&self, server: u8, first: u32, stop: u32) -> Tally
-        requires sorted { IsSorted self.now.members self.now.skipped.items }
-        requires learned_where_skipped { LearnedWhereSkipped self.now.members self.now.slots self.now.skipped.items }
+        requires skips { AreSkipsLearned self.now.members self.now.slots self.now.skipped.items }
         requires member { server < self.now.members.count }
         requires ahead { first ≤ stop }
         requires small { stop ≤ instance_count }
@@ -251,8 +251,7 @@ impl StoredInstances {
     /// It counts only those of them that were counted.
     pub(crate) fn tally_after_skip(&self, interval: &OwnedInterval, tally: Tally) -> Tally
         requires members { interval.now.members ≡ self.now.members }
-        requires sorted { IsSorted self.now.members self.now.skipped.items }
-        requires learned_where_skipped { LearnedWhereSkipped self.now.members self.now.slots self.now.skipped.items }
+        requires skips { AreSkipsLearned self.now.members self.now.slots self.now.skipped.items }
         requires member { interval.now.server < self.now.members.count }
         requires counted { IsTally interval.now.members
             (instance_slot_in interval.now.members self.now.slots self.now.skipped.items) interval.now.server tally }
@@ -272,8 +271,7 @@ impl StoredInstances {
 
     /// Counts a server's instances anew, if many may have changed.
     pub(crate) fn retally_changed(&self, server: u8, is_changed: bool, tallies: &mut Tallies)
-        requires sorted { IsSorted self.now.members self.now.skipped.items }
-        requires learned_where_skipped { LearnedWhereSkipped self.now.members self.now.slots self.now.skipped.items }
+        requires skips { AreSkipsLearned self.now.members self.now.slots self.now.skipped.items }
         requires member { server < self.now.members.count }
         requires small { (tally_of tallies.old server).stop ≤ instance_count }
         requires quiet { is_changed ≡ false

@@ -50,7 +50,7 @@ fn settle(marks: &mut MessageBits, entry: &Entry) -> Result<(), NoMemory>
         ≡ (is_settled_by_entry k p entry.now || bit_in marks.old k p)) }
 {
     match *entry {
-        Entry::Deliver { message, server } | Entry::Lose { message, server } => {
+        Entry::Deliver { server, message } | Entry::Lose { server, message } => {
             marks.reserve(message)?;
             marks.mark(message, server);
             Ok(())

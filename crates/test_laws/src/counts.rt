@@ -65,7 +65,7 @@ impl EventCounts {
     fn add_entry(&mut self, entry: Entry, looks_ahead: bool, heard: &mut Vec<bool>) {
         match entry {
             Entry::Submit { .. } => count(&mut self.submissions),
-            Entry::Deliver { message, server } => {
+            Entry::Deliver { server, message } => {
                 count(&mut self.deliveries);
                 if was_heard(heard, message, server) {
                     count(&mut self.repeats);

@@ -67,7 +67,7 @@ impl Observed {
         entry: Entry,
     ) -> Result<Option<&'static str>, AllocError> {
         match entry {
-            Entry::Deliver { message, server } => self.see_delivery(cluster, message, server),
+            Entry::Deliver { server, message } => self.see_delivery(cluster, message, server),
             Entry::Execute { server } => self.see_execution(cluster, server),
             Entry::Submit { ticket, .. } => Ok(self.see_reply(cluster, ticket)),
             Entry::Lose { .. } | Entry::Suspect { .. } | Entry::Retry { .. } => Ok(None),

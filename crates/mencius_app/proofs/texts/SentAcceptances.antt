@@ -18,11 +18,11 @@ fold_further f a (y ∷ xs) (suc n) x e = fold_further f (f a y) xs n x e
 
 -- ---- what was accepted
 
-abbrev accepting : ℕ → ℕ → Option ℕ → Message → Option ℕ
-accepting p i o x = greater_ballot o (accepted_by p i (Sent x))
+abbrev with_acceptance : ℕ → ℕ → Option ℕ → Message → Option ℕ
+with_acceptance p i o x = greater_ballot o (accepted_by p i (Sent x))
 
 abbrev pub accepted_among : ℕ → ℕ → List Message → Option ℕ
-accepted_among p i xs = fold (accepting p i) None xs
+accepted_among p i xs = fold (with_acceptance p i) None xs
 
 greater_none : (o : Option ℕ) → greater_ballot o None ≡ o
 greater_none None = refl
@@ -36,7 +36,7 @@ pub accepted_is : (p i : ℕ) (w : Trace) → accepted_ballot w p i ≡ accepted
 accepted_is p i [] = refl
 accepted_is p i (Sent x ∷ w) =
     ap (λ o. greater_ballot o (accepted_by p i (Sent x))) (accepted_is p i w)
-    ∙ sym (fold-append (accepting p i) None (sent_messages w) (x ∷ []))
+    ∙ sym (fold-append (with_acceptance p i) None (sent_messages w) (x ∷ []))
 accepted_is p i (Submitted command q ∷ w) = quiet p i w (accepted_is p i w)
 accepted_is p i (Heard k q ∷ w) = quiet p i w (accepted_is p i w)
 accepted_is p i (Lost k q ∷ w) = quiet p i w (accepted_is p i w)
@@ -52,7 +52,7 @@ pub accepted_further : (p i : ℕ) (xs : List Message) (n : ℕ) (x : Message) (
 accepted_further p i xs n x old new here had got =
     let on : n + 1 ≡ suc n = omega arith in
     got ∙ ap (λ o. greater_ballot o (accepted_by p i (Sent x))) had
-    ∙ sym (fold_further (accepting p i) None xs n x here)
+    ∙ sym (fold_further (with_acceptance p i) None xs n x here)
     ∙ ap (λ n. accepted_among p i (take n xs)) (sym on)
 
 -- all messages
@@ -63,11 +63,11 @@ accepted_whole p i w n found past had =
 
 -- ---- what was proposed
 
-abbrev proposing : ℕ → ℕ → Option Value → Message → Option Value
-proposing i b o x = first_some o (proposal_by i b (Sent x))
+abbrev with_proposal : ℕ → ℕ → Option Value → Message → Option Value
+with_proposal i b o x = first_some o (proposal_by i b (Sent x))
 
 abbrev pub proposed_among : ℕ → ℕ → List Message → Option Value
-proposed_among i b xs = fold (proposing i b) None xs
+proposed_among i b xs = fold (with_proposal i b) None xs
 
 earlier_none : {A : Type 0} (o : Option A) → first_some o None ≡ o
 earlier_none None = refl
@@ -81,7 +81,7 @@ pub proposed_is : (i b : ℕ) (w : Trace) → proposal w i b ≡ proposed_among 
 proposed_is i b [] = refl
 proposed_is i b (Sent x ∷ w) =
     ap (λ o. first_some o (proposal_by i b (Sent x))) (proposed_is i b w)
-    ∙ sym (fold-append (proposing i b) None (sent_messages w) (x ∷ []))
+    ∙ sym (fold-append (with_proposal i b) None (sent_messages w) (x ∷ []))
 proposed_is i b (Submitted command q ∷ w) = unsaid i b w (proposed_is i b w)
 proposed_is i b (Heard k q ∷ w) = unsaid i b w (proposed_is i b w)
 proposed_is i b (Lost k q ∷ w) = unsaid i b w (proposed_is i b w)
@@ -96,7 +96,7 @@ pub unsaid_further : (i b : ℕ) (xs : List Message) (n : ℕ) (x : Message) →
     → proposed_among i b (take (n + 1) xs) ≡ None
 unsaid_further i b xs n x here had none =
     let on : n + 1 ≡ suc n = omega arith in
-    ap (λ n. proposed_among i b (take n xs)) on ∙ fold_further (proposing i b) None xs n x here
+    ap (λ n. proposed_among i b (take n xs)) on ∙ fold_further (with_proposal i b) None xs n x here
     ∙ ap (λ o. first_some o (proposal_by i b (Sent x))) had ∙ none
 
 -- no message proposes anything there
@@ -107,7 +107,7 @@ unsaid_whole i b w n past had =
     proposed_is i b w ∙ ap (proposed_among i b) (sym (take_all n (sent_messages w) past)) ∙ had
 
 -- what was found first stays
-found_stays : (i b : ℕ) (x : Value) (xs : List Message) → fold (proposing i b) (Some x) xs ≡ Some x
+found_stays : (i b : ℕ) (x : Value) (xs : List Message) → fold (with_proposal i b) (Some x) xs ≡ Some x
 found_stays i b x [] = refl
 found_stays i b x (y ∷ xs) = found_stays i b x xs
 
@@ -123,8 +123,8 @@ pub proposed_here : (i b : ℕ) (w : Trace) (n : ℕ) (x : Message) (value : Val
     → Some value ≡ proposal w i b
 proposed_here i b w n x value here had is =
     let first : proposed_among i b (take (suc n) (sent_messages w)) ≡ Some value =
-    fold_further (proposing i b) None (sent_messages w) n x here ∙ ap (λ o. first_some o (proposal_by i b (Sent x))) had
+    fold_further (with_proposal i b) None (sent_messages w) n x here ∙ ap (λ o. first_some o (proposal_by i b (Sent x))) had
     ∙ sym is in
-    sym (proposed_is i b w ∙ split_at (proposing i b) None (sent_messages w) (suc n)
-    ∙ ap (λ o. fold (proposing i b) o (drop (suc n) (sent_messages w))) first
+    sym (proposed_is i b w ∙ split_at (with_proposal i b) None (sent_messages w) (suc n)
+    ∙ ap (λ o. fold (with_proposal i b) o (drop (suc n) (sent_messages w))) first
     ∙ found_stays i b value (drop (suc n) (sent_messages w)))

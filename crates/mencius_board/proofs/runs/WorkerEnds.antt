@@ -13,8 +13,8 @@ use Rattle.mencius_board.proofs.logs.ListSteps.{more_of}
 abbrev EndFrom : PlanState → ℕ → List EndState → Type 0
 EndFrom plan n ends = (m : ℕ) (d : EndState) → m < length ends → IsWorkerEnd plan (n + m) (get_or ends m d)
 
-abbrev Turned : PlanState → ℕ → ChooserState → Type 0
-Turned plan seat chooser =
+abbrev IsTurnedBy : PlanState → ℕ → ChooserState → Type 0
+IsTurnedBy plan seat chooser =
     HasTurned chooser plan seat plan.turns × TakesTurns seat plan.turns (first_chooser plan seat) chooser
 
 end_first : (plan : PlanState) (n : ℕ) (end : EndState) (rest : List EndState) → EndFrom plan n (end ∷ rest)
@@ -28,7 +28,7 @@ end_rest plan n m end rest e h l d below =
     subst (λ (o : ℕ). IsWorkerEnd plan o (get_or rest l d)) at (h (suc l) d (omega arith))
 
 has_turned : (plan : PlanState) (seat : ℕ) (d : ProgressState) → IsWorkerEnd plan seat (Ok d)
-    → Turned plan seat (chooser_at plan d)
+    → IsTurnedBy plan seat (chooser_at plan d)
 has_turned plan seat d (inl h) = (record { plan = refl; drawing = h.0 }, h.1)
 has_turned plan seat d (inr e) = absurd (cc)
 
@@ -47,23 +47,23 @@ settled_fault plan done n (Ok d ∷ rest) f e h =
 
 settled_turned : (plan : PlanState) (done : List ChooserState) (ends : List EndState) (x : List ChooserState)
     → choosers_behind plan done ends ≡ Ok x → EndFrom plan (length done) ends
-    → ((m : ℕ) (y : ChooserState) → m < length done → Turned plan m (get_or done m y))
+    → ((m : ℕ) (y : ChooserState) → m < length done → IsTurnedBy plan m (get_or done m y))
     → (length x ≡ length done + length ends)
-    × ((m : ℕ) (y : ChooserState) → m < length x → Turned plan m (get_or x m y))
+    × ((m : ℕ) (y : ChooserState) → m < length x → IsTurnedBy plan m (get_or x m y))
 settled_turned plan done [] x e h turned =
     let same : done ≡ x = cc in (
       subst (λ (xs : List ChooserState). length xs ≡ length done + 0) same (omega arith),
       subst (λ (xs : List ChooserState). (m : ℕ) (y : ChooserState) → m < length xs
-          → Turned plan m (get_or xs m y)) same turned,
+          → IsTurnedBy plan m (get_or xs m y)) same turned,
     )
 settled_turned plan done (Err g ∷ rest) x e h turned = absurd (cc)
 settled_turned plan done (Ok d ∷ rest) x e h turned =
     let more : List ChooserState = done ++ chooser_at plan d ∷ [] in
     let one : length more ≡ length done + 1 = length-append done (chooser_at plan d ∷ []) in
-    let is : Turned plan (length done) (chooser_at plan d) =
+    let is : IsTurnedBy plan (length done) (chooser_at plan d) =
     has_turned plan (length done) d (end_first plan (length done) (Ok d) rest h) in
     let all = settled_turned plan more rest x e (end_rest plan (length done) (length more) (Ok d) rest one h)
-    (λ m y below. more_of (Turned plan) m done (chooser_at plan d) y turned is (omega (arith, below, one))) in
+    (λ m y below. more_of (IsTurnedBy plan) m done (chooser_at plan d) y turned is (omega (arith, below, one))) in
     (omega (arith, all.0, one), all.1)
 
 ends_from : (plan : PlanState) (n : ℕ) (ends : List EndState) → length ends ≡ n → HaveEnded ends plan n

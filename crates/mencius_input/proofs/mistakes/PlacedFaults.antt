@@ -26,8 +26,8 @@ use Rattle.mencius_input.specs.Plan.{commands_read, plan_read, plan_within}
 use Rattle.mencius_input.specs.Scenario.{all_of, has_only, json_of, number_of, or_not_json, read_there, scenario_in, scenario_of, scenario_within, schedule_of, schedule_within}
 use Rattle.mencius_input.proofs.JsonTexts.{json_read}
 use Rattle.mencius_input.proofs.objects.NameOrder.{names_made}
-use Rattle.mencius_input.proofs.objects.RunFields.{mapped_items, plan_bound, planned}
-use Rattle.mencius_input.proofs.objects.SharedFields.{bound, scenario_bound}
+use Rattle.mencius_input.proofs.objects.RunFields.{mapped_items, plan_bound, plan_by_fields}
+use Rattle.mencius_input.proofs.objects.SharedFields.{scenario_by_fields, scenario_bound}
 use Rattle.mencius_input.proofs.mistakes.PlacedNames.{key_passed, known_name, none_both, only_passed, some_unless}
 use Rattle.mencius_input.proofs.mistakes.PlacedFields.{HasNone, counts_agree, list_none, list_there, lists_fit, lists_there, none_lacking, number_fits, number_there, same_count, same_version, schedule_fits, schedule_there}
 
@@ -40,7 +40,7 @@ some_mapped f (Some x) e = refl
 planned_there : (version : ℕ) (ow os ot ol : Option ℕ) (value : Option Data) → is_some ow ≡ true → is_some os ≡ true
     → is_some ot ≡ true → is_some ol ≡ true
     → is_some (option_and_then (all_of (commands_read version)) (option_and_then as_array value)) ≡ true
-    → is_some (planned version ow os ot ol value) ≡ true
+    → is_some (plan_by_fields version ow os ot ol value) ≡ true
 planned_there version None os ot ol value w s t l lists = absurd cc
 planned_there version (Some workers) None ot ol value w s t l lists = absurd cc
 planned_there version (Some workers) (Some seed) None ol value w s t l lists = absurd cc
@@ -58,7 +58,7 @@ record IsPlanned (version : ℕ) (ow os ot ol : Option ℕ) (value : Option Data
   commands : option_and_then (all_of (commands_read version)) (option_and_then as_array value) ≡ Some plan.commands
 
 planned_parts : (version : ℕ) (ow os ot ol : Option ℕ) (value : Option Data) (plan : PlanState)
-    → planned version ow os ot ol value ≡ Some plan → IsPlanned version ow os ot ol value plan
+    → plan_by_fields version ow os ot ol value ≡ Some plan → IsPlanned version ow os ot ol value plan
 planned_parts version None os ot ol value plan is = absurd cc
 planned_parts version (Some workers) None ot ol value plan is = absurd cc
 planned_parts version (Some workers) (Some seed) None ol value plan is = absurd cc
@@ -160,7 +160,7 @@ module _ {X : Type 0} where
   bound_there : (only : Bool) (ov os ox : Option ℕ) (course_of : ℕ → Option X) → only ≡ true → is_some ov ≡ true
       → is_some os ≡ true → is_some ox ≡ true
       → ((version : ℕ) → ov ≡ Some version → is_some (course_of version) ≡ true)
-      → is_some (bound only ov os ox course_of) ≡ true
+      → is_some (scenario_by_fields only ov os ox course_of) ≡ true
   bound_there false ov os ox course_of o v s x course = absurd cc
   bound_there true None os ox course_of o v s x course = absurd cc
   bound_there true (Some version) None ox course_of o v s x course = absurd cc
@@ -181,7 +181,7 @@ module _ {X : Type 0} where
     course : course_of x.version ≡ Some x.course
 
   bound_parts : (only : Bool) (ov os ox : Option ℕ) (course_of : ℕ → Option X) (x : Scenario X)
-      → bound only ov os ox course_of ≡ Some x → IsBound ov os ox course_of x
+      → scenario_by_fields only ov os ox course_of ≡ Some x → IsBound ov os ox course_of x
   bound_parts only None os ox course_of x is = absurd cc
   bound_parts only (Some version) None ox course_of x is = absurd cc
   bound_parts only (Some version) (Some servers) None course_of x is = absurd cc

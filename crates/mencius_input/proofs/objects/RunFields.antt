@@ -24,14 +24,14 @@ use Rattle.mencius_input.proofs.objects.SharedFields.{members_in, scenario_or_fa
 
 -- ---- what an object says as a plan, by its fields
 
-abbrev pub planned : ℕ → Option ℕ → Option ℕ → Option ℕ → Option ℕ → Option Data → Option PlanState
-planned version ow os ot ol value =
+abbrev pub plan_by_fields : ℕ → Option ℕ → Option ℕ → Option ℕ → Option ℕ → Option Data → Option PlanState
+plan_by_fields version ow os ot ol value =
     option_and_then (λ workers. option_and_then (λ seed. option_and_then (λ turns. option_and_then (λ loss.
     option_and_then (λ lists. option_and_then (λ commands. Some (plan_of workers seed turns loss commands))
     (all_of (commands_read version) lists)) (option_and_then as_array value)) ol) ot) os) ow
 
 pub plan_bound : (version : ℕ) (ms : Members) → plan_read version (object ms)
-    ≡ planned version (number_of Workers (object ms)) (number_of Seed (object ms)) (number_of Turns (object ms))
+    ≡ plan_by_fields version (number_of Workers (object ms)) (number_of Seed (object ms)) (number_of Turns (object ms))
     (number_of Loss (object ms)) (get_member (codes "commands") ms)
 unfolding plan_read
 plan_bound version ms = refl
@@ -39,8 +39,8 @@ plan_bound version ms = refl
 -- ---- the limits
 
 -- as they are tested
-abbrev tested : ℕ → PlanState → Bool
-tested servers plan = plan_fits servers plan && list_all (list_all command_within) plan.commands
+abbrev passes_tests : ℕ → PlanState → Bool
+passes_tests servers plan = plan_fits servers plan && list_all (list_all command_within) plan.commands
 
 -- more lists than there may be servers are refused by the limits of both kinds
 too_many : (shared : Shared) (numbers : Bool) (many : ℕ) → nat_le many most_servers ≡ false
@@ -55,7 +55,7 @@ by_few true true false lists h = let none = h refl in absurd (cc)
 by_few true false false lists h = refl
 by_few false own false lists h = refl
 
-same_limits : (shared : Shared) (plan : PlanState) → (shared_within shared && tested shared.servers plan)
+same_limits : (shared : Shared) (plan : PlanState) → (shared_within shared && passes_tests shared.servers plan)
     ≡ (shared_within shared && plan_within (members_in shared) plan)
 same_limits shared plan =
     by_few (shared_within shared) (numbers_within plan && (length plan.commands == shared.servers))
@@ -81,7 +81,7 @@ module _ (servers workers seed turns loss : ℕ) where
       ap (λ bit. cond bit (Ok (of all)) (Err BadLimit)) (sym (and-false (plan_fits servers (of all))))
 
   with_all : (o : Option (List (List CommandState)))
-      → plan_or_fault servers of (value_or_fault lists_within o) ≡ value_or_fault (tested servers) (option_map of o)
+      → plan_or_fault servers of (value_or_fault lists_within o) ≡ value_or_fault (passes_tests servers) (option_map of o)
   with_all None = refl
   with_all (Some all) =
       by_list all (list_all (list_all command_within) all) (nat_le (length all) most_servers) refl
@@ -100,7 +100,7 @@ module _ (servers workers seed turns loss : ℕ) where
 
 plan_or_fault_is : (shared : Shared) (ow os ot ol : Option ℕ) (value : Option Data)
     → plan_said shared (ow ∷ os ∷ ot ∷ ol ∷ []) (option_map (list_said Run) value)
-    ≡ value_or_fault (tested shared.servers) (planned shared.version ow os ot ol value)
+    ≡ value_or_fault (passes_tests shared.servers) (plan_by_fields shared.version ow os ot ol value)
 plan_or_fault_is shared None os ot ol value = refl
 plan_or_fault_is shared (Some workers) None ot ol value = refl
 plan_or_fault_is shared (Some workers) (Some seed) None ol value = refl
@@ -109,7 +109,7 @@ plan_or_fault_is shared (Some workers) (Some seed) (Some turns) (Some loss) None
 plan_or_fault_is shared (Some workers) (Some seed) (Some turns) (Some loss) (Some d) =
     ap (plan_or_fault shared.servers (plan_of workers seed turns loss)) (lists_said_in shared.version lists_within d)
     ∙ with_all shared.servers workers seed turns loss (all_in (commands_read shared.version) d)
-    ∙ ap (value_or_fault (tested shared.servers))
+    ∙ ap (value_or_fault (passes_tests shared.servers))
     (mapped_items shared.servers workers seed turns loss shared.version (as_array d))
 
 -- the answer
@@ -126,6 +126,6 @@ plan_fields_say f ms h only =
     ∙ shared_say Run (λ shared own. plan_said shared own (option_map (list_said Run) value)) plan_within
     plan_read f.wholes.items (ow ∷ os ∷ ot ∷ ol ∷ []) ms h.wholes only
     (λ shared. ap (scenario_or_fault shared) (plan_or_fault_is shared ow os ot ol value)
-    ∙ scenario_or_fault_is shared (tested shared.servers) plan_within (same_limits shared)
-    (planned shared.version ow os ot ol value)
+    ∙ scenario_or_fault_is shared (passes_tests shared.servers) plan_within (same_limits shared)
+    (plan_by_fields shared.version ow os ot ol value)
     ∙ rw (plan_bound shared.version ms) refl)

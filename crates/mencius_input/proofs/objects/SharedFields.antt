@@ -54,8 +54,8 @@ default_fits Commands n is = absurd cc
 
 -- ---- what an object says, by its fields
 
-abbrev pub bound : {X : Type 0} → Bool → Option ℕ → Option ℕ → Option ℕ → (ℕ → Option X) → Option (Scenario X)
-bound only ov os ox course_of =
+abbrev pub scenario_by_fields : {X : Type 0} → Bool → Option ℕ → Option ℕ → Option ℕ → (ℕ → Option X) → Option (Scenario X)
+scenario_by_fields only ov os ox course_of =
     option_and_then (λ version. option_and_then (λ members. option_and_then (λ course.
     if only then Some (record { version = version; members = members; course = course }) else None)
     (course_of version))
@@ -63,7 +63,7 @@ bound only ov os ox course_of =
 
 pub scenario_bound : {X : Type 0} (kind : Kind) (course_of : ℕ → Data → Option X) (ms : Members)
     → scenario_of kind course_of (object ms)
-    ≡ bound (has_only (names kind) ms) (number_of Version (object ms)) (number_of Servers (object ms))
+    ≡ scenario_by_fields (has_only (names kind) ms) (number_of Version (object ms)) (number_of Servers (object ms))
     (number_of Beta (object ms)) (λ version. course_of version (object ms))
 unfolding scenario_of members_of
 scenario_bound kind course_of ms = refl
@@ -78,7 +78,7 @@ module _ {X : Type 0} (course_said : Shared → List (Option ℕ) → Result X A
   mapped shared (Some course) = refl
 
   said_bound : (ov os ox : Option ℕ) → said_of course_said (shared_in (ov ∷ os ∷ ox ∷ own))
-      ≡ value_or_fault (scenario_within fits) (bound true ov os ox course_of)
+      ≡ value_or_fault (scenario_within fits) (scenario_by_fields true ov os ox course_of)
   said_bound None os ox = refl
   said_bound (Some version) None ox = refl
   said_bound (Some version) (Some servers) None = refl
@@ -102,7 +102,7 @@ shared_say {X} kind course_said fits course_of wholes own ms are only h =
     let read : ℕ → Option X = λ version. course_of version (object ms) in
     ap (λ all. said_of course_said (shared_in all)) are
     ∙ said_bound course_said fits read own h ov os ox
-    ∙ ap (λ a. value_or_fault (scenario_within fits) (bound a ov os ox read)) (sym only)
+    ∙ ap (λ a. value_or_fault (scenario_within fits) (scenario_by_fields a ov os ox read)) (sym only)
     ∙ ap (value_or_fault (scenario_within fits)) (sym (scenario_bound kind course_of ms))
 
 -- ---- what is no scenario

@@ -1,7 +1,5 @@
 -- What is counted in a log.
-use Rattle.std.proofs.Common.{◌≡◌, ◌+◌, ◌≤◌, ℕ, zero, suc, Bool, true, false, cond, not, List, [], ◌∷◌, Some, count_by, get_or, is_some, length, slice_get, arith, refl, sym, ap, ◌∙◌}
-use Rattle.std.specs.BTreeMap.{get}
-use Rattle.std.specs.Ordering.{nat_cmp}
+use Rattle.std.proofs.Common.{◌≡◌, ◌+◌, ℕ, suc, Bool, true, false, cond, not, List, [], ◌∷◌, Some, count_by, is_some, length, slice_get, arith, refl, sym, ap, ◌∙◌}
 use Rattle.std.proofs.lemmas.List.Sums.{sum_by-cons}
 use Rattle.mencius_base.specs.declared.command.Command.{Command}
 use Rattle.mencius_base.specs.declared.command.CommandId.{CommandId}
@@ -11,7 +9,7 @@ use Rattle.mencius_judge.specs.declared.observation.Observation.TheVariants.{Sub
 use Rattle.mencius_judge.specs.Counts.{AreCounts, command_count, is_some_length}
 use Rattle.mencius_judge.specs.Judged.{HasSeenLog}
 use Rattle.mencius_judge.specs.Log.{Log, command_of, has_id, history, with_reply}
-use Rattle.mencius_judge.specs.Tables.{has_no_place, identity_key, number_count}
+use Rattle.mencius_judge.specs.Tables.{has_no_place}
 use Rattle.mencius_judge.proofs.observations.Leads.{size_is}
 
 -- ---- commands

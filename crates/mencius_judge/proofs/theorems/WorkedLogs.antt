@@ -16,37 +16,37 @@ abbrev set_to : ℕ → List ℕ → Command
 set_to n text = record { id = id n; op = Set (codes "a") text }
 
 -- the newest observation first: server 0 executes both commands, server 1 the second one first
-abbrev crossed : Log
-crossed =
+abbrev crossed_log : Log
+crossed_log =
     Execute 1 (id 2) ∷ Execute 0 (id 2) ∷ Execute 0 (id 1) ∷ Submit (set_to 2 (codes "y")) ∷ Reply (id 1) None
     ∷ Submit (set_to 1 (codes "x")) ∷ []
 
-first_history : history crossed 0 ≡ id 1 ∷ id 2 ∷ []
+first_history : history crossed_log 0 ≡ id 1 ∷ id 2 ∷ []
 first_history = refl
 
-second_history : history crossed 1 ≡ id 2 ∷ []
+second_history : history crossed_log 1 ≡ id 2 ∷ []
 second_history = refl
 
-known_command : command_of crossed (id 2) ≡ Some (set_to 2 (codes "y"))
+known_command : command_of crossed_log (id 2) ≡ Some (set_to 2 (codes "y"))
 known_command = refl
 
-unknown_command : command_of crossed (id 3) ≡ None
+unknown_command : command_of crossed_log (id 3) ≡ None
 unknown_command = refl
 
 -- the reply of the first command came before the second was submitted, and not before its own submission
-second_behind : with_reply_before crossed (id 2) ≡ id 1 ∷ []
+second_behind : with_reply_before crossed_log (id 2) ≡ id 1 ∷ []
 second_behind = refl
 
-first_behind_none : with_reply_before crossed (id 1) ≡ []
+first_behind_none : with_reply_before crossed_log (id 1) ≡ []
 first_behind_none = refl
 
-first_answer : reply_of crossed (id 1) ≡ Some None
+first_answer : reply_of crossed_log (id 1) ≡ Some None
 first_answer = refl
 
-all_submitted : WereSubmitted crossed
+all_submitted : WereSubmitted crossed_log
 all_submitted = (refl, (refl, (refl, (refl, tt))))
 
-not_comparable : AreComparable crossed → ⊥
+not_comparable : AreComparable crossed_log → ⊥
 not_comparable h =
     ⊎_elim (λ (r : IsPrefix (id 1 ∷ id 2 ∷ []) (id 2 ∷ [])).
     (let e : id 1 ≡ id 2 = cc (r.1) in

@@ -15,14 +15,14 @@ use Rattle.mencius_model.proofs.rights.LineRights.{May, IsGrown, MayAccept, MayP
 use Rattle.mencius_model.proofs.trace.AnswersLast.{promise_within, acceptance_within, promised_more, accepted_above, accepted_in, proposed_more, proposal_in, acceptance_in}
 
 -- the vote was proposed, below the ballot
-abbrev pub Backed : Trace → Inst → BallotNo → Option Vote → Type 0
-Backed w i b None = Unit {0}
-Backed w i b (Some x) = (x.ballot < b) × (proposal w i x.ballot ≡ Some x.value)
+abbrev pub IsBacked : Trace → Inst → BallotNo → Option Vote → Type 0
+IsBacked w i b None = Unit {0}
+IsBacked w i b (Some x) = (x.ballot < b) × (proposal w i x.ballot ≡ Some x.value)
 
 -- a promise by q at (i, b) with this vote: whatever q accepted below b, the vote's ballot is none of the lesser
 pub record IsPromiseKept (w : Trace) (q : ServerId) (i : Inst) (b : BallotNo) (o : Option Vote) : Type 0 where
   pub covers : (to : ServerId) (c : BallotNo) → IsIn (Sent (Accepted q to i c)) w → c < b → Reaches o c
-  pub backed : Backed w i b o
+  pub backed : IsBacked w i b o
 
 -- a proposal of v at (i, b): a majority accepts nothing below b any more, and v is the value of the greatest
 -- vote of theirs, or no-op where they have none
@@ -33,15 +33,15 @@ pub record IsSafe (m : Membership) (w : Trace) (i : Inst) (b : BallotNo) (z : Va
   pub bound : (q : ServerId) → among q ≡ true → b ≤ promised_ballot w q i
   pub covers : (q to : ServerId) (c : BallotNo) → among q ≡ true → IsIn (Sent (Accepted q to i c)) w → c < b
       → Reaches highest c
-  pub backed : Backed w i b highest
+  pub backed : IsBacked w i b highest
   pub is : z ≡ value_or_noop highest
 
-backed_more : (l : Line) (w : Trace) (i b : ℕ) (o : Option Vote) → Backed w i b o → Backed (l ∷ w) i b o
+backed_more : (l : Line) (w : Trace) (i b : ℕ) (o : Option Vote) → IsBacked w i b o → IsBacked (l ∷ w) i b o
 backed_more l w i b None h = h
 backed_more l w i b (Some x) h = (h.0, proposed_more l w i x.ballot x.value h.1)
 
-backed_from : (w : Trace) (i b : ℕ) (h : Option Vote) → ((z : Vote) → h ≡ Some z → Backed w i b (Some z))
-    → Backed w i b h
+backed_from : (w : Trace) (i b : ℕ) (h : Option Vote) → ((z : Vote) → h ≡ Some z → IsBacked w i b (Some z))
+    → IsBacked w i b h
 backed_from w i b None each = tt
 backed_from w i b (Some z) each = each z refl
 
@@ -163,7 +163,7 @@ proposal_safe m w grown i b z pos h = let r = proposal_in w i b z pos h in propo
 -- where v was chosen at ballot c: every proposal at a greater ballot has v
 module _ (m : Membership) (w : Trace) (g : IsGrown m w) (i c : ℕ) (z : Value) (start : proposal w i c ≡ Some z)
     (chosen : are_majority m (has_accepted w i c) ≡ true) where
-  above : (b : ℕ) (x : Value) (h : Option Vote) → Reaches h c → Backed w i b h → x ≡ value_or_noop h
+  above : (b : ℕ) (x : Value) (h : Option Vote) → Reaches h c → IsBacked w i b h → x ≡ value_or_noop h
       → ((between : ℕ) (y : Value) → between < b → c < between → proposal w i between ≡ Some y → y ≡ z) → x ≡ z
   above b x None r backed is rest = absurd r
   above b x (Some highest) r backed is rest =
@@ -185,7 +185,7 @@ module _ (m : Membership) (w : Trace) (g : IsGrown m w) (i c : ℕ) (z : Value) 
   chosen_above b x lt h = chosen_above_to b b x (omega arith) lt h
 
 module _ (m : Membership) (w : Trace) (g : IsGrown m w) (i : ℕ) where
-  under : (b : ℕ) (x : Value) (h : Option Vote) → Backed w i b h → x ≡ value_or_noop h
+  under : (b : ℕ) (x : Value) (h : Option Vote) → IsBacked w i b h → x ≡ value_or_noop h
       → ((c : ℕ) (y : Value) → c < b → proposal w i c ≡ Some y → (y ≡ Noop) ⊎ (proposal w i 0 ≡ Some y))
       → (x ≡ Noop) ⊎ (proposal w i 0 ≡ Some x)
   under b x None backed is rest = inl is

@@ -21,8 +21,8 @@ use Rattle.mencius_base.specs.Limits.{instance_count, most_servers}
 use Rattle.mencius_model.specs.Rules.{is_noop}
 
 -- what callers see of a server that knows this
-abbrev pub seen : Membership → ℕ → ℕ → InstancesState → ServerState
-seen m p f known = record { members = m; id = p; front = f; slots = known.slots }
+abbrev pub server_state : Membership → ℕ → ℕ → InstancesState → ServerState
+server_state m p f known = record { members = m; id = p; front = f; slots = known.slots }
 
 -- a changed slot fits where the slot is stored
 FitsAt-slot_after_change : (s : ServerState) (f i : ℕ) (x : SlotState) (d : Change) → IsSaid s.members d
@@ -61,8 +61,8 @@ free_noted s m n after i small none same kept =
     })
 
 module _ (m : Membership) (p f : ℕ) (s new : InstancesState) (before after : NotesState)
-    (kept : IsServerInside (seen m p f s) s.members before) where
-  slot_is : (i : ℕ) → instance_slot s i ≡ slot (seen m p f s) i
+    (kept : IsServerInside (server_state m p f s) s.members before) where
+  slot_is : (i : ℕ) → instance_slot s i ≡ slot (server_state m p f s) i
   slot_is i = ap (λ (n : Membership). get_or s.slots i (new_slot n)) kept.members
 
   -- a change of one slot
@@ -70,48 +70,48 @@ module _ (m : Membership) (p f : ℕ) (s new : InstancesState) (before after : N
       → new ≡ with_instance_slot s i (slot_after_change (instance_slot s i) d)
       → l ≤ before.lost_from → (l ≤ i) ⊎ (owner m i ≡ p → is_noop (instance_slot new i).learned ≡ false)
       → after ≡ record before { lost_from = l }
-      → IsServerInside (seen m p f new) new.members after
+      → IsServerInside (server_state m p f new) new.members after
   change_kept i l d small said made early lost noted =
       let put : SlotState = slot_after_change (instance_slot s i) d in
       let inside : i < length s.slots = omega (arith, kept.full) in
       let there : instance_slot new i ≡ put = ap (λ (x : InstancesState). instance_slot x i) made
       ∙ get_or-set_at s.slots i i put (new_slot s.members) refl inside in
-      let fits : FitsAt (seen m p f s) f i put =
-      subst (λ (y : SlotState). FitsAt (seen m p f s) f i (slot_after_change y d)) (sym (slot_is i))
-      (FitsAt-slot_after_change (seen m p f s) f i (slot (seen m p f s) i) d said
-      (FitsAt-slot (seen m p f s) i kept.server)) in
+      let fits : FitsAt (server_state m p f s) f i put =
+      subst (λ (y : SlotState). FitsAt (server_state m p f s) f i (slot_after_change y d)) (sym (slot_is i))
+      (FitsAt-slot_after_change (server_state m p f s) f i (slot (server_state m p f s) i) d said
+      (FitsAt-slot (server_state m p f s) i kept.server)) in
       let stays : (l ≤ i) ⊎ (owner m i ≡ p → is_noop put.learned ≡ false) =
       subst (λ (y : SlotState). (l ≤ i) ⊎ (owner m i ≡ p → is_noop y.learned ≡ false)) there lost in
-      noted_as (seen m p f new) new.members _ after noted
-      (kept_as (seen m p f new) (with_slot_and_front (seen m p f s) i put f) s.members new.members _
-      (put_shows m p f f s new (seen m p f s) i put refl made)
+      noted_as (server_state m p f new) new.members _ after noted
+      (kept_as (server_state m p f new) (with_slot_and_front (server_state m p f s) i put f) s.members new.members _
+      (put_shows m p f f s new (server_state m p f s) i put refl made)
       (ap (λ (x : InstancesState). x.members) made)
-      (put_keeps (seen m p f s) s.members i f put before l early stays fits (omega arith) kept.server.near kept))
+      (put_keeps (server_state m p f s) s.members i f put before l early stays fits (omega arith) kept.server.near kept))
 
   -- a Skip
   pub skip_kept : (q first stop l : ℕ) → new ≡ instances_after_skip s q first stop
       → l ≤ before.lost_from → (l ≤ first) ⊎ (q ≡ p → ⊥) → after ≡ record before { lost_from = l }
-      → IsServerInside (seen m p f new) new.members after
+      → IsServerInside (server_state m p f new) new.members after
   skip_kept q first stop l made early lost noted =
-      noted_as (seen m p f new) new.members _ after noted
-      (kept_as (seen m p f new) (after_skip (seen m p f s) q first stop) s.members new.members _
-      (skip_shown m p f s new (seen m p f s) q first stop refl kept.members made)
+      noted_as (server_state m p f new) new.members _ after noted
+      (kept_as (server_state m p f new) (after_skip (server_state m p f s) q first stop) s.members new.members _
+      (skip_shown m p f s new (server_state m p f s) q first stop refl kept.members made)
       (ap (λ (x : InstancesState). x.members) made)
-      (skip_keeps (seen m p f s) s.members q first stop before l early lost kept))
+      (skip_keeps (server_state m p f s) s.members q first stop before l early lost kept))
 
   -- a suspicion of another server
   pub suspect_kept : (q reach : ℕ) → reach ≡ reach_stored s q f → (p ≡ q → ⊥)
       → new ≡ instances_after_suspect s p q reach → after ≡ before
-      → IsServerInside (seen m p f new) new.members after
+      → IsServerInside (server_state m p f new) new.members after
   suspect_kept q reach at other made noted =
-      noted_as (seen m p f new) new.members before after noted
-      (kept_as (seen m p f new) (after_suspect (seen m p f s) q) s.members new.members before
-      (suspect_shown m p f s (seen m p f s) q refl kept.members reach at new made)
+      noted_as (server_state m p f new) new.members before after noted
+      (kept_as (server_state m p f new) (after_suspect (server_state m p f s) q) s.members new.members before
+      (suspect_shown m p f s (server_state m p f s) q refl kept.members reach at new made)
       (ap (λ (x : InstancesState). x.members) made)
-      (suspect_keeps (seen m p f s) s.members q before other kept))
+      (suspect_keeps (server_state m p f s) s.members q before other kept))
 
   -- a suggestion, for which the notes were widened first
-  pub place_kept : (mid : NotesState) (i t n : ℕ) → n ≡ m.count → 1 ≤ n → n ≤ most_servers → IsFree (seen m p f s) i
+  pub place_kept : (mid : NotesState) (i t n : ℕ) → n ≡ m.count → 1 ≤ n → n ≤ most_servers → IsFree (server_state m p f s) i
       → new ≡ instances_after_suggest s i t
       → mid.lost_from ≡ before.lost_from → mid.next_ticket ≡ before.next_ticket
       → ((j : ℕ) → get_or mid.suggested_again j false ≡ get_or before.suggested_again j false)
@@ -122,21 +122,21 @@ module _ (m : Membership) (p f : ℕ) (s new : InstancesState) (before after : N
       → get_or after.suggested_again j false ≡ (get_or mid.suggested_again j false || is_ticket t
       (suggested_in m p j (instance_slot new j))))
       → ((j : ℕ) → min f instance_count ≤ j → get_or after.suggested_again j false ≡ get_or mid.suggested_again j false)
-      → IsServerInside (seen m p (i + n) new) new.members after
+      → IsServerInside (server_state m p (i + n) new) new.members after
   place_kept mid i t n count some few free made lost next same free_was free_still lost_still above short marked rest =
       let y : SlotState = record (instance_slot s i) { proposal = Some (Ticket t) } in
-      let shown : seen m p (i + n) new ≡ after_submit (seen m p f s) i t =
-      ap (λ (x : ℕ). seen m p (i + x) new) count
-      ∙ place_shows m p f s new (seen m p f s) i t y refl kept.members made refl in
-      let marks = place_marks m p f s new (seen m p f s) i t y before.suggested_again mid.suggested_again
+      let shown : server_state m p (i + n) new ≡ after_submit (server_state m p f s) i t =
+      ap (λ (x : ℕ). server_state m p (i + x) new) count
+      ∙ place_shows m p f s new (server_state m p f s) i t y refl kept.members made refl in
+      let marks = place_marks m p f s new (server_state m p f s) i t y before.suggested_again mid.suggested_again
       after.suggested_again refl kept.members made
-      (free_facts (seen m p f s) i free.free).1 kept.server kept.full same marked rest in
-      noted_as (seen m p (i + n) new) new.members _ after (noted_is (lost_still ∙ lost) (free_still ∙ free_was))
-      (kept_as (seen m p (i + n) new) (after_submit (seen m p f s) i t) s.members new.members
+      (free_facts (server_state m p f s) i free.free).1 kept.server kept.full same marked rest in
+      noted_as (server_state m p (i + n) new) new.members _ after (noted_is (lost_still ∙ lost) (free_still ∙ free_was))
+      (kept_as (server_state m p (i + n) new) (after_submit (server_state m p f s) i t) s.members new.members
       (record before { next_ticket = after.next_ticket; suggested_again = after.suggested_again })
       shown
       (ap (λ (x : InstancesState). x.members) made)
-      (place_keeps (seen m p f s) s.members i t before after.next_ticket after.suggested_again (omega arith)
+      (place_keeps (server_state m p f s) s.members i t before after.next_ticket after.suggested_again (omega arith)
       (omega arith) free
       (omega (arith, above.0)) above.1 short marks kept))
     where

@@ -1,12 +1,12 @@
 //! What a suspicion of a server would revoke, and the first phases that it starts.
-ghost use Rattle.mencius_base.specs.Limits.{greatest_front, greatest_round, instance_count};
+ghost use Rattle.mencius_base.specs.Limits.{greatest_front, instance_count};
 ghost use Rattle.mencius_base.specs.Members.{below, instances};
-ghost use Rattle.mencius_server.specs.Instances.{has_slot, instance_slot, instances_after_suspect, is_covered_stored, is_open_in, prepares_in, prepares_stored, reach_stored, with_first_phases, with_open_stored};
-ghost use Rattle.mencius_server.specs.Machine.{next_round_of};
+ghost use Rattle.mencius_server.specs.Instances.{instances_after_suspect, is_open_in, prepares_in, prepares_stored, reach_stored, with_first_phases, with_open_stored};
 ghost use Rattle.mencius_server.specs.OwnedIntervals.{IsOwnedInterval};
 ghost use Rattle.mencius_server.specs.Tallies.{IsOpenInterval, IsSurvey};
 ghost use Rattle.std.specs.List.{count_by};
-ghost use Rattle.std.specs.Prelude.{◌≡◌, ℕ, ◌+◌, ◌<◌, ◌≤◌, ◌++◌, true, OnErr, OnOk};
+ghost use Rattle.mencius_server.specs.Calls.{CanBeginCovered, CanBeginOpen};
+ghost use Rattle.std.specs.Prelude.{◌≡◌, ◌+◌, ◌<◌, ◌≤◌, ◌++◌, OnErr, OnOk};
 
 use super::Instances;
 use crate::owned_interval::OwnedInterval;
@@ -78,12 +78,7 @@ impl Instances {
         open_count: u32,
         out: &mut Outbox,
     ) -> Result<(), NoMemory>
-        requires id { id < self.old.members.count }
-        requires suspected { suspected < self.old.members.count }
-        requires few { count_by (is_covered_stored self.old suspected reach) instances ≤ open_count }
-        requires rounds { (j : ℕ) → j < instance_count → is_covered_stored self.old suspected reach j ≡ true
-            → next_round_of self.old.members (instance_slot self.old j) ≤ greatest_round }
-        requires room { count_by (is_covered_stored self.old suspected reach) instances ≤ out.old.room }
+        requires { CanBeginCovered self.old id suspected reach open_count out.old }
         ensures sent { OnOk result (out.new.messages
             ≡ out.old.messages ++ prepares_stored self.old id suspected reach) }
         ensures after { OnOk result (self.new ≡ instances_after_suspect self.old id suspected reach) }
@@ -117,16 +112,7 @@ impl Instances {
 
     // Starts a first phase at the instances of an interval that are not learned, at all of which slots are stored.
     fn begin_open(&mut self, interval: &OwnedInterval, id: u8, out: &mut Outbox)
-        requires interval { IsOwnedInterval interval.now }
-        requires members { interval.now.members ≡ self.old.members }
-        requires small { interval.now.stop ≤ instance_count }
-        requires id { id < self.old.members.count }
-        requires stored { (j : ℕ) → j < instance_count → is_open_in self.old interval.now j ≡ true
-            → has_slot self.old j ≡ true }
-        requires rounds { (j : ℕ) → j < instance_count → is_open_in self.old interval.now j ≡ true
-            → next_round_of self.old.members (instance_slot self.old j) ≤ greatest_round }
-        requires room { count_by (is_open_in self.old interval.now) (below interval.now.stop)
-            ≤ out.old.room }
+        requires { CanBeginOpen self.old interval.now id out.old }
         ensures after { self.new ≡ with_first_phases self.old id interval.now }
         ensures sent { out.new.messages ≡ out.old.messages ++ prepares_in self.old id interval.now }
         ensures limit { out.new.limit ≡ out.old.limit }

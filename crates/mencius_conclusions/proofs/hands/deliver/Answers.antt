@@ -5,5 +5,4 @@ pub returns-clause-delivery : goal.returns-clause-delivery
 returns-clause-delivery c =
     delivered_then c.events.ensures.delivery c.isolation.ensures.others c.hear.result c.args.message.now
     c.args.receiver.now c.hear.new.self c.args.second.now c.args.third.now c.args.out.now c.hear.new.out
-    c.requires.addressed c.hear.ensures.sent c.hear.ensures.after c.hear.ensures.refusal c.hear.ensures.same.limit
-    c.requires.second c.requires.third c.requires.others
+    c.requires.addressed c.hear.ensures.heard c.hear.ensures.refusal c.hear.ensures.same.limit c.requires.others

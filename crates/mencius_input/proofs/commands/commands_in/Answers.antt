@@ -5,7 +5,7 @@ use Rattle.mencius_format.specs.Grammar.{command_of, command_within, newest_vers
 use Rattle.mencius_input.specs.Newest.{command_item_version}
 use Rattle.mencius_input.specs.Scenario.{said_by}
 use Rattle.mencius_input.proofs.Stops.{stops_at, stops_whole}
-use Rattle.mencius_input.proofs.lists.NotedItems.{list_close, list_further, list_start, list_stop}
+use Rattle.mencius_input.proofs.lists.ListItems.{list_close, list_further, list_start, list_stop}
 use Rattle.mencius_input.proofs.commands.commands_in.Goals as goal
 
 pub items-init : goal.items-init

@@ -2,9 +2,9 @@ use Rattle.std.proofs.Common.{length}
 use Rattle.std.specs.List.{list_all}
 use Rattle.mencius_format.specs.Grammar.{command_of, command_within, newest_version}
 use Rattle.mencius_input.specs.Newest.{command_item_version}
-use Rattle.mencius_input.specs.Noted.{items_or_fault}
+use Rattle.mencius_input.specs.ItemFaults.{items_or_fault}
 use Rattle.mencius_input.specs.Scenario.{said_by}
-use Rattle.mencius_input.proofs.lists.NotedItems.{ListSoFar}
+use Rattle.mencius_input.proofs.lists.ListItems.{ListSoFar}
 use Rattle.mencius_input.proofs.commands.commands_in.Given as goal
 
 abbrev pub invariant-items : goal.invariant-items

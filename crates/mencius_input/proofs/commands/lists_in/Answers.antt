@@ -8,7 +8,7 @@ use Rattle.mencius_input.specs.Newest.{command_item_version, list_version}
 use Rattle.mencius_input.specs.Plan.{commands_read}
 use Rattle.mencius_input.specs.FieldValues.{lists_within}
 use Rattle.mencius_input.proofs.Stops.{stops_at, stops_whole}
-use Rattle.mencius_input.proofs.lists.NotedItems.{list_close, few_further, few_mapped, list_start, list_stop, map_ok_twice, items_mapped}
+use Rattle.mencius_input.proofs.lists.ListItems.{list_close, few_further, few_mapped, list_start, list_stop, map_ok_twice, items_mapped}
 use Rattle.mencius_input.proofs.commands.lists_in.Goals as goal
 
 pub items-init : goal.items-init

@@ -1,10 +1,10 @@
 use Rattle.std.proofs.Common.{length, map}
 use Rattle.mencius_format.specs.Grammar.{newest_version}
 use Rattle.mencius_input.specs.Newest.{command_item_version, list_version}
-use Rattle.mencius_input.specs.Noted.{items_or_fault}
+use Rattle.mencius_input.specs.ItemFaults.{items_or_fault}
 use Rattle.mencius_input.specs.Plan.{commands_read}
 use Rattle.mencius_input.specs.FieldValues.{lists_within}
-use Rattle.mencius_input.proofs.lists.NotedItems.{ListSoFar}
+use Rattle.mencius_input.proofs.lists.ListItems.{ListSoFar}
 use Rattle.mencius_input.proofs.commands.lists_in.Given as goal
 
 abbrev pub invariant-items : goal.invariant-items

@@ -2,8 +2,8 @@ use Rattle.std.proofs.Common.{◌≡◌, ◌∷◌, ◌∙◌, ◌⊎◌, inl, i
 use Rattle.std.proofs.lemmas.Bool.{and_parts}
 use Rattle.json.specs.Lex.{between, class, lex, punctuate}
 use Rattle.mencius_json.specs.Tokens.{first_or_zero, is_plain}
-use Rattle.mencius_json.proofs.FirstBytes.{not_true, other_class}
-use Rattle.mencius_json.proofs.Punctuation.{opens_array, opens_object, stray}
+use Rattle.mencius_json.proofs.texts.FirstBytes.{not_true, other_class}
+use Rattle.mencius_json.proofs.texts.Punctuation.{opens_array, opens_object, stray}
 use Rattle.mencius_json.proofs.plain.begin.Goals as goal
 
 -- a text that begins with a byte, once that byte is known

@@ -1,6 +1,6 @@
 use Rattle.std.proofs.Common.{refl}
 use Rattle.std.proofs.lemmas.Str.{IsCharBoundary-after_ascii}
-use Rattle.mencius_json.proofs.FirstBytes.{begins_by, length_first, plain-drop}
+use Rattle.mencius_json.proofs.texts.FirstBytes.{begins_by, length_first, plain-drop}
 use Rattle.mencius_json.proofs.plain.behind_first.Goals as goal
 
 pub range_from-requires : goal.range_from-requires

@@ -2,7 +2,7 @@ use Rattle.std.proofs.Common.{◌≡◌, ◌∷◌, inl, inr, ℕ, ap, sym, ◌�
 use Rattle.json.specs.Reads.{token_of}
 use Rattle.mencius_json.specs.declared.plain.Position.TheVariants.{AfterValue}
 use Rattle.mencius_json.specs.Tokens.{first_or_zero, may_close, refused_at, tokens_at}
-use Rattle.mencius_json.proofs.Punctuation.{closes_array, closes_object, not_closed}
+use Rattle.mencius_json.proofs.texts.Punctuation.{closes_array, closes_object, not_closed}
 use Rattle.mencius_json.proofs.plain.close.Goals.{then-byte-eq93, else-byte-eq93}
 use Rattle.mencius_json.proofs.plain.close.Goals as goal
 

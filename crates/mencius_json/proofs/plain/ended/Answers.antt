@@ -1,6 +1,6 @@
 use Rattle.std.proofs.Common.{◌≡◌, [], ap, sym, ◌∙◌}
 use Rattle.mencius_json.specs.Tokens.{refused_at, tokens_at}
-use Rattle.mencius_json.proofs.Punctuation.{at_end, not_at_end}
+use Rattle.mencius_json.proofs.texts.Punctuation.{at_end, not_at_end}
 use Rattle.mencius_json.proofs.plain.ended.Goals as goal
 
 pub returns-then-may_close-clause-value : goal.returns-then-may_close-clause-value

@@ -6,16 +6,16 @@ use Rattle.json.specs.Token.{bad}
 use Rattle.json.specs.Word.{word}
 use Rattle.mencius_json.specs.declared.plain.Position.TheVariants.{AfterValue}
 use Rattle.mencius_json.specs.Tokens.{is_delimiter, tokens_at}
-use Rattle.mencius_json.proofs.FirstBytes.{plain-drop}
-use Rattle.mencius_json.proofs.FirstWords.{Parted, cut_there, no_word_read, parted, word_read}
+use Rattle.mencius_json.proofs.texts.FirstBytes.{plain-drop}
+use Rattle.mencius_json.proofs.texts.FirstWords.{IsWordEnd, cut_there, no_word_read, parted, word_read}
 use Rattle.mencius_json.proofs.plain.pass_word.Goals as goal
 
 -- the word and what follows it
-record Cut (text front : List ℕ) (n : ℕ) : Type 0 where
+record IsCut (text front : List ℕ) (n : ℕ) : Type 0 where
   is : front ≡ take n text
   whole : text ≡ front ++ drop n text
 
-cut : (text front : List ℕ) (n : ℕ) → front ≡ take (n - 0) text → Cut text front n
+cut : (text front : List ℕ) (n : ℕ) → front ≡ take (n - 0) text → IsCut text front n
 cut text front n e =
     let same : n - 0 ≡ n = omega arith in
     let is : front ≡ take n text = e ∙ ap (λ (m : ℕ). take m text) same in
@@ -24,7 +24,7 @@ cut text front n e =
       whole = sym (take-append-drop n text) ∙ ap (λ (l : List ℕ). l ++ drop n text) (sym is);
     }
 
-here : (text : List ℕ) (n : ℕ) → n ≡ position_or_len is_delimiter text → Parted text n
+here : (text : List ℕ) (n : ℕ) → n ≡ position_or_len is_delimiter text → IsWordEnd text n
 here text n e = rw e (parted text)
 
 pub range-requires-clause-end_boundary : goal.range-requires-clause-end_boundary

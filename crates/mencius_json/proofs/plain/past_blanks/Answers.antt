@@ -2,7 +2,7 @@ use Rattle.std.proofs.Common.{◌≡◌, ◌∙◌, ap, sym, true}
 use Rattle.json.specs.Lex.{between, lex}
 use Rattle.json.specs.Word.{is_space}
 use Rattle.mencius_json.specs.Tokens.{first_or_zero}
-use Rattle.mencius_json.proofs.FirstBytes.{blank_passed}
+use Rattle.mencius_json.proofs.texts.FirstBytes.{blank_passed}
 use Rattle.mencius_json.proofs.plain.past_blanks.Goals as goal
 
 pub blanks-preserved : goal.blanks-preserved

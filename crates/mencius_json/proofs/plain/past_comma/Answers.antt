@@ -1,7 +1,7 @@
 use Rattle.std.proofs.Common.{◌≡◌, ◌∷◌, ℕ, List, ap, sym, ◌∙◌}
 use Rattle.json.specs.Lex.{after_comma, after_value, between, lex, punctuate}
 use Rattle.mencius_json.specs.Tokens.{first_or_zero, tokens_at}
-use Rattle.mencius_json.proofs.Punctuation.{comma_passed, same_tokens}
+use Rattle.mencius_json.proofs.texts.Punctuation.{comma_passed, same_tokens}
 use Rattle.mencius_json.proofs.plain.past_comma.Goals as goal
 
 pub returns-then-first_or_zero-eq44-clause-same : goal.returns-then-first_or_zero-eq44-clause-same

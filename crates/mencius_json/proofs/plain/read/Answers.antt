@@ -1,8 +1,8 @@
 use Rattle.std.proofs.Common.{◌≡◌, ◌<◌, ◌∙◌, ℕ, List, ap, arith, drop, sym, length}
 use Rattle.mencius_json.specs.declared.plain.Position.{Position}
 use Rattle.mencius_json.specs.Tokens.{first_or_zero, refused_at, tokens_at}
-use Rattle.mencius_json.proofs.FirstBytes.{some_first}
-use Rattle.mencius_json.proofs.ClosedLists.{not_begun}
+use Rattle.mencius_json.proofs.texts.FirstBytes.{some_first}
+use Rattle.mencius_json.proofs.texts.ClosedLists.{not_begun}
 use Rattle.mencius_json.proofs.plain.read.Goals as goal
 
 pub returns-then-not-may_begin-clause-value : goal.returns-then-not-may_begin-clause-value

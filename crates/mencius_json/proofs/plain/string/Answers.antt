@@ -1,6 +1,6 @@
 use Rattle.std.proofs.Common.{◌≡◌, ◌≢◌, ◌∷◌, ℕ, ap, sym, ◌∙◌}
 use Rattle.mencius_json.specs.Tokens.{first_or_zero}
-use Rattle.mencius_json.proofs.Punctuation.{key_read, no_string, text_read}
+use Rattle.mencius_json.proofs.texts.Punctuation.{key_read, no_string, text_read}
 use Rattle.mencius_json.proofs.plain.string.Goals as goal
 
 pub returns-in_default-clause-value : goal.returns-in_default-clause-value

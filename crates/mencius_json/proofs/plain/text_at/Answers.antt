@@ -1,7 +1,7 @@
 use Rattle.std.proofs.Common.{◌≡◌, ◌≢◌, ◌∷◌, ◌∙◌, ℕ, List, ap, sym}
 use Rattle.mencius_json.specs.declared.plain.Position.{Position}
 use Rattle.mencius_json.specs.Tokens.{first_or_zero, tokens_at}
-use Rattle.mencius_json.proofs.Punctuation.{text_here}
+use Rattle.mencius_json.proofs.texts.Punctuation.{text_here}
 use Rattle.mencius_json.proofs.plain.text_at.Goals as goal
 
 pub returns-clause-value : goal.returns-clause-value

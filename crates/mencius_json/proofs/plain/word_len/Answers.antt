@@ -2,7 +2,7 @@ use Rattle.std.proofs.Common.{length, sym, arith}
 use Rattle.std.proofs.lemmas.List.Quantifiers.{position-Some}
 use Rattle.std.proofs.lemmas.List.Sums.{position_or_len_is}
 use Rattle.mencius_json.specs.Tokens.{is_delimiter}
-use Rattle.mencius_json.proofs.StringEnds.{none_passes}
+use Rattle.mencius_json.proofs.texts.StringEnds.{none_passes}
 use Rattle.mencius_json.proofs.plain.word_len.Goals as goal
 
 pub returns-in-Some : goal.returns-in-Some

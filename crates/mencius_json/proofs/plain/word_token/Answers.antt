@@ -1,6 +1,6 @@
 use Rattle.std.proofs.Common.{ℕ, List, ◌++◌, ap, refl, ◌∙◌}
 use Rattle.json.specs.Word.{word}
-use Rattle.mencius_json.proofs.FirstWords.{false_word, no_word, null_word, numbered, true_word}
+use Rattle.mencius_json.proofs.texts.FirstWords.{false_word, no_word, null_word, numbered, true_word}
 use Rattle.mencius_json.proofs.plain.word_token.Goals as goal
 
 pub returns-in-true : goal.returns-in-true

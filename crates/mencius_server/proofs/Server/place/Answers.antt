@@ -2,12 +2,12 @@ use Rattle.std.proofs.Common.{◌≡◌, ◌∙◌, ap, arith, subst, sym}
 use Rattle.mencius_server.specs.Machine.{IsFree}
 use Rattle.mencius_server.specs.Notes.{NotesState}
 use Rattle.mencius_server.specs.State.{ServerState}
-use Rattle.mencius_server.proofs.invariant.InvariantByCall.{place_kept, seen}
+use Rattle.mencius_server.proofs.invariant.InvariantByCall.{place_kept, server_state}
 use Rattle.mencius_server.proofs.Server.place.Goals as goal
 
 pub invariant_of-self-2 : goal.invariant_of-self-2
 invariant_of-self-2 c =
-    let now : ServerState = seen c.self.inside.members c.self.inside.id c.self.inside.front c.self.inside.instances in
+    let now : ServerState = server_state c.self.inside.members c.self.inside.id c.self.inside.front c.self.inside.instances in
     let front : c.self.inside.front ≡ c.args.self.now.front = ap (λ (s : ServerState). s.front) c.self.view_is in
     let free : IsFree now c.args.inst =
     subst (λ (s : ServerState). IsFree s c.args.inst) (sym c.self.view_is) c.requires in
@@ -17,7 +17,8 @@ invariant_of-self-2 c =
     c.in_ok-suggest.ensures.ok
     (ap (λ (n : NotesState). n.lost_from) c.reserve.ensures.others)
     (ap (λ (n : NotesState). n.next_ticket) c.reserve.ensures.others) c.reserve.ensures.same
-    (ap (λ (n : NotesState). n.free_from) c.reserve.ensures.others) c.pass_on.ensures.free
-    c.pass_on.ensures.lost
+    (ap (λ (n : NotesState). n.free_from) c.reserve.ensures.others)
+    (ap (λ (n : NotesState). n.free_from) c.pass_on.ensures.others)
+    (ap (λ (n : NotesState). n.lost_from) c.pass_on.ensures.others)
     c.pass_on.ensures.above c.pass_on.ensures.short
     c.pass_on.ensures.marked c.pass_on.ensures.rest

@@ -57,7 +57,7 @@ loop-inst-preserved-then-has c =
     let whole : lacks i ≡ false =
     lacking_covered a c.args.skipped.now old i (sym c.has.ensures ∙ c.if-has.true) in
     let small : a.stop ≤ instance_count =
-    omega (arith, c.requires.wide, c.requires.placed.few, c.args.places.now.ok.0) in
+    omega (arith, c.requires.places.wide, c.requires.places.placed.few, c.args.places.now.ok.0) in
     let along = along_interval a i past lacks (lacking_out a c.args.skipped.now old) inv.own small
     (past_closed m ends i next past c.past-inst.ensures above owned lacks c.requires.learned_intervals
     c.next_owned-next.ensures.least whole) in
@@ -84,8 +84,8 @@ loop-inst-preserved c =
     record {
       own = c.next_owned-next.ensures.owned ∙ inv.own;
       low = omega (arith, inv.low, ahead);
-      wide = omega (arith, inv.wide, c.push_at.ensures.wide);
-      placed = c.push_at.ensures.placed;
+      wide = omega (arith, inv.wide, c.push_at.ensures.places.wide);
+      placed = c.push_at.ensures.places.placed;
       walked = pushed.0;
       room = rw c.push_at.ensures.room pushed.1;
     }

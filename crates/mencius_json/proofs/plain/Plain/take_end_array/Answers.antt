@@ -1,8 +1,8 @@
 use Rattle.std.proofs.Common.{◌≡◌, ◌≢◌, ◌∷◌, ◌∙◌, ℕ, List, ap, refl, sym, true}
 use Rattle.json.specs.Json.{after_end_array}
 use Rattle.mencius_json.specs.Tokens.{first_or_zero, may_close, tokens_at}
-use Rattle.mencius_json.proofs.ClosedLists.{no_end_array}
-use Rattle.mencius_json.proofs.Punctuation.{closes_array, same_tokens}
+use Rattle.mencius_json.proofs.texts.ClosedLists.{no_end_array}
+use Rattle.mencius_json.proofs.texts.Punctuation.{closes_array, same_tokens}
 use Rattle.mencius_json.proofs.plain.Plain.take_end_array.Goals.{then-first_or_zero-ne93-via-then-first_or_zero-ne93, then-first_or_zero-ne93-via-else-first_or_zero-ne93+then-not-may_close}
 use Rattle.mencius_json.proofs.plain.Plain.take_end_array.Goals as goal
 

@@ -1,4 +1,4 @@
-use Rattle.std.proofs.Common.{◌≡◌, ℕ, ◌<◌, ◌≤◌, ◌++◌, true, ap, arith, subst, sym, ◌∙◌}
+use Rattle.std.proofs.Common.{◌≡◌, ℕ, ◌<◌, ◌≤◌, ◌++◌, true, ap, arith, rules, subst, sym, ◌∙◌}
 use Rattle.std.specs.List.{count_by}
 use Rattle.mencius_base.specs.Members.{below}
 use Rattle.mencius_server.specs.Machine.{next_round_of}
@@ -16,31 +16,26 @@ store_open-requires-clause-few c =
       open_count _ _ _ _ c.open_interval-interval.ensures,
     )
 
-pub begin_open-requires-clause-stored : goal.begin_open-requires-clause-stored
-begin_open-requires-clause-stored c =
-    let P : InstancesState → Type 0 =
-    λ s. (j : ℕ) → j < instance_count → is_open_in s c.open_interval-interval.result j ≡ true → has_slot s j ≡ true in
-    subst P (sym c.in_ok-store_open.ensures.ok)
-    (stored_has _ _ _ _ c.open_interval-interval.ensures)
-
-pub begin_open-requires-clause-rounds : goal.begin_open-requires-clause-rounds
-begin_open-requires-clause-rounds c =
-    let P : InstancesState → Type 0 =
-    λ s. (j : ℕ) → j < instance_count → is_open_in s c.open_interval-interval.result j ≡ true
+pub begin_open-requires : goal.begin_open-requires
+begin_open-requires c =
+    let interval = c.open_interval-interval.result in
+    let stored : InstancesState → Type 0 =
+    λ s. (j : ℕ) → j < instance_count → is_open_in s interval j ≡ true → has_slot s j ≡ true in
+    let rounds : InstancesState → Type 0 =
+    λ s. (j : ℕ) → j < instance_count → is_open_in s interval j ≡ true
     → next_round_of s.members (instance_slot s j) ≤ greatest_round in
-    subst P (sym c.in_ok-store_open.ensures.ok)
-    (λ j l e. c.requires.rounds j l
-    (sym (open_same _ _ _ _ c.open_interval-interval.ensures j l) ∙ e))
-
-pub begin_open-requires-clause-room : goal.begin_open-requires-clause-room
-begin_open-requires-clause-room c =
-    subst (λ (s : InstancesState). count_by (is_open_in s c.open_interval-interval.result)
-    (below c.open_interval-interval.result.stop) ≤ c.args.out.now.room) (sym c.in_ok-store_open.ensures.ok)
-    (omega (
-      arith,
-      c.requires.room,
-      open_count _ _ _ _ c.open_interval-interval.ensures,
-    ))
+    record {
+      interval = search rules;
+      members = search rules;
+      small = search rules;
+      id = search rules;
+      stored = subst stored (sym c.in_ok-store_open.ensures.ok) (stored_has _ _ _ _ c.open_interval-interval.ensures);
+      rounds = subst rounds (sym c.in_ok-store_open.ensures.ok)
+          (λ j l e. c.requires.rounds j l (sym (open_same _ _ _ _ c.open_interval-interval.ensures j l) ∙ e));
+      room = subst (λ (s : InstancesState). count_by (is_open_in s interval) (below interval.stop)
+          ≤ c.args.out.now.room) (sym c.in_ok-store_open.ensures.ok)
+          (omega (arith, c.requires.room, open_count _ _ _ _ c.open_interval-interval.ensures));
+    }
 
 pub returns-clause-sent : goal.returns-clause-sent
 returns-clause-sent c =

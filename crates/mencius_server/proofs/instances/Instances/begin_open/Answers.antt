@@ -1,25 +1,24 @@
-use Rattle.std.proofs.Common.{◌++◌, ap, arith, sym, ◌∙◌}
+use Rattle.std.proofs.Common.{◌++◌, ap, arith, rules, sym, ◌∙◌}
 use Rattle.mencius_server.specs.Instances.{instance_slot_in}
 use Rattle.mencius_server.specs.Tallies.{tally_of}
 use Rattle.mencius_server.proofs.suspicions.SuspicionBySlots.{phase_count, phase_learned, phase_passes, phase_rounds, phase_intervals, phase_sent, phase_shows, phase_sound, phase_alike, phase_theirs}
 use Rattle.mencius_server.proofs.tallies.InstanceTallies.{alike_same, counts_put, intervals_kept, sound_learned, tally_alike}
 use Rattle.mencius_server.proofs.instances.Instances.begin_open.Goals as goal
 
-pub begin_all-is_last-requires-clause-rounds : goal.begin_all-is_last-requires-clause-rounds
-begin_all-is_last-requires-clause-rounds c =
-    phase_rounds _ _ _ _ _ c.self.view_is c.self.invariant.sound c.args.interval.now c.requires.members
-    c.requires.small c.requires.stored c.requires.rounds
-
-pub begin_all-is_last-requires-clause-room : goal.begin_all-is_last-requires-clause-room
-begin_all-is_last-requires-clause-room c =
+pub begin_all-is_last-requires : goal.begin_all-is_last-requires
+begin_all-is_last-requires c =
     let fewer = phase_count _ _ _ _ _ c.self.view_is c.self.invariant.sound c.args.interval.now c.requires.members
     c.requires.small c.requires.stored in
-    omega (arith, c.requires.room, fewer)
-
-pub begin_all-is_last-requires-clause-learned_intervals : goal.begin_all-is_last-requires-clause-learned_intervals
-begin_all-is_last-requires-clause-learned_intervals c =
-    phase_intervals _ _ _ _ _ c.self.view_is c.self.invariant.sound c.args.interval.now c.requires.members
-    c.requires.small c.requires.stored _ c.self.invariant.learned_intervals
+    record {
+      interval = c.requires.interval;
+      small = c.requires.small;
+      id = search rules;
+      rounds = phase_rounds _ _ _ _ _ c.self.view_is c.self.invariant.sound c.args.interval.now c.requires.members
+          c.requires.small c.requires.stored c.requires.rounds;
+      room = omega (arith, c.requires.room, fewer);
+      learned_intervals = phase_intervals _ _ _ _ _ c.self.view_is c.self.invariant.sound c.args.interval.now
+          c.requires.members c.requires.small c.requires.stored _ c.self.invariant.learned_intervals;
+    }
 
 pub invariant_of-self : goal.invariant_of-self
 invariant_of-self c =
@@ -65,8 +64,11 @@ retally_changed-requires-clause-quiet c = λ none.
     c.begin_all-is_last.ensures.slots c.requires.rounds (c.begin_all-is_last.ensures.last none) j small)
     (c.self.invariant.counted c.args.interval.now.server)
 
-pub retally_changed-requires-clause-learned_where_skipped : goal.retally_changed-requires-clause-learned_where_skipped
-retally_changed-requires-clause-learned_where_skipped c =
-    sound_learned _ _ _ _
-    (phase_sound _ _ _ _ _ c.self.view_is c.self.invariant.sound c.args.interval.now c.requires.members
-    c.requires.small c.requires.stored c.args.id _ c.begin_all-is_last.ensures.slots)
+pub retally_changed-requires-clause-skips : goal.retally_changed-requires-clause-skips
+retally_changed-requires-clause-skips c =
+    let sound = phase_sound _ _ _ _ _ c.self.view_is c.self.invariant.sound c.args.interval.now c.requires.members
+    c.requires.small c.requires.stored c.args.id _ c.begin_all-is_last.ensures.slots in
+    record {
+      sorted = sound.sorted;
+      learned_where_skipped = sound_learned _ _ _ _ sound;
+    }

@@ -29,16 +29,16 @@ returns-clause-reach c =
     let below : (j : ℕ) → j < first → owner m j ≡ c.args.suspected → j < instance_count
     → is_none (instance_slot_in m slots rs j).learned ≡ false =
     λ j less mine small.
-    c.open_from-first.ensures.learned j (omega (arith, first_least m c.args.suspected j mine, c.from-from.ensures))
+    c.open_from-first.ensures.first.learned j (omega (arith, first_least m c.args.suspected j mine, c.from-from.ensures))
     less (mine ∙ sym own)
     small in
     elim c.if-first-near.branch [
       | then-first-near w ↦ w.result-is ∙ ap (λ n. c.args.front + 2 * n + 1) c.beta-beta.ensures.beta
           ∙ reach_there m slots rs c.args.self.now c.self.view_is c.args.suspected c.args.front c.min-near.result first
-          (omega (arith, c.min-near.ensures, c.beta-beta.ensures.beta)) (c.open_from-first.ensures.owned ∙ own) below
-          w.if-first-near.true (c.open_from-first.ensures.least w.if-first-near.true)
+          (omega (arith, c.min-near.ensures, c.beta-beta.ensures.beta)) (c.open_from-first.ensures.first.owned ∙ own) below
+          w.if-first-near.true (c.open_from-first.ensures.first.least w.if-first-near.true)
       | else-first-near w ↦ w.result-is ∙ reach_nowhere m slots rs c.args.self.now c.self.view_is
           c.args.suspected c.args.front c.min-near.result first
-          (omega (arith, c.min-near.ensures, c.beta-beta.ensures.beta)) (c.open_from-first.ensures.owned ∙ own) below
+          (omega (arith, c.min-near.ensures, c.beta-beta.ensures.beta)) (c.open_from-first.ensures.first.owned ∙ own) below
           w.if-first-near.false
     ]

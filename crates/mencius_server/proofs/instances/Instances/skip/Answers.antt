@@ -1,4 +1,4 @@
-use Rattle.std.proofs.Common.{◌≡◌, ℕ, ◌<◌, ◌≤◌, ◌||◌, List, Option, [], ap, arith, cond, get_or, length, min, refl, set, subst, sym, ◌∙◌}
+use Rattle.std.proofs.Common.{◌≡◌, ℕ, ◌<◌, ◌≤◌, ◌||◌, List, Option, [], ap, arith, cond, get_or, length, min, refl, rules, set, subst, sym, ◌∙◌}
 use Rattle.std.specs.List.{count_by}
 use Rattle.std.proofs.lemmas.Bool.{eq-eqb, ne_eqb}
 use Rattle.std.proofs.lemmas.List.{get_or_default}
@@ -17,16 +17,9 @@ use Rattle.mencius_server.proofs.intervals.NewIntervals.{old_news}
 use Rattle.mencius_base.specs.Limits.{instance_count}
 use Rattle.mencius_server.proofs.instances.Instances.skip.Goals as goal
 
-pub skip-requires-clause-low : goal.skip-requires-clause-low
-skip-requires-clause-low c =
-    let member : c.args.from < c.self.inside.stored.members.count =
-    omega (arith, c.requires.member, ap (λ (s : InstancesState). s.members.count) c.self.view_is) in
-    c.first_owned-stop.ensures.least (first_owned c.self.inside.stored.members c.args.from instance_count)
-    (omega (arith, c.min.ensures)) (first_owned_owner c.self.inside.stored.members c.args.from instance_count member)
-
 -- the interval that is skipped
-abbrev skipped : Membership → ℕ → ℕ → ℕ → OwnedInterval
-skipped m q x y = record { members = m; server = q; first = x; stop = y }
+abbrev skip_interval : Membership → ℕ → ℕ → ℕ → OwnedInterval
+skip_interval m q x y = record { members = m; server = q; first = x; stop = y }
 
 -- the skipper has intervals
 has_intervals : (m : Membership) (slots : List (Option SlotState)) (rs : List (List Interval)) (now : InstancesState)
@@ -43,10 +36,10 @@ then_covered : (m : Membership) (q x y : ℕ) (old new : List Interval) (rs : Li
 then_covered m q x y old new rs same h j small own = h j small own ∙ ap (λ xs. is_in_any xs j || is_between x y j) same
 
 -- the interval begins and ends at the first instances of the skipper from its places on
-abbrev aligned : (m : Membership) (q first stop x y n : ℕ) → n ≡ min stop instance_count
+abbrev alignment : (m : Membership) (q first stop x y n : ℕ) → n ≡ min stop instance_count
     → first ≤ x → ((i : ℕ) → first ≤ i → owner m i ≡ q → x ≤ i)
-    → n ≤ y → ((i : ℕ) → n ≤ i → owner m i ≡ q → y ≤ i) → IsAligned q first stop (skipped m q x y)
-aligned m q first stop x y n is above least above_stop least_stop = record {
+    → n ≤ y → ((i : ℕ) → n ≤ i → owner m i ≡ q → y ≤ i) → IsAligned q first stop (skip_interval m q x y)
+alignment m q first stop x y n is above least above_stop least_stop = record {
   server = refl;
   above_first = above;
   least_first = least;
@@ -63,7 +56,7 @@ invariant_of-self-2 c =
     let same_intervals : c.index_mut-intervals.result.now ≡ get_or rs c.args.from [] =
     c.index_mut-intervals.ensures.value ∙ get_or_default rs c.args.from _ [] member in
     let covered = then_covered m c.args.from _ _ _ _ rs same_intervals c.in_ok-learned.ensures.covers in
-    let interval = skipped m c.args.from c.first_owned-first.result c.first_owned-stop.result in
+    let interval = skip_interval m c.args.from c.first_owned-first.result c.first_owned-stop.result in
     counts_put m c.self.inside.stored.slots c.skip.new.self rs (set rs c.args.from c.skip.new.intervals)
     c.self.inside.learned_below c.learned_from-self-inside.result c.self.inside.tallies c.put.new.self
     c.self.inside.learned_intervals c.args.from
@@ -108,12 +101,12 @@ returns-clause-after c =
     let same_intervals : c.index_mut-intervals.result.now ≡ get_or rs c.args.from [] =
     c.index_mut-intervals.ensures.value ∙ get_or_default rs c.args.from _ [] member in
     let covered = then_covered m c.args.from _ _ _ _ rs same_intervals c.in_ok-learned.ensures.covers in
-    let interval = skipped m c.args.from c.first_owned-first.result c.first_owned-stop.result in
+    let interval = skip_interval m c.args.from c.first_owned-first.result c.first_owned-stop.result in
     skip_shows m interval refl c.self.inside.stored.slots c.skip.new.self rs member c.skip.new.intervals
     covered
     c.in_ok-learned.ensures.slots c.args.self.now c.self.view_is
     ∙ skip_is c.args.from c.args.first c.args.stop interval
-    (aligned m c.args.from c.args.first c.args.stop _ _ c.min.result (omega (arith, c.min.ensures))
+    (alignment m c.args.from c.args.first c.args.stop _ _ c.min.result (omega (arith, c.min.ensures))
     c.first_owned-first.ensures.above c.first_owned-first.ensures.least
     c.first_owned-stop.ensures.above c.first_owned-stop.ensures.least)
     c.args.self.now (ap (λ (x : InstancesState). x.members) c.self.view_is)
@@ -126,18 +119,18 @@ returns-clause-learned c =
     c.self.invariant.sound.sorted c.requires.member in
     let same_intervals : c.index_mut-intervals.result.now ≡ get_or rs c.args.from [] =
     c.index_mut-intervals.ensures.value ∙ get_or_default rs c.args.from _ [] member in
-    let interval = skipped m c.args.from c.first_owned-first.result c.first_owned-stop.result in
+    let interval = skip_interval m c.args.from c.first_owned-first.result c.first_owned-stop.result in
     c.in_ok-learned.ensures.learned
     ∙ ap (λ r. count_by (is_newly_skipped_in interval r c.self.inside.stored.slots) instances) same_intervals
     ∙ news_is c.args.from c.args.first c.args.stop interval
-    (aligned m c.args.from c.args.first c.args.stop _ _ c.min.result (omega (arith, c.min.ensures))
+    (alignment m c.args.from c.args.first c.args.stop _ _ c.min.result (omega (arith, c.min.ensures))
     c.first_owned-first.ensures.above c.first_owned-first.ensures.least
     c.first_owned-stop.ensures.above c.first_owned-stop.ensures.least)
     c.args.self.now (ap (λ (x : InstancesState). x.members) c.self.view_is)
     m c.self.inside.stored.slots rs c.self.inside.learned_below c.self.view_is c.self.invariant.sound
 
-pub skip-requires-clause-skipped : goal.skip-requires-clause-skipped
-skip-requires-clause-skipped c =
+pub skip-requires : goal.skip-requires
+skip-requires c =
     let m = c.self.inside.stored.members in
     let rs = c.self.inside.stored.skipped.items in
     let sorted = c.self.invariant.sound.sorted in
@@ -145,19 +138,18 @@ skip-requires-clause-skipped c =
     c.requires.member in
     let same_intervals : c.index_mut-intervals.result.now ≡ get_or rs c.args.from [] =
     c.index_mut-intervals.ensures.value ∙ get_or_default rs c.args.from _ [] member in
-    subst (AreSkippedIntervals m c.args.from) (sym same_intervals)
-    (sorted.intervals c.args.from (omega (arith, member, sorted.count)))
-
-pub skip-requires-clause-learned_where_skipped : goal.skip-requires-clause-learned_where_skipped
-skip-requires-clause-learned_where_skipped c =
-    let m = c.self.inside.stored.members in
-    let rs = c.self.inside.stored.skipped.items in
-    let member = has_intervals m c.self.inside.stored.slots rs c.args.self.now c.args.from c.self.view_is
-    c.self.invariant.sound.sorted c.requires.member in
-    let same_intervals : c.index_mut-intervals.result.now ≡ get_or rs c.args.from [] =
-    c.index_mut-intervals.ensures.value ∙ get_or_default rs c.args.from _ [] member in
-    λ j s small own passed stored. c.self.invariant.sound.learned_where_skipped j s small
-    (ap (λ q. is_in_any (get_or rs q []) j) own ∙ ap (λ xs. is_in_any xs j) (sym same_intervals) ∙ passed) stored
+    record {
+      interval = search rules;
+      some = search rules;
+      skipped = subst (AreSkippedIntervals m c.args.from) (sym same_intervals)
+          (sorted.intervals c.args.from (omega (arith, member, sorted.count)));
+      end = search rules;
+      low = c.first_owned-stop.ensures.least (first_owned m c.args.from instance_count)
+          (omega (arith, c.min.ensures))
+          (first_owned_owner m c.args.from instance_count (omega (arith, member, sorted.count)));
+      learned_where_skipped = λ j s small own passed stored. c.self.invariant.sound.learned_where_skipped j s small
+          (ap (λ q. is_in_any (get_or rs q []) j) own ∙ ap (λ xs. is_in_any xs j) (sym same_intervals) ∙ passed) stored;
+    }
 
 pub learned_from-self-inside-requires-clause-sorted : goal.learned_from-self-inside-requires-clause-sorted
 learned_from-self-inside-requires-clause-sorted c =
@@ -168,7 +160,7 @@ learned_from-self-inside-requires-clause-sorted c =
     let same_intervals : c.index_mut-intervals.result.now ≡ get_or rs c.args.from [] =
     c.index_mut-intervals.ensures.value ∙ get_or_default rs c.args.from _ [] member in
     let covered = then_covered m c.args.from _ _ _ _ rs same_intervals c.in_ok-learned.ensures.covers in
-    let interval = skipped m c.args.from c.first_owned-first.result c.first_owned-stop.result in
+    let interval = skip_interval m c.args.from c.first_owned-first.result c.first_owned-stop.result in
     skip_sorted m interval refl c.self.inside.stored.slots c.skip.new.self rs member c.skip.new.intervals
     covered
     c.in_ok-learned.ensures.slots c.skip.ensures.skipped
@@ -183,13 +175,13 @@ returns-then-past-stop-clause-after c =
     c.self.invariant.sound.sorted c.requires.member in
     let same_intervals : c.index.result.now ≡ get_or rs c.args.from [] =
     c.index.ensures ∙ get_or_default rs c.args.from _ [] member in
-    let interval = skipped m c.args.from c.first_owned-first.result c.first_owned-stop.result in
+    let interval = skip_interval m c.args.from c.first_owned-first.result c.first_owned-stop.result in
     skip_again m interval c.self.inside.stored.slots rs c.args.self.now refl c.self.view_is
     (sound_learned m c.self.inside.stored.slots rs c.self.inside.learned_below c.self.invariant.sound)
     (λ j low high. ap (λ xs. is_in_any xs j) (sym same_intervals)
     ∙ c.past.ensures.covered j low (omega (arith, high, c.if-past-stop.true)))
     ∙ skip_is c.args.from c.args.first c.args.stop interval
-    (aligned m c.args.from c.args.first c.args.stop _ _ c.min.result (omega (arith, c.min.ensures))
+    (alignment m c.args.from c.args.first c.args.stop _ _ c.min.result (omega (arith, c.min.ensures))
     c.first_owned-first.ensures.above c.first_owned-first.ensures.least
     c.first_owned-stop.ensures.above c.first_owned-stop.ensures.least)
     c.args.self.now (ap (λ (x : InstancesState). x.members) c.self.view_is)
@@ -202,12 +194,12 @@ returns-then-past-stop-clause-learned c =
     c.self.invariant.sound.sorted c.requires.member in
     let same_intervals : c.index.result.now ≡ get_or rs c.args.from [] =
     c.index.ensures ∙ get_or_default rs c.args.from _ [] member in
-    let interval = skipped m c.args.from c.first_owned-first.result c.first_owned-stop.result in
+    let interval = skip_interval m c.args.from c.first_owned-first.result c.first_owned-stop.result in
     old_news interval c.index.result.now c.self.inside.stored.slots
     (λ j low high. c.past.ensures.covered j low (omega (arith, high, c.if-past-stop.true)))
     ∙ ap (λ r. count_by (is_newly_skipped_in interval r c.self.inside.stored.slots) instances) same_intervals
     ∙ news_is c.args.from c.args.first c.args.stop interval
-    (aligned m c.args.from c.args.first c.args.stop _ _ c.min.result (omega (arith, c.min.ensures))
+    (alignment m c.args.from c.args.first c.args.stop _ _ c.min.result (omega (arith, c.min.ensures))
     c.first_owned-first.ensures.above c.first_owned-first.ensures.least
     c.first_owned-stop.ensures.above c.first_owned-stop.ensures.least)
     c.args.self.now (ap (λ (x : InstancesState). x.members) c.self.view_is)

@@ -31,24 +31,22 @@ loop-inst-init c =
       limit = refl;
     }
 
-pub begin-requires-clause-rounds : goal.begin-requires-clause-rounds
-begin-requires-clause-rounds c = λ s stored unlearned.
-    let inv = c.loop-inst.invariant in
-    let here : is_in c.args.interval c.loop-inst.inst ≡ true =
-    in_here c.args.interval c.loop-inst.inst inv.own inv.low c.loop-inst-test.true in
-    let was = sym (inv.walked.rest c.loop-inst.inst (omega arith)) ∙ stored in
-    c.requires.rounds c.loop-inst.inst s
-    (unlearned_in c.args.interval c.args.self.now c.loop-inst.inst here ∙ ap is_unlearned was ∙ unlearned) was
-
-pub begin-requires-clause-room : goal.begin-requires-clause-room
-begin-requires-clause-room c = λ unlearned.
+pub begin-requires : goal.begin-requires
+begin-requires c =
     let inv = c.loop-inst.invariant in
     let here : is_in c.args.interval c.loop-inst.inst ≡ true =
     in_here c.args.interval c.loop-inst.inst inv.own inv.low c.loop-inst-test.true in
     let start = inv.walked.rest c.loop-inst.inst (omega arith) in
-    room_here _ _ _ c.loop-inst.inst c.loop-inst-test.true
-    (unlearned_in c.args.interval c.args.self.now c.loop-inst.inst here ∙ ap is_unlearned (sym start)
-    ∙ unlearned) inv.room
+    record {
+      small = omega (arith, c.requires.small, c.loop-inst-test.true);
+      member = c.requires.id;
+      rounds = λ s stored unlearned. let was = sym start ∙ stored in
+          c.requires.rounds c.loop-inst.inst s
+          (unlearned_in c.args.interval c.args.self.now c.loop-inst.inst here ∙ ap is_unlearned was ∙ unlearned) was;
+      room = λ unlearned. room_here _ _ _ c.loop-inst.inst c.loop-inst-test.true
+          (unlearned_in c.args.interval c.args.self.now c.loop-inst.inst here ∙ ap is_unlearned (sym start)
+          ∙ unlearned) inv.room;
+    }
 
 pub loop-inst-preserved-in-Some : goal.loop-inst-preserved-in-Some
 loop-inst-preserved-in-Some c =
@@ -66,8 +64,8 @@ loop-inst-preserved-in-Some c =
       own = c.next_owned-inst.ensures.owned ∙ inv.own;
       low = omega (arith, inv.low, ahead);
       walked = step_walked a c.args.id i _ _ _ _ here ahead between inv.walked slots;
-      sent = step_sent a c.args.id i _ _ _ _ here ahead between inv.walked slots _ _ _ c.begin.ensures.sent inv.sent;
-      room = step_room a c.args.id i _ _ _ _ here ahead between inv.walked slots _ _ c.begin.ensures.room inv.room;
+      sent = step_sent a c.args.id i _ _ _ _ here ahead between inv.walked slots _ _ _ c.begin.ensures.pushed.messages inv.sent;
+      room = step_room a c.args.id i _ _ _ _ here ahead between inv.walked slots _ _ c.begin.ensures.pushed.room inv.room;
       last = λ still. elim c.if-is_last.branch [
         | then-is_last way ↦ let no : true ≡ false = sym way.if-is_last.true ∙ sym way.is_last-is ∙ still in absurd (cc)
         | else-is_last way ↦
@@ -77,7 +75,7 @@ loop-inst-preserved-in-Some c =
             (λ s here_covered. c.begin.ensures.last (c.in-Some.is ∙ ap Some (sym way.is_last-is ∙ still)) s)
       ];
       learned_intervals = inv.learned_intervals;
-      limit = c.begin.ensures.limit ∙ inv.limit;
+      limit = c.begin.ensures.pushed.limit ∙ inv.limit;
     }
 
 pub loop-end-preserved : goal.loop-end-preserved
@@ -164,8 +162,8 @@ loop-inst-preserved c =
       own = leap.own ∙ inv.own;
       low = omega (arith, inv.low, ahead);
       walked = step_walked a c.args.id i _ _ _ _ here ahead between inv.walked slots;
-      sent = step_sent a c.args.id i _ _ _ _ here ahead between inv.walked slots _ _ _ c.begin.ensures.sent inv.sent;
-      room = step_room a c.args.id i _ _ _ _ here ahead between inv.walked slots _ _ c.begin.ensures.room inv.room;
+      sent = step_sent a c.args.id i _ _ _ _ here ahead between inv.walked slots _ _ _ c.begin.ensures.pushed.messages inv.sent;
+      room = step_room a c.args.id i _ _ _ _ here ahead between inv.walked slots _ _ c.begin.ensures.pushed.room inv.room;
       last = λ still.
           phase_each (is_covered_slot a old) (stored_at c.loop-inst.self) (stored_at new)
           (λ (s : SlotState). is_spent m s ≡ false) i _ between off (inv.last still)
@@ -174,7 +172,7 @@ loop-inst-preserved c =
           let known = inv.learned_intervals opens kept closed in
           interval_put m opens c.loop-inst.learned_intervals c.put.new.self i end c.put.ensures leap.own leap.near
           (leap.passed opens known (λ j inside off. closed j inside (sym (unlearned j) ∙ off))) known;
-      limit = c.begin.ensures.limit ∙ inv.limit;
+      limit = c.begin.ensures.pushed.limit ∙ inv.limit;
     }
 
 pub returns-clause-slots : goal.returns-clause-slots

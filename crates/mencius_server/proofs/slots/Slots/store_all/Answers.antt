@@ -1,4 +1,4 @@
-use Rattle.std.proofs.Common.{◌≡◌, ◌+◌, ◌<◌, ◌≤◌, false, not, ◌&&◌, length, ◌∙◌, ap, arith, sym, ⊎_elim}
+use Rattle.std.proofs.Common.{◌≡◌, ◌+◌, ◌<◌, ◌≤◌, false, not, ◌&&◌, length, ◌∙◌, ap, arith, rules, sym, ⊎_elim}
 use Rattle.std.specs.Prelude.{is_none, vec_len, vec_capacity}
 use Rattle.std.proofs.lemmas.Bool.{cases_lt}
 use Rattle.mencius_server.specs.Intervals.{is_in_any}
@@ -21,12 +21,15 @@ returns-then-lacking-eq0-clause-ok c = λ j.
     (cases_lt j c.args.interval.stop) in
     sym (new_slot_none c.args.interval c.args.skipped.now c.args.self.now j lack)
 
-pub push_lacking-requires-clause-placed : goal.push_lacking-requires-clause-placed
-push_lacking-requires-clause-placed c =
+pub push_lacking-requires-clause-places : goal.push_lacking-requires-clause-places
+push_lacking-requires-clause-places c =
     let few : length c.widen.new.places.items ≤ instance_count =
     omega (arith, c.widen.ensures.few, c.widen.new.places.ok.0) in
-    rw c.reserve.ensures.len (placed_wider c.self.inside.places.items c.widen.new.places.items _ few
-    c.widen.ensures.same c.self.invariant)
+    record {
+      wide = search rules;
+      placed = rw c.reserve.ensures.len (placed_wider c.self.inside.places.items c.widen.new.places.items _ few
+          c.widen.ensures.same c.self.invariant);
+    }
 
 pub push_lacking-requires-clause-learned_intervals : goal.push_lacking-requires-clause-learned_intervals
 push_lacking-requires-clause-learned_intervals c =

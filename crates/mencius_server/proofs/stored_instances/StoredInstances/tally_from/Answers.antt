@@ -18,7 +18,7 @@ plus-tally-requires-clause-few c =
     (from_few c.args.self.now.members _ c.args.server c.args.first _
     (from_gap c.args.self.now.members c.args.self.now.slots c.args.self.now.skipped.items c.args.server c.args.first
     c.index-intervals.result.now c.loop-tally.tally c.tally_slots.result c.args.stop c.past.result c.min-past.result
-    c.clear_to-end.result c.requires.learned_where_skipped (omega (arith, c.requires.member, c.requires.sorted.count))
+    c.clear_to-end.result c.requires.skips.learned_where_skipped (omega (arith, c.requires.member, c.requires.skips.sorted.count))
     c.index-intervals.ensures c.loop-tally.invariant.within c.past.ensures.above c.min-past.ensures
     c.tally_slots.ensures.stop c.past.ensures.covered c.clear_to-end.ensures.clear c.tally_slots.ensures.counted
     c.loop-tally.invariant.counted)).0
@@ -28,7 +28,7 @@ plus-tally-requires-clause-fewer c =
     (from_few c.args.self.now.members _ c.args.server c.args.first _
     (from_gap c.args.self.now.members c.args.self.now.slots c.args.self.now.skipped.items c.args.server c.args.first
     c.index-intervals.result.now c.loop-tally.tally c.tally_slots.result c.args.stop c.past.result c.min-past.result
-    c.clear_to-end.result c.requires.learned_where_skipped (omega (arith, c.requires.member, c.requires.sorted.count))
+    c.clear_to-end.result c.requires.skips.learned_where_skipped (omega (arith, c.requires.member, c.requires.skips.sorted.count))
     c.index-intervals.ensures c.loop-tally.invariant.within c.past.ensures.above c.min-past.ensures
     c.tally_slots.ensures.stop c.past.ensures.covered c.clear_to-end.ensures.clear c.tally_slots.ensures.counted
     c.loop-tally.invariant.counted)).1
@@ -40,7 +40,7 @@ loop-tally-preserved c = record {
       c.args.server c.args.first) (sym c.plus-tally.ensures)
       (from_gap c.args.self.now.members c.args.self.now.slots c.args.self.now.skipped.items c.args.server c.args.first
       c.index-intervals.result.now c.loop-tally.tally c.tally_slots.result c.args.stop c.past.result c.min-past.result
-      c.clear_to-end.result c.requires.learned_where_skipped (omega (arith, c.requires.member, c.requires.sorted.count))
+      c.clear_to-end.result c.requires.skips.learned_where_skipped (omega (arith, c.requires.member, c.requires.skips.sorted.count))
       c.index-intervals.ensures c.loop-tally.invariant.within c.past.ensures.above c.min-past.ensures
       c.tally_slots.ensures.stop c.past.ensures.covered c.clear_to-end.ensures.clear c.tally_slots.ensures.counted
       c.loop-tally.invariant.counted);

@@ -10,13 +10,13 @@ use Rattle.json.specs.Token.{Token, bad, boolean, null, number}
 use Rattle.json.specs.Word.{after_number, ends_word, head, is_operator, is_space, literal, word}
 use Rattle.json.specs.Ascii.{true_text, false_text, null_text}
 use Rattle.mencius_json.specs.Tokens.{first_or_zero, is_delimiter, is_spelled, is_word}
-use Rattle.mencius_json.proofs.FirstBytes.{class_by, eqb_false, last_of_four, word_ends, word_passes}
-use Rattle.mencius_json.proofs.Punctuation.{as_word, bad_token}
-use Rattle.mencius_json.proofs.NumeralEnds.{is_one_delimiter, no_number, number_word}
+use Rattle.mencius_json.proofs.texts.FirstBytes.{class_by, eqb_false, last_of_four, word_ends, word_passes}
+use Rattle.mencius_json.proofs.texts.Punctuation.{as_word, bad_token}
+use Rattle.mencius_json.proofs.texts.NumeralEnds.{is_one_delimiter, no_number, number_word}
 
 -- ---- where it ends
 
-pub record Parted (text : List ℕ) (n : ℕ) : Type 0 where
+pub record IsWordEnd (text : List ℕ) (n : ℕ) : Type 0 where
   pub within : n ≤ length text
   pub spelled : is_spelled (take n text) ≡ true
   pub ends : ends_word (drop n text) ≡ true
@@ -32,12 +32,12 @@ both : (a d : Bool) → a ≡ true → d ≡ true → (a && d) ≡ true
 both true d e holds = holds
 both false d e holds = absurd (cc)
 
-pub parted : (text : List ℕ) → Parted text (position_or_len is_delimiter text)
+pub parted : (text : List ℕ) → IsWordEnd text (position_or_len is_delimiter text)
 unfolding lex
 parted [] = record { within = omega arith; spelled = refl; ends = refl; rest = refl }
 parted (x ∷ xs) = by_test (is_delimiter x) refl (position_or_len is_delimiter xs) (parted xs)
   where
-    by_test : (a : Bool) → is_delimiter x ≡ a → (n : ℕ) → Parted xs n → Parted (x ∷ xs) (cond (not a) (1 + n) 0)
+    by_test : (a : Bool) → is_delimiter x ≡ a → (n : ℕ) → IsWordEnd xs n → IsWordEnd (x ∷ xs) (cond (not a) (1 + n) 0)
     by_test true e n more = record {
       within = omega arith;
       spelled = refl;
@@ -46,7 +46,7 @@ parted (x ∷ xs) = by_test (is_delimiter x) refl (position_or_len is_delimiter 
     }
     by_test false e n more =
         let next : suc n ≡ 1 + n = omega arith in
-        subst (Parted (x ∷ xs)) next
+        subst (IsWordEnd (x ∷ xs)) next
         (record {
           within = (let h = more.within in omega arith);
           spelled = both (not (is_delimiter x)) (is_spelled (take n xs)) (ap not e) more.spelled;
@@ -55,7 +55,7 @@ parted (x ∷ xs) = by_test (is_delimiter x) refl (position_or_len is_delimiter 
         })
 
 -- a text may be cut where a word ends
-pub cut_there : (text : List ℕ) (n : ℕ) → Parted text n → IsCharBoundary text n
+pub cut_there : (text : List ℕ) (n : ℕ) → IsWordEnd text n → IsCharBoundary text n
 cut_there text n parted = elim (cases_lt n (length text)) [
   | inl less ↦
       let is : is_delimiter (get_or text n 0) ≡ true = ap ends_word (sym (drop_more text n 0 less)) ∙ parted.ends in

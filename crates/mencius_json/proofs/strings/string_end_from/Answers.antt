@@ -1,7 +1,7 @@
 use Rattle.std.proofs.Common.{◌≡◌, ◌∙◌, sym, get_or, true}
 use Rattle.mencius_json.specs.Tokens.{ends_string}
-use Rattle.mencius_json.proofs.StringEnds.{first_place, nowhere}
-use Rattle.mencius_json.proofs.plain.string_end_from.Goals as goal
+use Rattle.mencius_json.proofs.texts.StringEnds.{first_place, nowhere}
+use Rattle.mencius_json.proofs.strings.string_end_from.Goals as goal
 
 pub returns-then-ends_string : goal.returns-then-ends_string
 returns-then-ends_string c =

@@ -8,7 +8,7 @@ use Rattle.mencius_json.specs.declared.plain.Position.{Position}
 use Rattle.mencius_json.specs.declared.plain.Position.TheVariants.{Fresh, AfterValue, AfterComma, Failed}
 use Rattle.mencius_json.specs.Tokens.{first_or_zero, is_word, refused_at, tokens_at}
 use Rattle.mencius_json.specs.Tokens as at
-use Rattle.mencius_json.proofs.FirstBytes.{class_by, eqb_false, operator_by}
+use Rattle.mencius_json.proofs.texts.FirstBytes.{class_by, eqb_false, operator_by}
 
 -- ---- where a value may begin
 

@@ -1,8 +1,8 @@
 use Rattle.std.proofs.Common.{◌≡◌, ◌≢◌, ◌-◌, ◌∙◌, ℕ, List, ap, arith, sym, take, get_or}
 use Rattle.std.proofs.lemmas.Str.{IsCharBoundary-after_ascii}
-use Rattle.mencius_json.proofs.FirstBytes.{plain-drop}
-use Rattle.mencius_json.proofs.StringTexts.{closed_at, found_bounds, unclosed, unclosed_at}
-use Rattle.mencius_json.proofs.plain.closed.Goals as goal
+use Rattle.mencius_json.proofs.texts.FirstBytes.{plain-drop}
+use Rattle.mencius_json.proofs.texts.StringTexts.{closed_at, found_bounds, unclosed, unclosed_at}
+use Rattle.mencius_json.proofs.strings.closed.Goals as goal
 
 pub returns-in_default-clause-value : goal.returns-in_default-clause-value
 returns-in_default-clause-value c = unclosed c.args.inside.now (sym c.string_end_in.ensures ∙ c.in_default.is) c.requires

@@ -2,8 +2,8 @@ use Rattle.std.proofs.Common.{◌≤◌, ◌+◌, ◌∙◌, ap, arith, length, 
 use Rattle.std.specs.Simd.Lanes.{mask_l}
 use lib.Lanes.{chunk}
 use Rattle.mencius_json.specs.Tokens.{ends_string}
-use Rattle.mencius_json.proofs.StringEnds.{passed_over, stops_at}
-use Rattle.mencius_json.proofs.plain.string_end_in.Goals as goal
+use Rattle.mencius_json.proofs.texts.StringEnds.{passed_over, stops_at}
+use Rattle.mencius_json.proofs.strings.string_end_in.Goals as goal
 
 pub returns-then-stops-ne0 : goal.returns-then-stops-ne0
 returns-then-stops-ne0 c =

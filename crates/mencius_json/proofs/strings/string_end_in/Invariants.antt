@@ -1,6 +1,6 @@
 use Rattle.std.proofs.Common.{◌≡◌, ◌≤◌, ◌<◌, ◌-◌, ℕ, length, get_or, false}
 use Rattle.mencius_json.specs.Tokens.{ends_string}
-use Rattle.mencius_json.proofs.plain.string_end_in.Given as goal
+use Rattle.mencius_json.proofs.strings.string_end_in.Given as goal
 
 abbrev pub invariant-chunks : goal.invariant-chunks
 invariant-chunks l = record {

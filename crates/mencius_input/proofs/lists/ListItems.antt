@@ -1,4 +1,4 @@
--- What is noted of the items of a list is what is judged of the list.
+-- What the items of a list come to, one by one, is what is judged of the list.
 use Rattle.std.proofs.Common.{◌≡◌, List, [], ◌∷◌, ◌++◌, ◌&&◌, Bool, max, Option, Some, None, option_and_then, Result, Ok, Err, option_map, map, refl, sym, ap, ◌∙◌, ℕ, ◌<◌, length, ap₂, true, false, cond, ◌+◌, arith, nat_le, nat_lt, add-one}
 use Rattle.std.specs.List.{list_all}
 use Rattle.std.specs.Option.{option_zip}
@@ -16,7 +16,7 @@ use Rattle.mencius_format.specs.ValuesOrFaults.{map_ok, value_or_fault}
 use Rattle.mencius_input.specs.Newest.{items_version}
 use Rattle.mencius_format.specs.Versions.{first_version}
 use Rattle.mencius_json.specs.Next.{next_items, next_value}
-use Rattle.mencius_input.specs.Noted.{graver_fault, items_or_fault, where_room, with_one}
+use Rattle.mencius_input.specs.ItemFaults.{graver_fault, items_or_fault, where_room, with_one}
 use Rattle.mencius_input.specs.Scenario.{all_of}
 use Rattle.mencius_format.proofs.ValuesOfParts.{both_values, map_ok_value, value_is_ok}
 use Rattle.mencius_json.proofs.NextValues.{ItemsSoFar, items_close, items_further, items_start, items_stop, items_then}

@@ -7,12 +7,12 @@ use Rattle.std.proofs.lemmas.List.Quantifiers.{position-Some}
 use Rattle.json.specs.Lex.{between, lex, in_string}
 use Rattle.json.specs.Text.{content, plain, prepend}
 use Rattle.mencius_json.specs.Tokens.{is_plain, ends_string}
-use Rattle.mencius_json.proofs.StringEnds.{none_passes}
-use Rattle.mencius_json.proofs.FirstBytes.{eqb_false, last_of_four, neither, not_true, plain-drop, string_passes}
+use Rattle.mencius_json.proofs.texts.StringEnds.{none_passes}
+use Rattle.mencius_json.proofs.texts.FirstBytes.{eqb_false, last_of_four, neither, not_true, plain-drop, string_passes}
 
 -- ---- up to a place before which the text does not stop
 
-record Passed (xs : List ℕ) (n : ℕ) : Type 0 where
+record IsPassed (xs : List ℕ) (n : ℕ) : Type 0 where
   text : content plain xs ≡ prepend (take n xs) (content plain (drop n xs))
   rest : lex in_string xs ≡ lex in_string (drop n xs)
 
@@ -30,7 +30,7 @@ unfolding content
 one_passed x xs e fails lacks = last_of_four (x == 34) (x == 92) (nat_lt x 32) _ _ _ _ e fails lacks
 
 passed : (xs : List ℕ) (n : ℕ) → n ≤ length xs → ((m : ℕ) → m < n → ends_string (get_or xs m 0) ≡ false)
-    → is_plain xs ≡ true → Passed xs n
+    → is_plain xs ≡ true → IsPassed xs n
 passed xs zero le none h = record { text = prepend-nil _; rest = refl }
 passed [] (suc n) le none h = absurd (omega arith)
 passed (x ∷ xs) (suc n) le none h =
@@ -51,7 +51,7 @@ passed (x ∷ xs) (suc n) le none h =
 record Stops (xs : List ℕ) (n : ℕ) : Type 0 where
   less : n < length xs
   stop : ends_string (get_or xs n 0) ≡ true
-  before : Passed xs n
+  before : IsPassed xs n
   here : drop n xs ≡ get_or xs n 0 ∷ drop (n + 1) xs
 
 stops : (xs : List ℕ) (n : ℕ) → position ends_string xs ≡ Some n → is_plain xs ≡ true → Stops xs n
@@ -64,7 +64,7 @@ stops xs n e h =
       here = drop_more xs n 0 found.0;
     }
 
-pub record Closed (xs : List ℕ) (n : ℕ) : Type 0 where
+pub record IsClosed (xs : List ℕ) (n : ℕ) : Type 0 where
   pub text : content plain xs ≡ Some (take n xs)
   pub rest : lex in_string xs ≡ lex between (drop (n + 1) xs)
 
@@ -73,7 +73,7 @@ append-nil [] = refl
 append-nil (x ∷ xs) = ap (λ (l : List ℕ). x ∷ l) (append-nil xs)
 
 pub closed_at : (xs : List ℕ) (n : ℕ) → position ends_string xs ≡ Some n → is_plain xs ≡ true → get_or xs n 0 ≡ 34
-    → Closed xs n
+    → IsClosed xs n
 unfolding content lex
 closed_at xs n e h quoted =
     let s = stops xs n e h in

@@ -1,4 +1,4 @@
--- What is noted of the items of a list, one by one; for private clauses.
+-- What the items of a list come to, one by one; for private clauses.
 use Rattle.std.specs.Prelude.{Bool, true, false, List, [], ◌∷◌, ◌++◌, Option, Some, None, Result, Ok, Err}
 use Rattle.serde_json.specs.Data.{Data}
 use Rattle.mencius_base.specs.declared.event.Event.{Event}

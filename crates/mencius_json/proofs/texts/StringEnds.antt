@@ -10,7 +10,7 @@ use Rattle.std.specs.List.{position, position_or_len, prefix_len}
 use Rattle.std.specs.Simd.Lanes.{mask_l}
 use Rattle.std.specs.Int.Bits.{bit_xor}
 use Rattle.mencius_json.specs.Tokens.{ends_string}
-use Rattle.mencius_json.proofs.FirstBytes.{not_true}
+use Rattle.mencius_json.proofs.texts.FirstBytes.{not_true}
 
 -- ---- the first place
 

@@ -9,7 +9,7 @@ use Rattle.std.proofs.lemmas.List.Sums.{prefix_len-le-length}
 use Rattle.json.specs.Token.{bad, number}
 use Rattle.json.specs.Word.{after_digits, after_exponent, after_fraction, after_minus, after_number, after_sign, after_whole, ends_word, head, is_operator, is_space, number_before}
 use Rattle.mencius_json.specs.Tokens.{is_delimiter, is_spelled}
-use Rattle.mencius_json.proofs.FirstBytes.{eqb_false, is_one_blank, not_true}
+use Rattle.mencius_json.proofs.texts.FirstBytes.{eqb_false, is_one_blank, not_true}
 
 -- ---- the bytes that end a word
 

@@ -1,5 +1,0 @@
-use Rattle.mencius_json.proofs.StringEnds.{compared}
-use Rattle.mencius_json.proofs.plain.stops_among.Goals as goal
-
-pub returns : goal.returns
-returns c = compared c.args.bytes c.fits-bytes.0 c.fits-bytes.1
