@@ -1,12 +1,12 @@
 //! The tokens of a JSON text, and the values that they make.
 //!
 //! `tokens` hands out one token after the other: of a text without a backslash by `plain`, in one walk
-//! and without keeping anything, and of any other by the reader of `json`. Where a string ends, `strings` says. `value` reads the next
-//! value from its tokens and makes no tree of it: a number or a text, a list or an object that is
-//! entered, or any value that is passed. What comes of that is what `serde_json` finds in the tree,
-//! or `Invalid` where the text is no JSON. Where such a text stops being JSON, `stops` says in a
-//! person's words. `crowd` says of which texts a tree would be too large, by the bytes that `counting`
-//! counts. What a text is about is for the crates above.
+//! and without keeping anything, and of any other by the reader of `json`. Where a string ends,
+//! `strings` says. `value` reads the next value from its tokens and makes no tree of it: a number or a
+//! text, a list or an object that is entered, or any value that is passed. What comes of that is what
+//! `serde_json` finds in the tree, or `Invalid` where the text is no JSON. Where such a text stops being
+//! JSON, `stops` says in a person's words. `crowd` says of which texts a tree would be too large, by the
+//! bytes that `counting` counts. What a text is about is for the crates above.
 #![tactic(auto)]
 
 mod counting;

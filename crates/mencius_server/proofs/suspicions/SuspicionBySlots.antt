@@ -23,7 +23,8 @@ use Rattle.mencius_server.proofs.intervals.IntervalCounts.{count_same}
 use Rattle.mencius_server.proofs.stored.InstanceGaps.{unskipped_other, unskipped_past}
 use Rattle.mencius_server.proofs.stored.StoredInstances.{instance_there, same_instances, seen, seen_none, seen_some, seen_stored}
 use Rattle.mencius_server.proofs.suspicions.OpenInstances.{open_by_skip, open_same}
-use Rattle.mencius_server.proofs.tallies.InstanceTallies.{IsAlike, alike_same, count_less}
+use Rattle.mencius_server.proofs.tallies.CountsBelow.{count_less}
+use Rattle.mencius_server.proofs.tallies.OneTally.{IsAlike, alike_same}
 use Rattle.mencius_server.proofs.suspicions.IntervalLeaps.{intervals_of, intervals_stay}
 use Rattle.mencius_server.proofs.suspicions.SuspicionReach.{clash}
 use Rattle.mencius_base.specs.Limits.{greatest_round, instance_count}

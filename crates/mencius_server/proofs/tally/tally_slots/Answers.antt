@@ -1,7 +1,7 @@
 use Rattle.std.proofs.Common.{arith, refl, ap, ◌∙◌}
 use Rattle.mencius_server.specs.Slots.{stored_or_new}
 use Rattle.mencius_server.specs.declared.tally.Tally.{Tally}
-use Rattle.mencius_server.proofs.tallies.InstanceTallies.{tallied_all, tallied_few, tallied_more, tallied_start}
+use Rattle.mencius_server.proofs.tallies.OneTally.{tallied_all, tallied_few, tallied_more, tallied_start}
 use Rattle.mencius_server.proofs.tally.tally_slots.Goals as goal
 
 pub loop-inst-init : goal.loop-inst-init

@@ -1,6 +1,6 @@
 use Rattle.std.proofs.Common.{◌≡◌, ◌-◌}
 use Rattle.mencius_server.specs.Slots.{stored_or_new}
-use Rattle.mencius_server.proofs.tallies.InstanceTallies.{IsTalliedTo}
+use Rattle.mencius_server.proofs.tallies.OneTally.{IsTalliedTo}
 use Rattle.mencius_server.proofs.tally.tally_slots.Given as goal
 
 abbrev pub invariant-loop-inst : goal.invariant-loop-inst

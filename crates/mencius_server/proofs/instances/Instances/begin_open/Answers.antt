@@ -2,7 +2,8 @@ use Rattle.std.proofs.Common.{◌++◌, ap, arith, rules, sym, ◌∙◌}
 use Rattle.mencius_server.specs.Instances.{instance_slot_in}
 use Rattle.mencius_server.specs.Tallies.{tally_of}
 use Rattle.mencius_server.proofs.suspicions.SuspicionBySlots.{phase_count, phase_learned, phase_passes, phase_rounds, phase_intervals, phase_sent, phase_shows, phase_sound, phase_alike, phase_theirs}
-use Rattle.mencius_server.proofs.tallies.InstanceTallies.{alike_same, counts_put, intervals_kept, sound_learned, tally_alike}
+use Rattle.mencius_server.proofs.tallies.OneTally.{alike_same, sound_learned, tally_alike}
+use Rattle.mencius_server.proofs.tallies.InstanceTallies.{counts_put, intervals_kept}
 use Rattle.mencius_server.proofs.instances.Instances.begin_open.Goals as goal
 
 pub begin_all-is_last-requires : goal.begin_all-is_last-requires

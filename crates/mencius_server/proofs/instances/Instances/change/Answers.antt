@@ -10,7 +10,8 @@ use Rattle.mencius_server.specs.declared.tally.Tally.{Tally}
 use Rattle.mencius_server.specs.declared.change.Change.{Change}
 use Rattle.mencius_server.specs.declared.skipped_intervals.Interval.{Interval}
 use Rattle.mencius_server.proofs.stored.StoredInstances.{at_here, at_off, change_learned, instance_there, seen_stored, some_there, stored_slot, written_shows, written_sound, written_sound_from}
-use Rattle.mencius_server.proofs.tallies.InstanceTallies.{counts_after, has_counted}
+use Rattle.mencius_server.proofs.tallies.OneTally.{has_counted}
+use Rattle.mencius_server.proofs.tallies.InstanceTallies.{counts_after}
 use Rattle.mencius_server.proofs.instances.Instances.change.Goals as goal
 
 pub at-slot-requires-clause-there : goal.at-slot-requires-clause-there

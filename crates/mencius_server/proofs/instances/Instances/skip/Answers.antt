@@ -12,7 +12,8 @@ use Rattle.mencius_server.specs.Slots.{slot_after_skip_in}
 use Rattle.mencius_server.specs.declared.owned_interval.OwnedInterval.{OwnedInterval}
 use Rattle.mencius_server.proofs.stored.SkipStored.{IsAligned, news_is, skip_again, skip_gives, skip_is, skip_shows, skip_sorted, skip_sound, skip_stays, skip_theirs}
 use Rattle.mencius_server.specs.Tallies.{IsTally, tally_of}
-use Rattle.mencius_server.proofs.tallies.InstanceTallies.{alike_same, counts_put, sound_learned, tally_alike}
+use Rattle.mencius_server.proofs.tallies.OneTally.{alike_same, sound_learned, tally_alike}
+use Rattle.mencius_server.proofs.tallies.InstanceTallies.{counts_put}
 use Rattle.mencius_server.proofs.intervals.NewIntervals.{old_news}
 use Rattle.mencius_base.specs.Limits.{instance_count}
 use Rattle.mencius_server.proofs.instances.Instances.skip.Goals as goal

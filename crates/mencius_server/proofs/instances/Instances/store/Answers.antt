@@ -2,7 +2,8 @@ use Rattle.std.proofs.Common.{ℕ, Some, cond, eqb, sym, ◌∙◌, ap}
 use Rattle.mencius_server.specs.Instances.{slot_by_skip}
 use Rattle.mencius_server.specs.Slots.{stored_at}
 use Rattle.mencius_server.proofs.stored.StoredInstances.{none_there, seen_stored, store_same, store_shows, store_sound, stored_already, stored_has}
-use Rattle.mencius_server.proofs.tallies.InstanceTallies.{alike_same, counts_kept, unchanged}
+use Rattle.mencius_server.proofs.tallies.OneTally.{alike_same}
+use Rattle.mencius_server.proofs.tallies.InstanceTallies.{counts_kept, unchanged}
 use Rattle.mencius_server.proofs.instances.Instances.store.Goals as goal
 
 pub returns-then-has-clause-ok : goal.returns-then-has-clause-ok

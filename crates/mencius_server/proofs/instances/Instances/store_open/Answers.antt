@@ -1,6 +1,7 @@
 use Rattle.std.proofs.Common.{arith, sym}
 use Rattle.mencius_server.proofs.suspicions.SuspicionBySlots.{lacking_count, lacking_intervals, open_stored_shows, open_stored_slot, open_stored_sound}
-use Rattle.mencius_server.proofs.tallies.InstanceTallies.{alike_same, counts_kept, unchanged}
+use Rattle.mencius_server.proofs.tallies.OneTally.{alike_same}
+use Rattle.mencius_server.proofs.tallies.InstanceTallies.{counts_kept, unchanged}
 use Rattle.mencius_server.proofs.instances.Instances.store_open.Goals as goal
 
 pub store_all-requires-clause-lacking : goal.store_all-requires-clause-lacking

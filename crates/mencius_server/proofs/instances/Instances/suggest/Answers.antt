@@ -10,7 +10,8 @@ use Rattle.mencius_server.specs.Tallies.{IsInstancesInside}
 use Rattle.mencius_server.specs.declared.skipped_intervals.Interval.{Interval}
 use Rattle.mencius_server.specs.declared.tally.Tally.{Tally}
 use Rattle.mencius_server.proofs.stored.StoredInstances.{at_here, at_off, instance_there, seen_stored, some_there, stored_slot, written_quiet, written_shows}
-use Rattle.mencius_server.proofs.tallies.InstanceTallies.{IsAlike, alike_same, counts_kept}
+use Rattle.mencius_server.proofs.tallies.OneTally.{IsAlike, alike_same}
+use Rattle.mencius_server.proofs.tallies.InstanceTallies.{counts_kept}
 use Rattle.mencius_server.proofs.instances.Instances.suggest.Goals as goal
 
 pub at-requires-clause-there : goal.at-requires-clause-there

@@ -6,7 +6,8 @@ use Rattle.mencius_server.specs.Instances.{instance_slot_in}
 use Rattle.mencius_server.specs.Tallies.{IsInstancesInside, IsTally, IsTallyFrom, no_tally, tally_of, tally_sum}
 use Rattle.mencius_server.specs.declared.skipped_intervals.Interval.{Interval}
 use Rattle.mencius_server.specs.declared.tally.Tally.{Tally}
-use Rattle.mencius_server.proofs.tallies.InstanceTallies.{alike_same, counts_put, tally_few, tally_further, tally_none, tally_survey}
+use Rattle.mencius_server.proofs.tallies.OneTally.{alike_same, tally_few, tally_further, tally_none}
+use Rattle.mencius_server.proofs.tallies.InstanceTallies.{counts_put, tally_survey}
 use Rattle.mencius_server.proofs.instances.Instances.tally.Goals as goal
 
 -- the count goes on from what was counted, or from nothing

@@ -2,7 +2,7 @@ use Rattle.std.proofs.Common.{arith, cond, refl, sym, subst, ap, ◌∙◌}
 use Rattle.std.proofs.lemmas.Bool.{eq-eqb}
 use Rattle.mencius_server.specs.Instances.{instance_slot_in}
 use Rattle.mencius_server.specs.Tallies.{IsTally, tally_of}
-use Rattle.mencius_server.proofs.tallies.InstanceTallies.{tally_anew}
+use Rattle.mencius_server.proofs.tallies.OneTally.{tally_anew}
 use Rattle.mencius_server.proofs.stored_instances.StoredInstances.retally_changed.Goals as goal
 
 pub returns-then-is_changed-clause-here : goal.returns-then-is_changed-clause-here

@@ -2,7 +2,7 @@ use Rattle.std.proofs.Common.{refl, sym, subst, ap, arith}
 use Rattle.mencius_server.specs.Instances.{instance_slot_in}
 use Rattle.mencius_server.specs.Tallies.{IsTallyFrom}
 use Rattle.mencius_server.specs.declared.tally.Tally.{Tally}
-use Rattle.mencius_server.proofs.tallies.InstanceTallies.{from_few, from_gap, from_start}
+use Rattle.mencius_server.proofs.tallies.OneTally.{from_few, from_gap, from_start}
 use Rattle.mencius_server.proofs.stored_instances.StoredInstances.tally_from.Goals as goal
 
 pub loop-tally-init : goal.loop-tally-init
