@@ -68,7 +68,6 @@ impl Slot {
     pub fn new(members: Members) -> Slot
         ensures { result ≡ new_slot members }
     {
-        // For the proof: there are few members.
         let _few = members.count();
         Slot {
             members,
@@ -207,7 +206,6 @@ impl Slot {
         requires { self.old.trying < ballot }
         ensures { self.new ≡ after_begin self.old ballot }
     {
-        // For the proof: there are few members.
         let _few = self.members.count();
         self.trying = ballot;
         self.reported = None;
@@ -308,7 +306,6 @@ impl Slot {
         requires { from < self.old.members.count }
         ensures { self.new ≡ with_promise self.old from vote }
     {
-        // For the proof: there are few members.
         let _few = self.members.count();
         self.promisers[from as usize] = true;
         self.reported = higher(self.reported, vote);
@@ -318,7 +315,6 @@ impl Slot {
         requires { from < self.old.members.count }
         ensures { self.new ≡ with_acceptance self.old from }
     {
-        // For the proof: there are few members.
         let _few = self.members.count();
         self.accepters[from as usize] = true;
     }

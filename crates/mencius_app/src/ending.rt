@@ -90,7 +90,6 @@ pub(crate) fn write_both<E: Sink>(errors: &mut E, first: &str, second: &str) -> 
 {
     write_all(errors, first.as_bytes())?;
     let done = write_all(errors, second.as_bytes());
-    // For the proof: no count is past its greatest value.
     let _failures = errors.failures();
     done
 }

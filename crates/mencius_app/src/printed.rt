@@ -77,7 +77,6 @@ pub(crate) fn push_server(
     ensures { OnOk result (string_bytes text.new
         ≡ string_bytes text.old ++ server_line cluster.now.members (trace_of cluster.now) server) }
 {
-    // For the proof: what a server executed was submitted.
     laws::once();
     cluster.replays();
     let Some(front) = cluster.front(server) else {

@@ -20,7 +20,6 @@ pub(crate) fn accepted_by(
     ensures len { IfOk result (λ x. vec_len x ≡ instance_count) }
     ensures ballots { IfOk result (λ x. AreAccepted (trace_of cluster.now) server x.items) }
 {
-    // For the proof: a type inside a message.
     let _inside: Option<Vote> = None;
     let mut ballots = no_ballots(alloc)?;
     for number in 0..cluster.messages() {
@@ -87,7 +86,6 @@ pub(crate) fn vote_of(cluster: &Cluster, inst: u32, ballot: Option<Ballot>) -> O
 fn proposal(cluster: &Cluster, inst: u32, ballot: Ballot) -> Option<Value>
     ensures { result ≡ proposal (trace_of cluster.now) inst ballot }
 {
-    // For the proof: a type inside a message.
     let _inside: Option<Vote> = None;
     for number in 0..cluster.messages() {
         let Some(message) = cluster.message(number) else {

@@ -107,7 +107,6 @@ impl Outbox {
         ensures limit { self.new.limit ≡ self.old.limit }
         ensures room { self.new.room + 1 ≡ self.old.room }
     {
-        // For the proof: a type inside a message.
         let _inside: Option<Vote> = None;
         self.messages.push_reserved(message);
     }

@@ -13,11 +13,9 @@ pub fn copy_longest(alloc: Global, cluster: &Cluster) -> Result<Vec<Command>, No
     ensures list { IfOk result (λ x. x.items ≡ longest_of cluster.now) }
     ensures limit { IfOk result (λ x. length x.items < 2 ^ 32) }
 {
-    // For the proof: what a server executed was submitted.
     laws::once();
     cluster.replays();
     let server = cluster.longest();
-    // For the proof: no history is longer than this.
     let _done = cluster.done(server).unwrap();
     let tickets = cluster.history(server).unwrap();
     let mut list = Vec::with_capacity(alloc, tickets.len())?;

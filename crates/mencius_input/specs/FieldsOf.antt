@@ -19,23 +19,23 @@ pub record Row : Type 0 where
   pub shape : Shape
 
 -- a whole number from the least to the greatest, and what it is where the field is missing, if it may be
-abbrev pub whole : List ℕ → ℕ → ℕ → Option ℕ → Row
-whole name least greatest default = record { name = name; shape = shape.Whole least greatest default }
+abbrev pub whole_row : List ℕ → ℕ → ℕ → Option ℕ → Row
+whole_row name least greatest default = record { name = name; shape = shape.Whole least greatest default }
 
 -- a list
-abbrev pub list : List ℕ → Row
-list name = record { name = name; shape = shape.List }
+abbrev pub list_row : List ℕ → Row
+list_row name = record { name = name; shape = shape.List }
 
 abbrev pub row : Field → Row
-row Version = whole (codes "version") first_version newest_version None
-row Servers = whole (codes "servers") 1 most_servers None
-row Beta = whole (codes "beta") 0 greatest_beta (Some 0)
-row Workers = whole (codes "workers") 1 most_workers None
-row Seed = whole (codes "seed") 0 18446744073709551615 None
-row Turns = whole (codes "turns") 0 most_turns None
-row Loss = whole (codes "loss") 0 greatest_loss None
-row Events = list (codes "events")
-row Commands = list (codes "commands")
+row Version = whole_row (codes "version") first_version newest_version None
+row Servers = whole_row (codes "servers") 1 most_servers None
+row Beta = whole_row (codes "beta") 0 greatest_beta (Some 0)
+row Workers = whole_row (codes "workers") 1 most_workers None
+row Seed = whole_row (codes "seed") 0 18446744073709551615 None
+row Turns = whole_row (codes "turns") 0 most_turns None
+row Loss = whole_row (codes "loss") 0 greatest_loss None
+row Events = list_row (codes "events")
+row Commands = list_row (codes "commands")
 
 -- the fields of both kinds that are whole numbers, and those of a run alone
 abbrev pub shared_fields : List Field

@@ -58,7 +58,7 @@ const WHOLE_FIELDS: [Field; 7] = [
 const SHARED: usize = 3;
 
 // The row of a field that is a whole number.
-fn whole(name: &'static str, least: u64, greatest: u64, default: Option<u64>) -> Row
+fn whole_row(name: &'static str, least: u64, greatest: u64, default: Option<u64>) -> Row
     ensures name { result.name.now ≡ name.now }
     ensures shape { result.shape ≡ Shape.Whole least greatest default }
 {
@@ -71,7 +71,7 @@ fn whole(name: &'static str, least: u64, greatest: u64, default: Option<u64>) ->
 }
 
 // The row of a field that is a list.
-fn list(name: &'static str) -> Row
+fn list_row(name: &'static str) -> Row
     ensures name { result.name.now ≡ name.now }
     ensures shape { result.shape ≡ Shape.List }
 {
@@ -86,15 +86,15 @@ impl Field {
         ensures shape { result.shape ≡ (row self).shape }
     {
         match self {
-            Field::Version => whole("version", FIRST_VERSION, NEWEST_VERSION, None),
-            Field::Servers => whole("servers", 1, MOST_SERVERS as u64, None),
-            Field::Beta => whole("beta", 0, GREATEST_BETA as u64, Some(0)),
-            Field::Workers => whole("workers", 1, MOST_WORKERS as u64, None),
-            Field::Seed => whole("seed", 0, u64::MAX, None),
-            Field::Turns => whole("turns", 0, MOST_TURNS as u64, None),
-            Field::Loss => whole("loss", 0, GREATEST_LOSS as u64, None),
-            Field::Events => list("events"),
-            Field::Commands => list("commands"),
+            Field::Version => whole_row("version", FIRST_VERSION, NEWEST_VERSION, None),
+            Field::Servers => whole_row("servers", 1, MOST_SERVERS as u64, None),
+            Field::Beta => whole_row("beta", 0, GREATEST_BETA as u64, Some(0)),
+            Field::Workers => whole_row("workers", 1, MOST_WORKERS as u64, None),
+            Field::Seed => whole_row("seed", 0, u64::MAX, None),
+            Field::Turns => whole_row("turns", 0, MOST_TURNS as u64, None),
+            Field::Loss => whole_row("loss", 0, GREATEST_LOSS as u64, None),
+            Field::Events => list_row("events"),
+            Field::Commands => list_row("commands"),
         }
     }
 

@@ -15,10 +15,10 @@ use crate::field::{index_of_name, list_field, whole_fields};
 use crate::kind::Kind;
 use crate::newest::Newest;
 use crate::schedule::next_events;
-use json::Scratch;
+use json::{Reader, Scratch};
 use mencius_base::{Command, NoMemory};
 use mencius_ends::AppFault;
-use mencius_json::{MOST_DEPTH, Tokens, enter_object, next_name, next_whole, pass};
+use mencius_json::{MOST_DEPTH, enter_object, next_whole, pass};
 use std::alloc::Global;
 
 /// What is known of the fields that were read. A field that was written twice says what was written
@@ -70,7 +70,7 @@ fn read_text(alloc: Global, kind: Kind, text: &str) -> Result<FieldValues, AppFa
     ensures err { IfErr result (IsUnread kind (read text.now)) }
 {
     let mut scratch = Scratch::new(alloc);
-    let mut reader = Tokens::new(text, &mut scratch)?;
+    let mut reader = Reader::new(text, &mut scratch)?;
     let fields = next_scenario(alloc, kind, &mut reader)?;
     if reader.next().is_some() {
         return Err(AppFault::NotJson);
@@ -82,7 +82,7 @@ fn read_text(alloc: Global, kind: Kind, text: &str) -> Result<FieldValues, AppFa
 fn next_scenario(
     alloc: Global,
     kind: Kind,
-    reader: &mut Tokens<'_>,
+    reader: &mut Reader<'_>,
 ) -> Result<Result<FieldValues, AppFault>, AppFault>
     ensures ok { IfOk result (λ r. (d : Data)
         × (next_value max_depth reader.old ≡ Some (d, reader.new))
@@ -104,7 +104,7 @@ fn next_scenario(
 fn next_fields(
     alloc: Global,
     kind: Kind,
-    reader: &mut Tokens<'_>,
+    reader: &mut Reader<'_>,
     depth: usize,
 ) -> Result<FieldValues, AppFault>
     requires { 1 < depth }
@@ -119,7 +119,7 @@ fn next_fields(
         list: None,
         has_other: false,
     };
-    'fields: while let Some(name) = next_name(reader)? {
+    'fields: while let Some(name) = reader.next_key()? {
         read_field(alloc, kind, reader, depth, &mut fields, name)?;
     }
     Ok(fields)
@@ -129,7 +129,7 @@ fn next_fields(
 fn read_field(
     alloc: Global,
     kind: Kind,
-    reader: &mut Tokens<'_>,
+    reader: &mut Reader<'_>,
     depth: usize,
     fields: &mut FieldValues,
     name: &str,
@@ -166,7 +166,7 @@ fn read_field(
 fn next_list(
     alloc: Global,
     kind: Kind,
-    reader: &mut Tokens<'_>,
+    reader: &mut Reader<'_>,
     depth: usize,
 ) -> Result<KeptList, AppFault>
     requires { 1 < depth }

@@ -12,11 +12,11 @@ ghost use Rattle.mencius_input.specs.Scenario.{number_of};
 use crate::faulty_items::{first_item, is_limit, is_shape};
 use crate::field::{Field, list_field, whole_fields};
 use crate::kind::{Kind, tree_of};
-use json::Scratch;
+use json::{Reader, Scratch};
 use mencius_base::NoMemory;
 use mencius_ends::AppFault;
 use mencius_format::NEWEST_VERSION;
-use mencius_json::{MOST_DEPTH, Tokens, next_name, pass};
+use mencius_json::{MOST_DEPTH, pass};
 use serde_json::Value;
 use std::alloc::Global;
 
@@ -313,10 +313,10 @@ fn first_in_fields(
         ≡ first_in kind fault (view scenario.now) (names_in text.now)) }
 {
     let mut scratch = Scratch::new(alloc);
-    let mut reader = Tokens::new(text, &mut scratch)?;
+    let mut reader = Reader::new(text, &mut scratch)?;
     let _brace = reader.next();
     let mut in_list = place_in_list_field(alloc, kind, scenario, fault)?;
-    'fields: while let Ok(Some(name)) = next_name(&mut reader) {
+    'fields: while let Ok(Some(name)) = reader.next_key() {
         let place = place_named(alloc, kind, &mut in_list, scenario, name, fault)?;
         if place.is_some() {
             return Ok(place);

@@ -1,4 +1,3 @@
-pub mod texts
 pub mod Conversions
 pub mod NextValues
 pub mod TokenKinds

@@ -6,8 +6,6 @@ ghost use Rattle.mencius_json.specs.Stops.{IsStop, IsWrongAt, characters_in, pla
 
 use crate::counting::count_of;
 use crate::crowd::crowd_in;
-use crate::plain::is_blank;
-use crate::tokens::Tokens;
 use crate::value::{MOST_DEPTH, pass, whole_number};
 use json::{Reader, Scratch, Token};
 use mencius_base::NoMemory;
@@ -60,9 +58,9 @@ fn line_and_column(front: &[u8]) -> (usize, usize)
 // How far the text was read when it turned out to be no JSON.
 fn read_to(alloc: Global, text: &str) -> Result<usize, NoMemory> {
     let mut scratch = Scratch::new(alloc);
-    let mut tokens = Tokens::of(Reader::new(text, &mut scratch)?);
-    let _ = pass(&mut tokens, MOST_DEPTH);
-    Ok(tokens.offset().unwrap_or(0))
+    let mut reader = Reader::new(text, &mut scratch)?;
+    let _ = pass(&mut reader, MOST_DEPTH);
+    Ok(reader.offset())
 }
 
 // Where bytes are the front of a value, whether they are all of one.
@@ -106,6 +104,11 @@ fn wrong_token(token: Token<'_>, open: &[u8], is_behind_name: bool) -> &'static 
         (_, []) => GOES_ON,
         _ => NO_JSON,
     }
+}
+
+// Whether a byte is a blank.
+fn is_blank(byte: u8) -> bool {
+    matches!(byte, b' ' | b'\t' | b'\n' | b'\r')
 }
 
 // Where a token begins before which a comma may stand.

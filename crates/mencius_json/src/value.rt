@@ -6,16 +6,14 @@
 
 ghost use Rattle.std.specs.Prelude.{true, false, ◌≡◌, ◌∷◌, ◌<◌, ◌+◌, ◌==◌, Some, None, IfErr, IfOk, IsTrue, MatchResult, OnOk, is_some, length, option_and_then, option_map, slice_index};
 ghost use Rattle.fast_float.specs.Text.{minus};
-ghost use Rattle.json.specs.Json.{read_key};
 ghost use Rattle.json.specs.Reads.{token_of};
 ghost use Rattle.serde_json.specs.Data.{Data, Items, Members};
 ghost use Rattle.serde_json.specs.Find.{as_number, as_str, as_u64};
 ghost use Rattle.serde_json.specs.Read.{float_of, number_from, number_of};
 ghost use Rattle.mencius_json.specs.Next.{EntersArray, EntersObject, next_items, next_members, next_value, number_text, opens_array, opens_object, text_of};
 
-use crate::tokens::Tokens;
 use fast_float::Numeral;
-use json::{Invalid, Token};
+use json::{Invalid, Reader, Token};
 
 /// How deep lists and objects may nest in a JSON text, as `serde_json` has it.
 pub const MOST_DEPTH: usize = 127;
@@ -98,24 +96,10 @@ pub(crate) fn whole_number(text: &str) -> Option<Option<u64>>
     }
 }
 
-/// The name of an object's next field, or None at its closing brace, which is then read. `Invalid`
-/// where neither comes next.
-pub fn next_name<'a>(reader: &mut Tokens<'a>) -> Result<Option<&'a str>, Invalid>
-    ensures { MatchResult result
-        (λ x. read_key reader.old ≡ Some (option_map (λ s. s.now) x, reader.new))
-        (λ _. read_key reader.old ≡ None) }
-{
-    match reader.next() {
-        Some(Token::Key(name)) => Ok(Some(name)),
-        Some(Token::EndObject) => Ok(None),
-        _ => Err(Invalid),
-    }
-}
-
 /// Passes the rest of the value whose first token was read. `Invalid` where the token and those
 /// behind it are no value that nests at most `depth` deep.
 #[cycle(pass)]
-pub fn pass_from(reader: &mut Tokens<'_>, token: Token<'_>, depth: usize) -> Result<(), Invalid>
+pub fn pass_from(reader: &mut Reader<'_>, token: Token<'_>, depth: usize) -> Result<(), Invalid>
     ensures ok { OnOk result ((d : Data)
         × (next_value depth (token_of token.entry ∷ reader.old) ≡ Some (d, reader.new))) }
     ensures shorter { OnOk result (length reader.new < length reader.old + 1) }
@@ -146,7 +130,7 @@ pub fn pass_from(reader: &mut Tokens<'_>, token: Token<'_>, depth: usize) -> Res
 
 /// Passes the next value. `Invalid` where none comes that nests at most `depth` deep.
 #[cycle(pass)]
-pub fn pass(reader: &mut Tokens<'_>, depth: usize) -> Result<(), Invalid>
+pub fn pass(reader: &mut Reader<'_>, depth: usize) -> Result<(), Invalid>
     ensures ok { OnOk result ((d : Data) × (next_value depth reader.old ≡ Some (d, reader.new))) }
     ensures shorter { OnOk result (length reader.new < length reader.old) }
     ensures err { IfErr result (λ _. next_value depth reader.old ≡ None) }
@@ -157,7 +141,7 @@ pub fn pass(reader: &mut Tokens<'_>, depth: usize) -> Result<(), Invalid>
 
 // Passes the items of a list and its closing bracket.
 #[cycle(pass)]
-fn pass_items(reader: &mut Tokens<'_>, depth: usize) -> Result<(), Invalid>
+fn pass_items(reader: &mut Reader<'_>, depth: usize) -> Result<(), Invalid>
     ensures ok { OnOk result
         ((ds : Items) × (next_items depth reader.old ≡ Some (ds, reader.new))) }
     ensures shorter { OnOk result (length reader.new < length reader.old) }
@@ -171,13 +155,13 @@ fn pass_items(reader: &mut Tokens<'_>, depth: usize) -> Result<(), Invalid>
 
 // Passes the fields of an object and its closing brace.
 #[cycle(pass)]
-fn pass_members(reader: &mut Tokens<'_>, depth: usize) -> Result<(), Invalid>
+fn pass_members(reader: &mut Reader<'_>, depth: usize) -> Result<(), Invalid>
     ensures ok { OnOk result
         ((ms : Members) × (next_members depth reader.old ≡ Some (ms, reader.new))) }
     ensures shorter { OnOk result (length reader.new < length reader.old) }
     ensures err { IfErr result (λ _. next_members depth reader.old ≡ None) }
 {
-    'members: while let Some(_) = next_name(reader)? {
+    'members: while let Some(_) = reader.next_key()? {
         pass(reader, depth)?;
     }
     Ok(())
@@ -185,7 +169,7 @@ fn pass_members(reader: &mut Tokens<'_>, depth: usize) -> Result<(), Invalid>
 
 /// The whole number that the next value is, or None where it is another one, which is then passed.
 /// `Invalid` as in [`pass`].
-pub fn next_whole(reader: &mut Tokens<'_>, depth: usize) -> Result<Option<u64>, Invalid>
+pub fn next_whole(reader: &mut Reader<'_>, depth: usize) -> Result<Option<u64>, Invalid>
     ensures ok { IfOk result (λ x. (d : Data) × (next_value depth reader.old ≡ Some (d, reader.new))
         × (x ≡ option_and_then as_u64 (as_number d))) }
     ensures shorter { OnOk result (length reader.new < length reader.old) }
@@ -208,15 +192,12 @@ pub fn next_whole(reader: &mut Tokens<'_>, depth: usize) -> Result<Option<u64>, 
 /// as in [`pass`].
 // Always inlined: a call would move each text through memory.
 #[inline(always)]
-pub fn next_text<'a>(reader: &mut Tokens<'a>, depth: usize) -> Result<Option<&'a str>, Invalid>
+pub fn next_text<'a>(reader: &mut Reader<'a>, depth: usize) -> Result<Option<&'a str>, Invalid>
     ensures ok { IfOk result (λ x. (d : Data) × (next_value depth reader.old ≡ Some (d, reader.new))
         × (option_map (λ s. s.now) x ≡ as_str d)) }
     ensures shorter { OnOk result (length reader.new < length reader.old) }
     ensures err { IfErr result (λ _. next_value depth reader.old ≡ None) }
 {
-    if let Some(text) = reader.take_text() {
-        return Ok(Some(text));
-    }
     let token = reader.next().ok_or(Invalid)?;
     match text_in(token) {
         Some(text) => Ok(Some(text)),
@@ -229,7 +210,7 @@ pub fn next_text<'a>(reader: &mut Tokens<'a>, depth: usize) -> Result<Option<&'a
 
 /// Whether the next value is a list, whose bracket is then read: its items come next, each nesting
 /// one less deep. Any other value is passed. `Invalid` as in [`pass`], of a list as far as its bracket.
-pub fn enter_array(reader: &mut Tokens<'_>, depth: usize) -> Result<bool, Invalid>
+pub fn enter_array(reader: &mut Reader<'_>, depth: usize) -> Result<bool, Invalid>
     requires { 0 < depth }
     ensures ok { IfOk result (EntersArray depth reader.old reader.new) }
     ensures shorter { OnOk result (length reader.new < length reader.old) }
@@ -245,7 +226,7 @@ pub fn enter_array(reader: &mut Tokens<'_>, depth: usize) -> Result<bool, Invali
 
 /// Whether the next value is an object, whose brace is then read: its fields come next, each nesting
 /// one less deep. Any other value is passed. `Invalid` as in [`pass`], of an object as far as its brace.
-pub fn enter_object(reader: &mut Tokens<'_>, depth: usize) -> Result<bool, Invalid>
+pub fn enter_object(reader: &mut Reader<'_>, depth: usize) -> Result<bool, Invalid>
     requires { 0 < depth }
     ensures ok { IfOk result (EntersObject depth reader.old reader.new) }
     ensures shorter { OnOk result (length reader.new < length reader.old) }

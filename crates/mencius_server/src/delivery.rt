@@ -48,7 +48,6 @@ impl Server {
         ensures err { OnErr result (IsUndone self.old self.new out.old out.new) }
         ensures same { SameServerAndLimit self.old self.new out.old out.new }
     {
-        // For the proof: the outbox is within its limit.
         let _few = out.len();
         match *message {
             Message::Suggest { from, inst, ticket } => self.hear_suggest(from, inst, ticket, out),
@@ -142,7 +141,6 @@ impl Server {
         ensures refusal { IsRefusedFor
             (outbox_full out.old (length (prepare_sent self.old from inst ballot))) result }
     {
-        // For the proof: the outbox is within its limit.
         let _few = out.len();
         match self.instances.prepare_answer(inst, ballot) {
             Answer::Promise(vote) => {
@@ -186,7 +184,6 @@ impl Server {
         ensures refusal { IsRefusedFor
             (outbox_full out.old (length (promise_sent self.old from inst ballot vote))) result }
     {
-        // For the proof: the outbox is within its limit.
         let _few = out.len();
         if ballot != self.instances.trying(inst) {
             return Ok(0);
@@ -223,7 +220,6 @@ impl Server {
         ensures refusal { IsRefusedFor
             (outbox_full out.old (length (propose_sent self.old from inst ballot))) result }
     {
-        // For the proof: the outbox is within its limit.
         let _few = out.len();
         if ballot < self.instances.promised(inst) {
             return Ok(0);
@@ -268,7 +264,6 @@ impl Server {
         ensures refusal { IsRefusedFor
             (outbox_full out.old (length (accepted_sent self.old from inst ballot))) result }
     {
-        // For the proof: the outbox is within its limit.
         let _few = out.len();
         if ballot != self.instances.trying(inst) {
             return Ok(0);
@@ -303,7 +298,6 @@ impl Server {
         ensures after { self.new ≡ record self.old { front = next_front self.old inst } }
     {
         let first = self.front;
-        // For the proof: there are few members.
         let _few = self.members.count();
         let stop = self.members.first_owned(self.id, inst + 1);
         self.advance(stop);

@@ -250,7 +250,6 @@ impl Instances {
             first,
             stop,
         };
-        // For the proof: there are few members.
         let _few = members.count();
         let tally = self
             .stored

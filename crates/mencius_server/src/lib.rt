@@ -80,7 +80,6 @@ impl Server {
         ensures ok { IfOk result (λ s. s ≡ server_at members [] id) }
         ensures memory { IfErr result (λ r. r ≡ refusal.NoMemory) }
     {
-        // For the proof: there are few members.
         let _few = members.count();
         let instances = Instances::new(alloc, members)?;
         Ok(Server {
@@ -104,7 +103,6 @@ impl Server {
         ensures id { result ≡ self.now.id }
         ensures member { result < self.now.members.count }
     {
-        // For the proof: the number is below that of the members.
         let _members = &self.members;
         self.id
     }

@@ -284,7 +284,6 @@ impl StoredInstances {
         ensures rest { (q : ℕ) → (q ≡ server → ⊥) → tally_of tallies.new q ≡ tally_of tallies.old q }
     {
         if is_changed {
-            // For the proof: there are few members.
             let _few = self.members.count();
             let stop = tallies.get(server).stop;
             let tally = self.tally_from(server, 0, stop);

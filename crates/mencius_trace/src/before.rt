@@ -40,7 +40,6 @@ pub(crate) struct Before {
 pub(crate) fn note(alloc: Global, cluster: &Cluster, event: &Event) -> Result<Before, AllocError>
     ensures { IfOk result (IsBefore cluster.now event.now) }
 {
-    // For the proof: the journal replays.
     cluster.replays();
     let server = server_of(event);
     let heard = heard_in(cluster, event);
@@ -75,7 +74,6 @@ fn server_of(event: &Event) -> u8
 fn heard_in(cluster: &Cluster, event: &Event) -> Option<Message>
     ensures { result ≡ heard_in (trace_of cluster.now) event.now }
 {
-    // For the proof: a type inside a message.
     let _inside: Option<Vote> = None;
     match event {
         Event::Deliver { message, .. } => cluster.message(*message),

@@ -74,7 +74,6 @@ fn push_effect(
         → IsStepped x cluster.now e effect → string_bytes text.new
         ≡ string_bytes text.old ++ effect_text x.members (trace_of x) (trace_of cluster.now) e) }
 {
-    // For the proof: there are few members.
     let _few = cluster.servers();
     push_notice(text, cluster, before, is_ignored(effect))?;
     push_learned_lines(text, cluster, before, effect.learned)?;
@@ -309,7 +308,6 @@ fn push_sent_line(text: &mut String, cluster: &Cluster, number: u32) -> Result<(
         ++ of_message (sent_line (trace_of cluster.now)) number
         (slice_get (sent_messages (trace_of cluster.now)) number)) }
 {
-    // For the proof: a type inside a message.
     let _inside: Option<Vote> = None;
     match cluster.message(number) {
         Some(message) => push_sent(text, cluster, number, message),

@@ -34,7 +34,6 @@ pub(crate) fn push_unheard(
 fn settled(alloc: Global, cluster: &Cluster) -> Result<MessageBits, NoMemory>
     ensures { IfOk result (AreSettled (trace_of cluster.now)) }
 {
-    // For the proof: the journal replays, and there are few members.
     cluster.replays();
     let _few = cluster.servers();
     let mut marks = MessageBits::new(alloc);
@@ -84,7 +83,6 @@ fn push_unheard_lines(
         ++ of_message (unheard_lines cluster.now.members (trace_of cluster.now)) number
         (slice_get (sent_messages (trace_of cluster.now)) number)) }
 {
-    // For the proof: a type inside a message.
     let _inside: Option<Vote> = None;
     match cluster.message(number) {
         Some(message) => push_for_each(text, cluster, settled, number, &message),

@@ -102,7 +102,6 @@ fn draw_message(dice: &mut Dice, cluster: &Cluster) -> u32 {
 
 // The server that a message is for, where it is for one alone, and else this one.
 fn addressee_or(cluster: &Cluster, message: u32, server: u8) -> u8 {
-    // For the proof: a type inside a message.
     let _inside: Option<Vote> = None;
     match cluster.message(message) {
         Some(Message::Accepted { to, .. } | Message::Promise { to, .. }) => to,

@@ -43,7 +43,6 @@ impl Mail {
 }
 
 fn comes(dice: &mut Dice, cluster: &Cluster, message: u32, slow: u8, server: u8) -> bool {
-    // For the proof: a type inside a message.
     let _inside: Option<Vote> = None;
     match cluster.message(message) {
         Some(sent) => {

@@ -92,7 +92,6 @@ impl Walk {
 
     /// Delivers a message to every server that it goes to.
     pub fn deliver_everywhere(&mut self, message: u32) -> Result<(), Stop> {
-        // For the proof: a type inside a message.
         let _inside: Option<Vote> = None;
         let Some(sent) = self.cluster.message(message) else {
             return Ok(());

@@ -26,7 +26,6 @@ impl Instances {
         ensures same { self.new ≡ self.old }
     {
         let members = self.stored.members;
-        // For the proof: there are few members.
         let _few = members.count();
         let beta = members.beta();
         let near = (front + beta).min(INSTANCES);
@@ -51,7 +50,6 @@ impl Instances {
         ensures same { self.new ≡ self.old }
     {
         let members = self.stored.members;
-        // For the proof: there are few members.
         let _few = members.count();
         let stop = reach.min(INSTANCES);
         // A server's front never moves back, and then this is all that was counted, unless the suspicion reaches

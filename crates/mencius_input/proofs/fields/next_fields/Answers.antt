@@ -14,13 +14,13 @@ pub returns-in_err-name-clause-err : goal.returns-in_err-name-clause-err
 returns-in_err-name-clause-err c =
     let l = c.fields in
     stops_at _ _ _ c.from_residual-in_err-name.ensures.1
-    (inr (refl, members_no_name _ _ l.reader l.invariant.0 l.invariant.1 c.in_err-name.ensures))
+    (inr (refl, members_no_name _ _ l.reader l.invariant.0 l.invariant.1 c.in_err-name.ensures.value))
 
 pub fields-preserved : goal.fields-preserved
 fields-preserved c =
     let l = c.fields in
     let key = c.in-Some.name.now in
-    let s = c.next_name.new.reader in
+    let s = c.next_key.new.self in
     let named : read_key l.reader ≡ Some (Some key, s) = grind arith in
     let done = c.in_ok-read_field.ensures in (
       _,
@@ -33,7 +33,7 @@ pub returns-in_err-read_field-clause-err : goal.returns-in_err-read_field-clause
 returns-in_err-read_field-clause-err c =
     let l = c.fields in
     let key = c.in-Some.name.now in
-    let s = c.next_name.new.reader in
+    let s = c.next_key.new.self in
     let named : read_key l.reader ≡ Some (Some key, s) = grind arith in
     stops_at _ _ _ c.from_residual-in_err-read_field.ensures.1
     (stops_whole _ _ _ (λ none. members_stop _ _ l.reader l.invariant.0 l.invariant.1 key s named none)
@@ -43,6 +43,6 @@ pub returns-clause-ok : goal.returns-clause-ok
 returns-clause-ok c =
     let l = c.fields in (
       l.invariant.0,
-      members_close _ _ l.reader l.invariant.0 l.invariant.1 c.next_name.new.reader (grind arith),
+      members_close _ _ l.reader l.invariant.0 l.invariant.1 c.next_key.new.self (grind arith),
       l.invariant.2,
     )

@@ -14,7 +14,7 @@ fields-init c = (
   c.in_ok-in_list.ensures,
   names_in c.args.text.now,
   names_start c.args.text.now (view c.args.scenario.now) c.in_ok-reader.reader c.next-brace.new.self
-      c.next-brace.result (search rules) c.next-brace.ensures c.requires.of c.requires.object,
+      c.next-brace.result (search rules) c.next-brace.ensures.value c.requires.of c.requires.object,
   refl,
 )
 
@@ -22,7 +22,7 @@ pub returns-then-is_some : goal.returns-then-is_some
 returns-then-is_some c =
     let l = c.fields in
     let name = c.in-Ok-Some.name.now in
-    let s = c.next_name.new.reader in
+    let s = c.next_key.new.self in
     let named : read_key l.reader ≡ Some (Some name, s) = grind arith in
     let more = names_further l.invariant.1 l.reader l.invariant.2 name s named in
     place_first c.in_ok-place.place _ _ (search rules) c.in_ok-place.ensures.place
@@ -33,7 +33,7 @@ pub returns-then-is_err : goal.returns-then-is_err
 returns-then-is_err c =
     let l = c.fields in
     let name = c.in-Ok-Some.name.now in
-    let s = c.next_name.new.reader in
+    let s = c.next_key.new.self in
     let named : read_key l.reader ≡ Some (Some name, s) = grind arith in
     let more = names_further l.invariant.1 l.reader l.invariant.2 name s named in
     absurd (more.there (search rules))
@@ -42,7 +42,7 @@ pub fields-preserved : goal.fields-preserved
 fields-preserved c =
     let l = c.fields in
     let name = c.in-Ok-Some.name.now in
-    let s = c.next_name.new.reader in
+    let s = c.next_key.new.self in
     let named : read_key l.reader ≡ Some (Some name, s) = grind arith in
     let more = names_further l.invariant.1 l.reader l.invariant.2 name s named in
     let passed : (d : Data) × (next_value 126 s ≡ Some (d, c.pass.new.reader)) = search rules in (
@@ -58,10 +58,10 @@ fields-preserved c =
 pub returns : goal.returns
 returns c =
     let l = c.fields in
-    elim c.match-next_name.branch [
+    elim c.match-next_key.branch [
       | in-Ok+in-None-1 w ↦
           sym (l.invariant.3
           ∙ first_over c.args.kind c.args.fault (view c.args.scenario.now) l.invariant.1
-          (names_over l.invariant.1 l.reader l.invariant.2 c.next_name.new.reader (grind arith)))
+          (names_over l.invariant.1 l.reader l.invariant.2 c.next_key.new.self (grind arith)))
       | in-Err-1 w ↦ absurd (names_read_on l.invariant.1 l.reader l.invariant.2 (grind arith))
     ]

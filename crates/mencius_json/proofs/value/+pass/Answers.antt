@@ -88,16 +88,16 @@ pass_items-returns-clause-ok t c =
 pub pass_members-members-init : goal.pass_members-members-init
 pass_members-members-init t c = (no_members, members_start _ _)
 
-pub pass_members-returns-in_err-next_name-clause-err : goal.pass_members-returns-in_err-next_name-clause-err
-pass_members-returns-in_err-next_name-clause-err t c =
+pub pass_members-returns-in_err-next_key-clause-err : goal.pass_members-returns-in_err-next_key-clause-err
+pass_members-returns-in_err-next_key-clause-err t c =
     let l = c.members in
-    err_anyway _ (members_no_name _ _ l.reader l.invariant.0 l.invariant.1 c.in_err-next_name.ensures)
+    err_anyway _ (members_no_name _ _ l.reader l.invariant.0 l.invariant.1 c.in_err-next_key.ensures.value)
 
 pub pass_members-members-preserved : goal.pass_members-members-preserved
 pass_members-members-preserved t c =
     let l = c.members in
     let key = c.in-Some.field-0.now in
-    let s = c.next_name.new.reader in
+    let s = c.next_key.new.self in
     let named : read_key l.reader ≡ Some (Some key, s) = grind arith in
     let done = c.in_ok-pass.ensures in (
       _,
@@ -109,11 +109,11 @@ pub pass_members-returns-in_err-pass-clause-err : goal.pass_members-returns-in_e
 pass_members-returns-in_err-pass-clause-err t c =
     let l = c.members in
     let key = c.in-Some.field-0.now in
-    let s = c.next_name.new.reader in
+    let s = c.next_key.new.self in
     let named : read_key l.reader ≡ Some (Some key, s) = grind arith in
     err_anyway _ (members_stop _ _ l.reader l.invariant.0 l.invariant.1 key s named c.in_err-pass.ensures.err)
 
 pub pass_members-returns-clause-ok : goal.pass_members-returns-clause-ok
 pass_members-returns-clause-ok t c =
     let l = c.members in
-    (_, members_close _ _ l.reader l.invariant.0 l.invariant.1 c.next_name.new.reader (grind arith))
+    (_, members_close _ _ l.reader l.invariant.0 l.invariant.1 c.next_key.new.self (grind arith))

@@ -1,6 +1,5 @@
 use Rattle.std.proofs.Common.{◌≡◌, ◌∷◌, [], refl, sym, ap, ◌∙◌, arith}
 use Rattle.json.specs.Reads.{token_of}
-use Rattle.json.specs.Token as token
 use Rattle.serde_json.specs.Data.{string}
 use Rattle.mencius_json.specs.Next.{next_value}
 use Rattle.mencius_json.proofs.FirstTokens.{passed_first, passed_no_text, text_first}
@@ -13,19 +12,11 @@ returns-in_err-token-clause-err c =
     err_anyway _ (ap (next_value c.args.depth) empty ∙ next_none c.args.depth)
 
 pub returns-in-Some-clause-ok : goal.returns-in-Some-clause-ok
-returns-in-Some-clause-ok c = (
-  string c.in-Some.text.now,
-  text_first c.args.depth (token.string c.in-Some.text.now) c.take_text.new.self c.args.reader.now c.in-Some.ensures
-      c.in-Some.text.now refl,
-  refl,
-)
-
-pub returns-in-Some-text_in-clause-ok : goal.returns-in-Some-text_in-clause-ok
-returns-in-Some-text_in-clause-ok c =
+returns-in-Some-clause-ok c =
     let first : c.args.reader.now ≡ token_of c.in_ok-token.token ∷ c.next.new.self = grind arith in (
-      string c.in-Some-text_in.text.now,
+      string c.in-Some.text.now,
       text_first c.args.depth (token_of c.in_ok-token.token) c.next.new.self c.args.reader.now first
-          c.in-Some-text_in.text.now c.in-Some-text_in.ensures,
+          c.in-Some.text.now c.in-Some.ensures,
       refl,
     )
 
