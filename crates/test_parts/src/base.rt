@@ -110,7 +110,7 @@ fn members_have_limits(rt: HostRuntime) -> Result<(), Fail> {
     Ok(())
 }
 
-fn suggest(inst: u32, ticket: u32) -> Message {
+fn suggestion(inst: u32, ticket: u32) -> Message {
     Message::Suggest {
         from: 0,
         inst,
@@ -122,14 +122,14 @@ fn suggest(inst: u32, ticket: u32) -> Message {
 fn an_outbox_stops_at_its_limit(rt: HostRuntime) -> Result<(), Fail> {
     let mut outbox = Outbox::new(rt.alloc(), 2);
     outbox.reserve(2)?;
-    outbox.push(suggest(0, 0));
-    outbox.push(suggest(3, 1));
+    outbox.push(suggestion(0, 0));
+    outbox.push(suggestion(3, 1));
     assert_eq!(rt; outbox.reserve(1), Err(Refusal::MessagesFull));
     let counts = (outbox.len(), outbox.limit(), outbox.room());
     assert_eq!(rt; counts, (2, 2, 0));
     assert_eq!(rt;
         outbox.messages(),
-        [suggest(0, 0), suggest(3, 1)].as_slice()
+        [suggestion(0, 0), suggestion(3, 1)].as_slice()
     );
     Ok(())
 }

@@ -5,44 +5,56 @@ ghost use Rattle.std.specs.Prelude.{◌<◌};
 mod ahead;
 mod schedules;
 
-use mencius_base::{Ballot, Members, Message, Outbox, Refusal, Value};
+use crate::slot::ballot;
+use mencius_base::{Ballot, Entry, Members, Message, Outbox, Refusal, Value};
 use mencius_server::Server;
 use std::alloc::Global;
 use std::panic::Expect;
 use std::process::Abort;
 
-// What happens at a server. A delivery names its message by its number in order of sending.
-#[derive(Clone, Copy, Debug)]
-enum Act {
-    Submit(u32),
-    Deliver(u32),
-    Suspect(u8),
-    Retry,
+fn submit(server: u8, ticket: u32) -> Entry {
+    Entry::Submit { server, ticket }
 }
 
-// What comes of it, over the messages that were sent so far: nothing is learned but by a delivery.
+fn suspect(server: u8, suspected: u8) -> Entry {
+    Entry::Suspect { server, suspected }
+}
+
+fn retry(server: u8) -> Entry {
+    Entry::Retry { server }
+}
+
+// The server at which an event happens.
+fn server_of(event: Entry) -> u8 {
+    match event {
+        Entry::Submit { server, .. }
+        | Entry::Deliver { server, .. }
+        | Entry::Lose { server, .. }
+        | Entry::Suspect { server, .. }
+        | Entry::Retry { server }
+        | Entry::Execute { server } => server,
+    }
+}
+
+// What happens at a server, and how many instances it learns, over the messages that were sent so far.
 fn happen(
     rt: &impl Abort,
     server: &mut Server,
-    act: Act,
+    event: Entry,
     out: &mut Outbox,
 ) -> Result<u32, Refusal> {
-    match act {
-        Act::Submit(ticket) => learning_none(server.submit(ticket, out)),
-        Act::Deliver(number) => hear_sent(rt, server, number, out),
-        Act::Suspect(suspected) => {
+    assert_eq!(rt; server.id(), server_of(event), "{event:?}");
+    match event {
+        Entry::Submit { ticket, .. } => server.submit(ticket, out)?,
+        Entry::Deliver { message, .. } => return hear_sent(rt, server, message, out),
+        Entry::Suspect { suspected, .. } => {
             assert!(rt; suspected < server.members().count());
-            learning_none(server.suspect(suspected, out))
+            server.suspect(suspected, out)?;
         }
-        Act::Retry => learning_none(server.retry(out)),
+        Entry::Retry { .. } => server.retry(out)?,
+        Entry::Lose { .. } | Entry::Execute { .. } => panic!(rt; "no call of a server: {event:?}"),
     }
-}
-
-fn learning_none(answer: Result<(), Refusal>) -> Result<u32, Refusal> {
-    match answer {
-        Ok(()) => Ok(0),
-        Err(refusal) => Err(refusal),
-    }
+    Ok(0)
 }
 
 fn hear_sent(
@@ -69,34 +81,25 @@ fn hear(
     server.hear(message, out)
 }
 
-fn suggest(from: u8, inst: u32, ticket: u32) -> Option<Message> {
-    Some(Message::Suggest { from, inst, ticket })
+fn suggest(from: u8, inst: u32, ticket: u32) -> Message {
+    Message::Suggest { from, inst, ticket }
 }
 
-fn skip(from: u8, first: u32, stop: u32) -> Option<Message> {
-    Some(Message::Skip { from, first, stop })
+fn skip(from: u8, first: u32, stop: u32) -> Message {
+    Message::Skip { from, first, stop }
 }
 
-fn accepted(from: u8, to: u8, inst: u32, ballot: Ballot) -> Option<Message> {
-    Some(Message::Accepted {
+fn accepted(from: u8, to: u8, inst: u32, ballot: Ballot) -> Message {
+    Message::Accepted {
         from,
         to,
         inst,
         ballot,
-    })
-}
-
-fn prepare(from: u8, inst: u32, ballot: Ballot) -> Option<Message> {
-    Some(Message::Prepare { from, inst, ballot })
-}
-
-// A ballot of three servers by its number: 0 is the owner's, and 4 is round 1 of server 1.
-fn ballot(rt: &impl Abort, number: u32) -> Ballot {
-    if number == 0 {
-        return Ballot::OWNER;
     }
-    let members = Members::new(3).expect(rt, "three");
-    Ballot::new(members, number / 3, (number % 3) as u8).expect(rt, "a ballot")
+}
+
+fn prepare(from: u8, inst: u32, ballot: Ballot) -> Message {
+    Message::Prepare { from, inst, ballot }
 }
 
 // One of three servers.
@@ -107,15 +110,15 @@ fn new_server(rt: &impl Abort, alloc: Global, id: u8) -> Server
     Server::new(alloc, members, id).expect(rt, "memory")
 }
 
-// An act is answered so: with how many instances are learned, or with why it is refused.
+// An event is answered so: with how many instances are learned, or with why it is refused.
 fn assert_happens(
     rt: &impl Abort,
     server: &mut Server,
-    act: Act,
+    event: Entry,
     out: &mut Outbox,
     answer: Result<u32, Refusal>,
 ) {
-    assert_eq!(rt; happen(rt, server, act, out), answer, "{act:?}");
+    assert_eq!(rt; happen(rt, server, event, out), answer, "{event:?}");
 }
 
 // A message teaches so many instances.
@@ -130,17 +133,8 @@ fn assert_learns(
 }
 
 // What stands on the outbox from a place on.
-fn assert_sent(rt: &impl Abort, out: &Outbox, before: usize, sends: &[Option<Message>; 2]) {
-    let messages = out.messages();
-    let mut count = before;
-    for send in sends {
-        if let Some(message) = send {
-            assert!(rt; count < messages.len(), "message {count} is missing");
-            assert_eq!(rt; messages[count], *message, "message {count}");
-            count += 1;
-        }
-    }
-    assert_eq!(rt; messages.len(), count);
+fn assert_sent(rt: &impl Abort, out: &Outbox, before: usize, sends: &[Message]) {
+    assert_eq!(rt; out.messages().get(before..), Some(sends));
 }
 
 // There is no room for both messages that a suggestion calls for, so none is sent.
@@ -167,13 +161,13 @@ fn suggestion_heard_with_little_room(rt: HostRuntime) {
     assert_eq!(rt; zero.front(), 3);
 }
 
-// The limit of a fresh outbox, an act, the answer, and the number of the ballot that is prepared then.
-type Call = (u32, Act, Result<u32, Refusal>, Option<u32>);
+// The limit of a fresh outbox, an event, the answer, and the number of the ballot that is prepared then.
+type Call = (u32, Entry, Result<u32, Refusal>, Option<u32>);
 
 fn take_call(rt: &impl Abort, alloc: Global, server: &mut Server, call: &Call) {
-    let (limit, act, answer, prepared) = *call;
+    let (limit, event, answer, prepared) = *call;
     let mut out = Outbox::new(alloc, limit);
-    assert_happens(rt, server, act, &mut out, answer);
+    assert_happens(rt, server, event, &mut out, answer);
     match prepared {
         Some(number) => assert_prepared(rt, &out, ballot(rt, number)),
         None => assert!(rt; answer.is_ok() || out.is_empty()),
@@ -197,29 +191,33 @@ fn assert_prepared(rt: &impl Abort, out: &Outbox, ballot: Ballot) {
     assert_eq!(rt; messages.len(), count);
 }
 
-// The calls of server 1.
-const CALLS: [Call; 8] = [
-    (0, Act::Suspect(1), Err(Refusal::SelfSuspect), None),
-    (0, Act::Suspect(2), Err(Refusal::NothingToRevoke), None),
-    (1, Act::Submit(0), Ok(0), None),
-    (1, Act::Submit(1), Ok(0), None),
-    (1, Act::Submit(2), Ok(0), None),
-    (4, Act::Suspect(0), Ok(0), Some(4)),
-    (3, Act::Suspect(0), Err(Refusal::MessagesFull), None),
-    (4, Act::Suspect(0), Ok(0), Some(7)),
-];
-
 #[test]
 fn suspicions(rt: HostRuntime) {
+    let calls: [Call; 8] = [
+        (0, suspect(1, 1), Err(Refusal::SelfSuspect), None),
+        (0, suspect(1, 2), Err(Refusal::NothingToRevoke), None),
+        (1, submit(1, 0), Ok(0), None),
+        (1, submit(1, 1), Ok(0), None),
+        (1, submit(1, 2), Ok(0), None),
+        (4, suspect(1, 0), Ok(0), Some(4)),
+        (3, suspect(1, 0), Err(Refusal::MessagesFull), None),
+        (4, suspect(1, 0), Ok(0), Some(7)),
+    ];
     let mut one = new_server(&rt, rt.alloc(), 1);
-    for call in &CALLS {
+    for call in &calls {
         take_call(&rt, rt.alloc(), &mut one, call);
     }
     assert_eq!(rt; one.front(), 10);
 }
 
 // A no-op is learned at an instance, and then a ticket waits.
-fn lose(rt: &impl Abort, server: &mut Server, inst: u32, out: &mut Outbox, waiting: Option<u32>) {
+fn lose_instance(
+    rt: &impl Abort,
+    server: &mut Server,
+    inst: u32,
+    out: &mut Outbox,
+    waiting: Option<u32>,
+) {
     let message = Message::Learn {
         from: 1,
         inst,
@@ -230,14 +228,14 @@ fn lose(rt: &impl Abort, server: &mut Server, inst: u32, out: &mut Outbox, waiti
 }
 
 // A ticket is suggested again, and then another waits, or none.
-fn retry(rt: &impl Abort, server: &mut Server, out: &mut Outbox, waiting: Option<u32>) {
-    assert_happens(rt, server, Act::Retry, out, Ok(0));
+fn retry_one(rt: &impl Abort, server: &mut Server, out: &mut Outbox, waiting: Option<u32>) {
+    assert_happens(rt, server, retry(server.id()), out, Ok(0));
     assert_eq!(rt; server.waiting(), waiting);
 }
 
 fn submit_three(rt: &impl Abort, server: &mut Server, out: &mut Outbox, tickets: [u32; 3]) {
     for ticket in tickets {
-        assert_happens(rt, server, Act::Submit(ticket), out, Ok(0));
+        assert_happens(rt, server, submit(server.id(), ticket), out, Ok(0));
     }
 }
 
@@ -247,12 +245,12 @@ fn tickets_wait_by_instance(rt: HostRuntime) {
     let mut out = Outbox::new(rt.alloc(), 5);
     submit_three(&rt, &mut zero, &mut out, [7, 8, 9]);
     let none = Err(Refusal::NothingWaiting);
-    assert_happens(&rt, &mut zero, Act::Retry, &mut out, none);
-    lose(&rt, &mut zero, 6, &mut out, Some(9));
-    lose(&rt, &mut zero, 3, &mut out, Some(8));
+    assert_happens(&rt, &mut zero, retry(0), &mut out, none);
+    lose_instance(&rt, &mut zero, 6, &mut out, Some(9));
+    lose_instance(&rt, &mut zero, 3, &mut out, Some(8));
     assert_eq!(rt; zero.learned(3), Some(Value::Noop));
-    retry(&rt, &mut zero, &mut out, Some(9));
-    retry(&rt, &mut zero, &mut out, None);
+    retry_one(&rt, &mut zero, &mut out, Some(9));
+    retry_one(&rt, &mut zero, &mut out, None);
     assert_sent(&rt, &out, 3, &[suggest(0, 9, 8), suggest(0, 12, 9)]);
 }
 
@@ -310,9 +308,9 @@ fn a_refused_suspicion_keeps_nothing(rt: HostRuntime) {
     submit_three(&rt, &mut one, &mut out, [0, 1, 2]);
     assert_stored(&rt, &one, (3, 0));
     let full = Err(Refusal::MessagesFull);
-    assert_happens(&rt, &mut one, Act::Suspect(0), &mut out, full);
+    assert_happens(&rt, &mut one, suspect(1, 0), &mut out, full);
     assert_stored(&rt, &one, (3, 0));
     let mut wide = Outbox::new(rt.alloc(), 4);
-    assert_happens(&rt, &mut one, Act::Suspect(0), &mut wide, Ok(0));
+    assert_happens(&rt, &mut one, suspect(1, 0), &mut wide, Ok(0));
     assert_stored(&rt, &one, (7, 0));
 }

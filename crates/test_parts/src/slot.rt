@@ -14,7 +14,7 @@ fn three(rt: &impl Abort) -> Members
 }
 
 // A ballot of three members by its number: 4 is round 1 of server 1.
-fn ballot(rt: &impl Abort, number: u32) -> Ballot
+pub(crate) fn ballot(rt: &impl Abort, number: u32) -> Ballot
     ensures { result ≡ number }
 {
     Ballot::new(three(rt), number / 3, (number % 3) as u8).expect(rt, "a ballot")
@@ -65,7 +65,7 @@ fn assert_accepts(rt: &impl Abort, slot: &mut Slot, ballot: Ballot, value: Value
 }
 
 // A value is the first one that is learned, or not.
-fn assert_learns(rt: &impl Abort, slot: &mut Slot, value: Value, want: bool) {
+fn assert_slot_learns(rt: &impl Abort, slot: &mut Slot, value: Value, want: bool) {
     assert_eq!(rt; slot.learn(value), want);
 }
 
@@ -86,8 +86,8 @@ fn an_acceptor_answers(rt: HostRuntime) {
     assert_eq!(rt; slot.vote(), accepted);
     assert_answers(&rt, &mut slot, seven, Answer::Promise(accepted));
     assert_accepts(&rt, &mut slot, Ballot::OWNER, Value::Ticket(1), false);
-    assert_learns(&rt, &mut slot, ticket, true);
-    assert_learns(&rt, &mut slot, Value::Noop, false);
+    assert_slot_learns(&rt, &mut slot, ticket, true);
+    assert_slot_learns(&rt, &mut slot, Value::Noop, false);
     assert_eq!(rt; slot.learned(), Some(ticket));
     assert_answers(&rt, &mut slot, ballot(&rt, 8), Answer::Learn(ticket));
     assert_eq!(rt; slot.promised(), seven);

@@ -56,18 +56,18 @@ fn assert_picks<R: Abort>(
     assert_eq!(rt; text.as_str(), expected);
 }
 
-fn take<R: Abort>(rt: &R, cluster: &mut Cluster, event: Event) {
+fn step_cluster<R: Abort>(rt: &R, cluster: &mut Cluster, event: Event) {
     assert!(rt; cluster.step(event).is_ok());
 }
 
 // The schedule one_command, up to its first execution.
 fn take_one_command<R: Abort>(rt: &R, alloc: Global, cluster: &mut Cluster) {
     let command = set_x(rt, alloc);
-    take(rt, cluster, Event::Submit { server: 0, command });
+    step_cluster(rt, cluster, Event::Submit { server: 0, command });
     for (message, server) in [(0, 1), (0, 0), (1, 0), (2, 0)] {
-        take(rt, cluster, Event::Deliver { message, server });
+        step_cluster(rt, cluster, Event::Deliver { message, server });
     }
-    take(rt, cluster, Event::Execute { server: 0 });
+    step_cluster(rt, cluster, Event::Execute { server: 0 });
 }
 
 #[test]

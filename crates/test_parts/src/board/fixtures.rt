@@ -60,7 +60,7 @@ pub fn new_board<R: Abort + Wait>(rt: &R, alloc: Global, servers: u8, readers: u
 }
 
 // Takes an event that is accepted, and answers the number of the first message that it sends.
-fn take<R: Abort>(rt: &R, board: &mut Board, event: Event) -> u32
+fn step_board<R: Abort>(rt: &R, board: &mut Board, event: Event) -> u32
     ensures { board.new.book ≡ board.old.book }
 {
     let effect = board.step(event).expect(rt, "an accepted event");
@@ -72,8 +72,8 @@ pub fn decide<R: Abort>(rt: &R, board: &mut Board, command: Command)
     ensures { board.new.book ≡ board.old.book }
 {
     let server = 0;
-    let message = take(rt, board, Event::Submit { server, command });
-    let message = take(rt, board, Event::Deliver { message, server });
-    take(rt, board, Event::Deliver { message, server });
-    take(rt, board, Event::Execute { server });
+    let message = step_board(rt, board, Event::Submit { server, command });
+    let message = step_board(rt, board, Event::Deliver { message, server });
+    step_board(rt, board, Event::Deliver { message, server });
+    step_board(rt, board, Event::Execute { server });
 }

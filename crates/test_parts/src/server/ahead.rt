@@ -1,6 +1,7 @@
 //! Suspicions that look ahead of the own front.
 
-use super::{Act, assert_happens, assert_learns, ballot, prepare, take_skip};
+use super::{assert_happens, assert_learns, prepare, submit, suspect, take_skip};
+use crate::slot::ballot;
 use mencius_base::{Members, Message, Outbox, Refusal, Value};
 use mencius_server::Server;
 use std::alloc::Global;
@@ -32,7 +33,7 @@ fn assert_reaches(rt: &impl Abort, alloc: Global, server: &mut Server, insts: &[
         Ok(0)
     };
     let mut out = Outbox::new(alloc, 100);
-    assert_happens(rt, server, Act::Suspect(0), &mut out, answer);
+    assert_happens(rt, server, suspect(1, 0), &mut out, answer);
     let mut sent = out.messages().iter();
     for wanted in insts {
         match sent.next() {
@@ -72,7 +73,7 @@ fn suspicions_look_ahead(rt: HostRuntime) {
 fn move_on(rt: &impl Abort, alloc: Global, server: &mut Server, tickets: &[u32], learned: &[u32]) {
     let mut out = Outbox::new(alloc, 100);
     for ticket in tickets {
-        assert_happens(rt, server, Act::Submit(*ticket), &mut out, Ok(0));
+        assert_happens(rt, server, submit(1, *ticket), &mut out, Ok(0));
     }
     for inst in learned {
         learn_noop(rt, alloc, server, *inst);
@@ -111,7 +112,7 @@ fn assert_suspects(
     answer: Result<u32, Refusal>,
 ) -> Outbox {
     let mut out = Outbox::new(alloc, room);
-    assert_happens(rt, server, Act::Suspect(0), &mut out, answer);
+    assert_happens(rt, server, suspect(1, 0), &mut out, answer);
     out
 }
 
@@ -125,7 +126,7 @@ fn suspicions_end_at_the_last_instance(rt: HostRuntime) {
     let out = assert_suspects(&rt, alloc, &mut one, 1366, Ok(0));
     assert_eq!(rt; out.len(), 1366);
     let last = out.messages().last().copied();
-    assert!(rt; last == prepare(1, 4095, ballot(&rt, 4)));
+    assert_eq!(rt; last, Some(prepare(1, 4095, ballot(&rt, 4))));
 }
 
 #[test]

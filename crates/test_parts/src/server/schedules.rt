@@ -1,78 +1,62 @@
-//! Worked schedules, as tables of events and the messages sent.
+//! Worked schedules, as tables of events and lists of the messages sent.
 
-use super::Act::{Deliver, Retry, Submit, Suspect};
-use super::{
-    Act, accepted, assert_happens, assert_sent, ballot, new_server, prepare, skip, suggest,
-};
-use mencius_base::{Ballot, Message, Outbox, Value, Vote};
+use super::{accepted, assert_happens, assert_sent, new_server, prepare, server_of, skip, suggest};
+use crate::slot::ballot;
+use mencius_base::{Ballot, Entry, Event, Message, Outbox, Value, Vote};
+use mencius_format::parse_event;
 use mencius_server::Server;
 use std::alloc::Global;
 use std::panic::Expect;
 use std::process::Abort;
 
-// A message by its fields in order, where a ballot stands by its number.
-#[derive(Clone, Copy)]
-enum Sent {
-    Nothing,
-    Suggest(u8, u32, u32),
-    Skip(u8, u32, u32),
-    Accepted(u8, u8, u32, u32),
-    Prepare(u8, u32, u32),
-    Promise(u8, u8, u32, Option<(u32, Value)>),
-    Propose(u8, u32, Value),
-    Learn(u8, u32, Value),
-}
+// An event as a scenario has it, where a delivery names its message by its number in order of sending; how many
+// messages are sent then, and how many instances are learned.
+type EventRow = (&'static str, u32, u32);
 
-use Sent::{Accepted, Learn, Nothing, Prepare, Promise, Propose, Skip, Suggest};
-
-// A server and what happens at it; the messages that are sent then, and how many instances are learned.
-type Row = (u8, Act, [Sent; 2], u32);
-
-fn promise(from: u8, to: u8, ballot: Ballot, vote: Option<Vote>) -> Option<Message> {
-    Some(Message::Promise {
+fn promise(from: u8, to: u8, ballot: Ballot, vote: Option<Vote>) -> Message {
+    Message::Promise {
         from,
         to,
         inst: 0,
         ballot,
         vote,
-    })
+    }
 }
 
-fn propose(from: u8, ballot: Ballot, value: Value) -> Option<Message> {
-    Some(Message::Propose {
+fn propose(from: u8, ballot: Ballot, value: Value) -> Message {
+    Message::Propose {
         from,
         inst: 0,
         ballot,
         value,
-    })
-}
-
-fn learn(from: u8, inst: u32, value: Value) -> Option<Message> {
-    Some(Message::Learn { from, inst, value })
-}
-
-fn vote_of(rt: &impl Abort, vote: Option<(u32, Value)>) -> Option<Vote> {
-    match vote {
-        Some((number, value)) => Some(Vote {
-            ballot: ballot(rt, number),
-            value,
-        }),
-        None => None,
     }
 }
 
-fn message_of(rt: &impl Abort, sent: Sent) -> Option<Message> {
-    match sent {
-        Nothing => None,
-        Suggest(from, inst, ticket) => suggest(from, inst, ticket),
-        Skip(from, first, stop) => skip(from, first, stop),
-        Accepted(from, to, inst, number) => accepted(from, to, inst, ballot(rt, number)),
-        Prepare(from, inst, number) => prepare(from, inst, ballot(rt, number)),
-        Promise(from, to, number, vote) => {
-            promise(from, to, ballot(rt, number), vote_of(rt, vote))
-        }
-        Propose(from, number, value) => propose(from, ballot(rt, number), value),
-        Learn(from, inst, value) => learn(from, inst, value),
+fn learn(from: u8, inst: u32, value: Value) -> Message {
+    Message::Learn { from, inst, value }
+}
+
+// An event by tickets: a schedule has at most one command, whose ticket is 0.
+fn entry_of(event: &Event) -> Entry {
+    match event {
+        Event::Submit { server, .. } => Entry::Submit {
+            server: *server,
+            ticket: 0,
+        },
+        Event::Deliver { message, server } => Entry::Deliver {
+            server: *server,
+            message: *message,
+        },
+        Event::Lose { message, server } => Entry::Lose {
+            server: *server,
+            message: *message,
+        },
+        Event::Suspect { server, suspected } => Entry::Suspect {
+            server: *server,
+            suspected: *suspected,
+        },
+        Event::Retry { server } => Entry::Retry { server: *server },
+        Event::Execute { server } => Entry::Execute { server: *server },
     }
 }
 
@@ -84,124 +68,196 @@ fn new_servers(rt: &impl Abort, alloc: Global) -> Vec<Server> {
     servers
 }
 
-// Three servers, through the rows, and their fronts at the end.
-fn follow(rt: &impl Abort, alloc: Global, rows: &[Row], fronts: [u32; 3]) {
+// Three servers, through the rows; all that was sent, by number, and their fronts at the end.
+fn follow(
+    rt: &impl Abort,
+    alloc: Global,
+    rows: &[EventRow],
+    messages: &[Message],
+    fronts: [u32; 3],
+) {
     let mut out = Outbox::new(alloc, 100);
     let mut servers = new_servers(rt, alloc);
     for row in rows {
-        take_row(rt, servers.as_mut_slice(), row, &mut out);
+        take_row(rt, alloc, servers.as_mut_slice(), row, &mut out);
     }
+    assert_sent(rt, &out, 0, messages);
     for (server, front) in servers.iter().zip(fronts) {
         assert_eq!(rt; server.front(), front);
     }
 }
 
-// What a row says happens, and sends and teaches what it says.
-fn take_row(rt: &impl Abort, servers: &mut [Server], row: &Row, out: &mut Outbox) {
-    let (id, act, [first, second], learns) = *row;
-    let before = out.len() as usize;
-    let server = servers.get_mut(usize::from(id)).expect(rt, "a server");
-    assert_happens(rt, server, act, out, Ok(learns));
-    let sends = [message_of(rt, first), message_of(rt, second)];
-    assert_sent(rt, out, before, &sends);
+// What a row says happens, and sends and teaches as much as it says.
+fn take_row(
+    rt: &impl Abort,
+    alloc: Global,
+    servers: &mut [Server],
+    row: &EventRow,
+    out: &mut Outbox,
+) {
+    let (text, sends, learns) = *row;
+    let event = entry_of(&parse_event(alloc, text).expect(rt, "an event"));
+    let id = usize::from(server_of(event));
+    let server = servers.get_mut(id).expect(rt, "a server");
+    let before = out.len();
+    assert_happens(rt, server, event, out, Ok(learns));
+    assert_eq!(rt; out.len(), before.saturating_add(sends), "{text}");
 }
 
-const SKIP_BEFORE_A_SUGGESTION: [Row; 7] = [
-    (2, Submit(0), [Suggest(2, 2, 0), Nothing], 0),
-    (0, Deliver(0), [Skip(0, 0, 3), Accepted(0, 2, 2, 0)], 0),
-    (1, Deliver(0), [Skip(1, 1, 4), Accepted(1, 2, 2, 0)], 0),
-    (2, Deliver(1), [Nothing, Nothing], 1),
-    (2, Deliver(3), [Nothing, Nothing], 1),
-    (2, Deliver(2), [Nothing, Nothing], 0),
-    (2, Deliver(4), [Learn(2, 2, Value::Ticket(0)), Nothing], 1),
+const SKIP_BEFORE_A_SUGGESTION: [EventRow; 7] = [
+    ("submit 2 1.0 set a x", 1, 0),
+    ("deliver 0 0", 2, 0),
+    ("deliver 0 1", 2, 0),
+    ("deliver 1 2", 0, 1),
+    ("deliver 3 2", 0, 1),
+    ("deliver 2 2", 0, 0),
+    ("deliver 4 2", 1, 1),
 ];
 
 #[test]
 fn skip_before_a_suggestion(rt: HostRuntime) {
-    follow(&rt, rt.alloc(), &SKIP_BEFORE_A_SUGGESTION, [3, 4, 5]);
+    let zero = Ballot::OWNER;
+    let messages = [
+        suggest(2, 2, 0),
+        skip(0, 0, 3),
+        accepted(0, 2, 2, zero),
+        skip(1, 1, 4),
+        accepted(1, 2, 2, zero),
+        learn(2, 2, Value::Ticket(0)),
+    ];
+    follow(
+        &rt,
+        rt.alloc(),
+        &SKIP_BEFORE_A_SUGGESTION,
+        &messages,
+        [3, 4, 5],
+    );
 }
 
-const WRONG_SUSPICION: [Row; 12] = [
-    (0, Submit(0), [Suggest(0, 0, 0), Nothing], 0),
-    (2, Deliver(0), [Accepted(2, 0, 0, 0), Nothing], 0),
-    (1, Suspect(0), [Prepare(1, 0, 4), Nothing], 0),
-    (1, Deliver(2), [Promise(1, 1, 4, None), Nothing], 0),
-    (
-        2,
-        Deliver(2),
-        [Promise(2, 1, 4, Some((0, Value::Ticket(0)))), Nothing],
-        0,
-    ),
-    (1, Deliver(3), [Nothing, Nothing], 0),
-    (1, Deliver(4), [Propose(1, 4, Value::Ticket(0)), Nothing], 0),
-    (1, Deliver(5), [Accepted(1, 1, 0, 4), Nothing], 0),
-    (2, Deliver(5), [Accepted(2, 1, 0, 4), Nothing], 0),
-    (1, Deliver(6), [Nothing, Nothing], 0),
-    (1, Deliver(7), [Learn(1, 0, Value::Ticket(0)), Nothing], 1),
-    (0, Deliver(8), [Nothing, Nothing], 1),
+const WRONG_SUSPICION: [EventRow; 12] = [
+    ("submit 0 1.0 set a x", 1, 0),
+    ("deliver 0 2", 1, 0),
+    ("suspect 1 0", 1, 0),
+    ("deliver 2 1", 1, 0),
+    ("deliver 2 2", 1, 0),
+    ("deliver 3 1", 0, 0),
+    ("deliver 4 1", 1, 0),
+    ("deliver 5 1", 1, 0),
+    ("deliver 5 2", 1, 0),
+    ("deliver 6 1", 0, 0),
+    ("deliver 7 1", 1, 1),
+    ("deliver 8 0", 0, 1),
 ];
 
 #[test]
 fn wrong_suspicion_keeps_the_command(rt: HostRuntime) {
-    follow(&rt, rt.alloc(), &WRONG_SUSPICION, [3, 1, 2]);
+    let (zero, four) = (Ballot::OWNER, ballot(&rt, 4));
+    let vote = Vote {
+        ballot: zero,
+        value: Value::Ticket(0),
+    };
+    let messages = [
+        suggest(0, 0, 0),
+        accepted(2, 0, 0, zero),
+        prepare(1, 0, four),
+        promise(1, 1, four, None),
+        promise(2, 1, four, Some(vote)),
+        propose(1, four, Value::Ticket(0)),
+        accepted(1, 1, 0, four),
+        accepted(2, 1, 0, four),
+        learn(1, 0, Value::Ticket(0)),
+    ];
+    follow(&rt, rt.alloc(), &WRONG_SUSPICION, &messages, [3, 1, 2]);
 }
 
-// late_suggestion_where_noop_is_decided, and from its end late_suggestion_decided_further_on
-const LATE_SUGGESTION: [Row; 21] = [
-    (1, Suspect(0), [Prepare(1, 0, 4), Nothing], 0),
-    (1, Deliver(0), [Promise(1, 1, 4, None), Nothing], 0),
-    (2, Deliver(0), [Promise(2, 1, 4, None), Nothing], 0),
-    (1, Deliver(1), [Nothing, Nothing], 0),
-    (1, Deliver(2), [Propose(1, 4, Value::Noop), Nothing], 0),
-    (1, Deliver(3), [Accepted(1, 1, 0, 4), Nothing], 0),
-    (2, Deliver(3), [Accepted(2, 1, 0, 4), Nothing], 0),
-    (1, Deliver(4), [Nothing, Nothing], 0),
-    (1, Deliver(5), [Learn(1, 0, Value::Noop), Nothing], 1),
-    (0, Submit(0), [Suggest(0, 0, 0), Nothing], 0),
-    (1, Deliver(7), [Nothing, Nothing], 0),
-    (2, Deliver(7), [Nothing, Nothing], 0),
-    (0, Deliver(6), [Nothing, Nothing], 1),
-    (0, Retry, [Suggest(0, 3, 0), Nothing], 0),
-    (0, Deliver(8), [Accepted(0, 0, 3, 0), Nothing], 0),
-    (1, Deliver(8), [Skip(1, 1, 4), Accepted(1, 0, 3, 0)], 0),
-    (2, Deliver(8), [Skip(2, 2, 5), Accepted(2, 0, 3, 0)], 0),
-    (0, Deliver(10), [Nothing, Nothing], 1),
-    (0, Deliver(12), [Nothing, Nothing], 1),
-    (0, Deliver(9), [Nothing, Nothing], 0),
-    (0, Deliver(11), [Learn(0, 3, Value::Ticket(0)), Nothing], 1),
+const LATE_SUGGESTION: [EventRow; 21] = [
+    ("suspect 1 0", 1, 0),
+    ("deliver 0 1", 1, 0),
+    ("deliver 0 2", 1, 0),
+    ("deliver 1 1", 0, 0),
+    ("deliver 2 1", 1, 0),
+    ("deliver 3 1", 1, 0),
+    ("deliver 3 2", 1, 0),
+    ("deliver 4 1", 0, 0),
+    ("deliver 5 1", 1, 1),
+    ("submit 0 1.0 set a x", 1, 0),
+    ("deliver 7 1", 0, 0),
+    ("deliver 7 2", 0, 0),
+    ("deliver 6 0", 0, 1),
+    ("retry 0", 1, 0),
+    ("deliver 8 0", 1, 0),
+    ("deliver 8 1", 2, 0),
+    ("deliver 8 2", 2, 0),
+    ("deliver 10 0", 0, 1),
+    ("deliver 12 0", 0, 1),
+    ("deliver 9 0", 0, 0),
+    ("deliver 11 0", 1, 1),
 ];
 
+// late_suggestion_where_noop_is_decided, and from its end late_suggestion_decided_further_on
 #[test]
 fn late_suggestion(rt: HostRuntime) {
-    follow(&rt, rt.alloc(), &LATE_SUGGESTION, [6, 4, 5]);
+    let (zero, four) = (Ballot::OWNER, ballot(&rt, 4));
+    let messages = [
+        prepare(1, 0, four),
+        promise(1, 1, four, None),
+        promise(2, 1, four, None),
+        propose(1, four, Value::Noop),
+        accepted(1, 1, 0, four),
+        accepted(2, 1, 0, four),
+        learn(1, 0, Value::Noop),
+        suggest(0, 0, 0),
+        suggest(0, 3, 0),
+        accepted(0, 0, 3, zero),
+        skip(1, 1, 4),
+        accepted(1, 0, 3, zero),
+        skip(2, 2, 5),
+        accepted(2, 0, 3, zero),
+        learn(0, 3, Value::Ticket(0)),
+    ];
+    follow(&rt, rt.alloc(), &LATE_SUGGESTION, &messages, [6, 4, 5]);
 }
 
-const DUELLING_REVOKERS: [Row; 17] = [
-    (1, Suspect(0), [Prepare(1, 0, 4), Nothing], 0),
-    (2, Suspect(0), [Prepare(2, 0, 5), Nothing], 0),
-    (1, Deliver(0), [Promise(1, 1, 4, None), Nothing], 0),
-    (0, Deliver(0), [Promise(0, 1, 4, None), Nothing], 0),
-    (1, Deliver(2), [Nothing, Nothing], 0),
-    (1, Deliver(3), [Propose(1, 4, Value::Noop), Nothing], 0),
-    (0, Deliver(1), [Promise(0, 2, 5, None), Nothing], 0),
-    (0, Deliver(4), [Nothing, Nothing], 0),
-    (1, Deliver(4), [Accepted(1, 1, 0, 4), Nothing], 0),
-    (
-        1,
-        Deliver(1),
-        [Promise(1, 2, 5, Some((4, Value::Noop))), Nothing],
-        0,
-    ),
-    (2, Deliver(5), [Nothing, Nothing], 0),
-    (2, Deliver(7), [Propose(2, 5, Value::Noop), Nothing], 0),
-    (0, Deliver(8), [Accepted(0, 2, 0, 5), Nothing], 0),
-    (1, Deliver(8), [Accepted(1, 2, 0, 5), Nothing], 0),
-    (2, Deliver(9), [Nothing, Nothing], 0),
-    (2, Deliver(10), [Learn(2, 0, Value::Noop), Nothing], 1),
-    (1, Deliver(11), [Nothing, Nothing], 1),
+const DUELLING_REVOKERS: [EventRow; 17] = [
+    ("suspect 1 0", 1, 0),
+    ("suspect 2 0", 1, 0),
+    ("deliver 0 1", 1, 0),
+    ("deliver 0 0", 1, 0),
+    ("deliver 2 1", 0, 0),
+    ("deliver 3 1", 1, 0),
+    ("deliver 1 0", 1, 0),
+    ("deliver 4 0", 0, 0),
+    ("deliver 4 1", 1, 0),
+    ("deliver 1 1", 1, 0),
+    ("deliver 5 2", 0, 0),
+    ("deliver 7 2", 1, 0),
+    ("deliver 8 0", 1, 0),
+    ("deliver 8 1", 1, 0),
+    ("deliver 9 2", 0, 0),
+    ("deliver 10 2", 1, 1),
+    ("deliver 11 1", 0, 1),
 ];
 
 #[test]
 fn duelling_revokers(rt: HostRuntime) {
-    follow(&rt, rt.alloc(), &DUELLING_REVOKERS, [0, 1, 2]);
+    let (four, five) = (ballot(&rt, 4), ballot(&rt, 5));
+    let vote = Vote {
+        ballot: four,
+        value: Value::Noop,
+    };
+    let messages = [
+        prepare(1, 0, four),
+        prepare(2, 0, five),
+        promise(1, 1, four, None),
+        promise(0, 1, four, None),
+        propose(1, four, Value::Noop),
+        promise(0, 2, five, None),
+        accepted(1, 1, 0, four),
+        promise(1, 2, five, Some(vote)),
+        propose(2, five, Value::Noop),
+        accepted(0, 2, 0, five),
+        accepted(1, 2, 0, five),
+        learn(2, 0, Value::Noop),
+    ];
+    follow(&rt, rt.alloc(), &DUELLING_REVOKERS, &messages, [0, 1, 2]);
 }
