@@ -1,7 +1,7 @@
 -- A run before its first turn, after one turn more, and at its end.
 use Rattle.std.specs.Prelude.{slice_get, IfErr, OnOk, if◌then◌else◌}
 use Rattle.std.specs.Result.{is_ok}
-use Rattle.std.proofs.Common.{◌≡◌, ◌≢◌, ℕ, zero, suc, ◌+◌, ◌<◌, ◌≤◌, ◌==◌, ◌⊎◌, Bool, true, false, List, [], ◌∷◌, ◌++◌, Some, Result, Ok, Err, length, map, replicate, set, get_or, refl, sym, ◌∙◌, ap, subst, arith, zero-add, ⊎_elim, inl, inr}
+use Rattle.std.proofs.Common.{◌≡◌, ◌≢◌, ℕ, zero, suc, ◌+◌, ◌<◌, ◌≤◌, ◌==◌, Bool, true, false, List, [], ◌∷◌, ◌++◌, Some, Result, Ok, Err, length, map, replicate, set, get_or, refl, sym, ◌∙◌, ap, subst, arith, zero-add, ⊎_elim, inl, inr}
 use Rattle.std.proofs.lemmas.Bool.{cases_eq, cases_lt}
 use Rattle.std.proofs.lemmas.Bool.Decides.{nat_tests}
 use Rattle.std.proofs.lemmas.List.{get_or-replicate, get_or-set_other, get_or_default, get_or_past, length-map, length-replicate, length-set}

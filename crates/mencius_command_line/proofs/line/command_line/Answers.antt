@@ -1,7 +1,7 @@
-use Rattle.std.proofs.Common.{◌≡◌, ◌∙◌, ap, ap₂}
+use Rattle.std.proofs.Common.{◌≡◌, ◌∙◌, ap₂}
 use Rattle.std.proofs.lemmas.Result.{IfOk-weaker}
 use Rattle.clap.specs.Words.{App, app_of, with_subcommand}
-use Rattle.mencius_command_line.specs.CommandLine.{judge_task, run_task, with_replays}
+use Rattle.mencius_command_line.specs.CommandLine.{judge_task, with_replays}
 use Rattle.mencius_command_line.proofs.line.command_line.Goals as goal
 
 abbrev top_of : App → App → App
