@@ -20,7 +20,7 @@ fn main(rt: HostRuntime) -> ExitCode {
             let arguments = arguments.as_slice();
             perform(&rt, alloc, arguments, &mut source, &mut sink, &mut errors)
         }
-        Err(_) => Ending::Failed(AppFault::NoMemory),
+        Err(refused) => Ending::Failed(AppFault::from(refused)),
     };
     ExitCode::from(end(ending, &mut errors))
 }

@@ -27,9 +27,7 @@ fn argument_at<R: Env>(rt: &R, alloc: Global, place: usize) -> Result<Option<Vec
     let mut room = FIRST_ROOM;
     for _ in 0..usize::BITS {
         let mut bytes = Vec::new(alloc);
-        if bytes.resize(room, 0u8).is_err() {
-            return Err(AllocError);
-        }
+        bytes.resize(room, 0u8)?;
         match rt.arg(place, bytes.as_mut_slice()) {
             Ok(length) => {
                 bytes.truncate(length);

@@ -48,10 +48,7 @@ pub fn trace<R: Source, W: Sink>(alloc: Global, source: &mut R, sink: &mut W) ->
 pub(crate) fn traced(alloc: Global, members: Members, events: Events) -> Result<String, NoMemory>
     ensures text { IfOk result (λ s. string_bytes s ≡ trace_text members events) }
 {
-    let Ok(mut cluster) = Cluster::with_salt(alloc, members, salt_after(0, events.commands()))
-    else {
-        return Err(NoMemory);
-    };
+    let mut cluster = Cluster::with_salt(alloc, members, salt_after(0, events.commands()))?;
     let mut text = String::new(alloc);
     push_trace(alloc, &mut text, &mut cluster, events)?;
     Ok(text)

@@ -94,10 +94,8 @@ impl Outbox {
         if extra > self.limit - self.messages.len() as u32 {
             return Err(Refusal::MessagesFull);
         }
-        match self.messages.reserve(extra as usize) {
-            Ok(()) => Ok(()),
-            Err(_) => Err(Refusal::NoMemory),
-        }
+        self.messages.reserve(extra as usize)?;
+        Ok(())
     }
 
     /// Adds a message at the end. Room for it was reserved before.

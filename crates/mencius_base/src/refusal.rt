@@ -1,5 +1,6 @@
-ghost use Rattle.std.specs.Prelude.{◌≡◌};
+ghost use Rattle.std.specs.Prelude.{◌≡◌, ◌≢◌, MatchResult};
 ghost use Rattle.mencius_base.specs.Refusal.{refusal_name, refusal_number};
+ghost use Rattle.mencius_base.specs.declared.refusal.Refusal.TheVariants as refusal;
 
 use std::alloc::{AllocError, AllocFailed};
 use thiserror::Error;
@@ -81,6 +82,18 @@ impl Refusal {
             Refusal::NoMemory => "NoMemory",
         }
     }
+
+    /// The refusal, where it is one of the event itself: that memory ran out says nothing of an event, and so
+    /// ends what asked for it.
+    pub fn memory_apart(self) -> Result<Refusal, NoMemory>
+        ensures { MatchResult result (λ other. (other ≡ self) × (self ≢ refusal.NoMemory))
+            (λ _. self ≡ refusal.NoMemory) }
+    {
+        if self == Refusal::NoMemory {
+            return Err(NoMemory);
+        }
+        Ok(self)
+    }
 }
 
 /// Out of memory, where nothing else can go wrong.
@@ -101,8 +114,6 @@ impl<T: Drop> From<AllocFailed<T>> for NoMemory {
 }
 
 impl From<NoMemory> for Refusal {
-    ghost use Rattle.mencius_base.specs.declared.refusal.Refusal.TheVariants as refusal;
-
     ghost from_gives = { λ _ r. r ≡ refusal.NoMemory };
 
     fn from(_refused: NoMemory) -> Refusal {
@@ -111,8 +122,6 @@ impl From<NoMemory> for Refusal {
 }
 
 impl From<AllocError> for Refusal {
-    ghost use Rattle.mencius_base.specs.declared.refusal.Refusal.TheVariants as refusal;
-
     ghost from_gives = { λ _ r. r ≡ refusal.NoMemory };
 
     fn from(_refused: AllocError) -> Refusal {
@@ -121,8 +130,6 @@ impl From<AllocError> for Refusal {
 }
 
 impl<T: Drop> From<AllocFailed<T>> for Refusal {
-    ghost use Rattle.mencius_base.specs.declared.refusal.Refusal.TheVariants as refusal;
-
     ghost from_gives = { λ _ r. r ≡ refusal.NoMemory };
 
     fn from(_refused: AllocFailed<T>) -> Refusal {

@@ -158,13 +158,13 @@ pub fn open_writer<R: Wait>(
 {
     let first = Version::new(alloc, opening.again());
     let second = Version::new(alloc, opening.again());
-    let Ok(writer) = Showing::new(alloc, first, second, usize::from(readers)) else {
-        return Err(AllocError);
-    };
+    let writer = Showing::new(alloc, first, second, usize::from(readers))?;
     let (writer, shown) = publish(rt, opening, writer);
-    let Ok(()) = shown else {
-        drop(writer.take(rt));
-        return Err(AllocError);
-    };
-    Ok(writer)
+    match shown {
+        Ok(()) => Ok(writer),
+        Err(refused) => {
+            drop(writer.take(rt));
+            Err(refused)
+        }
+    }
 }

@@ -9,7 +9,7 @@ ghost use Rattle.mencius_board.specs.declared.fault.BoardFault.TheVariants.{NoWo
 
 use crate::board::Board;
 use crate::fault::BoardFault;
-use mencius_base::{NoMemory, Plan, Refusal};
+use mencius_base::{NoMemory, Plan};
 use mencius_choices::{Chooser, Progress};
 use std::alloc::Global;
 use std::sync::{Mutex, Wait};
@@ -29,9 +29,7 @@ pub fn worker_turn(board: &mut Board, chooser: &mut Chooser) -> Result<(), Board
     match board.step(event) {
         Ok(_) => Ok(()),
         Err(refusal) => {
-            if refusal == Refusal::NoMemory {
-                return Err(BoardFault::NoMemory);
-            }
+            refusal.memory_apart()?;
             Ok(())
         }
     }

@@ -91,9 +91,7 @@ fn step_all(cluster: &mut Cluster, events: Vec<Event>) -> Result<(), NoMemory>
         match cluster.step(event) {
             Ok(_) => {}
             Err(refusal) => {
-                if refusal == Refusal::NoMemory {
-                    return Err(NoMemory);
-                }
+                refusal.memory_apart()?;
             }
         }
     }

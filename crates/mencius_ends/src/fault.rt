@@ -1,5 +1,6 @@
-ghost use Rattle.std.specs.Prelude.{◌≡◌};
+ghost use Rattle.std.specs.Prelude.{◌≡◌, ◌≢◌, MatchResult};
 ghost use Rattle.mencius_ends.specs.Fault.{fault_name, fault_number};
+ghost use Rattle.mencius_ends.specs.declared.fault.AppFault.TheVariants as fault;
 
 use json::Invalid;
 use mencius_base::NoMemory;
@@ -51,11 +52,20 @@ impl AppFault {
             AppFault::NoMemory => "NoMemory",
         }
     }
+
+    /// The fault, where it is one of what was read or written: that memory ran out says nothing of either.
+    pub fn memory_apart(self) -> Result<AppFault, NoMemory>
+        ensures { MatchResult result (λ other. (other ≡ self) × (self ≢ fault.NoMemory))
+            (λ _. self ≡ fault.NoMemory) }
+    {
+        if self == AppFault::NoMemory {
+            return Err(NoMemory);
+        }
+        Ok(self)
+    }
 }
 
 impl From<AllocError> for AppFault {
-    ghost use Rattle.mencius_ends.specs.declared.fault.AppFault.TheVariants as fault;
-
     ghost from_gives = { λ _ f. f ≡ fault.NoMemory };
 
     fn from(_refused: AllocError) -> AppFault {
@@ -64,8 +74,6 @@ impl From<AllocError> for AppFault {
 }
 
 impl<T: Drop> From<AllocFailed<T>> for AppFault {
-    ghost use Rattle.mencius_ends.specs.declared.fault.AppFault.TheVariants as fault;
-
     ghost from_gives = { λ _ f. f ≡ fault.NoMemory };
 
     fn from(_refused: AllocFailed<T>) -> AppFault {
@@ -74,8 +82,6 @@ impl<T: Drop> From<AllocFailed<T>> for AppFault {
 }
 
 impl From<NoMemory> for AppFault {
-    ghost use Rattle.mencius_ends.specs.declared.fault.AppFault.TheVariants as fault;
-
     ghost from_gives = { λ _ f. f ≡ fault.NoMemory };
 
     fn from(_refused: NoMemory) -> AppFault {
@@ -84,8 +90,6 @@ impl From<NoMemory> for AppFault {
 }
 
 impl From<Invalid> for AppFault {
-    ghost use Rattle.mencius_ends.specs.declared.fault.AppFault.TheVariants as fault;
-
     ghost from_gives = { λ _ f. f ≡ fault.NotJson };
 
     fn from(_invalid: Invalid) -> AppFault {

@@ -132,8 +132,7 @@ fn fault_of_event(alloc: Global, text: &str) -> Result<Option<AppFault>, NoMemor
 {
     match parse_event(alloc, text) {
         Ok(_) => Ok(None),
-        Err(AppFault::NoMemory) => Err(NoMemory),
-        Err(fault) => Ok(Some(fault)),
+        Err(fault) => Ok(Some(fault.memory_apart()?)),
     }
 }
 
@@ -145,8 +144,7 @@ fn fault_of_command(alloc: Global, text: &str) -> Result<Option<AppFault>, NoMem
 {
     match parse_command(alloc, text) {
         Ok(_) => Ok(None),
-        Err(AppFault::NoMemory) => Err(NoMemory),
-        Err(fault) => Ok(Some(fault)),
+        Err(fault) => Ok(Some(fault.memory_apart()?)),
     }
 }
 

@@ -1,13 +1,12 @@
 //! Which of the two kinds of scenario a text is meant as.
 
-ghost use Rattle.std.specs.Prelude.{◌≡◌, IfOk, option_map};
-ghost use Rattle.serde_json.specs.Read.{read};
+ghost use Rattle.std.specs.Prelude.{◌≡◌, IfOk};
 ghost use Rattle.serde_json.specs.View.{view};
 ghost use Rattle.mencius_input.specs.Kinds.{has_field, has_run_field, kind_in, kind_of};
 
 use crate::field::{Field, run_fields};
 use mencius_base::NoMemory;
-use mencius_json::crowd_in;
+use mencius_json::{crowd_in, tree_of};
 use serde_json::Value;
 use std::alloc::Global;
 
@@ -18,17 +17,6 @@ pub enum Kind {
     Replay,
     /// A plan that workers follow.
     Run,
-}
-
-/// The tree of a text, if it is JSON.
-pub(crate) fn tree_of(alloc: Global, text: &str) -> Result<Option<Value>, NoMemory>
-    ensures { IfOk result (λ o. option_map view o ≡ read text.now) }
-{
-    match Value::from_str(alloc, text) {
-        Ok(value) => Ok(Some(value)),
-        Err(e) if e.is_memory() => Err(NoMemory),
-        Err(_) => Ok(None),
-    }
 }
 
 // Whether a field is there.

@@ -11,12 +11,12 @@ ghost use Rattle.mencius_input.specs.Scenario.{number_of};
 
 use crate::faulty_items::{first_item, is_limit, is_shape};
 use crate::field::{Field, list_field, whole_fields};
-use crate::kind::{Kind, tree_of};
+use crate::kind::Kind;
 use json::{Reader, Scratch};
 use mencius_base::NoMemory;
 use mencius_ends::AppFault;
 use mencius_format::NEWEST_VERSION;
-use mencius_json::{MOST_DEPTH, pass};
+use mencius_json::{MOST_DEPTH, pass, tree_of};
 use serde_json::Value;
 use std::alloc::Global;
 

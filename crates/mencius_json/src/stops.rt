@@ -2,10 +2,12 @@
 
 ghost use Rattle.std.specs.Prelude.{◌≡◌, ◌≤◌, ◌<◌, ◌-◌, ◌==◌, IfOk, drop, get_or, length, string_bytes};
 ghost use Rattle.std.specs.List.{filter};
+ghost use Rattle.json.specs.Word.{is_space};
 ghost use Rattle.mencius_json.specs.Stops.{IsStop, IsWrongAt, characters_in, place_behind, stop_words};
 
 use crate::counting::count_of;
 use crate::crowd::crowd_in;
+use crate::tree::memory_apart;
 use crate::value::{MOST_DEPTH, pass, whole_number};
 use json::{Reader, Scratch, Token};
 use mencius_base::NoMemory;
@@ -65,9 +67,8 @@ fn read_to(alloc: Global, text: &str) -> Result<usize, NoMemory> {
 
 // Where bytes are the front of a value, whether they are all of one.
 fn front_of(alloc: Global, bytes: &[u8]) -> Result<Option<bool>, NoMemory> {
-    match Value::from_slice(alloc, bytes) {
+    match memory_apart(Value::from_slice(alloc, bytes))? {
         Ok(_) => Ok(Some(true)),
-        Err(e) if e.is_memory() => Err(NoMemory),
         Err(e) if e.is_eof() => Ok(Some(false)),
         Err(_) => Ok(None),
     }
@@ -107,7 +108,9 @@ fn wrong_token(token: Token<'_>, open: &[u8], is_behind_name: bool) -> &'static 
 }
 
 // Whether a byte is a blank.
-fn is_blank(byte: u8) -> bool {
+fn is_blank(byte: u8) -> bool
+    ensures { result ≡ is_space byte }
+{
     matches!(byte, b' ' | b'\t' | b'\n' | b'\r')
 }
 

@@ -4,8 +4,7 @@
 //! no such value comes next: the text is no JSON, or it nests deeper. What is left of the tokens then
 //! says nothing.
 
-ghost use Rattle.std.specs.Prelude.{true, false, ◌≡◌, ◌∷◌, ◌<◌, ◌+◌, ◌==◌, Some, None, IfErr, IfOk, IsTrue, MatchResult, OnOk, is_some, length, option_and_then, option_map, slice_index};
-ghost use Rattle.fast_float.specs.Text.{minus};
+ghost use Rattle.std.specs.Prelude.{true, false, ◌≡◌, ◌∷◌, ◌<◌, ◌+◌, ◌==◌, Some, None, IfErr, IfOk, OnOk, length, option_and_then, option_map};
 ghost use Rattle.json.specs.Reads.{token_of};
 ghost use Rattle.serde_json.specs.Data.{Data, Items, Members};
 ghost use Rattle.serde_json.specs.Find.{as_number, as_str, as_u64};

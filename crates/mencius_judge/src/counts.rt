@@ -24,8 +24,5 @@ pub struct Counts {
 pub(crate) fn one_more(count: u64) -> Result<u64, NoMemory>
     ensures { IfOk result (λ more. more ≡ count + 1) }
 {
-    match count.checked_add(1) {
-        Some(more) => Ok(more),
-        None => Err(NoMemory),
-    }
+    count.checked_add(1).ok_or(NoMemory)
 }

@@ -317,10 +317,8 @@ fn floor_of(floors: &BTreeMap<u64, usize>, reader: u32) -> usize
 fn put<V: Drop>(map: &mut BTreeMap<u64, V>, key: u64, value: V) -> Result<(), NoMemory>
     ensures { OnOk result (Updates nat_cmp map.old map.new key (Some value)) }
 {
-    match map.insert(key, value) {
-        Ok(_) => Ok(()),
-        Err(_) => Err(NoMemory),
-    }
+    map.insert(key, value)?;
+    Ok(())
 }
 
 // The text at a number, where it is another one than this.

@@ -143,8 +143,6 @@ pub fn put_text<V: Drop>(
         → get_by_text map.new x ≡ get_by_text map.old x) }
 {
     let text = String::from_str(alloc, text)?;
-    match map.insert(text, value) {
-        Ok(_) => Ok(()),
-        Err(_) => Err(NoMemory),
-    }
+    map.insert(text, value)?;
+    Ok(())
 }

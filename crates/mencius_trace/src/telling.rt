@@ -56,10 +56,7 @@ fn push_refusal(text: &mut String, refusal: Refusal) -> Result<(), NoMemory>
         ≡ string_bytes text.old ++ refused_line refusal) }
     ensures other { OnOk result (refusal ≢ Unreserved) }
 {
-    if refusal == Refusal::NoMemory {
-        return Err(NoMemory);
-    }
-    push_refused(text, refusal)?;
+    push_refused(text, refusal.memory_apart()?)?;
     Ok(())
 }
 

@@ -154,7 +154,10 @@ fn report_of(alloc: Global, cluster: &Cluster) -> Result<Vec<u8>, Stop> {
     let mut sink = Std::new(&mut text);
     match report(alloc, cluster, &mut sink) {
         Ok(()) => Ok(text),
-        Err(_) => Err(Stop::NoMemory),
+        Err(fault) => {
+            fault.memory_apart()?;
+            Err(Stop::Broken("a report is not written"))
+        }
     }
 }
 

@@ -37,10 +37,7 @@ fn set(
 ) -> Result<Option<String>, AllocError> {
     let key = String::from_str(alloc, key)?;
     let text = String::from_str(alloc, text)?;
-    match texts.insert(key, text) {
-        Ok(former) => Ok(former),
-        Err(_) => Err(AllocError),
-    }
+    Ok(texts.insert(key, text)?)
 }
 
 fn get(

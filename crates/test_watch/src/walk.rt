@@ -1,7 +1,7 @@
 //! A cluster that is stepped, and whose answers are looked at after each event.
 
 use crate::observed::Observed;
-use mencius_base::{Event, INSTANCES, Members, Refusal, Vote};
+use mencius_base::{Event, INSTANCES, Members, NoMemory, Vote};
 use mencius_cluster::Cluster;
 use std::alloc::{AllocError, Global};
 
@@ -20,6 +20,23 @@ impl From<AllocError> for Stop {
     }
 }
 
+impl From<NoMemory> for Stop {
+    fn from(_refused: NoMemory) -> Stop {
+        Stop::NoMemory
+    }
+}
+
+/// A new cluster of these members.
+pub fn new_cluster(alloc: Global, members: Members) -> Result<Cluster, Stop> {
+    match Cluster::new(alloc, members) {
+        Ok(cluster) => Ok(cluster),
+        Err(refusal) => {
+            refusal.memory_apart()?;
+            Err(Stop::Broken("a new cluster is refused"))
+        }
+    }
+}
+
 /// A cluster and what was seen of it so far.
 #[derive(Drop)]
 pub struct Walk {
@@ -34,15 +51,12 @@ impl Walk {
     /// Over a new cluster of these members. After so many events each time all answers are looked at, and after those
     /// between only what the event may have changed.
     pub fn new(alloc: Global, members: Members, pace: u32) -> Result<Walk, Stop> {
-        match Cluster::new(alloc, members) {
-            Ok(cluster) => Ok(Walk {
-                cluster,
-                seen: Observed::new(alloc),
-                pace,
-                taken: 0,
-            }),
-            Err(_) => Err(Stop::NoMemory),
-        }
+        Ok(Walk {
+            cluster: new_cluster(alloc, members)?,
+            seen: Observed::new(alloc),
+            pace,
+            taken: 0,
+        })
     }
 
     /// The cluster.
@@ -58,8 +72,8 @@ impl Walk {
     /// Takes an event, looks at answers as the pace says, and answers whether the event was accepted.
     pub fn take(&mut self, event: Event) -> Result<bool, Stop> {
         let answer = self.cluster.step(event);
-        if answer == Err(Refusal::NoMemory) {
-            return Err(Stop::NoMemory);
+        if let Err(refusal) = &answer {
+            refusal.memory_apart()?;
         }
         self.taken = self.taken.saturating_add(1);
         if self.taken >= self.pace {

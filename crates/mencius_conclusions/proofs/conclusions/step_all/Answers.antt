@@ -1,6 +1,3 @@
-use denote.Enum.Bare.{same_false}
-use Rattle.std.proofs.Common.{sym}
-use Rattle.mencius_base.specs.contracts.refusal.Refusal.{the_type}
 use Rattle.mencius_cluster.proofs.events.EventLists.{accepted_further, refused_further}
 use Rattle.mencius_conclusions.proofs.conclusions.step_all.Goals as goal
 
@@ -11,5 +8,5 @@ pub loop-event-preserved : goal.loop-event-preserved
 loop-event-preserved c = (
   _,
   refused_further _ _ _ _ _ _ _ c.loop-event.invariant.1 c.in-Err.ensures.refusal
-      (same_false the_type _ _ (sym c.if-eq.ensures)) c.in-Err.ensures.err,
+      c.in_ok-memory_apart-in-Err.ensures.1 c.in-Err.ensures.err,
 )
