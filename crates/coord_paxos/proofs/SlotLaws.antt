@@ -8,7 +8,7 @@ use Rattle.mencius_base.specs.declared.message.Message.{Message}
 use Rattle.mencius_base.specs.declared.message.Message.TheVariants.{Suggest, Skip, Accepted, Prepare, Promise, Propose, Learn}
 use Rattle.mencius_base.specs.declared.message.Value.{Value}
 use Rattle.mencius_base.specs.declared.message.Vote.{Vote}
-use Rattle.mencius_base.specs.Members.{Membership, below, owner}
+use Rattle.mencius_base.specs.Members.{Membership, numbers_below, owner}
 use Rattle.mencius_model.specs.Trace.{Line, Heard, Sent, Learned, Trace, first_some, followed_by, heard_messages, sent_messages}
 use Rattle.mencius_model.specs.Instance.{accepted_ballot, accepters, are_majority, greater_ballot, higher_vote, highest_vote, is_acceptance, is_promise, learned_value, promised_ballot, promisers, proposal, proposal_by, reported_vote, tried_by, tried_ballot, value_or_noop, vote, vote_of, vote_reported, IsUntried, IsVoted}
 use Rattle.mencius_model.specs.Rules.{answer_lines, decision_lines, due_decision_from, due_proposal_from, prepare_answer_from, proposal_lines}
@@ -17,7 +17,7 @@ use Rattle.coord_paxos.specs.SlotState.{SlotState}
 use Rattle.coord_paxos.specs.Fresh.{new_slot}
 use Rattle.coord_paxos.specs.Slot.{acceptance_answer, after_accept, after_acceptance, after_answer, after_begin, after_learn, after_prepare, after_promise, due_decision, due_proposal, has_majority, promise_answer, with_acceptance, with_learned, with_promise, with_proposal}
 use Rattle.coord_paxos.specs.Reached.{if_own, slot_at}
-use Rattle.coord_paxos.specs.Laws.{counts, touches}
+use Rattle.coord_paxos.specs.Laws.{is_counted_at, is_touched_by}
 use Rattle.mencius_base.specs.declared.message.Answer.TheVariants.{Promise as Promised, Silent}
 use Rattle.mencius_model.proofs.trace.NumberLists.{count_by-map, map-below_constant, map-below_same}
 use Rattle.mencius_model.proofs.trace.OneMoreLine.{first_some-none, greater_ballot-none, max-zero, greatest_quiet, oldest_quiet, vote_of_same}
@@ -91,8 +91,8 @@ slot_trying m w p i b = record (slot_at m w p i) {
   trying = b;
   reported = reported_vote w p i b;
   proposal = if_own m p i b (proposal w i b);
-  promisers = map (promisers w p i b) (below m.count);
-  accepters = map (accepters w p i b) (below m.count);
+  promisers = map (promisers w p i b) (numbers_below m.count);
+  accepters = map (accepters w p i b) (numbers_below m.count);
 }
 
 slot_at-tried : (m : Membership) (w : Trace) (p i b : ℕ) → tried_ballot w p i < b
@@ -110,8 +110,8 @@ slot_at-tried m w p i b above =
     tried
     (ap (reported_vote (l ∷ w) p i) tried)
     (ap (λ (c : ℕ). if_own m p i c (proposal (l ∷ w) i c)) tried ∙ ap (if_own m p i b) (proposals b))
-    (ap (λ (c : ℕ). map (promisers (l ∷ w) p i c) (below m.count)) tried)
-    (ap (λ (c : ℕ). map (accepters (l ∷ w) p i c) (below m.count)) tried)
+    (ap (λ (c : ℕ). map (promisers (l ∷ w) p i c) (numbers_below m.count)) tried)
+    (ap (λ (c : ℕ). map (accepters (l ∷ w) p i c) (numbers_below m.count)) tried)
 
 -- of what was not promised nothing is reported
 report_of : (i b : ℕ) (x : Message) → ((q : ℕ) → is_promise i b q x ≡ false) → vote_reported i b x ≡ None
@@ -169,11 +169,11 @@ pub due_proposal-slot_at : (m : Membership) (w : Trace) (p i b : ℕ) → 0 < b 
 due_proposal-slot_at m w p i b tried same =
     ap (λ (c : ℕ). cond
     ((is_none (learned_value w p i) && is_none (if_own m p i c (proposal w i c)))
-    && has_majority m (map (promisers w p i c) (below m.count)))
+    && has_majority m (map (promisers w p i c) (numbers_below m.count)))
     (Some (value_or_noop (reported_vote w p i c))) None) (sym same)
     ∙ rw (
       owned m p i b (proposal w i b) (λ zero. absurd (omega arith)),
-      count_by-map (promisers w p i b) (below m.count),
+      count_by-map (promisers w p i b) (numbers_below m.count),
     )
 
 pub due_decision-slot_at : (m : Membership) (w : Trace) (p i b : ℕ) → (b ≡ 0 → owner m i ≡ p) → b ≡ tried_ballot w p i
@@ -181,9 +181,9 @@ pub due_decision-slot_at : (m : Membership) (w : Trace) (p i b : ℕ) → (b ≡
     ≡ due_decision_from (learned_value w p i) (proposal w i b) (are_majority m (accepters w p i b))
 due_decision-slot_at m w p i b mine same =
     ap (λ (c : ℕ). cond
-    (is_none (learned_value w p i) && has_majority m (map (accepters w p i c) (below m.count)))
+    (is_none (learned_value w p i) && has_majority m (map (accepters w p i c) (numbers_below m.count)))
     (if_own m p i c (proposal w i c)) None) (sym same)
-    ∙ rw (owned m p i b (proposal w i b) mine, count_by-map (accepters w p i b) (below m.count))
+    ∙ rw (owned m p i b (proposal w i b) mine, count_by-map (accepters w p i b) (numbers_below m.count))
 
 voted_later : (w : Trace) (l : Line) (p i : ℕ) → IsQuiet p i l → IsVoted w p i → IsVoted (l ∷ w) p i
 voted_later w l p i quiet voted = record {
@@ -343,7 +343,7 @@ module _ (m : Membership) (w : Trace) (k p i from b : ℕ)
 
 -- ---- every other line
 
-untouched_quiet : (p i : ℕ) (l : Line) → touches p i l ≡ false → IsQuiet p i l
+untouched_quiet : (p i : ℕ) (l : Line) → is_touched_by p i l ≡ false → IsQuiet p i l
 untouched_quiet p i (Sent (Suggest from inst ticket)) e =
     record { promised = refl; proposed = λ b. rw e; accepted = refl; learned = refl; tried = refl }
 untouched_quiet p i (Sent (Accepted from to inst ballot)) e =
@@ -359,16 +359,16 @@ untouched_quiet p i (Learned server inst value) e =
 untouched_quiet p i l e =
     record { promised = refl; proposed = λ b. refl; accepted = refl; learned = refl; tried = refl }
 
-untouched_heard : (w : Trace) (p i : ℕ) (l : Line) → touches p i l ≡ false → heard_messages (l ∷ w) p
+untouched_heard : (w : Trace) (p i : ℕ) (l : Line) → is_touched_by p i l ≡ false → heard_messages (l ∷ w) p
     ≡ heard_messages w p
 untouched_heard w p i (Heard message server) e = rw e
 untouched_heard w p i l e = refl
 
-pub untouched : (m : Membership) (w : Trace) (p i : ℕ) (l : Line) → touches p i l ≡ false
+pub untouched : (m : Membership) (w : Trace) (p i : ℕ) (l : Line) → is_touched_by p i l ≡ false
     → slot_at m (l ∷ w) p i ≡ slot_at m w p i
 untouched m w p i l e = slot_at-quiet m w l p i (untouched_quiet p i l e) (untouched_heard w p i l e)
 
-counts_nothing : (i b : ℕ) (x : Message) → counts i b x ≡ false → IsUncounted i b x
+counts_nothing : (i b : ℕ) (x : Message) → is_counted_at i b x ≡ false → IsUncounted i b x
 counts_nothing i b (Promise from to inst ballot reports) e = uncounted_promise from to inst ballot i b reports e
 counts_nothing i b (Accepted from to inst ballot) e = uncounted_acceptance from to inst ballot i b e
 counts_nothing i b (Suggest from inst ticket) e = record { promise = λ q. refl; acceptance = λ q. refl; report = refl }
@@ -379,7 +379,7 @@ counts_nothing i b (Propose from inst ballot value) e =
 counts_nothing i b (Learn from inst value) e = record { promise = λ q. refl; acceptance = λ q. refl; report = refl }
 
 pub uncounted : (m : Membership) (w : Trace) (k p i : ℕ) (x : Message) → slice_get (sent_messages w) k ≡ Some x
-    → counts i (tried_ballot w p i) x ≡ false
+    → is_counted_at i (tried_ballot w p i) x ≡ false
     → slot_at m (Heard k p ∷ w) p i ≡ slot_at m w p i
 uncounted m w k p i x e none = slot_at-heard m w k p i x e (counts_nothing i (tried_ballot w p i) x none)
 

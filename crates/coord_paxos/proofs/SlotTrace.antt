@@ -7,7 +7,7 @@ use Rattle.mencius_base.specs.declared.message.Message.TheVariants.{Suggest, Acc
 use Rattle.mencius_base.specs.declared.message.Value.{Value}
 use Rattle.mencius_base.specs.declared.message.Value.TheVariants.{Ticket}
 use Rattle.mencius_base.specs.declared.message.Vote.{Vote}
-use Rattle.mencius_base.specs.Members.{Membership, below, owner}
+use Rattle.mencius_base.specs.Members.{Membership, numbers_below, owner}
 use Rattle.mencius_model.specs.Trace.{Line, Heard, Sent, Learned, Trace, first_some, heard_messages, sent_messages}
 use Rattle.mencius_model.specs.Instance.{promised_by, promised_ballot, proposal_by, proposal, accepted_by, accepted_ballot, greater_ballot, vote_at, vote_of, learned_by, learned_value, tried_by, tried_ballot, reported_vote, promisers, accepters, is_promise, is_acceptance, highest_vote, vote_reported, IsVoted}
 use Rattle.mencius_model.proofs.trace.OneMoreLine.{max-zero, first_some-none, greater_ballot-none, greatest_quiet, oldest_quiet, oldest_stays, vote_of_same, accepted_small, greater_above}
@@ -58,8 +58,8 @@ same_slot s r = same_parts _ _ _ _ _ _ _ _ _ _ _ _ _ _ _ _ _ _
 abbrev pub slot_hearing : Membership → Trace → ServerId → Inst → List Message → SlotState
 slot_hearing m w p i hs = record (slot_at m w p i) {
   reported = highest_vote (map (vote_reported i (tried_ballot w p i)) hs);
-  promisers = map (λ (q : ℕ). list_any (is_promise i (tried_ballot w p i) q) hs) (below m.count);
-  accepters = map (λ (q : ℕ). list_any (is_acceptance i (tried_ballot w p i) q) hs) (below m.count);
+  promisers = map (λ (q : ℕ). list_any (is_promise i (tried_ballot w p i) q) hs) (numbers_below m.count);
+  accepters = map (λ (q : ℕ). list_any (is_acceptance i (tried_ballot w p i) q) hs) (numbers_below m.count);
 }
 
 -- a line that proposes nothing and tries nothing
@@ -81,8 +81,8 @@ slot_at-saying m w l p i unproposed untried =
     (ap (reported_vote (l ∷ w) p i) tried)
     (ap (λ (b : ℕ). if_own m p i b (proposal (l ∷ w) i b)) tried
     ∙ ap (if_own m p i (tried_ballot w p i)) (proposals (tried_ballot w p i)))
-    (ap (λ (b : ℕ). map (promisers (l ∷ w) p i b) (below m.count)) tried)
-    (ap (λ (b : ℕ). map (accepters (l ∷ w) p i b) (below m.count)) tried)
+    (ap (λ (b : ℕ). map (promisers (l ∷ w) p i b) (numbers_below m.count)) tried)
+    (ap (λ (b : ℕ). map (accepters (l ∷ w) p i b) (numbers_below m.count)) tried)
 
 -- a quiet line changes at most what was heard
 pub slot_at-unsaid : (m : Membership) (w : Trace) (l : Line) (p i : ℕ) → IsQuiet p i l
@@ -180,10 +180,10 @@ slot_at-proposing m w l p i o voted unpromised unaccepted unlearned untried deaf
     (ap (reported_vote (l ∷ w) p i) tried
     ∙ ap (λ (hs : List Message). highest_vote (map (vote_reported i (tried_ballot w p i)) hs)) deaf)
     (ap (λ (b : ℕ). if_own m p i b (proposal (l ∷ w) i b)) tried ∙ said)
-    (ap (λ (b : ℕ). map (promisers (l ∷ w) p i b) (below m.count)) tried
-    ∙ ap (λ (hs : List Message). map (λ (q : ℕ). list_any (is_promise i (tried_ballot w p i) q) hs) (below m.count)) deaf)
-    (ap (λ (b : ℕ). map (accepters (l ∷ w) p i b) (below m.count)) tried
-    ∙ ap (λ (hs : List Message). map (λ (q : ℕ). list_any (is_acceptance i (tried_ballot w p i) q) hs) (below m.count)) deaf)
+    (ap (λ (b : ℕ). map (promisers (l ∷ w) p i b) (numbers_below m.count)) tried
+    ∙ ap (λ (hs : List Message). map (λ (q : ℕ). list_any (is_promise i (tried_ballot w p i) q) hs) (numbers_below m.count)) deaf)
+    (ap (λ (b : ℕ). map (accepters (l ∷ w) p i b) (numbers_below m.count)) tried
+    ∙ ap (λ (hs : List Message). map (λ (q : ℕ). list_any (is_acceptance i (tried_ballot w p i) q) hs) (numbers_below m.count)) deaf)
 
 -- p proposes at the ballot that it tries
 pub slot_at-proposed : (m : Membership) (w : Trace) (p i b : ℕ) (z : Value) → IsVoted w p i → 0 < b

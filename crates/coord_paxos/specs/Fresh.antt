@@ -4,8 +4,8 @@ use Rattle.mencius_base.specs.Members.{Membership}
 use Rattle.coord_paxos.specs.SlotState.{SlotState}
 
 -- the empty set: one truth value a server
-abbrev pub nobody : Membership → List Bool
-nobody m = replicate m.count false
+abbrev pub no_servers : Membership → List Bool
+no_servers m = replicate m.count false
 
 -- a slot to which nothing happened
 abbrev pub new_slot : Membership → SlotState
@@ -17,6 +17,6 @@ new_slot m = record {
   trying = 0;
   reported = None;
   proposal = None;
-  promisers = nobody m;
-  accepters = nobody m;
+  promisers = no_servers m;
+  accepters = no_servers m;
 }

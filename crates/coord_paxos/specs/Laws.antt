@@ -121,35 +121,35 @@ SlotAfterLearn =
 -- ---- every other line
 
 -- whether a line may touch p's slot for i
-abbrev pub touches : ServerId → Inst → Line → Bool
-touches p i (Sent (Suggest from inst ticket)) = inst == i
-touches p i (Sent (Skip from first stop)) = false
-touches p i (Sent (Accepted from to inst ballot)) = from == p && inst == i
-touches p i (Sent (Prepare from inst ballot)) = from == p && inst == i
-touches p i (Sent (Promise from to inst ballot reported)) = from == p && inst == i
-touches p i (Sent (Propose from inst ballot value)) = inst == i
-touches p i (Sent (Learn from inst value)) = false
-touches p i (Learned server inst value) = server == p && inst == i
-touches p i (Heard message server) = server == p
-touches p i _ = false
+abbrev pub is_touched_by : ServerId → Inst → Line → Bool
+is_touched_by p i (Sent (Suggest from inst ticket)) = inst == i
+is_touched_by p i (Sent (Skip from first stop)) = false
+is_touched_by p i (Sent (Accepted from to inst ballot)) = from == p && inst == i
+is_touched_by p i (Sent (Prepare from inst ballot)) = from == p && inst == i
+is_touched_by p i (Sent (Promise from to inst ballot reported)) = from == p && inst == i
+is_touched_by p i (Sent (Propose from inst ballot value)) = inst == i
+is_touched_by p i (Sent (Learn from inst value)) = false
+is_touched_by p i (Learned server inst value) = server == p && inst == i
+is_touched_by p i (Heard message server) = server == p
+is_touched_by p i _ = false
 
 abbrev pub LeavesUntouched : Type 0
 LeavesUntouched =
-    (m : Membership) (w : Trace) (p : ServerId) (i : Inst) (l : Line) → touches p i l ≡ false
+    (m : Membership) (w : Trace) (p : ServerId) (i : Inst) (l : Line) → is_touched_by p i l ≡ false
     → slot_at m (l ∷ w) p i ≡ slot_at m w p i
 
 -- whether a message counts in a set at ballot b of i
-abbrev pub counts : Inst → BallotNo → Message → Bool
-counts i b (Promise from to inst ballot reported) = inst == i && ballot == b
-counts i b (Accepted from to inst ballot) = inst == i && ballot == b
-counts i b _ = false
+abbrev pub is_counted_at : Inst → BallotNo → Message → Bool
+is_counted_at i b (Promise from to inst ballot reported) = inst == i && ballot == b
+is_counted_at i b (Accepted from to inst ballot) = inst == i && ballot == b
+is_counted_at i b _ = false
 
 -- p hears a message that is no promise and no acceptance of the ballot that it tries
 abbrev pub LeavesUncounted : Type 0
 LeavesUncounted =
     (m : Membership) (w : Trace) (k : MessageNo) (p : ServerId) (i : Inst) (x : Message)
     → slice_get (sent_messages w) k ≡ Some x
-    → counts i (tried_ballot w p i) x ≡ false
+    → is_counted_at i (tried_ballot w p i) x ≡ false
     → slot_at m (Heard k p ∷ w) p i ≡ slot_at m w p i
 
 -- a proposal at a ballot that p does not try

@@ -2,7 +2,7 @@
 use Rattle.std.specs.Prelude.{Option, None, ◌==◌, nat_lt, if◌then◌else◌, ◌||◌, map}
 use Rattle.mencius_base.specs.Numbers.{ServerId, Inst, BallotNo}
 use Rattle.mencius_base.specs.declared.message.Value.{Value}
-use Rattle.mencius_base.specs.Members.{Membership, below, owner}
+use Rattle.mencius_base.specs.Members.{Membership, numbers_below, owner}
 use Rattle.mencius_model.specs.Trace.{Trace}
 use Rattle.mencius_model.specs.Instance.{promised_ballot, vote, learned_value, tried_ballot, reported_vote, proposal, promisers, accepters}
 use Rattle.coord_paxos.specs.SlotState.{SlotState}
@@ -25,6 +25,6 @@ slot_at m w p i = record {
   trying = tried_ballot w p i;
   reported = reported_vote w p i (tried_ballot w p i);
   proposal = own_proposal m w p i;
-  promisers = map (promisers w p i (tried_ballot w p i)) (below m.count);
-  accepters = map (accepters w p i (tried_ballot w p i)) (below m.count);
+  promisers = map (promisers w p i (tried_ballot w p i)) (numbers_below m.count);
+  accepters = map (accepters w p i (tried_ballot w p i)) (numbers_below m.count);
 }

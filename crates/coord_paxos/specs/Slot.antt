@@ -10,7 +10,7 @@ use Rattle.mencius_base.specs.Members.{Membership, is_majority}
 use Rattle.mencius_model.specs.Instance.{higher_vote}
 use Rattle.mencius_model.specs.Rules.{due_decision_from, due_proposal_from, is_acceptable, is_tried, may_learn, prepare_answer_from}
 use Rattle.coord_paxos.specs.SlotState.{SlotState}
-use Rattle.coord_paxos.specs.Fresh.{nobody}
+use Rattle.coord_paxos.specs.Fresh.{no_servers}
 
 -- whether a majority of the servers is in the set, which has one truth value a server
 abbrev pub has_majority : Membership → List Bool → Bool
@@ -39,8 +39,8 @@ after_begin s b = record s {
   trying = b;
   reported = None;
   proposal = None;
-  promisers = nobody s.members;
-  accepters = nobody s.members;
+  promisers = no_servers s.members;
+  accepters = no_servers s.members;
 }
 
 -- one more promise of the ballot that is tried, and the vote in it

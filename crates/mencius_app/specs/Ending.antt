@@ -113,8 +113,8 @@ TellsOf task known (Explained fault words) = AreWordsOfInput (explanation_of tas
 TellsOf task known _ = Unit {0}
 
 -- a strict replay reports refused events
-abbrev pub reports_refusals : Bool → Bool → Bool
-reports_refusals is_strict all_accepted = is_strict && not all_accepted
+abbrev pub are_refusals_reported : Bool → Bool → Bool
+are_refusals_reported is_strict all_accepted = is_strict && not all_accepted
 
 -- ---- what was done, for arguments behind the program's name
 
@@ -140,7 +140,7 @@ IsComplaint arguments text =
 -- the text of a task, of all that a reader has, and whether refused events or a broken promise are told of
 abbrev pub IsTaskOf : TaskState → Option (List ℕ) → Bool → List ℕ → Type 0
 IsTaskOf (asked_replay is_strict) known is_refused text =
-    (all : Bool) × IsJudgedReplayOf known text all × (is_refused ≡ reports_refusals is_strict all)
+    (all : Bool) × IsJudgedReplayOf known text all × (is_refused ≡ are_refusals_reported is_strict all)
 IsTaskOf asked_trace known is_refused text = IsTraceOf known text × (is_refused ≡ false)
 IsTaskOf (asked_draw (Some part)) known is_refused text = IsPictureOf part known text × (is_refused ≡ false)
 IsTaskOf (asked_draw None) known is_refused text = ⊥

@@ -48,8 +48,8 @@ abbrev pub leader : Membership → BallotNo → Inst → ServerId
 leader m b i = if b == 0 then owner m i else b % m.count
 
 -- the numbers below n, rising
-unfoldable pub below : ℕ → List ℕ
-below n = range_with_len 0 n
+unfoldable pub numbers_below : ℕ → List ℕ
+numbers_below n = range_with_len 0 n
 
 -- the first of a list, if there is one
 abbrev pub first_item : List ℕ → Option ℕ
@@ -58,7 +58,7 @@ first_item (t ∷ ts) = Some t
 
 -- every instance there is, and the greatest number of messages and of events
 unfoldable pub instances : List Inst
-instances = below instance_count
+instances = numbers_below instance_count
 
 unfoldable pub most_messages : ℕ
 most_messages = message_limit

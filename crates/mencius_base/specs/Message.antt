@@ -7,15 +7,15 @@ use Rattle.mencius_base.specs.Members.{Membership}
 use Rattle.mencius_base.specs.Limits.{greatest_front, instance_count}
 
 -- Accepted and Promise go to one server, all others to every server
-abbrev pub goes_to : ServerId → Message → Bool
-goes_to p (Accepted from to inst ballot) = to == p
-goes_to p (Promise from to inst ballot vote) = to == p
-goes_to p _ = true
+abbrev pub is_sent_to : ServerId → Message → Bool
+is_sent_to p (Accepted from to inst ballot) = to == p
+is_sent_to p (Promise from to inst ballot vote) = to == p
+is_sent_to p _ = true
 
 -- there is a message, and it goes to others than p
-abbrev pub goes_elsewhere : ServerId → Option Message → Bool
-goes_elsewhere p None = false
-goes_elsewhere p (Some x) = not (goes_to p x)
+abbrev pub is_sent_elsewhere : ServerId → Option Message → Bool
+is_sent_elsewhere p None = false
+is_sent_elsewhere p (Some x) = not (is_sent_to p x)
 
 -- its servers are members, its instance is one of those that there are, and what has a first phase has a ballot above 0
 abbrev pub is_within : Membership → Message → Bool
@@ -30,4 +30,4 @@ is_within m (Learn from inst value) = nat_lt from m.count && nat_lt inst instanc
 
 -- the message goes to server p, and all its numbers are within their limits
 abbrev pub is_for : Membership → ServerId → Message → Bool
-is_for m p x = nat_lt p m.count && (goes_to p x && is_within m x)
+is_for m p x = nat_lt p m.count && (is_sent_to p x && is_within m x)

@@ -85,7 +85,7 @@ pub enum Message {
 }
 
 impl Message {
-    ghost use Rattle.mencius_base.specs.Message.{goes_to, is_for, is_within};
+    ghost use Rattle.mencius_base.specs.Message.{is_sent_to, is_for, is_within};
 
     /// Whether the message may be delivered to a server: it goes to that server, which is one of
     /// the members as are all servers that it names, its instance is at most 4,095 (the `stop` of a
@@ -93,13 +93,13 @@ impl Message {
     pub fn is_for(&self, members: Members, server: u8) -> bool
         ensures { result ≡ is_for members server self.now }
     {
-        server < members.count() && self.goes_to(server) && self.is_within(members)
+        server < members.count() && self.is_sent_to(server) && self.is_within(members)
     }
 
     /// Whether the message goes to a server: Accepted and Promise have one addressee, all others
     /// go to every server, the sender too.
-    pub fn goes_to(&self, server: u8) -> bool
-        ensures { result ≡ goes_to server self.now }
+    pub fn is_sent_to(&self, server: u8) -> bool
+        ensures { result ≡ is_sent_to server self.now }
     {
         match *self {
             Message::Accepted { to, .. } | Message::Promise { to, .. } => to == server,

@@ -1,6 +1,6 @@
 -- Workers that take turns on one board, and what a board comes to by all turns of a plan.
 use Rattle.std.specs.Prelude.{ℕ, Bool, true, false, ◌≡◌, ◌≢◌, ◌⊎◌, ◌<◌, ◌+◌, ◌==◌, List, [], ◌∷◌, map, set, get_or, slice_get, Some, Result, Ok, Err, IfErr, if◌then◌else◌, length}
-use Rattle.mencius_base.specs.Members.{below, new_members}
+use Rattle.mencius_base.specs.Members.{numbers_below, new_members}
 use Rattle.mencius_choices.specs.Choices.{ChooserState, first_chooser}
 use Rattle.mencius_base.specs.Plan.{PlanState, plan_of}
 use Rattle.mencius_cluster.specs.State.{new_cluster}
@@ -17,7 +17,7 @@ pub record RunState : Type 0 where
 
 -- before any turn of a plan
 abbrev pub first_run : PlanState → BoardState → RunState
-first_run plan board = record { board = board; choosers = map (first_chooser plan) (below plan.workers) }
+first_run plan board = record { board = board; choosers = map (first_chooser plan) (numbers_below plan.workers) }
 
 -- a worker's turn by the worker's number, and what it answered. NoWorker: the worker's thread could not be started
 abbrev pub TurnOf : Type 0

@@ -1,6 +1,6 @@
 //! A run: all turns of a plan's workers on one board, each worker in a thread of its own.
 ghost use Rattle.std.specs.Prelude.{◌≡◌, ◌<◌, map, replicate, IfErr, IfOk, Ok, OnOk};
-ghost use Rattle.mencius_base.specs.Members.{below};
+ghost use Rattle.mencius_base.specs.Members.{numbers_below};
 ghost use Rattle.mencius_board.specs.Boards.{BoardState};
 ghost use Rattle.mencius_board.specs.Faults.{IsRunFault};
 ghost use Rattle.mencius_board.specs.Runs.{GoesOn, HasFailed, HasRun, HasStopped, first_fault};
@@ -65,7 +65,7 @@ impl<'p, J: Job> Run<'p, J> {
     fn new(board: Board, choosers: Vec<Chooser<'p>>, ways: Vec<Way>, turns: u32) -> Run<'p, J>
         requires first { board ≡ J.first }
         requires turns { turns ≡ J.plan.turns }
-        requires choosers { choosers.items ≡ map (first_chooser J.plan) (below J.plan.workers) }
+        requires choosers { choosers.items ≡ map (first_chooser J.plan) (numbers_below J.plan.workers) }
         requires ways { ways.items ≡ replicate J.plan.workers (Ok 0) }
         ensures { result ≡ board }
     {
@@ -210,7 +210,7 @@ fn run_threads<'p, J: Job + Send, R: Threads + Wait + Sync, G: Gate + Sync>(
 // The choosers of a plan before any turn, and that no worker took one, by worker number.
 fn seats<'p>(alloc: Global, plan: &'p Plan) -> Result<(Vec<Chooser<'p>>, Vec<Way>), NoMemory>
     ensures choosers { IfOk result (λ x. x.0.items
-        ≡ map (first_chooser plan.now) (below plan.now.workers)) }
+        ≡ map (first_chooser plan.now) (numbers_below plan.now.workers)) }
     ensures ways { IfOk result (λ x. x.1.items ≡ replicate plan.now.workers (Ok 0)) }
 {
     let many = usize::from(plan.workers());

@@ -4,7 +4,7 @@ use Rattle.mencius_base.specs.declared.command.Command.{Command}
 use Rattle.mencius_base.specs.declared.command.Op.TheVariants.{Get}
 use Rattle.mencius_base.specs.declared.event.Event.{Event}
 use Rattle.mencius_base.specs.declared.event.Event.TheVariants.{Submit, Deliver, Execute, Lose, Retry, Suspect}
-use Rattle.mencius_base.specs.Members.{new_members, below, instances, most_messages, most_events}
+use Rattle.mencius_base.specs.Members.{new_members, numbers_below, instances, most_messages, most_events}
 use Rattle.mencius_cluster.specs.Salt.{hasher_with}
 use Rattle.mencius_cluster.specs.State.{ClusterState}
 use Rattle.mencius_choices.specs.declared.choice.Pick.TheVariants.{NextCommand, Is}
@@ -30,42 +30,42 @@ abbrev words : ℕ → ℕ → ℕ → List ℕ
 words a b c = a ∷ b ∷ c ∷ []
 
 pick-execute : pick_of after_one_command 0 true (words 6 0 5) ≡ Is (Execute 2)
-unfolding below instances most_messages most_events
+unfolding numbers_below instances most_messages most_events
 pick-execute = refl
 
 pick-retry : pick_of after_one_command 0 true (words 18 0 4) ≡ Is (Retry 1)
-unfolding below instances most_messages most_events
+unfolding numbers_below instances most_messages most_events
 pick-retry = refl
 
 pick-suspect : pick_of after_one_command 0 true (words 21 4 5) ≡ Is (Suspect 1 2)
-unfolding below instances most_messages most_events
+unfolding numbers_below instances most_messages most_events
 pick-suspect = refl
 
 -- message 1 is for server 0 alone
 pick-lose : pick_of after_one_command 2 true (words 22 2 1) ≡ Is (Lose 1 0)
-unfolding below instances most_messages most_events
+unfolding numbers_below instances most_messages most_events
 pick-lose = refl
 
 pick-deliver : pick_of after_one_command 0 true (words 22 2 1) ≡ Is (Deliver 1 0)
-unfolding below instances most_messages most_events
+unfolding numbers_below instances most_messages most_events
 pick-deliver = refl
 
 -- an odd word counts back from the last message
 pick-deliver_recent : pick_of after_one_command 32 true (words 63 7 5) ≡ Is (Deliver 0 2)
-unfolding below instances most_messages most_events
+unfolding numbers_below instances most_messages most_events
 pick-deliver_recent = refl
 
 pick-next_command : pick_of after_one_command 0 true (words 69 0 0) ≡ NextCommand
-unfolding below instances most_messages most_events
+unfolding numbers_below instances most_messages most_events
 pick-next_command = refl
 
 pick-none_left : pick_of after_one_command 0 false (words 69 0 0) ≡ Is (Deliver 0 0)
-unfolding below instances most_messages most_events
+unfolding numbers_below instances most_messages most_events
 pick-none_left = refl
 
 -- where nothing was sent, message 0 is named
 pick-on_new : pick_of (three_after []) 0 true (words 40 1 2) ≡ Is (Deliver 0 2)
-unfolding below instances most_messages most_events
+unfolding numbers_below instances most_messages most_events
 pick-on_new = refl
 
 -- ---- the order of commands

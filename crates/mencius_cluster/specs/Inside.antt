@@ -1,6 +1,6 @@
 -- How the fields of a cluster are seen.
 use Rattle.mencius_cluster.specs.declared.cluster.Cluster.TheInside.{Inside}
-use Rattle.mencius_cluster.specs.MessageBits.{bit_in}
+use Rattle.mencius_cluster.specs.MessageBits.{has_bit_in}
 use Rattle.mencius_cluster.specs.State.{ClusterState}
 use Rattle.mencius_cluster.specs.Tables.{Tables, IsCluster, journal_of}
 
@@ -12,7 +12,7 @@ tables_in x = record {
   done = x.done.items;
   messages = x.messages;
   rows = x.submissions.entries;
-  is_lost = bit_in x.lost;
+  is_lost = has_bit_in x.lost;
   entries = x.journal.items;
 }
 

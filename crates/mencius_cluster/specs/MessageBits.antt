@@ -10,5 +10,5 @@ pub record MessageBitsState : Type 0 where
   pub room : ℕ
 
 -- there is a mark at message k and server p: at no message past the last mask is one
-abbrev pub bit_in : MessageBitsState → MessageNo → ServerId → Bool
-bit_in x k p = bit_at (slice_index_or x.masks k 0) p == 1
+abbrev pub has_bit_in : MessageBitsState → MessageNo → ServerId → Bool
+has_bit_in x k p = bit_at (slice_index_or x.masks k 0) p == 1

@@ -5,7 +5,7 @@ use Rattle.mencius_base.specs.declared.command.Command.{Command}
 use Rattle.mencius_base.specs.declared.event.Entry.{Entry}
 use Rattle.mencius_base.specs.declared.event.Event.{Event}
 use Rattle.mencius_base.specs.Limits.{most_servers}
-use Rattle.mencius_base.specs.Members.{Membership, below, most_events, most_messages}
+use Rattle.mencius_base.specs.Members.{Membership, numbers_below, most_events, most_messages}
 use Rattle.mencius_base.specs.Numbers.{ServerId, TicketNo, MessageNo}
 use Rattle.mencius_base.specs.Outbox.{OutboxState}
 use Rattle.mencius_model.specs.Trace.{Trace, events, sent_messages, submitted_commands}
@@ -47,9 +47,9 @@ pub record Tables : Type 0 where
 
 -- the tables are the definition's in a trace of these members
 pub record AreTables (m : Membership) (w : Trace) (x : Tables) : Type 0 where
-  pub servers : x.servers ≡ map (server_at m w) (below m.count)
-  pub executors : x.executors ≡ map (executor_at w) (below m.count)
-  pub done : x.done ≡ map (done w) (below m.count)
+  pub servers : x.servers ≡ map (server_at m w) (numbers_below m.count)
+  pub executors : x.executors ≡ map (executor_at w) (numbers_below m.count)
+  pub done : x.done ≡ map (done w) (numbers_below m.count)
   pub messages : x.messages.messages ≡ sent_messages w
   pub limit : x.messages.limit ≡ most_messages
   pub commands : map submission_of x.rows ≡ submitted_commands w

@@ -1,7 +1,7 @@
 ghost use Rattle.std.specs.Prelude.{◌≡◌, ◌<◌, ◌==◌, ◌&&◌, ◌||◌, false, slice_index_or, vec_len, OnOk};
 ghost use Rattle.std.specs.Vec.{vec_capacity};
 ghost use Rattle.mencius_base.specs.Limits.{most_servers};
-ghost use Rattle.mencius_cluster.specs.MessageBits.{bit_in};
+ghost use Rattle.mencius_cluster.specs.MessageBits.{has_bit_in};
 
 use mencius_base::NoMemory;
 use std::alloc::Global;
@@ -29,7 +29,7 @@ impl Model for MessageBits {
 impl MessageBits {
     /// No marks yet. It takes no memory.
     pub fn new(alloc: Global) -> MessageBits
-        ensures { (k p : _) → bit_in result k p ≡ false }
+        ensures { (k p : _) → has_bit_in result k p ≡ false }
     {
         MessageBits {
             masks: Vec::new(alloc),
@@ -39,7 +39,7 @@ impl MessageBits {
     /// Whether there is a mark at the message and the server.
     pub fn is_marked(&self, message: u32, server: u8) -> bool
         requires { server < most_servers }
-        ensures { result ≡ bit_in self.now message server }
+        ensures { result ≡ has_bit_in self.now message server }
     {
         match self.masks.get(message as usize) {
             Some(mask) => (*mask >> server) & 1 == 1,
@@ -49,7 +49,7 @@ impl MessageBits {
 
     /// Makes room for marks at this message. The marks that are there stay either way.
     pub fn reserve(&mut self, message: u32) -> Result<(), NoMemory>
-        ensures kept { (k p : _) → bit_in self.new k p ≡ bit_in self.old k p }
+        ensures kept { (k p : _) → has_bit_in self.new k p ≡ has_bit_in self.old k p }
         ensures room { OnOk result (message < self.new.room) }
     {
         let needed = message as usize + 1;
@@ -61,8 +61,8 @@ impl MessageBits {
     pub fn mark(&mut self, message: u32, server: u8)
         requires server { server < most_servers }
         requires room { message < self.old.room }
-        ensures { (k p : _) → bit_in self.new k p
-            ≡ ((message == k && server == p) || bit_in self.old k p) }
+        ensures { (k p : _) → has_bit_in self.new k p
+            ≡ ((message == k && server == p) || has_bit_in self.old k p) }
     {
         fill(&mut self.masks, message as usize);
         self.masks[message as usize] |= 1 << server;

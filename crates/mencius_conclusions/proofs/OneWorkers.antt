@@ -2,7 +2,7 @@
 use Rattle.std.specs.Prelude.{slice_get, if◌then◌else◌}
 use Rattle.std.proofs.Common.{◌≡◌, ℕ, zero, suc, ◌+◌, ◌==◌, ◌⊎◌, Bool, true, false, List, [], ◌∷◌, ◌++◌, Option, Some, None, Result, Ok, Err, map, set, refl, sym, ◌∙◌, ap, subst, arith, inl, inr}
 use Rattle.std.proofs.lemmas.Bool.Decides.{nat_tests}
-use Rattle.mencius_base.specs.Members.{below}
+use Rattle.mencius_base.specs.Members.{numbers_below}
 use Rattle.mencius_base.specs.Numbers.{ServerId}
 use Rattle.mencius_base.specs.Plan.{PlanState}
 use Rattle.mencius_base.specs.declared.command.Command.{Command}
@@ -134,7 +134,7 @@ no_other zero c d e there = cc
 no_other (suc k) c d e there = cc
 
 module _ (plan : PlanState) (old : BoardState)
-    (alone : map (first_chooser plan) (below plan.workers) ≡ first_chooser plan 0 ∷ []) where
+    (alone : map (first_chooser plan) (numbers_below plan.workers) ≡ first_chooser plan 0 ∷ []) where
   -- the one worker has come so far
   abbrev HasCome : ℕ → RunState → Type 0
   HasCome n s =
@@ -198,9 +198,9 @@ module _ (plan : PlanState) (old : BoardState)
       comes_by turn order n last (λ k before. comes order k before) h (turn.0 == 0) refl way
 
 one_seated : (plan : PlanState) → plan.workers ≡ 1
-    → map (first_chooser plan) (below plan.workers) ≡ first_chooser plan 0 ∷ []
+    → map (first_chooser plan) (numbers_below plan.workers) ≡ first_chooser plan 0 ∷ []
 one_seated plan one =
-    ap (λ n. map (first_chooser plan) (below n)) one
+    ap (λ n. map (first_chooser plan) (numbers_below n)) one
     ∙ (sym (one_seat (first_chooser plan) 0 (first_chooser plan 0) refl)
     ∙ ap (λ cs. cs ++ first_chooser plan 0 ∷ []) (sym (no_seat (first_chooser plan))))
 

@@ -3,7 +3,7 @@
 ghost use Rattle.std.specs.Prelude.{◌≡◌};
 ghost use Rattle.mencius_draw.specs.Facts.{act_of, event_of, fact_of, kind_name, kind_of, note_of, outcome_of, sent_of};
 
-use crate::words::{is, number, word};
+use crate::words::{is_word, number, word};
 
 /// What a message is.
 #[derive(Clone, Copy, Drop)]
@@ -89,19 +89,19 @@ pub(crate) enum Fact {
 fn kind_of(name: &[u8]) -> Option<Kind>
     ensures { result ≡ kind_of name.now }
 {
-    if is(name, "Suggest") {
+    if is_word(name, "Suggest") {
         Some(Kind::Suggest)
-    } else if is(name, "Skip") {
+    } else if is_word(name, "Skip") {
         Some(Kind::Skip)
-    } else if is(name, "Accepted") {
+    } else if is_word(name, "Accepted") {
         Some(Kind::Accepted)
-    } else if is(name, "Prepare") {
+    } else if is_word(name, "Prepare") {
         Some(Kind::Prepare)
-    } else if is(name, "Promise") {
+    } else if is_word(name, "Promise") {
         Some(Kind::Promise)
-    } else if is(name, "Propose") {
+    } else if is_word(name, "Propose") {
         Some(Kind::Propose)
-    } else if is(name, "Learn") {
+    } else if is_word(name, "Learn") {
         Some(Kind::Learn)
     } else {
         None
@@ -116,17 +116,17 @@ fn act_of(line: &[u8]) -> Option<(Act, u32)>
     let name = word(line, 2);
     let first = number(word(line, 3));
     let second = number(word(line, 4));
-    if is(name, "submit") {
+    if is_word(name, "submit") {
         Some((Act::Submit, first))
-    } else if is(name, "deliver") {
+    } else if is_word(name, "deliver") {
         Some((Act::Deliver(first), second))
-    } else if is(name, "lose") {
+    } else if is_word(name, "lose") {
         Some((Act::Lose(first), second))
-    } else if is(name, "suspect") {
+    } else if is_word(name, "suspect") {
         Some((Act::Suspect(second), first))
-    } else if is(name, "retry") {
+    } else if is_word(name, "retry") {
         Some((Act::Retry, first))
-    } else if is(name, "execute") {
+    } else if is_word(name, "execute") {
         Some((Act::Execute, first))
     } else {
         None
@@ -142,7 +142,7 @@ fn event_of(line: &[u8], next: &[u8]) -> Fact
             place: number(word(line, 1)),
             act,
             server,
-            is_refused: is(word(next, 0), "refused"),
+            is_refused: is_word(word(next, 0), "refused"),
         },
         None => Fact::Other,
     }
@@ -166,17 +166,17 @@ fn sent_of(line: &[u8]) -> Fact
 fn note_of(name: &[u8], inst: u32) -> Option<Note>
     ensures { result ≡ note_of name.now inst }
 {
-    if is(name, "refused") {
+    if is_word(name, "refused") {
         Some(Note::Refused)
-    } else if is(name, "ignored") {
+    } else if is_word(name, "ignored") {
         Some(Note::Ignored)
-    } else if is(name, "promises") || is(name, "acceptances") {
+    } else if is_word(name, "promises") || is_word(name, "acceptances") {
         Some(Note::Count)
-    } else if is(name, "reply") {
+    } else if is_word(name, "reply") {
         Some(Note::Reply)
-    } else if is(name, "learned") {
+    } else if is_word(name, "learned") {
         Some(Note::Learned(inst))
-    } else if is(name, "executed") {
+    } else if is_word(name, "executed") {
         Some(Note::Executed(inst))
     } else {
         None
@@ -198,13 +198,13 @@ pub(crate) fn fact_of(line: &[u8], next: &[u8]) -> Fact
     ensures { result ≡ fact_of line.now next.now }
 {
     let name = word(line, 0);
-    if is(name, "event") {
+    if is_word(name, "event") {
         event_of(line, next)
-    } else if is(name, "sent") {
+    } else if is_word(name, "sent") {
         sent_of(line)
-    } else if is(name, "server") {
+    } else if is_word(name, "server") {
         Fact::Closing(number(word(line, 1)))
-    } else if is(name, "unheard") {
+    } else if is_word(name, "unheard") {
         Fact::Unheard {
             number: number(word(line, 1)),
             server: number(word(line, 4)),

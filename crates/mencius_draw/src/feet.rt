@@ -7,7 +7,7 @@ ghost use Rattle.mencius_draw.specs.Feet.{executed_by, foot_at, foot_text, histo
 use crate::facts::{Fact, Note};
 use crate::layout::Shape;
 use crate::places::push_transform_below;
-use crate::words::{is, number, push_fixed, push_plain, push_rest, push_word, word};
+use crate::words::{is_word, number, push_fixed, push_plain, push_rest, push_word, word};
 use std::alloc::{AllocError, Global};
 
 // The command that a line says the server executed.
@@ -18,7 +18,7 @@ fn push_executed(text: &mut String, server: u32, shape: &Shape) -> Result<(), Al
     match shape.fact {
         Fact::Outcome(Note::Executed(_)) => {
             let value = word(shape.line, 5);
-            if number(word(shape.line, 1)) == server && !is(value, "no-op") {
+            if number(word(shape.line, 1)) == server && !is_word(value, "no-op") {
                 text.push(' ')?;
                 push_plain(text, value)?;
             }

@@ -4,7 +4,7 @@ ghost use Rattle.std.specs.Prelude.{◌≡◌, ◌++◌, IfOk, OnOk, string_byte
 ghost use Rattle.mencius_draw.specs.Labels.{label_about, at_ballot, count_label, content_label, learned_label, note_class, note_label, sent_label, vote_label};
 
 use crate::facts::{Kind, Note};
-use crate::words::{is, push_plain, rest, word};
+use crate::words::{is_word, push_plain, rest, word};
 use std::alloc::{AllocError, Global};
 
 // An instance and a ballot, by the words that name them.
@@ -21,7 +21,7 @@ fn push_at_ballot(label: &mut String, inst: &[u8], ballot: &[u8]) -> Result<(), 
 fn push_vote(label: &mut String, line: &[u8]) -> Result<(), AllocError>
     ensures { OnOk result (string_bytes label.new ≡ string_bytes label.old ++ vote_label line.now) }
 {
-    if is(word(line, 12), "none") {
+    if is_word(word(line, 12), "none") {
         return label.push_str(" no vote");
     }
     label.push_str(" voted ")?;

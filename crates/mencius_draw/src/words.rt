@@ -54,7 +54,7 @@ pub(crate) fn word(line: &[u8], place: usize) -> &[u8]
 }
 
 /// Whether a word is this one.
-pub(crate) fn is(word: &[u8], name: &str) -> bool
+pub(crate) fn is_word(word: &[u8], name: &str) -> bool
     ensures { result ≡ bytes_eq word.now name.now }
 {
     word == name.as_bytes()

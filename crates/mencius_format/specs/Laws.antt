@@ -2,7 +2,7 @@
 use Rattle.std.specs.Prelude.{ℕ, ◌≡◌, Some, true}
 use Rattle.mencius_base.specs.CommandState.{CommandState}
 use Rattle.mencius_base.specs.declared.event.Event.{Event}
-use Rattle.mencius_format.specs.Grammar.{command_of, command_within, event_of, event_within}
+use Rattle.mencius_format.specs.Grammar.{command_of, is_command_within, event_of, is_event_within}
 use Rattle.mencius_format.specs.Operations.{op_version}
 use Rattle.mencius_format.specs.Sayable.{IsCommand, IsSayable}
 use Rattle.mencius_format.specs.Texts.{command_text, event_text}
@@ -13,9 +13,9 @@ use Rattle.mencius_format.specs.Words.{words}
 -- the words of an event's text say the event, in each version that has its operation; and it is within the limits
 abbrev pub EventsReadBack : Type 0
 EventsReadBack = (version : ℕ) → (e : Event) → IsSayable e → may_stand_in (version_of_event e) version ≡ true
-    → (event_of version (words (event_text e)) ≡ Some e) × (event_within e ≡ true)
+    → (event_of version (words (event_text e)) ≡ Some e) × (is_event_within e ≡ true)
 
 -- and so it is with a command
 abbrev pub CommandsReadBack : Type 0
 CommandsReadBack = (version : ℕ) → (x : CommandState) → IsCommand x → may_stand_in (op_version x.op) version ≡ true
-    → (command_of version (words (command_text x)) ≡ Some x) × (command_within x ≡ true)
+    → (command_of version (words (command_text x)) ≡ Some x) × (is_command_within x ≡ true)

@@ -11,7 +11,7 @@ use Rattle.mencius_base.specs.Plan.{PlanState, plan_of}
 use Rattle.mencius_base.specs.CommandState.{CommandState}
 use Rattle.mencius_ends.specs.declared.fault.AppFault.{AppFault}
 use Rattle.mencius_ends.specs.declared.fault.AppFault.TheVariants.{BadLimit, BadShape, NoMemory, NotJson}
-use Rattle.mencius_format.specs.Grammar.{command_within, event_within, newest_version}
+use Rattle.mencius_format.specs.Grammar.{is_command_within, is_event_within, newest_version}
 use Rattle.mencius_format.specs.ValuesOrFaults.{map_ok, value_or_fault}
 use Rattle.mencius_input.specs.declared.field.Field.{Field}
 use Rattle.mencius_input.specs.declared.fields.FieldValues as code
@@ -25,15 +25,15 @@ use Rattle.mencius_input.specs.declared.scenario.Shared.{Shared}
 use Rattle.mencius_input.specs.FieldsOf.{field_name, list_field, names, whole_fields}
 use Rattle.mencius_input.specs.Newest.{command_item_version, event_item_version, in_version, list_version}
 use Rattle.mencius_input.specs.ItemFaults.{list_in}
-use Rattle.mencius_input.specs.Plan.{commands_read, numbers_within}
-use Rattle.mencius_input.specs.Scenario.{◌>>=◌, all_in, cluster_within, has_only, number_of}
+use Rattle.mencius_input.specs.Plan.{commands_read, are_numbers_within}
+use Rattle.mencius_input.specs.Scenario.{◌>>=◌, all_in, is_cluster_within, has_only, number_of}
 
 -- ---- the lists
 
 -- what is read of the events
 abbrev pub events_said : Data → Newest (List Event)
 events_said d = record {
-  said = value_or_fault (list_all event_within) (list_in d);
+  said = value_or_fault (list_all is_event_within) (list_in d);
   version = list_version event_item_version d;
 }
 
@@ -42,13 +42,13 @@ abbrev pub lists_of : Data → Option (List (List CommandState))
 lists_of d = all_in (commands_read newest_version) d
 
 -- no command past a limit, and no more lists than there may be servers
-abbrev pub lists_within : List (List CommandState) → Bool
-lists_within lists = list_all (list_all command_within) lists && nat_le (length lists) most_servers
+abbrev pub are_lists_within : List (List CommandState) → Bool
+are_lists_within lists = list_all (list_all is_command_within) lists && nat_le (length lists) most_servers
 
 -- what is read of the commands
 abbrev pub lists_said : Data → Newest (List (List CommandState))
 lists_said d = record {
-  said = value_or_fault lists_within (lists_of d);
+  said = value_or_fault are_lists_within (lists_of d);
   version = list_version (list_version command_item_version) d;
 }
 
@@ -122,11 +122,11 @@ with_course shared course = record {
 }
 
 -- within the limits
-abbrev pub shared_within : Shared → Bool
-shared_within shared = cluster_within shared.version (record { count = shared.servers; beta = shared.beta })
+abbrev pub is_shared_within : Shared → Bool
+is_shared_within shared = is_cluster_within shared.version (record { count = shared.servers; beta = shared.beta })
 
 abbrev pub scenario_or_fault : {X : Type 0} → Shared → Result X AppFault → Result (Scenario X) AppFault
-scenario_or_fault shared (Ok course) = if shared_within shared then Ok (with_course shared course) else Err BadLimit
+scenario_or_fault shared (Ok course) = if is_shared_within shared then Ok (with_course shared course) else Err BadLimit
 scenario_or_fault shared (Err fault) = Err fault
 
 -- what the numbers say, and a course that is read by them
@@ -144,13 +144,13 @@ schedule_said _ shared = Err BadShape
 -- ---- a scenario of `run`
 
 -- within the limits of plans, with a list for each of so many servers
-abbrev pub plan_fits : ℕ → PlanState → Bool
-plan_fits servers plan =
-    (numbers_within plan && (length plan.commands == servers)) && nat_le (length plan.commands) most_servers
+abbrev pub is_plan_for : ℕ → PlanState → Bool
+is_plan_for servers plan =
+    (are_numbers_within plan && (length plan.commands == servers)) && nat_le (length plan.commands) most_servers
 
 abbrev pub plan_or_fault : ℕ → (List (List CommandState) → PlanState) → Result (List (List CommandState)) AppFault
     → Result PlanState AppFault
-plan_or_fault servers of (Ok lists) = if plan_fits servers (of lists) then Ok (of lists) else Err BadLimit
+plan_or_fault servers of (Ok lists) = if is_plan_for servers (of lists) then Ok (of lists) else Err BadLimit
 plan_or_fault servers of (Err fault) = Err fault
 
 -- what the numbers of a run alone and its lists say

@@ -67,12 +67,12 @@ abbrev pub default_of : Field → Option ℕ
 default_of field = shape_default (row field).shape
 
 -- a whole number is within the limits of the field
-abbrev pub shape_within : Shape → ℕ → Bool
-shape_within (shape.Whole least greatest default) n = nat_le least n && nat_le n greatest
-shape_within shape.List n = false
+abbrev pub is_shape_within : Shape → ℕ → Bool
+is_shape_within (shape.Whole least greatest default) n = nat_le least n && nat_le n greatest
+is_shape_within shape.List n = false
 
-unfoldable pub field_within : Field → ℕ → Bool
-field_within field n = shape_within (row field).shape n
+unfoldable pub is_field_within : Field → ℕ → Bool
+is_field_within field n = is_shape_within (row field).shape n
 
 -- all fields of a kind
 abbrev pub fields : Kind → List Field

@@ -21,7 +21,7 @@ use Rattle.mencius_input.specs.declared.kind.Kind.{Kind}
 use Rattle.mencius_input.specs.declared.kind.Kind.TheVariants.{Replay, Run}
 use Rattle.mencius_input.specs.declared.places.Place.{Place}
 use Rattle.mencius_input.specs.declared.places.Place.TheVariants as place
-use Rattle.mencius_input.specs.FieldsOf.{default_of, field_name, field_within, fields, list_field, whole_fields}
+use Rattle.mencius_input.specs.FieldsOf.{default_of, field_name, is_field_within, fields, list_field, whole_fields}
 use Rattle.mencius_input.specs.Newest.{command_item_version, event_item_version}
 use Rattle.mencius_input.specs.Plan.{command_said}
 use Rattle.mencius_input.specs.Scenario.{item_said, json_of, number_of, whole_in}
@@ -116,7 +116,7 @@ list_place fault version at d = commands_place fault version at (as_array d)
 abbrev pub count_place : AppFault → ℕ → Option ℕ → Option PlaceState
 count_place fault count None = None
 count_place fault count (Some servers) =
-    if is_limit fault && field_within Servers servers && not (count == servers) then Some (list_count count servers) else None
+    if is_limit fault && is_field_within Servers servers && not (count == servers) then Some (list_count count servers) else None
 
 -- in the items that the field of a kind has in this scenario
 abbrev pub items_place : Kind → AppFault → Data → Items → Option PlaceState
@@ -144,7 +144,7 @@ not_whole field value = if is_great_number (as_number value) then great_number f
 
 abbrev pub whole_place : AppFault → Field → Data → Option ℕ → Option PlaceState
 whole_place fault field value None = if is_shape fault then Some (not_whole field value) else None
-whole_place fault field value (Some n) = if is_limit fault && not (field_within field n) then Some (bad_number field) else None
+whole_place fault field value (Some n) = if is_limit fault && not (is_field_within field n) then Some (bad_number field) else None
 
 abbrev pub number_place : AppFault → Field → Data → Option PlaceState
 number_place fault field d = option_and_then (λ value. whole_place fault field value (whole_in value)) (get (field_name field) d)

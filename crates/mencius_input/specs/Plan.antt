@@ -11,8 +11,8 @@ use Rattle.mencius_input.specs.declared.field.Field.TheVariants.{Workers, Seed, 
 use Rattle.mencius_input.specs.declared.kind.Kind.TheVariants.{Run}
 use Rattle.mencius_input.specs.declared.scenario.Scenario.{Scenario}
 use Rattle.mencius_format.specs.ValuesOrFaults.{value_or_fault}
-use Rattle.mencius_format.specs.Grammar.{command_of, command_within}
-use Rattle.mencius_input.specs.FieldsOf.{field_name, field_within}
+use Rattle.mencius_format.specs.Grammar.{command_of, is_command_within}
+use Rattle.mencius_input.specs.FieldsOf.{field_name, is_field_within}
 use Rattle.mencius_input.specs.Scenario.{◌>>=◌, all_in, all_of, number_of, said_by, scenario_in}
 
 -- ---- the shape
@@ -35,22 +35,22 @@ plan_read version d = do
 -- ---- the limits
 
 -- of its numbers
-abbrev pub numbers_within : PlanState → Bool
-numbers_within plan =
-    field_within Workers plan.workers && field_within Seed plan.seed && field_within Turns plan.turns
-    && field_within Loss plan.loss
+abbrev pub are_numbers_within : PlanState → Bool
+are_numbers_within plan =
+    is_field_within Workers plan.workers && is_field_within Seed plan.seed && is_field_within Turns plan.turns
+    && is_field_within Loss plan.loss
 
 -- and as many lists as there are servers
-abbrev pub plan_within : Membership → PlanState → Bool
-plan_within members plan =
-    (numbers_within plan && (length plan.commands == members.count)) && list_all (list_all command_within) plan.commands
+abbrev pub is_plan_within : Membership → PlanState → Bool
+is_plan_within members plan =
+    (are_numbers_within plan && (length plan.commands == members.count)) && list_all (list_all is_command_within) plan.commands
 
 -- what an item of a list of commands says in a version, or its fault
 abbrev pub command_said : ℕ → Data → Result CommandState AppFault
-command_said version d = value_or_fault command_within (said_by (command_of version) d)
+command_said version d = value_or_fault is_command_within (said_by (command_of version) d)
 
 -- ---- the bytes
 
 -- what the bytes say as a scenario of `run`, or the fault that they have
 abbrev pub plan : List ℕ → Result (Scenario PlanState) AppFault
-plan bytes = scenario_in Run plan_read plan_within bytes
+plan bytes = scenario_in Run plan_read is_plan_within bytes

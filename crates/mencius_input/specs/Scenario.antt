@@ -16,8 +16,8 @@ use Rattle.mencius_input.specs.declared.kind.Kind.TheVariants.{Replay}
 use Rattle.mencius_input.specs.declared.scenario.Scenario.{Scenario}
 use Rattle.mencius_format.specs.ValuesOrFaults.{value_or_fault}
 use Rattle.mencius_format.specs.Words.{words}
-use Rattle.mencius_format.specs.Grammar.{event_of, event_within}
-use Rattle.mencius_input.specs.FieldsOf.{default_of, field_name, field_within, is_one_of, names}
+use Rattle.mencius_format.specs.Grammar.{event_of, is_event_within}
+use Rattle.mencius_input.specs.FieldsOf.{default_of, field_name, is_field_within, is_one_of, names}
 
 infixl 10 ◌>>=◌
 abbrev pub ◌>>=◌ : {X Y : Type 0} → Option X → (X → Option Y) → Option Y
@@ -91,23 +91,23 @@ written_of d = scenario_of Replay schedule_of d
 -- ---- the limits
 
 -- of the numbers that both kinds of scenario have
-abbrev pub cluster_within : ℕ → Membership → Bool
-cluster_within version members =
-    (field_within Version version && field_within Servers members.count) && field_within Beta members.beta
+abbrev pub is_cluster_within : ℕ → Membership → Bool
+is_cluster_within version members =
+    (is_field_within Version version && is_field_within Servers members.count) && is_field_within Beta members.beta
 
 -- and of the course, which has to fit the members
-abbrev pub scenario_within : {X : Type 0} → (Membership → X → Bool) → Scenario X → Bool
-scenario_within fits x = cluster_within x.version x.members && fits x.members x.course
+abbrev pub is_scenario_within : {X : Type 0} → (Membership → X → Bool) → Scenario X → Bool
+is_scenario_within fits x = is_cluster_within x.version x.members && fits x.members x.course
 
-abbrev pub schedule_within : Membership → List Event → Bool
-schedule_within members events = list_all event_within events
+abbrev pub is_schedule_within : Membership → List Event → Bool
+is_schedule_within members events = list_all is_event_within events
 
 abbrev pub is_within_limits : Scenario (List Event) → Bool
-is_within_limits x = scenario_within schedule_within x
+is_within_limits x = is_scenario_within is_schedule_within x
 
 -- what an item of the events says in a version, or its fault
 abbrev pub item_said : ℕ → Data → Result Event AppFault
-item_said version d = value_or_fault event_within (said_by (event_of version) d)
+item_said version d = value_or_fault is_event_within (said_by (event_of version) d)
 
 -- ---- the bytes
 
@@ -128,8 +128,8 @@ read_there read (Ok d) = read d
 abbrev pub scenario_in : {X : Type 0} → Kind → (ℕ → Data → Option X) → (Membership → X → Bool) → List ℕ
     → Result (Scenario X) AppFault
 scenario_in kind course_of fits bytes =
-    read_there (λ d. value_or_fault (scenario_within fits) (scenario_of kind course_of d)) (or_not_json (json_of bytes))
+    read_there (λ d. value_or_fault (is_scenario_within fits) (scenario_of kind course_of d)) (or_not_json (json_of bytes))
 
 -- as one of `replay`
 abbrev pub scenario : List ℕ → Result (Scenario (List Event)) AppFault
-scenario bytes = scenario_in Replay schedule_of schedule_within bytes
+scenario bytes = scenario_in Replay schedule_of is_schedule_within bytes

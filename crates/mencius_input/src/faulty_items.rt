@@ -4,7 +4,7 @@ ghost use Rattle.std.specs.Prelude.{◌≡◌, IfOk, None, Ok, Some, not, option
 ghost use Rattle.std.specs.Result.{result_err};
 ghost use Rattle.serde_json.specs.Find.{as_str};
 ghost use Rattle.serde_json.specs.View.{items_view, view};
-ghost use Rattle.mencius_format.specs.Grammar.{command_of, command_within, event_of, event_within, may_stand_in, newest_version};
+ghost use Rattle.mencius_format.specs.Grammar.{command_of, is_command_within, event_of, is_event_within, may_stand_in, newest_version};
 ghost use Rattle.mencius_format.specs.ValuesOrFaults.{value_or_fault};
 ghost use Rattle.mencius_input.specs.Places.{first_item, is_fault, is_limit, is_shape, item_fault, item_version};
 ghost use Rattle.mencius_format.specs.Words.{words};
@@ -128,7 +128,7 @@ fn newest_fault_of_item(
 // The fault of an event in the newest version.
 fn fault_of_event(alloc: Global, text: &str) -> Result<Option<AppFault>, NoMemory>
     ensures { IfOk result (λ o.
-        o ≡ result_err (value_or_fault event_within (event_of newest_version (words text.now)))) }
+        o ≡ result_err (value_or_fault is_event_within (event_of newest_version (words text.now)))) }
 {
     match parse_event(alloc, text) {
         Ok(_) => Ok(None),
@@ -140,7 +140,7 @@ fn fault_of_event(alloc: Global, text: &str) -> Result<Option<AppFault>, NoMemor
 fn fault_of_command(alloc: Global, text: &str) -> Result<Option<AppFault>, NoMemory>
     ensures { IfOk result (λ o.
         o ≡ result_err
-        (value_or_fault command_within (command_of newest_version (words text.now)))) }
+        (value_or_fault is_command_within (command_of newest_version (words text.now)))) }
 {
     match parse_command(alloc, text) {
         Ok(_) => Ok(None),

@@ -3,7 +3,7 @@
 
 ghost use Rattle.std.specs.Prelude.{◌≡◌, position};
 ghost use Rattle.std.specs.Str.{bytes_eq};
-ghost use Rattle.mencius_input.specs.FieldsOf.{default_of, field_name, field_within, fields, list_field, row, run_fields, whole_fields};
+ghost use Rattle.mencius_input.specs.FieldsOf.{default_of, field_name, is_field_within, fields, list_field, row, run_fields, whole_fields};
 
 use crate::kind::Kind;
 use mencius_base::{GREATEST_BETA, GREATEST_LOSS, MOST_SERVERS, MOST_TURNS, MOST_WORKERS};
@@ -123,9 +123,9 @@ impl Field {
     }
 
     /// Whether a whole number is within the limits of the field.
-    #[tactic(auto, unfolding(crate::specs::FieldsOf::field_within))]
+    #[tactic(auto, unfolding(crate::specs::FieldsOf::is_field_within))]
     pub(crate) fn is_within(self, number: u64) -> bool
-        ensures { result ≡ field_within self number }
+        ensures { result ≡ is_field_within self number }
     {
         match self.shape() {
             Shape::Whole {

@@ -7,7 +7,7 @@ use Rattle.json.proofs.Grammar.{value_is}
 use Rattle.serde_json.specs.Data.{Data, Num, Items, Members, array, boolean, null, number, object, string}
 use Rattle.serde_json.specs.Find.{as_array, as_number, as_object, as_str, as_u64}
 use Rattle.serde_json.specs.Read.{converted, number_of, of_json}
-use Rattle.mencius_json.specs.Next.{EntersObject, next_items, next_members, next_value, number_text, opens_array, opens_object, text_of}
+use Rattle.mencius_json.specs.Next.{EntersObject, next_items, next_members, next_value, number_text, is_begin_array, is_begin_object, text_of}
 use Rattle.mencius_json.proofs.NextValues.{array_too_deep, object_too_deep, next_counted, next_number, next_string, next_uncounted, opened_array, opened_object, paired_with}
 
 -- the value that begins with the token
@@ -86,7 +86,7 @@ no_number d (Token.boolean truth) h e = ap as_number h
 no_number d Token.null h e = ap as_number h
 no_number d x h e = absurd h
 
-pub no_array : (d : Data) (x : Token) → Begins x d → opens_array x ≡ false → as_array d ≡ None
+pub no_array : (d : Data) (x : Token) → Begins x d → is_begin_array x ≡ false → as_array d ≡ None
 no_array d Token.begin_object h e = ap as_array h.1
 no_array d Token.begin_array h e = absurd (cc)
 no_array d (Token.string s) h e = ap as_array h
@@ -95,7 +95,7 @@ no_array d (Token.boolean truth) h e = ap as_array h
 no_array d Token.null h e = ap as_array h
 no_array d x h e = absurd h
 
-pub no_object : (d : Data) (x : Token) → Begins x d → opens_object x ≡ false → as_object d ≡ None
+pub no_object : (d : Data) (x : Token) → Begins x d → is_begin_object x ≡ false → as_object d ≡ None
 no_object d Token.begin_object h e = absurd (cc)
 no_object d Token.begin_array h e = ap as_object h.1
 no_object d (Token.string s) h e = ap as_object h
@@ -113,11 +113,11 @@ pub was_number : (x : Token) (s : List ℕ) → Some s ≡ number_text x → x �
 was_number (Token.number digits) s e = ap (λ o. Token.number (unwrap_or o s)) (sym e)
 was_number x s e = absurd (cc)
 
-pub was_array : (x : Token) → opens_array x ≡ true → x ≡ Token.begin_array
+pub was_array : (x : Token) → is_begin_array x ≡ true → x ≡ Token.begin_array
 was_array Token.begin_array e = refl
 was_array x e = absurd (cc)
 
-pub was_object : (x : Token) → opens_object x ≡ true → x ≡ Token.begin_object
+pub was_object : (x : Token) → is_begin_object x ≡ true → x ≡ Token.begin_object
 was_object Token.begin_object e = refl
 was_object x e = absurd (cc)
 
@@ -151,18 +151,18 @@ module _ (depth : ℕ) (x : Token) (ts old : List Token) (is : old ≡ x ∷ ts)
     pub passed_no_number : None ≡ number_text x → None ≡ option_and_then as_u64 (as_number d)
     passed_no_number e = sym (ap (option_and_then as_u64) (no_number d x (begins d r depth x ts next) (sym e)))
 
-    pub passed_no_array : opens_array x ≡ false → as_array d ≡ None
+    pub passed_no_array : is_begin_array x ≡ false → as_array d ≡ None
     passed_no_array e = no_array d x (begins d r depth x ts next) e
 
-    pub passed_no_object : opens_object x ≡ false → as_object d ≡ None
+    pub passed_no_object : is_begin_object x ≡ false → as_object d ≡ None
     passed_no_object e = no_object d x (begins d r depth x ts next) e
 
-  pub array_first : 0 < depth → opens_array x ≡ true
+  pub array_first : 0 < depth → is_begin_array x ≡ true
       → next_value depth old ≡ parse_map array (next_items (depth - 1) ts)
   array_first some e =
       ap (next_value depth) (is ∙ ap (λ token. token ∷ ts) (was_array x e)) ∙ opened_array depth ts some
 
-  pub object_first : 0 < depth → opens_object x ≡ true
+  pub object_first : 0 < depth → is_begin_object x ≡ true
       → next_value depth old ≡ parse_map object (next_members (depth - 1) ts)
   object_first some e =
       ap (next_value depth) (is ∙ ap (λ token. token ∷ ts) (was_object x e)) ∙ opened_object depth ts some

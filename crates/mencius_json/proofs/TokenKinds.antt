@@ -4,13 +4,13 @@ use Rattle.std.proofs.Common.{◌≡◌, ℕ, List, false, Option, None, refl}
 use Rattle.json.specs.Reads.{token_of}
 use Rattle.json.specs.declared.token.Token.{Token}
 use Rattle.json.specs.declared.token.Token.TheVariants.{BeginArray, BeginObject, Number}
-use Rattle.mencius_json.specs.Next.{number_text, opens_array, opens_object}
+use Rattle.mencius_json.specs.Next.{number_text, is_begin_array, is_begin_object}
 
-pub no_array : (symbol : Token) → (symbol ≡ BeginArray → ⊥) → false ≡ opens_array (token_of symbol)
+pub no_array : (symbol : Token) → (symbol ≡ BeginArray → ⊥) → false ≡ is_begin_array (token_of symbol)
 no_array BeginArray other = absurd (other refl)
 no_array symbol other = refl
 
-pub no_object : (symbol : Token) → (symbol ≡ BeginObject → ⊥) → false ≡ opens_object (token_of symbol)
+pub no_object : (symbol : Token) → (symbol ≡ BeginObject → ⊥) → false ≡ is_begin_object (token_of symbol)
 no_object BeginObject other = absurd (other refl)
 no_object symbol other = refl
 

@@ -38,10 +38,10 @@ abbrev pub number_text : Token → Option (List ℕ)
 number_text (token.number s) = Some s
 number_text _ = None
 
-abbrev pub opens_array : Token → Bool
-opens_array token.begin_array = true
-opens_array _ = false
+abbrev pub is_begin_array : Token → Bool
+is_begin_array token.begin_array = true
+is_begin_array _ = false
 
-abbrev pub opens_object : Token → Bool
-opens_object token.begin_object = true
-opens_object _ = false
+abbrev pub is_begin_object : Token → Bool
+is_begin_object token.begin_object = true
+is_begin_object _ = false

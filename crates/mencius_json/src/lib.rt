@@ -18,5 +18,5 @@ pub use crowd::{Crowd, crowd_in};
 pub use stops::stop_in;
 pub use tree::tree_of;
 pub use value::{
-    MOST_DEPTH, enter_array, enter_object, next_text, next_whole, opens_object, pass, pass_from,
+    MOST_DEPTH, enter_array, enter_object, is_begin_object, next_text, next_whole, pass, pass_from,
 };

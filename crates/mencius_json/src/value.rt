@@ -9,7 +9,7 @@ ghost use Rattle.json.specs.Reads.{token_of};
 ghost use Rattle.serde_json.specs.Data.{Data, Items, Members};
 ghost use Rattle.serde_json.specs.Find.{as_number, as_str, as_u64};
 ghost use Rattle.serde_json.specs.Read.{float_of, number_from, number_of};
-ghost use Rattle.mencius_json.specs.Next.{EntersArray, EntersObject, next_items, next_members, next_value, number_text, opens_array, opens_object, text_of};
+ghost use Rattle.mencius_json.specs.Next.{EntersArray, EntersObject, next_items, next_members, next_value, number_text, is_begin_array, is_begin_object, text_of};
 
 use fast_float::Numeral;
 use json::{Invalid, Reader, Token};
@@ -38,15 +38,15 @@ fn number_in<'a>(token: Token<'a>) -> Option<&'a str>
 }
 
 // Whether a list begins.
-fn opens_array(token: Token<'_>) -> bool
-    ensures { result ≡ opens_array (token_of token.entry) }
+fn is_begin_array(token: Token<'_>) -> bool
+    ensures { result ≡ is_begin_array (token_of token.entry) }
 {
     matches!(token, Token::BeginArray)
 }
 
 /// Whether an object begins with a token.
-pub fn opens_object(token: Token<'_>) -> bool
-    ensures { result ≡ opens_object (token_of token.entry) }
+pub fn is_begin_object(token: Token<'_>) -> bool
+    ensures { result ≡ is_begin_object (token_of token.entry) }
 {
     matches!(token, Token::BeginObject)
 }
@@ -216,7 +216,7 @@ pub fn enter_array(reader: &mut Reader<'_>, depth: usize) -> Result<bool, Invali
     ensures err { IfErr result (λ _. next_value depth reader.old ≡ None) }
 {
     let token = reader.next().ok_or(Invalid)?;
-    if opens_array(token) {
+    if is_begin_array(token) {
         return Ok(true);
     }
     pass_from(reader, token, depth)?;
@@ -232,7 +232,7 @@ pub fn enter_object(reader: &mut Reader<'_>, depth: usize) -> Result<bool, Inval
     ensures err { IfErr result (λ _. next_value depth reader.old ≡ None) }
 {
     let token = reader.next().ok_or(Invalid)?;
-    if opens_object(token) {
+    if is_begin_object(token) {
         return Ok(true);
     }
     pass_from(reader, token, depth)?;

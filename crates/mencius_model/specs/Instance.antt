@@ -8,7 +8,7 @@ use Rattle.mencius_base.specs.declared.message.Message.TheVariants.{Suggest, Acc
 use Rattle.mencius_base.specs.declared.message.Value.{Value}
 use Rattle.mencius_base.specs.declared.message.Value.TheVariants.{Noop, Ticket}
 use Rattle.mencius_base.specs.declared.message.Vote.{Vote}
-use Rattle.mencius_base.specs.Members.{Membership, is_majority, below}
+use Rattle.mencius_base.specs.Members.{Membership, is_majority, numbers_below}
 use Rattle.mencius_model.specs.Trace.{Line, Sent, Learned, Trace, greatest_by, oldest_by, heard_messages, sent_messages}
 
 -- the ballot that a line commits p to at i: promised or accepted
@@ -122,7 +122,7 @@ has_accepted w i b q = list_any (is_acceptance i b q) (sent_messages w)
 
 -- whether a majority of the servers is in the set
 abbrev pub are_majority : Membership → (ServerId → Bool) → Bool
-are_majority m among = is_majority m (count_by among (below m.count))
+are_majority m among = is_majority m (count_by among (numbers_below m.count))
 
 -- the value of a vote, and no-op where there is none
 abbrev pub value_or_noop : Option Vote → Value

@@ -5,7 +5,7 @@ use Rattle.std.specs.Option.{option_map}
 use Rattle.mencius_base.specs.Numbers.{ServerId, TicketNo}
 use Rattle.mencius_base.specs.declared.command.Command.{Command}
 use Rattle.mencius_base.specs.declared.command.CommandId.{CommandId}
-use Rattle.mencius_base.specs.Members.{Membership, below}
+use Rattle.mencius_base.specs.Members.{Membership, numbers_below}
 use Rattle.mencius_model.specs.Trace.{Trace, submitted_commands}
 use Rattle.mencius_base.specs.Command.{is_same_id}
 use Rattle.mencius_model.specs.Executed.{history}
@@ -51,7 +51,7 @@ longest_below w best p = if nat_lt (length (history w best)) (length (history w 
 
 -- the least server whose history is the longest
 abbrev pub longest_at : Membership → Trace → ServerId
-longest_at m w = fold (longest_below w) 0 (below m.count)
+longest_at m w = fold (longest_below w) 0 (numbers_below m.count)
 
 -- the commands of the longest history, in order
 abbrev pub longest_commands : Membership → Trace → List Command

@@ -29,13 +29,13 @@ is_noop (Some Noop) = true
 is_noop _ = false
 
 -- no answer where the test holds
-abbrev pub unless : Bool → Option TicketNo → Option TicketNo
-unless true _ = None
-unless false o = o
+abbrev pub ticket_unless : Bool → Option TicketNo → Option TicketNo
+ticket_unless true _ = None
+ticket_unless false o = o
 
 -- a ticket waits where no-op was learned, and it was not suggested again further on
 abbrev pub waiting_ticket : Option Value → Bool → TicketNo → Option TicketNo
-waiting_ticket learned again t = unless (not (is_noop learned) || again) (Some t)
+waiting_ticket learned again t = ticket_unless (not (is_noop learned) || again) (Some t)
 
 -- ---- what is learned and what counts
 

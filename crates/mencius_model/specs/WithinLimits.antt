@@ -3,7 +3,7 @@ use Rattle.std.specs.Prelude.{◌≡◌, ℕ, ◌<◌, ◌≤◌, true, Option, 
 use Rattle.mencius_base.specs.Limits.{event_limit, greatest_front, greatest_round, instance_count, message_limit, most_servers}
 use Rattle.mencius_base.specs.Numbers.{ServerId, Inst, BallotNo, MessageNo}
 use Rattle.mencius_base.specs.Members.{Membership, leader, round}
-use Rattle.mencius_base.specs.Message.{goes_to, is_for}
+use Rattle.mencius_base.specs.Message.{is_sent_to, is_for}
 use Rattle.mencius_base.specs.declared.message.Message.{Message}
 use Rattle.mencius_base.specs.declared.message.Message.TheVariants.{Suggest, Skip, Accepted, Prepare, Promise, Propose, Learn}
 use Rattle.mencius_base.specs.declared.message.Value.{Value}
@@ -67,4 +67,4 @@ abbrev pub MessagesAddressed : Type 0
 MessagesAddressed =
     (m : Membership) (w : Trace) → m.count ≤ most_servers → IsReached m w
     → (k : MessageNo) (p : ServerId) (x : Message) → slice_get (sent_messages w) k ≡ Some x
-    → p < m.count → goes_to p x ≡ true → IsTrue (is_for m p x)
+    → p < m.count → is_sent_to p x ≡ true → IsTrue (is_for m p x)

@@ -2,7 +2,7 @@
 use Rattle.std.specs.Prelude.{◌≡◌, ℕ, ◌<◌, ◌≤◌, Bool, true, false, List, Option, Some, is_none, length, min}
 use Rattle.std.specs.List.{count_by}
 use Rattle.mencius_base.specs.Limits.{greatest_round, instance_count}
-use Rattle.mencius_base.specs.Members.{Membership, below, first_owned, instances, owner}
+use Rattle.mencius_base.specs.Members.{Membership, numbers_below, first_owned, instances, owner}
 use Rattle.mencius_base.specs.Numbers.{Inst, ServerId, TicketNo}
 use Rattle.mencius_base.specs.Outbox.{OutboxState}
 use Rattle.coord_paxos.specs.SlotState.{SlotState}
@@ -61,7 +61,7 @@ pub record CanBeginAll (a : OwnedInterval) (p : ServerId) (ss : List (Option Slo
   pub id : p < a.members.count
   pub rounds : (j : Inst) (s : SlotState) → is_covered_slot a ss j ≡ true → stored_at ss j ≡ Some s
       → next_round_of a.members s ≤ greatest_round
-  pub room : count_by (is_covered_slot a ss) (below a.stop) ≤ o.room
+  pub room : count_by (is_covered_slot a ss) (numbers_below a.stop) ≤ o.room
   pub learned_intervals : AreLearnedIntervals a.members (is_covered_slot a ss) ends
 
 -- at an interval, where all slots are stored
@@ -73,7 +73,7 @@ pub record CanBeginOpen (s : InstancesState) (a : OwnedInterval) (p : ServerId) 
   pub stored : (j : Inst) → j < instance_count → is_open_in s a j ≡ true → has_slot s j ≡ true
   pub rounds : (j : Inst) → j < instance_count → is_open_in s a j ≡ true
       → next_round_of s.members (instance_slot s j) ≤ greatest_round
-  pub room : count_by (is_open_in s a) (below a.stop) ≤ o.room
+  pub room : count_by (is_open_in s a) (numbers_below a.stop) ≤ o.room
 
 -- at the instances of q that a suspicion of such a reach covers, of which there are at most so many
 pub record CanBeginCovered (s : InstancesState) (p q : ServerId) (reach : Inst) (most : ℕ) (o : OutboxState)

@@ -3,7 +3,7 @@ use Rattle.std.specs.Prelude.{◌≡◌, ℕ, ◌<◌, ◌≤◌, Bool, true, fa
 use Rattle.std.specs.List.{count_by, filter, find}
 use Rattle.mencius_base.specs.declared.message.Message.{Message}
 use Rattle.mencius_base.specs.declared.message.Value.TheVariants.{Noop, Ticket}
-use Rattle.mencius_base.specs.Members.{Membership, below, owner, instances}
+use Rattle.mencius_base.specs.Members.{Membership, numbers_below, owner, instances}
 use Rattle.coord_paxos.specs.SlotState.{SlotState}
 use Rattle.coord_paxos.specs.Slot.{after_learn}
 use Rattle.coord_paxos.specs.Fresh.{new_slot}
@@ -135,7 +135,7 @@ abbrev pub prepare_stored : InstancesState → ServerId → Inst → Message
 prepare_stored s p j = next_prepare s.members p j (instance_slot s j)
 
 abbrev pub prepares_in : InstancesState → ServerId → OwnedInterval → List Message
-prepares_in s p a = map (prepare_stored s p) (filter (is_open_in s a) (below a.stop))
+prepares_in s p a = map (prepare_stored s p) (filter (is_open_in s a) (numbers_below a.stop))
 
 -- there is no further round at an instance
 abbrev pub is_spent_stored : InstancesState → Inst → Bool

@@ -3,7 +3,7 @@ use Rattle.std.specs.Prelude.{◌≡◌, ◌<◌, ◌≤◌, IsTrue, List, Ok, S
 use Rattle.std.specs.List.{All}
 use Rattle.mencius_base.specs.Limits.{instance_count, most_servers}
 use Rattle.mencius_base.specs.Members.{Membership, first_item}
-use Rattle.mencius_base.specs.Message.{goes_to, is_for}
+use Rattle.mencius_base.specs.Message.{is_sent_to, is_for}
 use Rattle.mencius_base.specs.Numbers.{Inst, MessageNo, ServerId, TicketNo}
 use Rattle.mencius_base.specs.Outbox.{outbox_full}
 use Rattle.mencius_base.specs.declared.command.Command.{Command}
@@ -68,7 +68,7 @@ RetryIsEvent =
 
 -- `hear` takes the message at every server that it goes to
 abbrev pub IsHearable : Membership → Message → Type 0
-IsHearable m x = (q : ServerId) → q < m.count → goes_to q x ≡ true → IsTrue (is_for m q x)
+IsHearable m x = (q : ServerId) → q < m.count → is_sent_to q x ≡ true → IsTrue (is_for m q x)
 
 abbrev pub AreHearable : Membership → List Message → Type 0
 AreHearable m xs = All (IsHearable m) xs

@@ -2,7 +2,7 @@
 use Rattle.std.specs.Prelude.{◌≡◌, ℕ, ◌+◌, ◌-◌, ◌<◌, ◌≤◌, Bool, true, false, List, Option, if◌then◌else◌, ◌&&◌, ◌==◌, is_none, min, nat_lt, slice_index_or}
 use Rattle.std.specs.List.{count_by, filter, list_any}
 use Rattle.mencius_base.specs.declared.refusal.Refusal.{Refusal}
-use Rattle.mencius_base.specs.Members.{Membership, below, instances, owner}
+use Rattle.mencius_base.specs.Members.{Membership, numbers_below, instances, owner}
 use Rattle.mencius_base.specs.Numbers.{Inst, ServerId}
 use Rattle.mencius_base.specs.Outbox.{OutboxState}
 use Rattle.coord_paxos.specs.SlotState.{SlotState}
@@ -33,17 +33,17 @@ is_spent_of m f q j = is_open_of m f q j && is_spent m (f j)
 -- these are the numbers of q's instances below a place, where f is known of each instance
 pub record IsTally (m : Membership) (f : Inst → SlotState) (q : ServerId) (a : Tally) : Type 0 where
   pub small : a.stop ≤ instance_count
-  pub open_count : a.open_count ≡ count_by (is_open_of m f q) (below a.stop)
-  pub spent_count : a.spent_count ≡ count_by (is_spent_of m f q) (below a.stop)
+  pub open_count : a.open_count ≡ count_by (is_open_of m f q) (numbers_below a.stop)
+  pub spent_count : a.spent_count ≡ count_by (is_spent_of m f q) (numbers_below a.stop)
 
 -- the same of its instances between two places
 pub record IsTallyFrom (m : Membership) (f : Inst → SlotState) (q : ServerId) (first : Inst) (d : Tally) : Type 0 where
   pub ahead : first ≤ d.stop
   pub small : d.stop ≤ instance_count
-  pub open_count : d.open_count + count_by (is_open_of m f q) (below first)
-      ≡ count_by (is_open_of m f q) (below d.stop)
-  pub spent_count : d.spent_count + count_by (is_spent_of m f q) (below first)
-      ≡ count_by (is_spent_of m f q) (below d.stop)
+  pub open_count : d.open_count + count_by (is_open_of m f q) (numbers_below first)
+      ≡ count_by (is_open_of m f q) (numbers_below d.stop)
+  pub spent_count : d.spent_count + count_by (is_spent_of m f q) (numbers_below first)
+      ≡ count_by (is_spent_of m f q) (numbers_below d.stop)
 
 -- nothing is open that was skipped
 abbrev pub LearnedWhereSkipped : Membership → List (Option SlotState) → List (List Interval) → Type 0

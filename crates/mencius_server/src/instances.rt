@@ -216,7 +216,7 @@ impl Instances {
         ensures there { OnOk result (has_slot self.new inst ≡ true) }
         ensures err { OnErr result (self.new ≡ self.old) }
     {
-        if self.stored.slots.has(inst) {
+        if self.stored.slots.has_slot(inst) {
             return Ok(());
         }
         let was_skipped = self.stored.is_skipped(inst);

@@ -69,7 +69,7 @@ impl SkippedIntervals {
     }
 
     /// Whether an instance lies in one of the intervals, in steps that grow with the logarithm of their number.
-    pub(crate) fn has(&self, inst: u32) -> bool
+    pub(crate) fn has_instance(&self, inst: u32) -> bool
         ensures { result ≡ is_in_any self.now inst }
     {
         self.past(inst) != inst

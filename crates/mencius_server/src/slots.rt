@@ -3,7 +3,7 @@ ghost use Rattle.mencius_base.specs.Limits.{instance_count};
 ghost use Rattle.coord_paxos.specs.Fresh.{new_slot};
 ghost use Rattle.coord_paxos.specs.Slot.{after_learn};
 ghost use Rattle.coord_paxos.specs.SlotState.{SlotState};
-ghost use Rattle.mencius_base.specs.Members.{below, instances, owner};
+ghost use Rattle.mencius_base.specs.Members.{numbers_below, instances, owner};
 ghost use Rattle.mencius_base.specs.declared.message.Value.TheVariants.{Noop};
 ghost use Rattle.mencius_server.specs.Instances.{is_newly_skipped_in, slot_by_skip};
 ghost use Rattle.mencius_server.specs.Lending.{LendsSlot};
@@ -85,7 +85,7 @@ impl Slots {
     }
 
     /// Whether a slot is stored at an instance.
-    pub(crate) fn has(&self, inst: u32) -> bool
+    pub(crate) fn has_slot(&self, inst: u32) -> bool
         requires { inst < instance_count }
         ensures { result ≡ is_some (stored_at self.now inst) }
     {
@@ -138,7 +138,7 @@ impl Slots {
         requires small { interval.stop ≤ instance_count }
         requires learned_intervals { AreLearnedIntervals interval.members (is_lacking interval skipped.now self.old)
             learned_intervals.now }
-        requires lacking { count_by (is_lacking interval skipped.now self.old) (below interval.stop)
+        requires lacking { count_by (is_lacking interval skipped.now self.old) (numbers_below interval.stop)
             ≤ lacking }
         ensures ok { OnOk result ((j : ℕ) → stored_at self.new j
             ≡ new_slot_at interval skipped.now j (stored_at self.old j)) }
@@ -175,7 +175,7 @@ impl Slots {
         ensures sent { out.new.messages
             ≡ out.old.messages
             ++ map (prepare_of interval id self.old)
-            (filter (is_covered_slot interval self.old) (below interval.stop)) }
+            (filter (is_covered_slot interval self.old) (numbers_below interval.stop)) }
         ensures limit { out.new.limit ≡ out.old.limit }
         ensures last { result ≡ false → (j : ℕ) (s : SlotState) → is_covered_slot interval self.old j ≡ true
             → stored_at self.new j ≡ Some s → is_spent interval.members s ≡ false }
@@ -219,7 +219,7 @@ impl Slots {
         ensures last { result ≡ Some false → (s : SlotState)
             → stored_at self.new inst ≡ Some s → is_spent members s ≡ false }
     {
-        if self.has(inst) {
+        if self.has_slot(inst) {
             begin_slot(self.at(inst), members, id, inst, out)
         } else {
             None
@@ -286,7 +286,7 @@ impl Slots {
         ensures { result ≡ (not (is_in_any skipped.now inst) && is_learned (stored_at self.now inst)) }
     {
         match self.get(inst) {
-            Some(slot) => slot.learned().is_some() && !skipped.has(inst),
+            Some(slot) => slot.learned().is_some() && !skipped.has_instance(inst),
             None => false,
         }
     }
@@ -314,7 +314,7 @@ impl Slots {
             then option_map (λ s. after_learn s Noop) (stored_at self.old j)
             else stored_at self.old j) }
     {
-        if self.has(inst) {
+        if self.has_slot(inst) {
             self.at(inst).learn(Value::Noop);
         }
     }
@@ -386,7 +386,7 @@ fn push_lacking(
     requires places { HasPlaces (vec_len places.old) places.old.items (vec_len slots.old) interval.stop }
     requires room { vec_len slots.old
         + count_by (is_lacking interval skipped.now (stored_slots places.old.items slots.old.items))
-        (below interval.stop)
+        (numbers_below interval.stop)
         ≤ vec_capacity slots.old }
     requires learned_intervals { AreLearnedIntervals interval.members
         (is_lacking interval skipped.now (stored_slots places.old.items slots.old.items)) learned_intervals.now }
@@ -402,7 +402,7 @@ fn push_lacking(
         // The table needs no search, so it is asked first.
         if places[inst as usize].is_some() {
             inst = next;
-        } else if skipped.has(inst) {
+        } else if skipped.has_instance(inst) {
             inst = learned_intervals.past(inst, next);
         } else {
             push_at(places, slots, members, inst);

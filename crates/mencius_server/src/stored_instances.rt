@@ -31,7 +31,7 @@ impl StoredInstances {
         requires { IsSorted self.now.members self.now.skipped.items }
         ensures { result ≡ is_in_skipped self.now.members self.now.skipped.items inst }
     {
-        self.skipped[self.members.owner(inst) as usize].has(inst)
+        self.skipped[self.members.owner(inst) as usize].has_instance(inst)
     }
 
     /// What is known of an instance where no slot is stored.

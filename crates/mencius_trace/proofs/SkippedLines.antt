@@ -6,7 +6,7 @@ use Rattle.std.proofs.lemmas.Grind.{flat_map-append}
 use Rattle.std.proofs.lemmas.List.{map-append}
 use Rattle.std.proofs.lemmas.Bool.{le-leb, lt-ltb, le-ltb, lt-leb}
 use Rattle.mencius_base.specs.Limits.{instance_count}
-use Rattle.mencius_base.specs.Members.{IsMember, Membership, below, owner}
+use Rattle.mencius_base.specs.Members.{IsMember, Membership, numbers_below, owner}
 use Rattle.mencius_base.specs.declared.message.Value.TheVariants.{Noop}
 use Rattle.mencius_model.specs.Trace.{Learned, Trace}
 use Rattle.mencius_model.specs.Instance.{learned_value}
@@ -18,14 +18,14 @@ use Rattle.mencius_trace.specs.Effects.{learned_in, learned_lines}
 
 -- those below a place
 abbrev pub skipped_below : (ℕ → Bool) → Trace → ℕ → ℕ → List ℕ
-skipped_below test w p n = learned_lines w (map (λ j. Learned p j Noop) (filter test (below n)))
+skipped_below test w p n = learned_lines w (map (λ j. Learned p j Noop) (filter test (numbers_below n)))
 
 skipped-more : (test : ℕ → Bool) (w : Trace) (p i : ℕ) (a : Bool) → test i ≡ a
     → skipped_below test w p (i + 1) ≡ skipped_below test w p i ++ cond a (learned_line w p i Noop) []
 skipped-more test w p i a e =
     ap (λ js. learned_lines w (map (λ j. Learned p j Noop) js)) (filter-below_more test i)
-    ∙ ap (learned_lines w) (map-append (λ j. Learned p j Noop) (filter test (below i)) (cond (test i) (i ∷ []) []))
-    ∙ flat_map-append (learned_in w) (map (λ j. Learned p j Noop) (filter test (below i)))
+    ∙ ap (learned_lines w) (map-append (λ j. Learned p j Noop) (filter test (numbers_below i)) (cond (test i) (i ∷ []) []))
+    ∙ flat_map-append (learned_in w) (map (λ j. Learned p j Noop) (filter test (numbers_below i)))
     (map (λ j. Learned p j Noop) (cond (test i) (i ∷ []) []))
     ∙ ap (λ text. skipped_below test w p i ++ text)
     (ap (λ a. learned_lines w (map (λ j. Learned p j Noop) (cond a (i ∷ []) []))) e ∙ last a)
@@ -113,5 +113,5 @@ skipped_whole m w p q first stop i before now past had member small =
     ∙ ap (λ js. before ++ learned_lines w (map (λ j. Learned p j Noop) js))
     (sym (filter-below_none (is_newly_skipped m w p q first stop) i (instance_count - i)
     (λ j low high. late m w p q first stop j (omega (arith, past (omega (arith, low, high, rest)), low))))
-    ∙ ap (λ n. filter (is_newly_skipped m w p q first stop) (below n)) rest
+    ∙ ap (λ n. filter (is_newly_skipped m w p q first stop) (numbers_below n)) rest
     ∙ ap (filter (is_newly_skipped m w p q first stop)) (sym instances-below))

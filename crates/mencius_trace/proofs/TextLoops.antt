@@ -5,7 +5,7 @@ use Rattle.std.specs.List.{cons_option, flat_map, range_with_len}
 use Rattle.std.proofs.lemmas.List.Elements.{filter_map-append}
 use Rattle.std.proofs.lemmas.Grind.{flat_map-append}
 use Rattle.mencius_base.specs.Limits.{instance_count}
-use Rattle.mencius_base.specs.Members.{below}
+use Rattle.mencius_base.specs.Members.{numbers_below}
 use Rattle.mencius_model.specs.Trace.{Trace}
 use Rattle.mencius_model.specs.Server.{waiting_at, waiting_tickets}
 use Rattle.mencius_model.proofs.trace.NumberLists.{below-more, instances-below}
@@ -38,7 +38,7 @@ texts_further f n before old new had got =
 
 -- those of the instances below a place
 abbrev pub waiting_below : Trace → ℕ → ℕ → List ℕ
-waiting_below w p n = filter_map (waiting_at w p) (below n)
+waiting_below w p n = filter_map (waiting_at w p) (numbers_below n)
 
 abbrev pub is_some_list : List ℕ → Bool
 is_some_list [] = false
@@ -50,7 +50,7 @@ pub record IsWaitingTo (w : Trace) (p i : ℕ) (some : Bool) (before now : List 
   pub some_is : some ≡ is_some_list (waiting_below w p i)
 
 below_none : (w : Trace) (p : ℕ) → waiting_below w p 0 ≡ []
-unfolding below
+unfolding numbers_below
 below_none w p = refl
 
 pub waiting_start : (w : Trace) (p : ℕ) (before : List ℕ) → IsWaitingTo w p 0 false before before
@@ -62,7 +62,7 @@ waiting_start w p before = record {
 waiting_more : (w : Trace) (p i : ℕ)
     → waiting_below w p (i + 1) ≡ waiting_below w p i ++ cons_option (waiting_at w p i) []
 waiting_more w p i =
-    ap (filter_map (waiting_at w p)) (below-more i) ∙ filter_map-append (waiting_at w p) (below i) (i ∷ [])
+    ap (filter_map (waiting_at w p)) (below-more i) ∙ filter_map-append (waiting_at w p) (numbers_below i) (i ∷ [])
 
 some_more : (xs : List ℕ) (o : Option ℕ) → (is_some o || is_some_list xs) ≡ is_some_list (xs ++ cons_option o [])
 some_more xs None = ap is_some_list (sym (append-nil xs))

@@ -10,7 +10,7 @@ use Rattle.mencius_base.specs.declared.command.Command.{Command}
 use Rattle.mencius_base.specs.declared.command.Op.TheVariants.{Set, Get}
 use Rattle.mencius_base.specs.declared.event.Event.{Event}
 use Rattle.mencius_base.specs.declared.event.Event.TheVariants.{Submit, Deliver, Lose, Suspect, Retry, Execute}
-use Rattle.mencius_base.specs.Members.{Membership, new_members, below, instances, most_messages, most_events}
+use Rattle.mencius_base.specs.Members.{Membership, new_members, numbers_below, instances, most_messages, most_events}
 use Rattle.mencius_model.specs.KeyMap.{map_after}
 use Rattle.mencius_trace.specs.Words.{former_text, line_feed}
 use Rattle.mencius_trace.specs.Closing.{trace_text}
@@ -95,7 +95,7 @@ text_wrong_suspicion reply = text_of
     ∷ [])
 
 text-wrong_suspicion : trace_text three wrong_suspicion ≡ text_wrong_suspicion (codes "none")
-unfolding below digits instances most_messages most_events
+unfolding numbers_below digits instances most_messages most_events
 text-wrong_suspicion = ap (λ o. text_wrong_suspicion (former_text o)) nothing
 
 -- a suggestion comes where no-op is decided: nobody answers it, and its ticket waits
@@ -145,7 +145,7 @@ text-late_suggestion : trace_text three late_suggestion ≡ text_of
     ∷ codes "unheard 6 Learn to 2"
     ∷ codes "unheard 7 Suggest to 0"
     ∷ [])
-unfolding below digits instances most_messages most_events
+unfolding numbers_below digits instances most_messages most_events
 text-late_suggestion = refl
 
 -- and there, further on, it is decided
@@ -240,7 +240,7 @@ text_suggested_again reply = text_of
     ∷ [])
 
 text-suggested_again : trace_text three suggested_again ≡ text_suggested_again (codes "none")
-unfolding below digits instances most_messages most_events
+unfolding numbers_below digits instances most_messages most_events
 text-suggested_again = ap (λ o. text_suggested_again (former_text o)) nothing
 
 -- two servers give up their instances before a suggestion, and one Skip comes twice
@@ -296,7 +296,7 @@ text_skip_before_a_suggestion reply = text_of
     ∷ [])
 
 text-skip_before_a_suggestion : trace_text three skip_before_a_suggestion ≡ text_skip_before_a_suggestion (codes "none")
-unfolding below digits instances most_messages most_events
+unfolding numbers_below digits instances most_messages most_events
 text-skip_before_a_suggestion = ap (λ o. text_skip_before_a_suggestion (former_text o)) nothing
 
 -- two servers revoke one instance at once: the greater ballot goes on
@@ -361,7 +361,7 @@ text-duelling_revokers : trace_text three duelling_revokers ≡ text_of
     ∷ codes "unheard 11 Learn to 0"
     ∷ codes "unheard 11 Learn to 2"
     ∷ [])
-unfolding below digits instances most_messages most_events
+unfolding numbers_below digits instances most_messages most_events
 text-duelling_revokers = refl
 
 -- a promise too many, a promise of a ballot that is no longer tried, and a loss
@@ -403,7 +403,7 @@ text-other_reasons : trace_text three other_reasons ≡ text_of
     ∷ codes "unheard 5 Prepare to 0"
     ∷ codes "unheard 5 Prepare to 1"
     ∷ [])
-unfolding below digits instances most_messages most_events
+unfolding numbers_below digits instances most_messages most_events
 text-other_reasons = refl
 
 -- the same client asks for what `a` is bound to
@@ -448,7 +448,7 @@ text_told_back first second = text_of
     ∷ [])
 
 text-told_back : trace_text one told_back ≡ text_told_back (codes "none") (codes "=x")
-unfolding below digits instances most_messages most_events
+unfolding numbers_below digits instances most_messages most_events
 text-told_back =
     ap (λ o. text_told_back (former_text o) (former_text (finite.get (map_after (set_a ∷ [])) (97 ∷ [])))) nothing
     ∙ ap (λ o. text_told_back (former_text None) (former_text o)) text_x

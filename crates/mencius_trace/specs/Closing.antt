@@ -5,7 +5,7 @@ use Rattle.mencius_base.specs.Numbers.{ServerId, Inst, TicketNo, MessageNo}
 use Rattle.mencius_base.specs.declared.event.Event.{Event}
 use Rattle.mencius_base.specs.declared.message.Message.{Message}
 use Rattle.mencius_base.specs.Members.{Membership, servers_of}
-use Rattle.mencius_base.specs.Message.{goes_to}
+use Rattle.mencius_base.specs.Message.{is_sent_to}
 use Rattle.mencius_model.specs.Trace.{Line, Heard, Lost, Trace, sent_messages}
 use Rattle.mencius_model.specs.Server.{done, front, waiting_tickets}
 use Rattle.mencius_model.specs.Next.{is_loss, next}
@@ -43,7 +43,7 @@ is_settled_by k p l = is_loss k p l
 
 -- the message goes to p, and p neither heard it nor can no longer hear it
 abbrev pub is_unheard : Trace → MessageNo → Message → ServerId → Bool
-is_unheard w k x p = goes_to p x && not (list_any (is_settled_by k p) w)
+is_unheard w k x p = is_sent_to p x && not (list_any (is_settled_by k p) w)
 
 abbrev pub unheard_line : Trace → MessageNo → Message → ServerId → List ℕ
 unheard_line w k x p =

@@ -6,7 +6,7 @@ use Rattle.mencius_base.specs.Limits.{most_servers}
 use Rattle.mencius_base.specs.Numbers.{ServerId, MessageNo}
 use Rattle.mencius_base.specs.declared.event.Entry.{Entry}
 use Rattle.mencius_base.specs.declared.event.Entry.TheVariants.{Deliver, Lose}
-use Rattle.mencius_cluster.specs.MessageBits.{MessageBitsState, bit_in}
+use Rattle.mencius_cluster.specs.MessageBits.{MessageBitsState, has_bit_in}
 use Rattle.mencius_model.specs.Trace.{Lost, Trace}
 use Rattle.mencius_model.specs.Next.{is_loss}
 use Rattle.mencius_trace.specs.Closing.{is_settled_by}
@@ -27,4 +27,4 @@ IsOfServer x = IfSome (settled_pair x) (λ pair. pair.1 < most_servers)
 
 -- a mark stands where a server heard or lost a message, and nowhere else
 abbrev pub AreSettled : Trace → MessageBitsState → Type 0
-AreSettled w marks = (k : MessageNo) (p : ServerId) → bit_in marks k p ≡ list_any (is_settled_by k p) w
+AreSettled w marks = (k : MessageNo) (p : ServerId) → has_bit_in marks k p ≡ list_any (is_settled_by k p) w

@@ -3,7 +3,7 @@
 ghost use Rattle.std.specs.Prelude.{◌≡◌, ◌<◌, ◌++◌, ◌||◌, ℕ, IfOk, OnOk, slice_get, string_bytes};
 ghost use Rattle.std.specs.List.{list_any};
 ghost use Rattle.mencius_base.specs.Limits.{most_servers};
-ghost use Rattle.mencius_cluster.specs.MessageBits.{bit_in};
+ghost use Rattle.mencius_cluster.specs.MessageBits.{has_bit_in};
 ghost use Rattle.mencius_cluster.specs.State.{trace_of};
 ghost use Rattle.mencius_model.specs.Trace.{Trace, sent_messages};
 ghost use Rattle.mencius_trace.specs.After.{of_message};
@@ -45,8 +45,8 @@ fn settled(alloc: Global, cluster: &Cluster) -> Result<MessageBits, NoMemory>
 
 fn settle(marks: &mut MessageBits, entry: &Entry) -> Result<(), NoMemory>
     requires { IsOfServer entry.now }
-    ensures { OnOk result ((k p : ℕ) → bit_in marks.new k p
-        ≡ (is_settled_by_entry k p entry.now || bit_in marks.old k p)) }
+    ensures { OnOk result ((k p : ℕ) → has_bit_in marks.new k p
+        ≡ (is_settled_by_entry k p entry.now || has_bit_in marks.old k p)) }
 {
     match *entry {
         Entry::Deliver { server, message } | Entry::Lose { server, message } => {
@@ -115,11 +115,11 @@ fn push_for(
     server: u8,
 ) -> Result<(), AllocError>
     requires { server < most_servers }
-    ensures { OnOk result ((w : Trace) → bit_in settled.now number server
+    ensures { OnOk result ((w : Trace) → has_bit_in settled.now number server
         ≡ list_any (is_settled_by number server) w → string_bytes text.new
         ≡ string_bytes text.old ++ unheard_line w number message.now server) }
 {
-    if !message.goes_to(server) || settled.is_marked(number, server) {
+    if !message.is_sent_to(server) || settled.is_marked(number, server) {
         return Ok(());
     }
     let kind = kind_of(message);

@@ -67,7 +67,7 @@ impl EventCounts {
             Entry::Submit { .. } => count(&mut self.submissions),
             Entry::Deliver { server, message } => {
                 count(&mut self.deliveries);
-                if was_heard(heard, message, server) {
+                if mark_heard(heard, message, server) {
                     count(&mut self.repeats);
                 }
             }
@@ -167,7 +167,7 @@ fn count(times: &mut u64) {
 }
 
 // Whether a server heard a message before. Now it has.
-fn was_heard(heard: &mut Vec<bool>, message: u32, server: u8) -> bool {
+fn mark_heard(heard: &mut Vec<bool>, message: u32, server: u8) -> bool {
     let place = (message as usize)
         .saturating_mul(SERVERS)
         .saturating_add(usize::from(server));

@@ -34,7 +34,7 @@ impl Mail {
         let next = self.next.get_mut(usize::from(server))?;
         for message in *next..cluster.messages() {
             *next = message.saturating_add(1);
-            if comes(dice, cluster, message, slow, server) {
+            if may_come(dice, cluster, message, slow, server) {
                 return Some(message);
             }
         }
@@ -42,12 +42,12 @@ impl Mail {
     }
 }
 
-fn comes(dice: &mut Dice, cluster: &Cluster, message: u32, slow: u8, server: u8) -> bool {
+fn may_come(dice: &mut Dice, cluster: &Cluster, message: u32, slow: u8, server: u8) -> bool {
     let _inside: Option<Vote> = None;
     match cluster.message(message) {
         Some(sent) => {
             let sender = sender_of(&sent);
-            sent.goes_to(server) && (sender != slow || sender == server || dice.below(2) == 0)
+            sent.is_sent_to(server) && (sender != slow || sender == server || dice.below(2) == 0)
         }
         None => false,
     }

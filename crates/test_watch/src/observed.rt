@@ -204,7 +204,7 @@ impl Observed {
             self.values.push(None)?;
         }
         for inst in first..end {
-            if !self.agrees(inst, cluster.learned(server, inst)) {
+            if !self.note_learned(inst, cluster.learned(server, inst)) {
                 return Ok(Some("two servers learned different values"));
             }
         }
@@ -212,7 +212,7 @@ impl Observed {
     }
 
     // Whether what a server learned at an instance is what was learned there before, if anything was.
-    fn agrees(&mut self, inst: u32, learned: Option<Value>) -> bool {
+    fn note_learned(&mut self, inst: u32, learned: Option<Value>) -> bool {
         let Some(known) = self.values.get_mut(inst as usize) else {
             return false;
         };

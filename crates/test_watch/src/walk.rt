@@ -111,7 +111,7 @@ impl Walk {
             return Ok(());
         };
         for server in 0..self.cluster.servers() {
-            if sent.goes_to(server) {
+            if sent.is_sent_to(server) {
                 self.take(Event::Deliver { message, server })?;
             }
         }

@@ -4,9 +4,9 @@ use Rattle.clap.specs.Words.{Text}
 use Rattle.mencius_ends.specs.declared.fault.AppFault.{AppFault}
 use Rattle.mencius_ends.specs.Ends.{TakesAtMost, most_bytes, most_failed_calls}
 use Rattle.mencius_app.specs.Calls.{AsksAs, AsksLittle, IsCause}
-use Rattle.mencius_app.specs.Replay.{IsReplayOf, accepts_all}
+use Rattle.mencius_app.specs.Replay.{IsReplayOf, are_all_accepted}
 use Rattle.mencius_app.specs.Run.{IsRunOf}
-use Rattle.mencius_app.specs.Ending.{IsAskedFor, IsFaultFor, IsInputFaultOf, IsTextOf, ending_at, ending_of, ending_of_run, ending_with, fault_in, reports_refusals}
+use Rattle.mencius_app.specs.Ending.{IsAskedFor, IsFaultFor, IsInputFaultOf, IsTextOf, ending_at, ending_of, ending_of_run, ending_with, fault_in, are_refusals_reported}
 use Rattle.mencius_app.specs.declared.finding.Finding.{Finding}
 use Rattle.mencius_app.specs.RunFindings.{IfFound}
 use Rattle.mencius_app.specs.declared.run_finding.RunFinding.{RunFinding}
@@ -31,8 +31,8 @@ as_text also h = record {
 pub text_of_replay : (is_strict : Bool) (known : Option (List ℕ)) (text : List ℕ) → IsReplayOf known text
     → IsTextOf (asked_replay is_strict) known text
 text_of_replay is_strict known text h =
-    let all = accepts_all h.written.members h.written.course in
-    (reports_refusals is_strict all, (all, (h, refl), refl))
+    let all = are_all_accepted h.written.members h.written.course in
+    (are_refusals_reported is_strict all, (all, (h, refl), refl))
 
 pub text_of_run : (known : Option (List ℕ)) (with_journal with_observations : Bool) (key there : Option (List ℕ)) (text : List ℕ)
     → key ≡ there → IsRunOf known with_journal with_observations key text

@@ -11,9 +11,9 @@ use Rattle.mencius_ends.specs.declared.fault.AppFault.TheVariants.{NotJson, BadS
 use Rattle.mencius_ends.specs.Ends.{HasFailed, WritesFront, most_bytes}
 use Rattle.mencius_format.specs.ValuesOrFaults.{FailsBy, Gives, map_ok, value_or_fault}
 use Rattle.mencius_input.specs.declared.kind.Kind.TheVariants.{Run}
-use Rattle.mencius_input.specs.Plan.{plan, plan_read, plan_within}
+use Rattle.mencius_input.specs.Plan.{plan, plan_read, is_plan_within}
 use Rattle.mencius_base.specs.Members.{Membership}
-use Rattle.mencius_input.specs.Scenario.{is_within_limits, json_of, or_not_json, read_there, scenario, scenario_of, scenario_within, written_of}
+use Rattle.mencius_input.specs.Scenario.{is_within_limits, json_of, or_not_json, read_there, scenario, scenario_of, is_scenario_within, written_of}
 use Rattle.mencius_app.specs.Calls.{IsCause, IsReadingCause}
 use Rattle.mencius_app.specs.Input.{HasFault, IsBadInput, Says, input_of, unless_long}
 use Rattle.mencius_app.specs.Replay.{IsMadeOf}
@@ -59,7 +59,7 @@ pub scenario_bad : (bytes : List ℕ) (fault : AppFault) → scenario bytes ≡ 
 scenario_bad bytes fault e = json_bad is_within_limits written_of (json_of bytes) fault e
 
 pub plan_bad : (bytes : List ℕ) (fault : AppFault) → plan bytes ≡ Err fault → IsBadInput fault
-plan_bad bytes fault e = json_bad (scenario_within plan_within) (scenario_of Run plan_read) (json_of bytes) fault e
+plan_bad bytes fault e = json_bad (is_scenario_within is_plan_within) (scenario_of Run plan_read) (json_of bytes) fault e
 
 -- a bad input is no failed reader or writer
 other_bad : (fault other : AppFault) → fault ≡ other → (other ≢ NotJson) × (other ≢ BadShape) × (other ≢ BadLimit)

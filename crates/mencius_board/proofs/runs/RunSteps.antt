@@ -8,7 +8,7 @@ use Rattle.std.proofs.lemmas.List.{get_or-replicate, get_or-set_other, get_or_de
 use Rattle.std.proofs.lemmas.List.FromFn.{map-range_with_len_more}
 use Rattle.std.proofs.lemmas.Grind.{get_or-set_at}
 use Rattle.std.proofs.lemmas.Option.{slice_get_read}
-use Rattle.mencius_base.specs.Members.{below}
+use Rattle.mencius_base.specs.Members.{numbers_below}
 use Rattle.mencius_model.proofs.trace.Lists.{length_below}
 use Rattle.mencius_choices.specs.Choices.{ChooserState, first_chooser}
 use Rattle.mencius_base.specs.Plan.{PlanState}
@@ -30,17 +30,17 @@ no_turns n i =
     (cases_lt i n)
 
 -- the seats of a plan, from none on
-pub no_seat : {X : Type 0} (f : ℕ → X) → [] ≡ map f (below 0)
-unfolding below
+pub no_seat : {X : Type 0} (f : ℕ → X) → [] ≡ map f (numbers_below 0)
+unfolding numbers_below
 no_seat f = refl
 
-pub one_seat : {X : Type 0} (f : ℕ → X) (n : ℕ) (x : X) → x ≡ f n → map f (below n) ++ x ∷ [] ≡ map f (below (n + 1))
-unfolding below
-one_seat f n x e = ap (λ y. map f (below n) ++ y ∷ []) e ∙ sym (map-range_with_len_more f 0 n n (zero-add n))
+pub one_seat : {X : Type 0} (f : ℕ → X) (n : ℕ) (x : X) → x ≡ f n → map f (numbers_below n) ++ x ∷ [] ≡ map f (numbers_below (n + 1))
+unfolding numbers_below
+one_seat f n x e = ap (λ y. map f (numbers_below n) ++ y ∷ []) e ∙ sym (map-range_with_len_more f 0 n n (zero-add n))
 
 -- a run before its first turn
 pub begun : (plan : PlanState) (board : BoardState) (choosers : List ChooserState) (ways : List Way) (turns : ℕ)
-    → turns ≡ plan.turns → choosers ≡ map (first_chooser plan) (below plan.workers)
+    → turns ≡ plan.turns → choosers ≡ map (first_chooser plan) (numbers_below plan.workers)
     → ways ≡ replicate plan.workers (Ok 0)
     → IsRun plan board board choosers ways turns
 begun plan board choosers ways turns limit are none =
@@ -48,7 +48,7 @@ begun plan board choosers ways turns limit are none =
     λ worker. ap (λ xs. get_or xs worker (Ok 0)) none ∙ no_turns plan.workers worker in
     record {
       limit = limit;
-      seats = ap length are ∙ (length-map (below plan.workers) (first_chooser plan) ∙ length_below plan.workers);
+      seats = ap length are ∙ (length-map (numbers_below plan.workers) (first_chooser plan) ∙ length_below plan.workers);
       counts = ap length none ∙ length-replicate plan.workers none_taken;
       order = [];
       comes = ap (λ xs. record { board = board; choosers = xs }) are;

@@ -7,7 +7,7 @@ use Rattle.mencius_base.specs.CommandState.{CommandState}
 use Rattle.mencius_base.specs.declared.event.Event.{Event}
 use Rattle.mencius_ends.specs.declared.fault.AppFault.{AppFault}
 use Rattle.mencius_ends.specs.declared.fault.AppFault.TheVariants.{BadShape}
-use Rattle.mencius_format.specs.Grammar.{command_of, command_within, event_of, event_within}
+use Rattle.mencius_format.specs.Grammar.{command_of, is_command_within, event_of, is_event_within}
 use Rattle.mencius_format.specs.ValuesOrFaults.{value_or_fault}
 use Rattle.mencius_format.specs.TextVersions.{command_version, event_version}
 use Rattle.mencius_format.specs.Versions.{first_version, may_stand_in, newest_version}
@@ -107,9 +107,9 @@ module _ (version : ℕ) where
   pub item_said_in : (d : Data)
       → in_version version (record { said = item_said newest_version d; version = event_item_version d })
       ≡ item_said version d
-  item_said_in d = read_in_version event_within (event_item_version d) _ _ (event_said d)
+  item_said_in d = read_in_version is_event_within (event_item_version d) _ _ (event_said d)
 
   pub command_said_in : (d : Data)
       → in_version version (record { said = command_said newest_version d; version = command_item_version d })
       ≡ command_said version d
-  command_said_in d = read_in_version command_within (command_item_version d) _ _ (command_of_said d)
+  command_said_in d = read_in_version is_command_within (command_item_version d) _ _ (command_of_said d)

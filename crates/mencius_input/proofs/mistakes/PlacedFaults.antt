@@ -12,18 +12,18 @@ use Rattle.mencius_base.specs.Plan.{PlanState, plan_of}
 use Rattle.mencius_base.specs.CommandState.{CommandState}
 use Rattle.mencius_ends.specs.declared.fault.AppFault.{AppFault}
 use Rattle.mencius_ends.specs.declared.fault.AppFault.TheVariants.{BadLimit, BadShape}
-use Rattle.mencius_format.specs.Grammar.{command_within}
+use Rattle.mencius_format.specs.Grammar.{is_command_within}
 use Rattle.mencius_format.specs.ValuesOrFaults.{value_or_fault}
 use Rattle.mencius_input.specs.declared.field.Field.{Field}
 use Rattle.mencius_input.specs.declared.field.Field.TheVariants.{Version, Servers, Beta, Workers, Seed, Turns, Loss}
 use Rattle.mencius_input.specs.declared.kind.Kind.{Kind}
 use Rattle.mencius_input.specs.declared.kind.Kind.TheVariants.{Replay, Run}
 use Rattle.mencius_input.specs.declared.scenario.Scenario.{Scenario}
-use Rattle.mencius_input.specs.FieldsOf.{field_name, field_within, fields, names}
+use Rattle.mencius_input.specs.FieldsOf.{field_name, is_field_within, fields, names}
 use Rattle.mencius_input.specs.Laws.{FaultsHavePlaces, HasPlace}
 use Rattle.mencius_input.specs.Places.{count_place, course_place, field_named, first_in, first_of, first_place, is_lacking, lack_place, list_place, names_in, names_of, place_in, version_in}
-use Rattle.mencius_input.specs.Plan.{commands_read, plan_read, plan_within}
-use Rattle.mencius_input.specs.Scenario.{all_of, has_only, json_of, number_of, or_not_json, read_there, scenario_in, scenario_of, scenario_within, schedule_of, schedule_within}
+use Rattle.mencius_input.specs.Plan.{commands_read, plan_read, is_plan_within}
+use Rattle.mencius_input.specs.Scenario.{all_of, has_only, json_of, number_of, or_not_json, read_there, scenario_in, scenario_of, is_scenario_within, schedule_of, is_schedule_within}
 use Rattle.mencius_input.proofs.JsonTexts.{json_read}
 use Rattle.mencius_input.proofs.objects.NameOrder.{names_made}
 use Rattle.mencius_input.proofs.objects.RunFields.{mapped_items, plan_bound, plan_by_fields}
@@ -113,11 +113,11 @@ module _ (ms : Members) (h : HasNone Run BadShape ms) (version : ℕ) (said : nu
 
 module _ (ms : Members) (h : HasNone Run BadLimit ms) (version servers : ℕ)
     (said : number_of Version (object ms) ≡ Some version) (counted : number_of Servers (object ms) ≡ Some servers)
-    (few : field_within Servers servers ≡ true) where
+    (few : is_field_within Servers servers ≡ true) where
   -- the lists are within their limits, and as many as there are servers
   run_lists_fit : (o : Option Items) (lists : List (List CommandState)) → course_place Run BadLimit (object ms) o ≡ None
       → option_and_then (all_of (commands_read version)) o ≡ Some lists
-      → ((length lists == servers) ≡ true) × (list_all (list_all command_within) lists ≡ true)
+      → ((length lists == servers) ≡ true) × (list_all (list_all is_command_within) lists ≡ true)
   run_lists_fit None lists none is = absurd cc
   run_lists_fit (Some items) lists none is =
       let parts = none_both (first_of (list_place BadLimit (version_in (object ms))) 0 items)
@@ -131,12 +131,12 @@ module _ (ms : Members) (h : HasNone Run BadLimit ms) (version servers : ℕ)
   run_value_fits : (o : Option Data) (lists : List (List CommandState))
       → option_and_then (λ value. course_place Run BadLimit (object ms) (as_array value)) o ≡ None
       → option_and_then (all_of (commands_read version)) (option_and_then as_array o) ≡ Some lists
-      → ((length lists == servers) ≡ true) × (list_all (list_all command_within) lists ≡ true)
+      → ((length lists == servers) ≡ true) × (list_all (list_all is_command_within) lists ≡ true)
   run_value_fits None lists none is = absurd cc
   run_value_fits (Some value) lists none is = run_lists_fit (as_array value) lists none is
 
   plan_fits_all : (members : Membership) → members.count ≡ servers → (plan : PlanState)
-      → plan_read version (object ms) ≡ Some plan → plan_within members plan ≡ true
+      → plan_read version (object ms) ≡ Some plan → is_plan_within members plan ≡ true
   plan_fits_all members same plan is =
       let p = planned_parts version (number_of Workers (object ms)) (number_of Seed (object ms))
       (number_of Turns (object ms)) (number_of Loss (object ms)) (get_member (codes "commands") ms) plan
@@ -219,7 +219,7 @@ shared_there Run ms h = (
 shared_fit : (kind : Kind) (ms : Members) → HasNone kind BadLimit ms → (version servers beta : ℕ)
     → number_of Version (object ms) ≡ Some version → number_of Servers (object ms) ≡ Some servers
     → number_of Beta (object ms) ≡ Some beta
-    → (field_within Version version ≡ true) × (field_within Servers servers ≡ true) × (field_within Beta beta ≡ true)
+    → (is_field_within Version version ≡ true) × (is_field_within Servers servers ≡ true) × (is_field_within Beta beta ≡ true)
 shared_fit Replay ms h version servers beta v s b = (
   number_fits Replay ms h Version refl version v,
   number_fits Replay ms h Servers refl servers s,
@@ -268,7 +268,7 @@ module _ {X : Type 0} (kind : Kind) (course_of : ℕ → Data → Option X) (fit
     (there : (ms : Members) → HasNone kind BadShape ms → (version : ℕ) → number_of Version (object ms) ≡ Some version
     → is_some (course_of version (object ms)) ≡ true)
     (fit : (ms : Members) → HasNone kind BadLimit ms → (x : Scenario X) → IsOf course_of ms x
-    → field_within Servers x.members.count ≡ true → fits x.members x.course ≡ true)
+    → is_field_within Servers x.members.count ≡ true → fits x.members x.course ≡ true)
     (bytes : List ℕ) where
   shape_none : (d : Data) → read bytes ≡ Some d → place_in kind BadShape (names_in bytes) d ≡ None
       → is_some (scenario_of kind course_of d) ≡ true
@@ -284,7 +284,7 @@ module _ {X : Type 0} (kind : Kind) (course_of : ℕ → Data → Option X) (fit
       ∙ bound_there _ _ _ _ _ (only_known kind bytes ms is none) numbers.0 numbers.1 numbers.2 (there ms h)
 
   limit_none : (d : Data) → read bytes ≡ Some d → place_in kind BadLimit (names_in bytes) d ≡ None
-      → (x : Scenario X) → scenario_of kind course_of d ≡ Some x → scenario_within fits x ≡ true
+      → (x : Scenario X) → scenario_of kind course_of d ≡ Some x → is_scenario_within fits x ≡ true
   unfolding scenario_of
   limit_none null is none x said = absurd cc
   limit_none (boolean b) is none x said = absurd cc
@@ -305,7 +305,7 @@ module _ {X : Type 0} (kind : Kind) (course_of : ℕ → Data → Option X) (fit
   has_place = by_json (json_of bytes) refl
     where
       by_test : (d : Data) → json_of bytes ≡ Some d → (x : Scenario X) → scenario_of kind course_of d ≡ Some x
-          → (a : Bool) → scenario_within fits x ≡ a → HasPlace kind bytes (cond a (Ok x) (Err BadLimit))
+          → (a : Bool) → is_scenario_within fits x ≡ a → HasPlace kind bytes (cond a (Ok x) (Err BadLimit))
       by_test d is x said true within = tt
       by_test d is x said false within =
           some_unless (first_place kind BadLimit bytes) (λ none.
@@ -314,25 +314,25 @@ module _ {X : Type 0} (kind : Kind) (course_of : ℕ → Data → Option X) (fit
           absurd cc)
 
       by_scenario : (d : Data) → json_of bytes ≡ Some d → (o : Option (Scenario X)) → scenario_of kind course_of d ≡ o
-          → HasPlace kind bytes (value_or_fault (scenario_within fits) o)
+          → HasPlace kind bytes (value_or_fault (is_scenario_within fits) o)
       by_scenario d is None said =
           some_unless (first_place kind BadShape bytes) (λ none.
           let some = shape_none d (json_read bytes d is) (place_none BadShape d is none) in
           let both = ap is_some (sym said) ∙ some in
           absurd cc)
-      by_scenario d is (Some x) said = by_test d is x said (scenario_within fits x) refl
+      by_scenario d is (Some x) said = by_test d is x said (is_scenario_within fits x) refl
 
       by_json : (o : Option Data) → json_of bytes ≡ o
           → HasPlace kind bytes
-          (read_there (λ d. value_or_fault (scenario_within fits) (scenario_of kind course_of d)) (or_not_json o))
+          (read_there (λ d. value_or_fault (is_scenario_within fits) (scenario_of kind course_of d)) (or_not_json o))
       by_json None is = tt
       by_json (Some d) is = by_scenario d is (scenario_of kind course_of d) refl
 
 pub places_there : FaultsHavePlaces
 places_there bytes = (
-  has_place Replay schedule_of schedule_within schedule_there
+  has_place Replay schedule_of is_schedule_within schedule_there
       (λ ms h x parts few. schedule_fits ms h x.version x.course parts.version parts.course) bytes,
-  has_place Run plan_read plan_within plan_there
+  has_place Run plan_read is_plan_within plan_there
       (λ ms h x parts few. plan_fits_all ms h x.version x.members.count parts.version parts.servers few x.members refl
       x.course parts.course) bytes,
 )

@@ -11,13 +11,13 @@ use Rattle.mencius_base.specs.CommandState.{CommandState}
 use Rattle.mencius_base.specs.declared.event.Event.{Event}
 use Rattle.mencius_ends.specs.declared.fault.AppFault.{AppFault}
 use Rattle.mencius_ends.specs.declared.fault.AppFault.TheVariants.{BadLimit, BadShape}
-use Rattle.mencius_format.specs.Grammar.{command_of, command_within, event_of, event_within, newest_version}
+use Rattle.mencius_format.specs.Grammar.{command_of, is_command_within, event_of, is_event_within, newest_version}
 use Rattle.mencius_format.specs.ValuesOrFaults.{value_or_fault}
 use Rattle.mencius_input.specs.declared.field.Field.{Field}
 use Rattle.mencius_input.specs.declared.field.Field.TheVariants.{Version, Servers}
 use Rattle.mencius_input.specs.declared.kind.Kind.{Kind}
 use Rattle.mencius_input.specs.declared.kind.Kind.TheVariants.{Replay, Run}
-use Rattle.mencius_input.specs.FieldsOf.{default_of, field_name, field_within, fields, list_field}
+use Rattle.mencius_input.specs.FieldsOf.{default_of, field_name, is_field_within, fields, list_field}
 use Rattle.mencius_input.specs.Places.{commands_place, count_place, course_place, events_place, fault_at, field_named, field_place, first_item, first_of, is_fault, is_lacking, lack_place, list_field_place, list_place, missing_field, named_place, number_place, version_in, whole_place}
 use Rattle.mencius_input.specs.Plan.{commands_read}
 use Rattle.mencius_input.specs.Scenario.{all_of, events_of, number_in, number_of, said_by, schedule_of, whole_in}
@@ -101,7 +101,7 @@ module _ (kind : Kind) (ms : Members) (h : HasNone kind BadShape ms) where
 
 module _ (kind : Kind) (ms : Members) (h : HasNone kind BadLimit ms) where
   pub number_fits : (field : Field) → field_named kind (field_name field) ≡ Some field → (n : ℕ)
-      → number_of field (object ms) ≡ Some n → field_within field n ≡ true
+      → number_of field (object ms) ≡ Some n → is_field_within field n ≡ true
   unfolding number_of
   number_fits field named n is =
       by_value (get_member (field_name field) ms) (number_none kind BadLimit ms h field named) is
@@ -111,13 +111,13 @@ module _ (kind : Kind) (ms : Members) (h : HasNone kind BadLimit ms) where
       turned false e = absurd cc
 
       by_whole : (value : Data) (o : Option ℕ) → whole_place BadLimit field value o ≡ None → o ≡ Some n
-          → field_within field n ≡ true
+          → is_field_within field n ≡ true
       by_whole value None none is = absurd cc
       by_whole value (Some m) none is =
-          sym (ap (λ o. field_within field (unwrap_or o n)) is) ∙ turned (field_within field m) (not_given _ _ none)
+          sym (ap (λ o. is_field_within field (unwrap_or o n)) is) ∙ turned (is_field_within field m) (not_given _ _ none)
 
       by_value : (o : Option Data) → option_and_then (λ value. whole_place BadLimit field value (whole_in value)) o ≡ None
-          → number_in field o ≡ Some n → field_within field n ≡ true
+          → number_in field o ≡ Some n → is_field_within field n ≡ true
       by_value None none is = default_fits field n is
       by_value (Some value) none is = by_whole value (whole_in value) none is
 
@@ -189,14 +189,14 @@ events_there : (version : ℕ) (items : Items) → events_place BadShape version
     → is_some (events_of version items) ≡ true
 events_there version items none =
     all_there (said_by (event_of version)) (fault_at Replay BadShape version)
-    (λ n d none. item_there event_within _ (said_by (event_of version) d) none)
+    (λ n d none. item_there is_event_within _ (said_by (event_of version) d) none)
     0 items (none_mapped _ (first_item Replay BadShape version items) none)
 
 events_fit : (version : ℕ) (items : Items) (es : List Event) → events_place BadLimit version items ≡ None
-    → events_of version items ≡ Some es → list_all event_within es ≡ true
+    → events_of version items ≡ Some es → list_all is_event_within es ≡ true
 events_fit version items es none is =
-    all_fit (said_by (event_of version)) (fault_at Replay BadLimit version) event_within
-    (λ n d x none is. item_fits event_within _ (said_by (event_of version) d) x none is)
+    all_fit (said_by (event_of version)) (fault_at Replay BadLimit version) is_event_within
+    (λ n d x none is. item_fits is_event_within _ (said_by (event_of version) d) x none is)
     0 items es (none_mapped _ (first_item Replay BadLimit version items) none) is
 
 pub same_version : (ms : Members) (version : ℕ) → number_of Version (object ms) ≡ Some version
@@ -224,12 +224,12 @@ schedule_there ms h version said =
 
 pub schedule_fits : (ms : Members) → HasNone Replay BadLimit ms → (version : ℕ) (es : List Event)
     → number_of Version (object ms) ≡ Some version → schedule_of version (object ms) ≡ Some es
-    → list_all event_within es ≡ true
+    → list_all is_event_within es ≡ true
 schedule_fits ms h version es said is =
     by_value (get_member (codes "events") ms) (list_none Replay BadLimit ms h) (sym (schedule_bound version ms) ∙ is)
   where
     by_items : (o : Option Items) → course_place Replay BadLimit (object ms) o ≡ None
-        → option_and_then (events_of version) o ≡ Some es → list_all event_within es ≡ true
+        → option_and_then (events_of version) o ≡ Some es → list_all is_event_within es ≡ true
     by_items None none is = absurd cc
     by_items (Some items) none is =
         events_fit version items es
@@ -237,7 +237,7 @@ schedule_fits ms h version es said is =
 
     by_value : (o : Option Data)
         → option_and_then (λ value. course_place Replay BadLimit (object ms) (as_array value)) o ≡ None
-        → option_and_then (events_of version) (option_and_then as_array o) ≡ Some es → list_all event_within es ≡ true
+        → option_and_then (events_of version) (option_and_then as_array o) ≡ Some es → list_all is_event_within es ≡ true
     by_value None none is = absurd cc
     by_value (Some value) none is = by_items (as_array value) none is
 
@@ -248,15 +248,15 @@ list_read : (version at : ℕ) (o : Option Items) → commands_place BadShape ve
 list_read version at None none = absurd cc
 list_read version at (Some items) none =
     all_there (said_by (command_of version)) (fault_at Run BadShape version)
-    (λ n d none. item_there command_within _ (said_by (command_of version) d) none)
+    (λ n d none. item_there is_command_within _ (said_by (command_of version) d) none)
     0 items (none_mapped _ (first_item Run BadShape version items) none)
 
 list_fits : (version at : ℕ) (o : Option Items) (xs : List CommandState) → commands_place BadLimit version at o ≡ None
-    → option_and_then (all_of (said_by (command_of version))) o ≡ Some xs → list_all command_within xs ≡ true
+    → option_and_then (all_of (said_by (command_of version))) o ≡ Some xs → list_all is_command_within xs ≡ true
 list_fits version at None xs none is = absurd cc
 list_fits version at (Some items) xs none is =
-    all_fit (said_by (command_of version)) (fault_at Run BadLimit version) command_within
-    (λ n d x none is. item_fits command_within _ (said_by (command_of version) d) x none is)
+    all_fit (said_by (command_of version)) (fault_at Run BadLimit version) is_command_within
+    (λ n d x none is. item_fits is_command_within _ (said_by (command_of version) d) x none is)
     0 items xs (none_mapped _ (first_item Run BadLimit version items) none) is
 
 pub lists_there : (version : ℕ) (items : Items) → first_of (list_place BadShape version) 0 items ≡ None
@@ -267,19 +267,19 @@ lists_there version items none =
 
 pub lists_fit : (version : ℕ) (items : Items) (lists : List (List CommandState))
     → first_of (list_place BadLimit version) 0 items ≡ None → all_of (commands_read version) items ≡ Some lists
-    → list_all (list_all command_within) lists ≡ true
+    → list_all (list_all is_command_within) lists ≡ true
 lists_fit version items lists none is =
-    all_fit (commands_read version) (list_place BadLimit version) (list_all command_within)
+    all_fit (commands_read version) (list_place BadLimit version) (list_all is_command_within)
     (λ at d xs none is. list_fits version at (as_array d) xs none is) 0 items lists none is
 
 -- a list for each of the servers, where their number is within its limits
-pub counts_agree : (count servers : ℕ) (o : Option ℕ) → o ≡ Some servers → field_within Servers servers ≡ true
+pub counts_agree : (count servers : ℕ) (o : Option ℕ) → o ≡ Some servers → is_field_within Servers servers ≡ true
     → count_place BadLimit count o ≡ None → (count == servers) ≡ true
 counts_agree count servers None is fits none = absurd cc
 counts_agree count servers (Some n) is fits none =
     let same : n ≡ servers = ap (λ o. unwrap_or o servers) is in
     ap (λ n. count == n) (sym same)
-    ∙ by_tests (field_within Servers n) (count == n) (ap (field_within Servers) same ∙ fits) (not_given _ _ none)
+    ∙ by_tests (is_field_within Servers n) (count == n) (ap (is_field_within Servers) same ∙ fits) (not_given _ _ none)
   where
     by_tests : (within equal : Bool) → within ≡ true → (within && not equal) ≡ false → equal ≡ true
     by_tests within true e f = refl

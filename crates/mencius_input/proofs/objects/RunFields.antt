@@ -9,16 +9,16 @@ use Rattle.mencius_base.specs.Limits.{most_servers}
 use Rattle.mencius_base.specs.Plan.{PlanState, plan_of}
 use Rattle.mencius_base.specs.CommandState.{CommandState}
 use Rattle.mencius_ends.specs.declared.fault.AppFault.TheVariants.{BadLimit}
-use Rattle.mencius_format.specs.Grammar.{command_within}
+use Rattle.mencius_format.specs.Grammar.{is_command_within}
 use Rattle.mencius_format.specs.ValuesOrFaults.{value_or_fault}
 use Rattle.mencius_input.specs.declared.field.Field.TheVariants.{Workers, Seed, Turns, Loss}
 use Rattle.mencius_input.specs.declared.fields.FieldValues as code
 use Rattle.mencius_input.specs.declared.kind.Kind.TheVariants.{Run}
 use Rattle.mencius_input.specs.declared.scenario.Shared.{Shared}
-use Rattle.mencius_input.specs.FieldValues.{AreFieldValues, list_kept, list_said, lists_within, plan_fits, plan_or_fault, plan_said, said_of, scenario_or_fault, shared_in, shared_within}
-use Rattle.mencius_input.specs.FieldsOf.{field_within, names}
-use Rattle.mencius_input.specs.Plan.{commands_read, numbers_within, plan_read, plan_within}
-use Rattle.mencius_input.specs.Scenario.{all_in, all_of, has_only, number_of, scenario_of, scenario_within}
+use Rattle.mencius_input.specs.FieldValues.{AreFieldValues, list_kept, list_said, are_lists_within, is_plan_for, plan_or_fault, plan_said, said_of, scenario_or_fault, shared_in, is_shared_within}
+use Rattle.mencius_input.specs.FieldsOf.{is_field_within, names}
+use Rattle.mencius_input.specs.Plan.{commands_read, are_numbers_within, plan_read, is_plan_within}
+use Rattle.mencius_input.specs.Scenario.{all_in, all_of, has_only, number_of, scenario_of, is_scenario_within}
 use Rattle.mencius_input.proofs.lists.VersionItems.{lists_said_in}
 use Rattle.mencius_input.proofs.objects.SharedFields.{members_in, scenario_or_fault_is, shared_say}
 
@@ -40,12 +40,12 @@ plan_bound version ms = refl
 
 -- as they are tested
 abbrev passes_tests : ℕ → PlanState → Bool
-passes_tests servers plan = plan_fits servers plan && list_all (list_all command_within) plan.commands
+passes_tests servers plan = is_plan_for servers plan && list_all (list_all is_command_within) plan.commands
 
 -- more lists than there may be servers are refused by the limits of both kinds
 too_many : (shared : Shared) (numbers : Bool) (many : ℕ) → nat_le many most_servers ≡ false
-    → (shared_within shared && (numbers && (many == shared.servers))) ≡ false
-unfolding field_within
+    → (is_shared_within shared && (numbers && (many == shared.servers))) ≡ false
+unfolding is_field_within
 too_many shared numbers many e = grind (arith, nat_tests)
 
 by_few : (cluster own few lists : Bool) → (few ≡ false → (cluster && own) ≡ false)
@@ -55,12 +55,12 @@ by_few true true false lists h = let none = h refl in absurd (cc)
 by_few true false false lists h = refl
 by_few false own false lists h = refl
 
-same_limits : (shared : Shared) (plan : PlanState) → (shared_within shared && passes_tests shared.servers plan)
-    ≡ (shared_within shared && plan_within (members_in shared) plan)
+same_limits : (shared : Shared) (plan : PlanState) → (is_shared_within shared && passes_tests shared.servers plan)
+    ≡ (is_shared_within shared && is_plan_within (members_in shared) plan)
 same_limits shared plan =
-    by_few (shared_within shared) (numbers_within plan && (length plan.commands == shared.servers))
-    (nat_le (length plan.commands) most_servers) (list_all (list_all command_within) plan.commands)
-    (too_many shared (numbers_within plan) (length plan.commands))
+    by_few (is_shared_within shared) (are_numbers_within plan && (length plan.commands == shared.servers))
+    (nat_le (length plan.commands) most_servers) (list_all (list_all is_command_within) plan.commands)
+    (too_many shared (are_numbers_within plan) (length plan.commands))
 
 -- ---- the lists
 
@@ -70,21 +70,21 @@ module _ (servers workers seed turns loss : ℕ) where
 
   by_list : (all : List (List CommandState)) (l few : Bool) → nat_le (length all) most_servers ≡ few
       → plan_or_fault servers of (cond (l && few) (Ok all) (Err BadLimit))
-      ≡ cond (plan_fits servers (of all) && l) (Ok (of all)) (Err BadLimit)
+      ≡ cond (is_plan_for servers (of all) && l) (Ok (of all)) (Err BadLimit)
   by_list all true true e =
-      ap (λ bit. cond bit (Ok (of all)) (Err BadLimit)) (sym (and-true (plan_fits servers (of all))))
+      ap (λ bit. cond bit (Ok (of all)) (Err BadLimit)) (sym (and-true (is_plan_for servers (of all))))
   by_list all true false e =
-      let own = numbers_within (of all) && (length all == servers) in
+      let own = are_numbers_within (of all) && (length all == servers) in
       sym (ap (λ bit. cond ((own && bit) && true) (Ok (of all)) (Err BadLimit)) e
       ∙ ap (λ bit. cond (bit && true) (Ok (of all)) (Err BadLimit)) (and-false own))
   by_list all false few e =
-      ap (λ bit. cond bit (Ok (of all)) (Err BadLimit)) (sym (and-false (plan_fits servers (of all))))
+      ap (λ bit. cond bit (Ok (of all)) (Err BadLimit)) (sym (and-false (is_plan_for servers (of all))))
 
   with_all : (o : Option (List (List CommandState)))
-      → plan_or_fault servers of (value_or_fault lists_within o) ≡ value_or_fault (passes_tests servers) (option_map of o)
+      → plan_or_fault servers of (value_or_fault are_lists_within o) ≡ value_or_fault (passes_tests servers) (option_map of o)
   with_all None = refl
   with_all (Some all) =
-      by_list all (list_all (list_all command_within) all) (nat_le (length all) most_servers) refl
+      by_list all (list_all (list_all is_command_within) all) (nat_le (length all) most_servers) refl
 
   mapped : (o : Option (List (List CommandState)))
       → option_map of o ≡ option_and_then (λ commands. Some (of commands)) o
@@ -107,7 +107,7 @@ plan_or_fault_is shared (Some workers) (Some seed) None ol value = refl
 plan_or_fault_is shared (Some workers) (Some seed) (Some turns) None value = refl
 plan_or_fault_is shared (Some workers) (Some seed) (Some turns) (Some loss) None = refl
 plan_or_fault_is shared (Some workers) (Some seed) (Some turns) (Some loss) (Some d) =
-    ap (plan_or_fault shared.servers (plan_of workers seed turns loss)) (lists_said_in shared.version lists_within d)
+    ap (plan_or_fault shared.servers (plan_of workers seed turns loss)) (lists_said_in shared.version are_lists_within d)
     ∙ with_all shared.servers workers seed turns loss (all_in (commands_read shared.version) d)
     ∙ ap (value_or_fault (passes_tests shared.servers))
     (mapped_items shared.servers workers seed turns loss shared.version (as_array d))
@@ -115,7 +115,7 @@ plan_or_fault_is shared (Some workers) (Some seed) (Some turns) (Some loss) (Som
 -- the answer
 pub plan_fields_say : (f : code.FieldValues) (ms : Members) → AreFieldValues Run f ms → has_only (names Run) ms ≡ true
     → said_of (λ shared own. plan_said shared own (option_map list_kept f.list)) (shared_in f.wholes.items)
-    ≡ value_or_fault (scenario_within plan_within) (scenario_of Run plan_read (object ms))
+    ≡ value_or_fault (is_scenario_within is_plan_within) (scenario_of Run plan_read (object ms))
 plan_fields_say f ms h only =
     let ow = number_of Workers (object ms) in
     let os = number_of Seed (object ms) in
@@ -123,9 +123,9 @@ plan_fields_say f ms h only =
     let ol = number_of Loss (object ms) in
     let value = get_member (codes "commands") ms in
     ap (λ list. said_of (λ shared own. plan_said shared own list) (shared_in f.wholes.items)) h.list
-    ∙ shared_say Run (λ shared own. plan_said shared own (option_map (list_said Run) value)) plan_within
+    ∙ shared_say Run (λ shared own. plan_said shared own (option_map (list_said Run) value)) is_plan_within
     plan_read f.wholes.items (ow ∷ os ∷ ot ∷ ol ∷ []) ms h.wholes only
     (λ shared. ap (scenario_or_fault shared) (plan_or_fault_is shared ow os ot ol value)
-    ∙ scenario_or_fault_is shared (passes_tests shared.servers) plan_within (same_limits shared)
+    ∙ scenario_or_fault_is shared (passes_tests shared.servers) is_plan_within (same_limits shared)
     (plan_by_fields shared.version ow os ot ol value)
     ∙ rw (plan_bound shared.version ms) refl)

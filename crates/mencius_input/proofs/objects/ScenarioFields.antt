@@ -3,14 +3,14 @@ use Rattle.std.proofs.Common.{◌≡◌, ℕ, [], true, codes, Option, Some, Non
 use Rattle.std.specs.List.{list_all}
 use Rattle.serde_json.specs.Data.{Data, Members, object}
 use Rattle.serde_json.specs.Find.{as_array, get, get_member}
-use Rattle.mencius_format.specs.Grammar.{event_within}
+use Rattle.mencius_format.specs.Grammar.{is_event_within}
 use Rattle.mencius_format.specs.ValuesOrFaults.{value_or_fault}
 use Rattle.mencius_input.specs.declared.fields.FieldValues as code
 use Rattle.mencius_input.specs.declared.kind.Kind.TheVariants.{Replay}
 use Rattle.mencius_input.specs.declared.scenario.Shared.{Shared}
 use Rattle.mencius_input.specs.FieldValues.{AreFieldValues, list_kept, list_said, said_of, scenario_or_fault, schedule_said, shared_in}
 use Rattle.mencius_input.specs.FieldsOf.{names}
-use Rattle.mencius_input.specs.Scenario.{events_of, has_only, is_within_limits, schedule_of, schedule_within, written_of}
+use Rattle.mencius_input.specs.Scenario.{events_of, has_only, is_within_limits, schedule_of, is_schedule_within, written_of}
 use Rattle.mencius_input.proofs.lists.VersionItems.{events_said_in}
 use Rattle.mencius_input.proofs.objects.SharedFields.{no_course, scenario_or_fault_is, shared_say}
 
@@ -21,9 +21,9 @@ unfolding schedule_of
 schedule_bound version ms = refl
 
 schedule_or_fault_is : (shared : Shared) (o : Option Data) → schedule_said (option_map (list_said Replay) o) shared
-    ≡ value_or_fault (list_all event_within) (option_and_then (events_of shared.version) (option_and_then as_array o))
+    ≡ value_or_fault (list_all is_event_within) (option_and_then (events_of shared.version) (option_and_then as_array o))
 schedule_or_fault_is shared None = refl
-schedule_or_fault_is shared (Some d) = events_said_in shared.version (list_all event_within) d
+schedule_or_fault_is shared (Some d) = events_said_in shared.version (list_all is_event_within) d
 
 -- the answer
 pub fields_say : (f : code.FieldValues) (ms : Members) → AreFieldValues Replay f ms → has_only (names Replay) ms ≡ true
@@ -32,10 +32,10 @@ pub fields_say : (f : code.FieldValues) (ms : Members) → AreFieldValues Replay
 fields_say f ms h only =
     let value = get_member (codes "events") ms in
     ap (λ list. said_of (λ shared own. schedule_said list shared) (shared_in f.wholes.items)) h.list
-    ∙ shared_say Replay (λ shared own. schedule_said (option_map (list_said Replay) value) shared) schedule_within
+    ∙ shared_say Replay (λ shared own. schedule_said (option_map (list_said Replay) value) shared) is_schedule_within
     schedule_of f.wholes.items [] ms h.wholes only
     (λ shared. ap (scenario_or_fault shared) (schedule_or_fault_is shared value)
-    ∙ scenario_or_fault_is shared (list_all event_within) schedule_within (λ events. refl)
+    ∙ scenario_or_fault_is shared (list_all is_event_within) is_schedule_within (λ events. refl)
     (option_and_then (events_of shared.version) (option_and_then as_array value))
     ∙ rw (schedule_bound shared.version ms) refl)
 

@@ -13,9 +13,9 @@ use Rattle.mencius_input.specs.declared.field.Field.TheVariants.{Version, Server
 use Rattle.mencius_input.specs.declared.kind.Kind.{Kind}
 use Rattle.mencius_input.specs.declared.scenario.Scenario.{Scenario}
 use Rattle.mencius_input.specs.declared.scenario.Shared.{Shared}
-use Rattle.mencius_input.specs.FieldValues.{IsForeign, IsUnread, said_of, scenario_or_fault, shared_in, shared_within, with_course}
-use Rattle.mencius_input.specs.FieldsOf.{default_of, field_within, names}
-use Rattle.mencius_input.specs.Scenario.{has_only, members_of, number_of, or_not_json, read_there, scenario_of, scenario_within}
+use Rattle.mencius_input.specs.FieldValues.{IsForeign, IsUnread, said_of, scenario_or_fault, shared_in, is_shared_within, with_course}
+use Rattle.mencius_input.specs.FieldsOf.{default_of, is_field_within, names}
+use Rattle.mencius_input.specs.Scenario.{has_only, members_of, number_of, or_not_json, read_there, scenario_of, is_scenario_within}
 
 -- ---- the limits
 
@@ -24,25 +24,25 @@ members_in shared = record { count = shared.servers; beta = shared.beta }
 
 -- the limits of what both kinds say, and then those of a course, which may be tested in another way where the former hold
 pub scenario_or_fault_is : {X : Type 0} (shared : Shared) (test : X → Bool) (fits : Membership → X → Bool)
-    → ((x : X) → (shared_within shared && test x) ≡ (shared_within shared && fits (members_in shared) x))
+    → ((x : X) → (is_shared_within shared && test x) ≡ (is_shared_within shared && fits (members_in shared) x))
     → (o : Option X)
     → scenario_or_fault shared (value_or_fault test o)
-    ≡ value_or_fault (scenario_within fits) (option_map (with_course shared) o)
+    ≡ value_or_fault (is_scenario_within fits) (option_map (with_course shared) o)
 scenario_or_fault_is shared test fits same None = refl
 scenario_or_fault_is {X} shared test fits same (Some x) = by_test (test x) (same x)
   where
-    by_test : (a : Bool) → (shared_within shared && a) ≡ (shared_within shared && fits (members_in shared) x)
+    by_test : (a : Bool) → (is_shared_within shared && a) ≡ (is_shared_within shared && fits (members_in shared) x)
         → scenario_or_fault shared (cond a (Ok x) (Err BadLimit))
-        ≡ cond (shared_within shared && fits (members_in shared) x) (Ok (with_course shared x)) (Err BadLimit)
+        ≡ cond (is_shared_within shared && fits (members_in shared) x) (Ok (with_course shared x)) (Err BadLimit)
     by_test true e =
-        ap (λ bit. cond bit (Ok (with_course shared x)) (Err BadLimit)) (sym (and-true (shared_within shared)) ∙ e)
+        ap (λ bit. cond bit (Ok (with_course shared x)) (Err BadLimit)) (sym (and-true (is_shared_within shared)) ∙ e)
     by_test false e =
-        ap (λ bit. cond bit (Ok (with_course shared x)) (Err BadLimit)) (sym (and-false (shared_within shared)) ∙ e)
+        ap (λ bit. cond bit (Ok (with_course shared x)) (Err BadLimit)) (sym (and-false (is_shared_within shared)) ∙ e)
 
 -- what a field is that is not there is within the limits
-pub default_fits : (field : Field) (n : ℕ) → default_of field ≡ Some n → field_within field n ≡ true
-unfolding field_within
-default_fits Beta n is = sym (ap (λ o. field_within Beta (unwrap_or o n)) is)
+pub default_fits : (field : Field) (n : ℕ) → default_of field ≡ Some n → is_field_within field n ≡ true
+unfolding is_field_within
+default_fits Beta n is = sym (ap (λ o. is_field_within Beta (unwrap_or o n)) is)
 default_fits Version n is = absurd cc
 default_fits Servers n is = absurd cc
 default_fits Workers n is = absurd cc
@@ -71,20 +71,20 @@ scenario_bound kind course_of ms = refl
 module _ {X : Type 0} (course_said : Shared → List (Option ℕ) → Result X AppFault) (fits : Membership → X → Bool)
     (course_of : ℕ → Option X) (own : List (Option ℕ))
     (h : (shared : Shared) → scenario_or_fault shared (course_said shared own)
-    ≡ value_or_fault (scenario_within fits) (option_map (with_course shared) (course_of shared.version))) where
+    ≡ value_or_fault (is_scenario_within fits) (option_map (with_course shared) (course_of shared.version))) where
   mapped : (shared : Shared) (o : Option X)
       → option_map (with_course shared) o ≡ option_and_then (λ course. Some (with_course shared course)) o
   mapped shared None = refl
   mapped shared (Some course) = refl
 
   said_bound : (ov os ox : Option ℕ) → said_of course_said (shared_in (ov ∷ os ∷ ox ∷ own))
-      ≡ value_or_fault (scenario_within fits) (scenario_by_fields true ov os ox course_of)
+      ≡ value_or_fault (is_scenario_within fits) (scenario_by_fields true ov os ox course_of)
   said_bound None os ox = refl
   said_bound (Some version) None ox = refl
   said_bound (Some version) (Some servers) None = refl
   said_bound (Some version) (Some servers) (Some beta) =
       let shared : Shared = record { version = version; servers = servers; beta = beta } in
-      h shared ∙ ap (value_or_fault (scenario_within fits)) (mapped shared (course_of version))
+      h shared ∙ ap (value_or_fault (is_scenario_within fits)) (mapped shared (course_of version))
 
 -- the numbers of both kinds, and then a course by those that follow
 pub shared_say : {X : Type 0} (kind : Kind) (course_said : Shared → List (Option ℕ) → Result X AppFault)
@@ -92,9 +92,9 @@ pub shared_say : {X : Type 0} (kind : Kind) (course_said : Shared → List (Opti
     → wholes ≡ number_of Version (object ms) ∷ number_of Servers (object ms) ∷ number_of Beta (object ms) ∷ own
     → has_only (names kind) ms ≡ true
     → ((shared : Shared) → scenario_or_fault shared (course_said shared own)
-    ≡ value_or_fault (scenario_within fits) (option_map (with_course shared) (course_of shared.version (object ms))))
+    ≡ value_or_fault (is_scenario_within fits) (option_map (with_course shared) (course_of shared.version (object ms))))
     → said_of course_said (shared_in wholes)
-    ≡ value_or_fault (scenario_within fits) (scenario_of kind course_of (object ms))
+    ≡ value_or_fault (is_scenario_within fits) (scenario_of kind course_of (object ms))
 shared_say {X} kind course_said fits course_of wholes own ms are only h =
     let ov = number_of Version (object ms) in
     let os = number_of Servers (object ms) in
@@ -102,8 +102,8 @@ shared_say {X} kind course_said fits course_of wholes own ms are only h =
     let read : ℕ → Option X = λ version. course_of version (object ms) in
     ap (λ all. said_of course_said (shared_in all)) are
     ∙ said_bound course_said fits read own h ov os ox
-    ∙ ap (λ a. value_or_fault (scenario_within fits) (scenario_by_fields a ov os ox read)) (sym only)
-    ∙ ap (value_or_fault (scenario_within fits)) (sym (scenario_bound kind course_of ms))
+    ∙ ap (λ a. value_or_fault (is_scenario_within fits) (scenario_by_fields a ov os ox read)) (sym only)
+    ∙ ap (value_or_fault (is_scenario_within fits)) (sym (scenario_bound kind course_of ms))
 
 -- ---- what is no scenario
 
@@ -133,8 +133,8 @@ foreign_said kind course_of d foreign =
 pub unread_fails : {X : Type 0} (kind : Kind) (course_of : ℕ → Data → Option X) (fits : Membership → X → Bool)
     (o : Option Data) (fault : AppFault) → IsUnread kind o fault
     → FailsBy fault
-    (read_there (λ d. value_or_fault (scenario_within fits) (scenario_of kind course_of d)) (or_not_json o))
+    (read_there (λ d. value_or_fault (is_scenario_within fits) (scenario_of kind course_of d)) (or_not_json o))
 unread_fails kind course_of fits o fault (inl memory) = rw memory tt
 unread_fails kind course_of fits o fault (inr (inl (is, none))) = rw (is, none) refl
 unread_fails kind course_of fits o fault (inr (inr (is, d, some, foreign))) =
-    rw (is, some) (ap (value_or_fault (scenario_within fits)) (foreign_said kind course_of d foreign))
+    rw (is, some) (ap (value_or_fault (is_scenario_within fits)) (foreign_said kind course_of d foreign))

@@ -17,7 +17,7 @@ use Rattle.mencius_base.specs.Limits.{most_text_bytes}
 use Rattle.mencius_base.specs.declared.command.CommandId.{CommandId}
 use Rattle.mencius_base.specs.declared.command.Op.{Op}
 use Rattle.mencius_base.specs.declared.command.Op.TheVariants.{Set, Get, Del, Cas}
-use Rattle.mencius_format.specs.Grammar.{id_of, id_within, newest_version, two_numbers}
+use Rattle.mencius_format.specs.Grammar.{id_of, is_id_within, newest_version, two_numbers}
 use Rattle.mencius_format.specs.Operations.{op_text}
 use Rattle.mencius_format.specs.Texts.{command_text, id_text}
 use Rattle.mencius_format.specs.Words.{words}
@@ -26,7 +26,7 @@ use Rattle.mencius_format.proofs.TextWords.{commands_read_back}
 use Rattle.mencius_format.proofs.WrittenWords.{Lacks, cut_at, entry_good, lacks_append, lacks_dot, lacks_space, name_again, named_lacks, number_again, uncut}
 use Rattle.mencius_judge.specs.declared.observation.Observation.{Observation}
 use Rattle.mencius_judge.specs.declared.observation.Observation.TheVariants.{Submit, Execute, Reply, Lookup, Tell}
-use Rattle.mencius_judge.specs.Lines.{answer_of, answer_within, is_passed_over, line_said, most_line_bytes, observation_of, observation_within}
+use Rattle.mencius_judge.specs.Lines.{answer_of, is_answer_within, is_passed_over, line_said, most_line_bytes, observation_of, is_observation_within}
 use Rattle.mencius_judge.specs.Reading.{AddsLine, IsInLine}
 use Rattle.mencius_judge.specs.VerdictLines.{held_text}
 use Rattle.mencius_judge.specs.Written.{IsAnswer, IsIdentity, IsSayable, LogsReadBack, ObservationsReadBack, observation_line, observation_text}
@@ -107,14 +107,14 @@ said_again (Tell reader server) h =
 below_test : (n m : ℕ) → n < m → nat_lt n m ≡ true
 below_test n m h = grind (arith, nat_tests)
 
-id_fits : (id : CommandId) → IsIdentity id → id_within id ≡ true
+id_fits : (id : CommandId) → IsIdentity id → is_id_within id ≡ true
 id_fits id h = both_hold _ _ (below_test id.client (2 ^ 32) h.0) (below_test id.number (2 ^ 32) h.1)
 
-answer_fits : (text : Option (List ℕ)) → IsAnswer text → answer_within text ≡ true
+answer_fits : (text : Option (List ℕ)) → IsAnswer text → is_answer_within text ≡ true
 answer_fits None h = refl
 answer_fits (Some text) h = h.1
 
-within_again : (o : Observation) → IsSayable o → observation_within o ≡ true
+within_again : (o : Observation) → IsSayable o → is_observation_within o ≡ true
 within_again (Submit command) h = (commands_read_back newest_version command h (op_stands command.op)).1
 within_again (Execute server id) h = both_hold _ _ (below_test server (2 ^ 8) h.0) (id_fits id h.1)
 within_again (Reply id text) h = both_hold _ _ (id_fits id h.0) (answer_fits text h.1)
@@ -270,7 +270,7 @@ no_remark (Lookup reader key text) = refl
 no_remark (Tell reader server) = refl
 
 line_again : (line : List ℕ) (o : Observation) → IsShort most_line_bytes line → is_passed_over line ≡ false
-    → observation_of (words line) ≡ Some o → observation_within o ≡ true → line_said line ≡ Ok (Some o)
+    → observation_of (words line) ≡ Some o → is_observation_within o ≡ true → line_said line ≡ Ok (Some o)
 line_again line o h seen said fits =
     let fit : nat_lt most_line_bytes (length line) ≡ false = grind (arith, nat_tests, h.short) in
     let utf8 : is_utf8 line ≡ true =

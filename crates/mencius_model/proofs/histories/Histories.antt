@@ -5,7 +5,7 @@ use Rattle.std.proofs.lemmas.Bool.{cases_lt, cases_Bool}
 use Rattle.std.proofs.lemmas.List.Elements.{filter_map-append}
 use Rattle.mencius_base.specs.declared.message.Value.{Value}
 use Rattle.mencius_base.specs.declared.message.Value.TheVariants.{Noop, Ticket}
-use Rattle.mencius_base.specs.Members.{Membership, below}
+use Rattle.mencius_base.specs.Members.{Membership, numbers_below}
 use Rattle.mencius_model.specs.Trace.{Line, Executed, Trace, submitted_commands}
 use Rattle.mencius_model.specs.Instance.{learned_value}
 use Rattle.mencius_model.specs.Server.{done, done_by, ticket_of}
@@ -50,19 +50,19 @@ executed_learned m (l ∷ w) grown p i lt =
 
 -- f is what a server learned at each instance
 abbrev pub tickets : (ℕ → Option Value) → ℕ → List ℕ
-tickets f n = filter_map (λ i. ticket_of (f i)) (below n)
+tickets f n = filter_map (λ i. ticket_of (f i)) (numbers_below n)
 
 -- one more instance adds at most one ticket, at the end
 tickets_more : (f : ℕ → Option Value) (n : ℕ)
     → tickets f (suc n) ≡ tickets f n ++ filter_map (λ i. ticket_of (f i)) (n ∷ [])
 tickets_more f n =
-    ap (filter_map (λ i. ticket_of (f i))) below_suc ∙ filter_map-append (λ i. ticket_of (f i)) (below n) (n ∷ []) where
-      below_suc : below (suc n) ≡ below n ++ n ∷ []
-      below_suc = let e : suc n ≡ n + 1 = omega arith in ap below e ∙ below-more n
+    ap (filter_map (λ i. ticket_of (f i))) below_suc ∙ filter_map-append (λ i. ticket_of (f i)) (numbers_below n) (n ∷ []) where
+      below_suc : numbers_below (suc n) ≡ numbers_below n ++ n ∷ []
+      below_suc = let e : suc n ≡ n + 1 = omega arith in ap numbers_below e ∙ below-more n
 
 -- who learned the same executes the same
 pub tickets_same : (f g : ℕ → Option Value) (n : ℕ) → ((i : ℕ) → i < n → f i ≡ g i) → tickets f n ≡ tickets g n
-unfolding below
+unfolding numbers_below
 tickets_same f g zero h = refl
 tickets_same f g (suc n) h =
     let last = h n (omega arith) in
@@ -70,7 +70,7 @@ tickets_same f g (suc n) h =
 
 -- who executes fewer instances has a prefix
 pub tickets_prefix : (f : ℕ → Option Value) (n m : ℕ) → n ≤ m → IsPrefix (tickets f n) (tickets f m)
-unfolding below
+unfolding numbers_below
 tickets_prefix f n zero le = let e : n ≡ 0 = omega arith in rw e ([], refl)
 tickets_prefix f n (suc m) le =
     elim (cases_lt n (suc m)) [
@@ -100,7 +100,7 @@ ticket_in (Some (Ticket u)) t (inl e) = rw e
 ticket_in (Some (Ticket u)) t (inr h) = absurd h
 
 in_tickets : (f : ℕ → Option Value) (n t : ℕ) → IsIn t (tickets f n) → (i : ℕ) × (i < n) × (f i ≡ Some (Ticket t))
-unfolding below
+unfolding numbers_below
 in_tickets f zero t h = absurd h
 in_tickets f (suc n) t h =
     elim (in_append t (tickets f n) (cons_option (ticket_of (f n)) []) (rw (tickets_more f n) at h)) [
@@ -135,7 +135,7 @@ once_more xs (Some (Ticket t)) h new = once_push xs t h (new t refl)
 -- where no ticket is learned at two instances, none stands twice
 tickets_once : (f : ℕ → Option Value) (n : ℕ) → ((i o t : ℕ) → f i ≡ Some (Ticket t) → f o ≡ Some (Ticket t) → i ≡ o)
     → IsOnce (tickets f n)
-unfolding below
+unfolding numbers_below
 tickets_once f zero h = λ o m t a z. absurd (cc)
 tickets_once f (suc n) h =
     rw (tickets_more f n)

@@ -3,7 +3,7 @@ use Rattle.std.proofs.Common.{◌≡◌, ℕ, zero, suc, ◌+◌, ◌-◌, ◌<�
 use Rattle.std.proofs.lemmas.Bool.{cases_Bool, cases_lt, le-ltb, lt-ltb}
 use Rattle.std.proofs.lemmas.List.Sums.{fold-append}
 use Rattle.mencius_base.specs.Numbers.{ServerId}
-use Rattle.mencius_base.specs.Members.{Membership, below}
+use Rattle.mencius_base.specs.Members.{Membership, numbers_below}
 use Rattle.mencius_model.specs.Trace.{Trace}
 use Rattle.mencius_model.proofs.trace.NumberLists.{below-more}
 use Rattle.mencius_model.specs.Replying.{longest_at, longest_below}
@@ -43,24 +43,24 @@ one_further f n p h =
           })
     ]
 
-furthest : (f : ℕ → ℕ) (n : ℕ) → IsFurthest f n (fold (further f) 0 (below n))
-unfolding below
+furthest : (f : ℕ → ℕ) (n : ℕ) → IsFurthest f n (fold (further f) 0 (numbers_below n))
+unfolding numbers_below
 furthest f zero =
     record { member = omega arith; longest = λ q h. absurd (omega arith); least = λ q h. absurd (omega arith) }
 furthest f (suc n) =
     let next : suc n ≡ n + 1 = omega arith in
-    let more : fold (further f) 0 (below (n + 1)) ≡ further f (fold (further f) 0 (below n)) n =
-    ap (fold (further f) 0) (below-more n) ∙ fold-append (further f) 0 (below n) (n ∷ []) in
-    subst (λ y. IsFurthest f y (fold (further f) 0 (below y))) (sym next)
-    (subst (IsFurthest f (n + 1)) (sym more) (one_further f n (fold (further f) 0 (below n)) (furthest f n)))
+    let more : fold (further f) 0 (numbers_below (n + 1)) ≡ further f (fold (further f) 0 (numbers_below n)) n =
+    ap (fold (further f) 0) (below-more n) ∙ fold-append (further f) 0 (numbers_below n) (n ∷ []) in
+    subst (λ y. IsFurthest f y (fold (further f) 0 (numbers_below y))) (sym next)
+    (subst (IsFurthest f (n + 1)) (sym more) (one_further f n (fold (further f) 0 (numbers_below n)) (furthest f n)))
 
 -- a further server
 pub longest-more : (w : Trace) (p : ℕ)
-    → fold (longest_below w) 0 (below (p + 1)) ≡ longest_below w (fold (longest_below w) 0 (below p)) p
-longest-more w p = ap (fold (longest_below w) 0) (below-more p) ∙ fold-append (longest_below w) 0 (below p) (p ∷ [])
+    → fold (longest_below w) 0 (numbers_below (p + 1)) ≡ longest_below w (fold (longest_below w) 0 (numbers_below p)) p
+longest-more w p = ap (fold (longest_below w) 0) (below-more p) ∙ fold-append (longest_below w) 0 (numbers_below p) (p ∷ [])
 
-pub longest-none : (w : Trace) → fold (longest_below w) 0 (below 0) ≡ 0
-unfolding below
+pub longest-none : (w : Trace) → fold (longest_below w) 0 (numbers_below 0) ≡ 0
+unfolding numbers_below
 longest-none w = refl
 
 pub longest_is : (m : Membership) (w : Trace) → IsFurthest (λ p. length (history w p)) m.count (longest_at m w)

@@ -11,7 +11,7 @@ use Rattle.mencius_base.specs.declared.message.Message.{Message}
 use Rattle.mencius_base.specs.declared.message.Message.TheVariants.{Suggest, Skip, Accepted, Prepare, Promise, Propose, Learn}
 use Rattle.mencius_base.specs.declared.message.Value.{Value}
 use Rattle.mencius_base.specs.declared.message.Value.TheVariants.{Noop}
-use Rattle.mencius_base.specs.Members.{Membership, below, first_item, instances}
+use Rattle.mencius_base.specs.Members.{Membership, numbers_below, first_item, instances}
 use Rattle.mencius_model.specs.Trace.{Line, Heard, Sent, Learned, Trace, sent_messages}
 use Rattle.mencius_model.specs.Instance.{learned_value, promised_ballot, vote}
 use Rattle.mencius_model.specs.Server.{free_instance, front, covered_instances, waiting_tickets}
@@ -49,7 +49,7 @@ low_noops p g i (suc n) h =
     ]
 
 low_given_up : (p : ℕ) (g : ℕ → Bool) → AreLow (map (λ (i : ℕ). Learned p i Noop) (filter g instances))
-unfolding below instances
+unfolding numbers_below instances
 low_given_up p g = low_noops p g 0 instance_count (omega arith)
 
 low_suggestion : (p t : ℕ) (o : Option ℕ) → AreLow (suggestion p o t)

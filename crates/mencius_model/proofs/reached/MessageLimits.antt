@@ -11,13 +11,13 @@ use Rattle.mencius_base.specs.declared.message.Message.{Message}
 use Rattle.mencius_base.specs.declared.message.Message.TheVariants.{Suggest, Skip, Accepted, Prepare, Promise, Propose, Learn}
 use Rattle.mencius_base.specs.declared.message.Value.{Value}
 use Rattle.mencius_base.specs.declared.message.Value.TheVariants.{Noop}
-use Rattle.mencius_base.specs.Members.{Membership, below, first_owned, instances, round, first_item}
+use Rattle.mencius_base.specs.Members.{Membership, numbers_below, first_owned, instances, round, first_item}
 use Rattle.mencius_model.specs.Trace.{Line, Heard, Sent, Learned, Trace, sent_messages}
 use Rattle.mencius_model.specs.Instance.{learned_value, promised_ballot, tried_ballot, vote}
 use Rattle.mencius_model.specs.Server.{free_instance, front, is_covered, is_free, covered_instances, waiting_tickets}
 use Rattle.mencius_model.specs.Rules.{answer_lines, decision_lines, prepare_answer_from, proposal_lines, suggestion}
 use Rattle.mencius_model.specs.Next.{IsReached, retry_lines, causes, delivery, head, is_newly_skipped, lines, next, on_message, preparation, due_decision_at, due_proposal_at}
-use Rattle.mencius_base.specs.Message.{goes_to, is_for, is_within}
+use Rattle.mencius_base.specs.Message.{is_sent_to, is_for, is_within}
 use Rattle.mencius_model.proofs.trace.NumberLists.{find-instances_found}
 use Rattle.mencius_model.proofs.rights.EachLine.{AreAll, HoldsAlong, next_along, one_if}
 use Rattle.mencius_model.proofs.trace.Lists.{IsIn, get_in}
@@ -74,7 +74,7 @@ small_prepared m w p g member i (suc n) h =
 
 small_suspects : (m : Membership) (w : Trace) (p q : ℕ) → p < m.count
     → AreSmall m (map (preparation m w p) (covered_instances m w p q))
-unfolding below instances
+unfolding numbers_below instances
 small_suspects m w p q member = small_prepared m w p (is_covered m w p q) member 0 instance_count (omega arith)
 
 stop_small : (m : Membership) (p i : ℕ) → p < m.count → m.count ≤ most_servers → i < instance_count
@@ -155,7 +155,7 @@ pub sent_small : (m : Membership) → m.count ≤ most_servers → (w : Trace) �
 sent_small m few w r x h =
     reached_along m (HoldsAlong (IsSmallLine m)) (λ l h. absurd h) (small_next m few) w r (Sent x) h
 
-within_small : (m : Membership) (p : ℕ) (x : Message) → p < m.count → IsSmall m x → goes_to p x ≡ true
+within_small : (m : Membership) (p : ℕ) (x : Message) → p < m.count → IsSmall m x → is_sent_to p x ≡ true
     → is_within m x ≡ true
 within_small m p (Suggest from inst ticket) member h e = rw (lt-ltb from m.count h.0, lt-ltb inst instance_count h.1)
 within_small m p (Skip from first stop) member h e =
@@ -178,7 +178,7 @@ within_small m p (Learn from inst value) member h e = rw (lt-ltb from m.count h.
 
 -- a message of the trace that goes to a member is addressed to it, within all bounds
 pub sent_addressed : (m : Membership) → m.count ≤ most_servers → (w : Trace) → IsReached m w → (k p : ℕ) (x : Message)
-    → p < m.count → slice_get (sent_messages w) k ≡ Some x → goes_to p x ≡ true → IsTrue (is_for m p x)
+    → p < m.count → slice_get (sent_messages w) k ≡ Some x → is_sent_to p x ≡ true → IsTrue (is_for m p x)
 sent_addressed m few w r k p x member h e =
     and_from _ _ (lt-ltb p m.count member)
     (and_from _ _ e

@@ -7,7 +7,7 @@ use Rattle.mencius_base.specs.declared.command.Command.{Command}
 use Rattle.mencius_base.specs.declared.event.Event.{Event}
 use Rattle.mencius_base.specs.declared.message.Value.{Value}
 use Rattle.mencius_base.specs.declared.message.Value.TheVariants.{Noop, Ticket}
-use Rattle.mencius_base.specs.Members.{Membership, below}
+use Rattle.mencius_base.specs.Members.{Membership, numbers_below}
 use Rattle.mencius_model.specs.Trace.{Trace, command_in, option_to_list, submitted_commands}
 use Rattle.mencius_model.specs.Instance.{learned_value}
 use Rattle.mencius_model.specs.Server.{done, done_by, ticket_of}
@@ -22,25 +22,25 @@ use Rattle.mencius_model.proofs.reached.ClusterFacts.{HasClusterFacts}
 -- ---- plain lists
 
 -- a table whose rows stay the same
-pub row_kept : {X : Type 0} (f g : ℕ → X) (n : ℕ) (xs : List X) → xs ≡ map f (below n)
-    → ((m : ℕ) → m < n → f m ≡ g m) → xs ≡ map g (below n)
+pub row_kept : {X : Type 0} (f g : ℕ → X) (n : ℕ) (xs : List X) → xs ≡ map f (numbers_below n)
+    → ((m : ℕ) → m < n → f m ≡ g m) → xs ≡ map g (numbers_below n)
 row_kept f g n xs h same = h ∙ map-below_same f g n (f 0) same
 
 -- there is no number below 0
-pub below-zero : below 0 ≡ []
-unfolding below
+pub below-zero : numbers_below 0 ≡ []
+unfolding numbers_below
 below-zero = refl
 
 -- two functions that agree below n give the same there
 pub filter_map-below_same : {X : Type 0} (f g : ℕ → Option X) (n : ℕ) → ((m : ℕ) → m < n → f m ≡ g m)
-    → filter_map f (below n) ≡ filter_map g (below n)
+    → filter_map f (numbers_below n) ≡ filter_map g (numbers_below n)
 filter_map-below_same f g zero same = ap (filter_map f) below-zero ∙ sym (ap (filter_map g) below-zero)
 filter_map-below_same {X} f g (suc n) same =
-    let more : below (suc n) ≡ below n ++ n ∷ [] = (let s : suc n ≡ n + 1 = omega arith in ap below s) ∙ below-more n in
-    ap (filter_map f) more ∙ filter_map-append f (below n) (n ∷ [])
+    let more : numbers_below (suc n) ≡ numbers_below n ++ n ∷ [] = (let s : suc n ≡ n + 1 = omega arith in ap numbers_below s) ∙ below-more n in
+    ap (filter_map f) more ∙ filter_map-append f (numbers_below n) (n ∷ [])
     ∙ ap (λ xs. xs ++ cons_option (f n) []) (filter_map-below_same f g n (λ m h. same m (omega arith)))
-    ∙ ap (λ (o : Option X). filter_map g (below n) ++ cons_option o []) (same n (omega arith))
-    ∙ sym (ap (filter_map g) more ∙ filter_map-append g (below n) (n ∷ []))
+    ∙ ap (λ (o : Option X). filter_map g (numbers_below n) ++ cons_option o []) (same n (omega arith))
+    ∙ sym (ap (filter_map g) more ∙ filter_map-append g (numbers_below n) (n ∷ []))
 
 -- what stands in the first part stands in the whole
 pub slice_get-append : {X : Type 0} (xs ys : List X) (n : ℕ) → n < length xs → slice_get (xs ++ ys) n ≡ slice_get xs n
@@ -78,7 +78,7 @@ ticket_told (Some (Ticket u)) t h = let same : u ≡ t = cc in ap (λ (n : ℕ).
 pub history-below : (m : Membership) (w : Trace) (p : ℕ) → HasClusterFacts m w
     → AreBelow (length (submitted_commands w)) (history w p)
 history-below m w p told =
-    below_all (length (submitted_commands w)) (λ i. ticket_of (learned_value w p i)) (below (done w p))
+    below_all (length (submitted_commands w)) (λ i. ticket_of (learned_value w p i)) (numbers_below (done w p))
     (λ i t h. told.ticketed p i t (ticket_told (learned_value w p i) t h))
 
 -- ---- what an event leaves
@@ -89,7 +89,7 @@ pub history_kept : (m : Membership) (w : Trace) (e : Event) (p : ℕ) → HasClu
 history_kept m w e p told none =
     let same : done (with_event m w e) p ≡ done w p =
     done-event m w e p ∙ ap (λ n. done w p + n) none ∙ add-zero (done w p) in
-    ap (λ n. filter_map (λ i. ticket_of (learned_value (with_event m w e) p i)) (below n)) same
+    ap (λ n. filter_map (λ i. ticket_of (learned_value (with_event m w e) p i)) (numbers_below n)) same
     ∙ filter_map-below_same _ _ (done w p)
     (λ i h. let r = told.executed p i h in ap ticket_of (learned_value-event m w e p i r.0 r.1 ∙ sym r.1))
 

@@ -19,7 +19,7 @@ use Rattle.mencius_base.specs.Members.{Membership, owner, round, first_owned, in
 use Rattle.mencius_model.specs.Trace.{Line, Submitted, Heard, Suspected, Retried, Sent, Learned, Trace, followed_by, sent_messages, submitted_commands, events}
 use Rattle.mencius_model.specs.Instance.{promised_ballot, proposal, proposal_by, accepted_ballot, greater_ballot, vote, vote_of, vote_at, learned_value, tried_ballot, promisers, accepters, reported_vote, are_majority, has_accepted}
 use Rattle.mencius_model.specs.Server.{front, suggested_ticket, is_suggested_again_by, waiting_of, waiting_at, waiting_tickets, is_free, free_instance, is_covered, done}
-use Rattle.mencius_model.specs.Rules.{prepare_answer_from, answer_lines, decision_lines, is_skipped_by, due_proposal_from, proposal_lines, suggestion, is_noop, unless}
+use Rattle.mencius_model.specs.Rules.{prepare_answer_from, answer_lines, decision_lines, is_skipped_by, due_proposal_from, proposal_lines, suggestion, is_noop, ticket_unless}
 use Rattle.mencius_model.specs.Next.{head, is_newly_skipped, on_promise, on_propose, on_accepted, on_learn, on_message, next_round, preparation, retry_lines, delivery, lines, causes, first_cause, refusal_cause, step_or, next}
 use Rattle.mencius_model.proofs.trace.NumberLists.{find-instances_found}
 use Rattle.mencius_model.proofs.trace.Lists.{IsIn, in_any, get_in, none_in, majority_more, majorities_meet}
@@ -71,7 +71,7 @@ noop_is None h = absurd (cc)
 noop_is (Some Noop) h = refl
 noop_is (Some (Ticket t)) h = absurd (cc)
 
-unless_some : (a : Bool) (t u : ℕ) → unless a (Some t) ≡ Some u → (a ≡ false) × (t ≡ u)
+unless_some : (a : Bool) (t u : ℕ) → ticket_unless a (Some t) ≡ Some u → (a ≡ false) × (t ≡ u)
 unless_some true t u h = absurd (cc)
 unless_some false t u h = (refl, cc)
 

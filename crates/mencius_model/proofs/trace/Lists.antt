@@ -5,7 +5,7 @@ use Rattle.std.proofs.lemmas.Bool.Decides.{nat_tests}
 use Rattle.std.proofs.lemmas.List.Sums.{sum_by-cons, sum_by-le-sum_by}
 use Rattle.std.proofs.lemmas.List.FromFn.{length-range_with_len}
 use Rattle.std.proofs.lemmas.Bool.{or_cases, or_left, or_right, and_parts, cases_Bool}
-use Rattle.mencius_base.specs.Members.{Membership, majority, below}
+use Rattle.mencius_base.specs.Members.{Membership, majority, numbers_below}
 use Rattle.mencius_model.specs.Instance.{are_majority}
 
 -- an equality test can be turned round
@@ -87,8 +87,8 @@ counted test (x ∷ xs) h =
       | inr e ↦ counted test xs (omega (arith, count_cons test x xs, bit_none (test x) e, h))
     ]
 
-pub length_below : (n : ℕ) → length (below n) ≡ n
-unfolding below
+pub length_below : (n : ℕ) → length (numbers_below n) ≡ n
+unfolding numbers_below
 length_below n = length-range_with_len 0 n
 
 -- two majorities share a member
@@ -96,10 +96,10 @@ pub majorities_meet : (m : Membership) (test other : ℕ → Bool) → are_major
     → are_majority m other ≡ true
     → (x : ℕ) × (test x ≡ true) × (other x ≡ true)
 majorities_meet m test other h holds =
-    let a : majority m ≤ count_by test (below m.count) = leb-true _ _ h in
-    let within : majority m ≤ count_by other (below m.count) = leb-true _ _ holds in
-    let both = both_count test other (below m.count) in
-    let r = counted (λ x. test x && other x) (below m.count) (omega (arith, a, within, both, length_below m.count)) in
+    let a : majority m ≤ count_by test (numbers_below m.count) = leb-true _ _ h in
+    let within : majority m ≤ count_by other (numbers_below m.count) = leb-true _ _ holds in
+    let both = both_count test other (numbers_below m.count) in
+    let r = counted (λ x. test x && other x) (numbers_below m.count) (omega (arith, a, within, both, length_below m.count)) in
     let parts = and_parts (test r.0) (other r.0) r.1 in
     (r.0, parts.0, parts.1)
 
@@ -111,7 +111,7 @@ pub majority_more : (m : Membership) (test other : ℕ → Bool) → ((x : ℕ) 
     → are_majority m test ≡ true
     → are_majority m other ≡ true
 majority_more m test other h holds =
-    let a : majority m ≤ count_by test (below m.count) = leb-true _ _ holds in
-    let s = sum_by-le-sum_by (λ y. cond (test y) 1 0) (λ y. cond (other y) 1 0) (below m.count)
+    let a : majority m ≤ count_by test (numbers_below m.count) = leb-true _ _ holds in
+    let s = sum_by-le-sum_by (λ y. cond (test y) 1 0) (λ y. cond (other y) 1 0) (numbers_below m.count)
     (λ x. bit_le (test x) (other x) (h x)) in
     le-leb _ _ (omega (arith, a, s))

@@ -8,42 +8,42 @@ use Rattle.std.proofs.lemmas.List.Sums.{fold-append}
 use Rattle.std.proofs.lemmas.List.FromFn.{map-range_with_len_more, fill_by_all, get_or-map-range_with_len, length-map-range_with_len}
 use Rattle.std.proofs.lemmas.List.Elements.{filter-append}
 use Rattle.std.proofs.lemmas.Bool.{cases_eq, or_cases, or_left, or_right}
-use Rattle.mencius_base.specs.Members.{below, instances, first_item}
+use Rattle.mencius_base.specs.Members.{numbers_below, instances, first_item}
 use Rattle.mencius_base.specs.Limits.{instance_count}
 
-pub length-map-below : {X : Type 0} (f : ℕ → X) (n : ℕ) → length (map f (below n)) ≡ n
-unfolding below
+pub length-map-below : {X : Type 0} (f : ℕ → X) (n : ℕ) → length (map f (numbers_below n)) ≡ n
+unfolding numbers_below
 length-map-below f n = length-map-range_with_len f 0 n
 
-pub get_or-map-below : {X : Type 0} (f : ℕ → X) (n m : ℕ) (d : X) → m < n → get_or (map f (below n)) m d ≡ f m
-unfolding below
+pub get_or-map-below : {X : Type 0} (f : ℕ → X) (n m : ℕ) (d : X) → m < n → get_or (map f (numbers_below n)) m d ≡ f m
+unfolding numbers_below
 get_or-map-below f n m d h = get_or-map-range_with_len f 0 n m m d h (omega arith)
 
 -- a list that is f at each place is the list of f
 pub map-below_by : {X : Type 0} (f : ℕ → X) (xs : List X) (n : ℕ) (d : X) → length xs ≡ n
-    → ((m : ℕ) → m < n → get_or xs m d ≡ f m) → xs ≡ map f (below n)
-unfolding below
+    → ((m : ℕ) → m < n → get_or xs m d ≡ f m) → xs ≡ map f (numbers_below n)
+unfolding numbers_below
 map-below_by f xs n d h e = fill_by_all f xs n d h e
 
 pub map-below_same : {X : Type 0} (f g : ℕ → X) (n : ℕ) (d : X) → ((m : ℕ) → m < n → f m ≡ g m)
-    → map f (below n) ≡ map g (below n)
+    → map f (numbers_below n) ≡ map g (numbers_below n)
 map-below_same f g n d e =
-    map-below_by g (map f (below n)) n d (length-map-below f n) (λ m h. get_or-map-below f n m d h ∙ e m h)
+    map-below_by g (map f (numbers_below n)) n d (length-map-below f n) (λ m h. get_or-map-below f n m d h ∙ e m h)
 
 -- a write at one place
 pub map-below_set : {X : Type 0} (f g : ℕ → X) (n m : ℕ) (x d : X) → g m ≡ x
-    → ((z : ℕ) → z < n → (z ≡ m → ⊥) → f z ≡ g z) → set (map f (below n)) m x ≡ map g (below n)
+    → ((z : ℕ) → z < n → (z ≡ m → ⊥) → f z ≡ g z) → set (map f (numbers_below n)) m x ≡ map g (numbers_below n)
 map-below_set f g n m x d here there =
-    map-below_by g (set (map f (below n)) m x) n d (length-set _ _ _ ∙ length-map-below f n)
+    map-below_by g (set (map f (numbers_below n)) m x) n d (length-set _ _ _ ∙ length-map-below f n)
     (λ z h. ⊎_elim
-    (λ (e : z ≡ m). let within : m < length (map f (below n)) = rw (length-map-below f n) (omega arith) in
-    get_or-set_at (map f (below n)) m z x d e within ∙ sym here ∙ ap g (sym e))
-    (λ (ne : z ≡ m → ⊥). get_or-set_other (map f (below n)) m z x d ne ∙ get_or-map-below f n z d h ∙ there z h ne)
+    (λ (e : z ≡ m). let within : m < length (map f (numbers_below n)) = rw (length-map-below f n) (omega arith) in
+    get_or-set_at (map f (numbers_below n)) m z x d e within ∙ sym here ∙ ap g (sym e))
+    (λ (ne : z ≡ m → ⊥). get_or-set_other (map f (numbers_below n)) m z x d ne ∙ get_or-map-below f n z d h ∙ there z h ne)
     (cases_eq z m))
 
 -- one value everywhere
 pub map-below_constant : {X : Type 0} (f : ℕ → X) (n : ℕ) (y : X) → ((m : ℕ) → m < n → f m ≡ y)
-    → replicate n y ≡ map f (below n)
+    → replicate n y ≡ map f (numbers_below n)
 map-below_constant f n y e =
     map-below_by f (replicate n y) n y (length-replicate n y) (λ m h. get_or-replicate n m y y h ∙ sym (e m h))
 
@@ -56,7 +56,7 @@ counts_alike f n (x ∷ xs) = counts_alike f (n + cond (f x) 1 0) xs
 pub count_by-map : (f : ℕ → Bool) (xs : List ℕ) → count_by (λ bit. bit) (map f xs) ≡ count_by f xs
 count_by-map f xs = counts_alike f 0 xs
 
-pub instances-below : instances ≡ below instance_count
+pub instances-below : instances ≡ numbers_below instance_count
 unfolding instances
 instances-below = refl
 
@@ -71,8 +71,8 @@ pub map-instances_set : {X : Type 0} (f g : ℕ → X) (i : ℕ) (x d : X) → g
     → ((m : ℕ) → m < instance_count → (m ≡ i → ⊥) → f m ≡ g m) → set (map f instances) i x ≡ map g instances
 map-instances_set f g i x d here there = rw instances-below (map-below_set f g instance_count i x d here there)
 
-pub below-more : (n : ℕ) → below (n + 1) ≡ below n ++ n ∷ []
-unfolding below
+pub below-more : (n : ℕ) → numbers_below (n + 1) ≡ numbers_below n ++ n ∷ []
+unfolding numbers_below
 below-more n =
     sym (map-same (range_with_len 0 (n + 1))) ∙ map-range_with_len_more (λ (x : ℕ). x) 0 n n (omega arith)
     ∙ ap (λ (xs : List ℕ). xs ++ n ∷ []) (map-same (range_with_len 0 n))
@@ -83,23 +83,23 @@ below-more n =
 
 -- a count up to one more
 pub count_by-below_more : (test : ℕ → Bool) (n : ℕ)
-    → count_by test (below (n + 1)) ≡ count_by test (below n) + cond (test n) 1 0
+    → count_by test (numbers_below (n + 1)) ≡ count_by test (numbers_below n) + cond (test n) 1 0
 count_by-below_more test n =
-    ap (count_by test) (below-more n) ∙ fold-append (λ (m : ℕ) (x : ℕ). m + cond (test x) 1 0) 0 (below n) (n ∷ [])
+    ap (count_by test) (below-more n) ∙ fold-append (λ (m : ℕ) (x : ℕ). m + cond (test x) 1 0) 0 (numbers_below n) (n ∷ [])
 
 -- a count goes no further than the last that passes
 pub count_by-below_none : (test : ℕ → Bool) (n m : ℕ) → ((j : ℕ) → n ≤ j → j < n + m → test j ≡ false)
-    → count_by test (below (n + m)) ≡ count_by test (below n)
-count_by-below_none test n zero e = ap (λ (j : ℕ). count_by test (below j)) (add-zero n)
+    → count_by test (numbers_below (n + m)) ≡ count_by test (numbers_below n)
+count_by-below_none test n zero e = ap (λ (j : ℕ). count_by test (numbers_below j)) (add-zero n)
 count_by-below_none test n (suc m) e =
     let next : n + suc m ≡ n + m + 1 = omega arith in
     let past : n ≤ n + m = omega arith in
-    ap (λ (j : ℕ). count_by test (below j)) next ∙ count_by-below_more test (n + m)
-    ∙ rw (e (n + m) past (omega arith), add-zero (count_by test (below (n + m))))
+    ap (λ (j : ℕ). count_by test (numbers_below j)) next ∙ count_by-below_more test (n + m)
+    ∙ rw (e (n + m) past (omega arith), add-zero (count_by test (numbers_below (n + m))))
     (count_by-below_none test n m (λ j low high. e j low (omega arith)))
 
-pub count_by-below_zero : (test : ℕ → Bool) → count_by test (below 0) ≡ 0
-unfolding below
+pub count_by-below_zero : (test : ℕ → Bool) → count_by test (numbers_below 0) ≡ 0
+unfolding numbers_below
 count_by-below_zero test = refl
 
 find-range : (test : ℕ → Bool) (a n i : ℕ) → a ≤ i → i < a + n → ((j : ℕ) → a ≤ j → j < i → test j ≡ false)
@@ -129,18 +129,18 @@ find-range_same f g a (suc n) e = rw (e a (omega arith), find-range_same f g (a 
 -- the first instance that passes
 pub find-instances : (test : ℕ → Bool) (i : ℕ) → i < instance_count → ((j : ℕ) → j < i → test j ≡ false) → test i ≡ true
     → find test instances ≡ Some i
-unfolding below instances
+unfolding numbers_below instances
 find-instances test i small before here =
     find-range test 0 instance_count i (omega arith) small (λ j l h. before j h) here
 
 pub find-instances_none : (test : ℕ → Bool) → ((j : ℕ) → j < instance_count → test j ≡ false)
     → find test instances ≡ None
-unfolding below instances
+unfolding numbers_below instances
 find-instances_none test none = find-range_none test 0 instance_count (λ j l h. none j h)
 
 pub find-instances_same : (f g : ℕ → Bool) → ((j : ℕ) → j < instance_count → f j ≡ g j)
     → find f instances ≡ find g instances
-unfolding below instances
+unfolding numbers_below instances
 find-instances_same f g e = find-range_same f g 0 instance_count e
 
 -- what is found passes, and is an instance
@@ -162,7 +162,7 @@ find-range_found test a zero m e = absurd (cc)
 find-range_found test a (suc n) m e = found_at test a n m (test a) refl e (find-range_found test (a + 1) n m)
 
 pub find-instances_found : (test : ℕ → Bool) (m : ℕ) → find test instances ≡ Some m → IsFound test instance_count m
-unfolding below instances
+unfolding numbers_below instances
 find-instances_found test m e = find-range_found test 0 instance_count m e
 
 -- and nothing before it passes
@@ -183,7 +183,7 @@ find-range_before test a (suc n) m e j low less =
 
 pub find-instances_before : (test : ℕ → Bool) (m : ℕ) → find test instances ≡ Some m → (j : ℕ) → j < m
     → test j ≡ false
-unfolding below instances
+unfolding numbers_below instances
 find-instances_before test m e j less = find-range_before test 0 instance_count m e j (omega arith) less
 
 -- where nothing is found, nothing passes
@@ -204,7 +204,7 @@ find-range_nothing test a (suc n) e j low less =
 
 pub find-instances_nothing : (test : ℕ → Bool) → find test instances ≡ None → (j : ℕ) → j < instance_count
     → test j ≡ false
-unfolding below instances
+unfolding numbers_below instances
 find-instances_nothing test e j small = find-range_nothing test 0 instance_count e j (omega arith) small
 
 pub map-instances_same : {X : Type 0} (f g : ℕ → X) (d : X) → ((m : ℕ) → m < instance_count → f m ≡ g m)
@@ -240,18 +240,18 @@ filter_map-range_same f g a (suc n) e =
 pub first_item-instances : (f : ℕ → Option ℕ) (i t : ℕ) → i < instance_count → ((j : ℕ) → j < i → f j ≡ None)
     → f i ≡ Some t
     → first_item (filter_map f instances) ≡ Some t
-unfolding below instances
+unfolding numbers_below instances
 first_item-instances f i t small before here =
     first_item-range f 0 instance_count i t (omega arith) small (λ j l h. before j h) here
 
 pub first_item-instances_none : (f : ℕ → Option ℕ) → ((j : ℕ) → j < instance_count → f j ≡ None)
     → first_item (filter_map f instances) ≡ None
-unfolding below instances
+unfolding numbers_below instances
 first_item-instances_none f none = first_item-range_none f 0 instance_count (λ j l h. none j h)
 
 pub filter_map-instances_same : (f g : ℕ → Option ℕ) → ((j : ℕ) → j < instance_count → f j ≡ g j)
     → filter_map f instances ≡ filter_map g instances
-unfolding below instances
+unfolding numbers_below instances
 filter_map-instances_same f g e = filter_map-range_same f g 0 instance_count e
 
 -- whether a test passes at some instance
@@ -283,17 +283,17 @@ any-range_found test a (suc n) h =
     (or_cases (test a) (list_any test (range_with_len (a + 1) n)) h)
 
 pub any-instances : (test : ℕ → Bool) (i : ℕ) → i < instance_count → test i ≡ true → list_any test instances ≡ true
-unfolding below instances
+unfolding numbers_below instances
 any-instances test i small here = any-range test 0 instance_count i (omega arith) small here
 
 pub any-instances_none : (test : ℕ → Bool) → ((j : ℕ) → j < instance_count → test j ≡ false)
     → list_any test instances ≡ false
-unfolding below instances
+unfolding numbers_below instances
 any-instances_none test none = any-range_none test 0 instance_count (λ j l h. none j h)
 
 pub any-instances_found : (test : ℕ → Bool) → list_any test instances ≡ true
     → (j : ℕ) × (j < instance_count) × (test j ≡ true)
-unfolding below instances
+unfolding numbers_below instances
 any-instances_found test h = any-range_found test 0 instance_count h
 
 -- filters
@@ -337,28 +337,28 @@ pub map-filter-instances_same : {X : Type 0} (f f' : ℕ → X) (g g' : ℕ → 
     → ((j : ℕ) → j < instance_count → f j ≡ f' j)
     → ((j : ℕ) → j < instance_count → g j ≡ g' j)
     → map f (filter g instances) ≡ map f' (filter g' instances)
-unfolding below instances
+unfolding numbers_below instances
 map-filter-instances_same f f' g g' e h = map-filter-range_same f f' g g' 0 instance_count e h
 
-pub filter-below_zero : (test : ℕ → Bool) → filter test (below 0) ≡ []
-unfolding below
+pub filter-below_zero : (test : ℕ → Bool) → filter test (numbers_below 0) ≡ []
+unfolding numbers_below
 filter-below_zero test = refl
 
 pub filter-below_more : (test : ℕ → Bool) (n : ℕ)
-    → filter test (below (n + 1)) ≡ filter test (below n) ++ cond (test n) (n ∷ []) []
-filter-below_more test n = ap (filter test) (below-more n) ∙ filter-append test (below n) (n ∷ [])
+    → filter test (numbers_below (n + 1)) ≡ filter test (numbers_below n) ++ cond (test n) (n ∷ []) []
+filter-below_more test n = ap (filter test) (below-more n) ∙ filter-append test (numbers_below n) (n ∷ [])
 
 pub filter-below_none : (test : ℕ → Bool) (n m : ℕ) → ((j : ℕ) → n ≤ j → j < n + m → test j ≡ false)
-    → filter test (below (n + m)) ≡ filter test (below n)
-filter-below_none test n zero e = ap (λ (j : ℕ). filter test (below j)) (add-zero n)
+    → filter test (numbers_below (n + m)) ≡ filter test (numbers_below n)
+filter-below_none test n zero e = ap (λ (j : ℕ). filter test (numbers_below j)) (add-zero n)
 filter-below_none test n (suc m) e =
     let next : n + suc m ≡ n + m + 1 = omega arith in
     let past : n ≤ n + m = omega arith in
-    ap (λ (j : ℕ). filter test (below j)) next ∙ filter-below_more test (n + m)
+    ap (λ (j : ℕ). filter test (numbers_below j)) next ∙ filter-below_more test (n + m)
     ∙ rw (e (n + m) past (omega arith), append-nil) (filter-below_none test n m (λ j low high. e j low (omega arith)))
 
 pub count_by-below_le : (test : ℕ → Bool) (least most : ℕ) → least ≤ most
-    → count_by test (below least) ≤ count_by test (below most)
+    → count_by test (numbers_below least) ≤ count_by test (numbers_below most)
 count_by-below_le test least zero h = let e : least ≡ 0 = omega arith in rw e (omega arith)
 count_by-below_le test least (suc most) h =
     ⊎_elim
@@ -376,7 +376,7 @@ filter-range_same g g' a (suc n) h = rw (h a (omega arith), filter-range_same g 
 
 pub filter-instances_same : (g g' : ℕ → Bool) → ((j : ℕ) → j < instance_count → g j ≡ g' j)
     → filter g instances ≡ filter g' instances
-unfolding below instances
+unfolding numbers_below instances
 filter-instances_same g g' h = filter-range_same g g' 0 instance_count h
 
 pub any-map : (f : ℕ → Bool) (xs : List ℕ) → list_any f xs ≡ list_any (λ (a : Bool). a) (map f xs)

@@ -8,7 +8,7 @@ use Rattle.std.proofs.lemmas.List.Sums.{fold-append}
 use Rattle.std.proofs.lemmas.Bool.{eq-eqb, ne_eqb}
 use Rattle.mencius_base.specs.declared.message.Message.{Message}
 use Rattle.mencius_base.specs.declared.message.Vote.{Vote}
-use Rattle.mencius_base.specs.Members.{below}
+use Rattle.mencius_base.specs.Members.{numbers_below}
 use Rattle.mencius_model.specs.Trace.{Heard, Trace, heard_messages, sent_messages}
 use Rattle.mencius_model.specs.Instance.{higher_vote, highest_vote}
 use Rattle.mencius_model.proofs.trace.NumberLists.{map-below_same, map-below_set}
@@ -31,7 +31,7 @@ any_more test hs x = list_any-append test hs (x ∷ []) ∙ ap (λ (d : Bool). l
 
 -- a message that is none of the set's
 pub set_quiet : (test : ℕ → Message → Bool) (hs : List Message) (x : Message) (n : ℕ) → ((q : ℕ) → test q x ≡ false)
-    → map (λ (q : ℕ). list_any (test q) (hs ++ x ∷ [])) (below n) ≡ map (λ (q : ℕ). list_any (test q) hs) (below n)
+    → map (λ (q : ℕ). list_any (test q) (hs ++ x ∷ [])) (numbers_below n) ≡ map (λ (q : ℕ). list_any (test q) hs) (numbers_below n)
 set_quiet test hs x n e =
     map-below_same _ _ n false
     (λ q h. any_more (test q) hs x ∙ ap (λ (d : Bool). list_any (test q) hs || d) (e q)
@@ -40,8 +40,8 @@ set_quiet test hs x n e =
 -- one of the set's, by a server
 pub set_more : (test : ℕ → Message → Bool) (hs : List Message) (x : Message) (n from : ℕ)
     → ((q : ℕ) → test q x ≡ eqb from q)
-    → map (λ (q : ℕ). list_any (test q) (hs ++ x ∷ [])) (below n)
-    ≡ set (map (λ (q : ℕ). list_any (test q) hs) (below n)) from true
+    → map (λ (q : ℕ). list_any (test q) (hs ++ x ∷ [])) (numbers_below n)
+    ≡ set (map (λ (q : ℕ). list_any (test q) hs) (numbers_below n)) from true
 set_more test hs x n from e =
     sym (map-below_set (λ (q : ℕ). list_any (test q) hs) (λ (q : ℕ). list_any (test q) (hs ++ x ∷ [])) n from true false
     (any_more (test from) hs x ∙ ap (λ (a : Bool). list_any (test from) hs || a) (e from ∙ eq-eqb from from refl)

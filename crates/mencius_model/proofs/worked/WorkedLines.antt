@@ -3,7 +3,7 @@ use Rattle.std.proofs.Common.{◌≡◌, List, [], ◌∷◌, Some, None, refl}
 use Rattle.mencius_base.specs.declared.event.Event.{Event}
 use Rattle.mencius_base.specs.declared.message.Message.TheVariants.{Suggest, Skip, Accepted, Prepare, Promise, Propose, Learn}
 use Rattle.mencius_base.specs.declared.message.Value.TheVariants.{Noop, Ticket}
-use Rattle.mencius_base.specs.Members.{Membership, below, instances, most_messages, most_events}
+use Rattle.mencius_base.specs.Members.{Membership, numbers_below, instances, most_messages, most_events}
 use Rattle.mencius_model.specs.Trace.{Line, Sent, Learned, Trace, followed_by}
 use Rattle.mencius_model.specs.Next.{head, lines}
 use Rattle.mencius_model.proofs.worked.WorkedSchedules.{three, skip_before_a_suggestion, wrong_suspicion_keeps_the_command, late_suggestion_decided_further_on, duelling_revokers}
@@ -22,7 +22,7 @@ lines_of_events-skip_before_a_suggestion : lines_of_events three [] skip_before_
     ∷ []
     ∷ (Learned 2 2 (Ticket 0) ∷ Sent (Learn 2 2 (Ticket 0)) ∷ [])
     ∷ [] ∷ [] ∷ [] ∷ []
-unfolding below instances most_messages most_events
+unfolding numbers_below instances most_messages most_events
 lines_of_events-skip_before_a_suggestion = refl
 
 lines_of_events-wrong_suspicion_keeps_the_command : lines_of_events three [] wrong_suspicion_keeps_the_command
@@ -40,7 +40,7 @@ lines_of_events-wrong_suspicion_keeps_the_command : lines_of_events three [] wro
     ∷ []
     ∷ (Learned 0 0 (Ticket 0) ∷ [])
     ∷ [] ∷ []
-unfolding below instances most_messages most_events
+unfolding numbers_below instances most_messages most_events
 lines_of_events-wrong_suspicion_keeps_the_command = refl
 
 lines_of_events-late_suggestion_decided_further_on : lines_of_events three [] late_suggestion_decided_further_on
@@ -66,7 +66,7 @@ lines_of_events-late_suggestion_decided_further_on : lines_of_events three [] la
     ∷ []
     ∷ (Learned 0 3 (Ticket 0) ∷ Sent (Learn 0 3 (Ticket 0)) ∷ [])
     ∷ [] ∷ [] ∷ [] ∷ [] ∷ []
-unfolding below instances most_messages most_events
+unfolding numbers_below instances most_messages most_events
 lines_of_events-late_suggestion_decided_further_on = refl
 
 lines_of_events-duelling_revokers : lines_of_events three [] duelling_revokers
@@ -88,5 +88,5 @@ lines_of_events-duelling_revokers : lines_of_events three [] duelling_revokers
     ∷ (Learned 2 0 Noop ∷ Sent (Learn 2 0 Noop) ∷ [])
     ∷ (Learned 1 0 Noop ∷ [])
     ∷ [] ∷ [] ∷ []
-unfolding below instances most_messages most_events
+unfolding numbers_below instances most_messages most_events
 lines_of_events-duelling_revokers = refl

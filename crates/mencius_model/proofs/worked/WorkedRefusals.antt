@@ -6,7 +6,7 @@ use Rattle.mencius_base.specs.declared.event.Event.{Event}
 use Rattle.mencius_base.specs.declared.event.Event.TheVariants.{Submit, Deliver, Lose, Suspect, Retry, Execute}
 use Rattle.mencius_base.specs.declared.refusal.Refusal.{Refusal}
 use Rattle.mencius_base.specs.declared.refusal.Refusal.TheVariants.{BadServer, DuplicateCommand, NoMessage, NotAddressed, LostMessage, SelfSuspect, NothingToRevoke, NothingWaiting, NothingToExecute}
-use Rattle.mencius_base.specs.Members.{Membership, below, instances, most_messages, most_events}
+use Rattle.mencius_base.specs.Members.{Membership, numbers_below, instances, most_messages, most_events}
 use Rattle.mencius_model.specs.Trace.{Trace}
 use Rattle.mencius_model.specs.Next.{next, refusal_cause}
 use Rattle.mencius_model.proofs.worked.WorkedSchedules.{three, set_a, report}
@@ -30,7 +30,7 @@ nothing_to_revoke_and_self_suspicion = Suspect 0 1 ∷ Suspect 1 1 ∷ []
 
 answers-nothing_to_revoke_and_self_suspicion : answers three [] nothing_to_revoke_and_self_suspicion
     ≡ Some NothingToRevoke ∷ Some SelfSuspect ∷ []
-unfolding below instances most_messages most_events
+unfolding numbers_below instances most_messages most_events
 answers-nothing_to_revoke_and_self_suspicion = refl
 
 -- another command of the same identity
@@ -46,12 +46,12 @@ answers-refusals : answers three [] refusals
     ≡ Some NoMessage ∷ None ∷ Some DuplicateCommand ∷ None ∷ Some LostMessage ∷ None ∷ Some NotAddressed
     ∷ Some NothingWaiting
     ∷ Some NothingToExecute ∷ Some BadServer ∷ Some LostMessage ∷ []
-unfolding below instances most_messages most_events
+unfolding numbers_below instances most_messages most_events
 answers-refusals = refl
 
 -- the refused events add no line
 outcome-refusals : outcome three [] refusals ≡ outcome three [] (Submit 0 set_a ∷ Lose 0 2 ∷ Deliver 0 1 ∷ [])
-unfolding below instances most_messages most_events
+unfolding numbers_below instances most_messages most_events
 outcome-refusals = refl
 
 -- one acceptance, heard three times, is no majority
@@ -60,7 +60,7 @@ a_repeat_is_no_majority = Submit 0 set_a ∷ Deliver 0 1 ∷ Deliver 1 0 ∷ Del
 
 answers-a_repeat_is_no_majority : answers three [] a_repeat_is_no_majority ≡ None ∷ None ∷ None ∷ None ∷ None
     ∷ Some NothingToExecute ∷ []
-unfolding below instances most_messages most_events
+unfolding numbers_below instances most_messages most_events
 answers-a_repeat_is_no_majority = refl
 
 -- a suggestion at an instance, after two more of the same server: one Skip covers three instances, and execution
@@ -76,12 +76,12 @@ one_skip_over_three_instances =
 
 answers-one_skip_over_three_instances : answers three [] one_skip_over_three_instances
     ≡ None ∷ None ∷ None ∷ None ∷ None ∷ None ∷ None ∷ Some NothingToExecute ∷ []
-unfolding below instances most_messages most_events
+unfolding numbers_below instances most_messages most_events
 answers-one_skip_over_three_instances = refl
 
 report-one_skip_over_three_instances : report three (Ok (outcome three [] one_skip_over_three_instances))
     ≡ (6, 7, (9, 0, []) ∷ (1, 1, []) ∷ (11, 0, []) ∷ [])
-unfolding below instances most_messages most_events
+unfolding numbers_below instances most_messages most_events
 report-one_skip_over_three_instances = refl
 
 -- looking ahead: a suspicion reaches twice beta past the own front, from an instance below beta past it
@@ -93,15 +93,15 @@ suspicions_of_idle_servers = Suspect 1 0 ∷ Suspect 1 2 ∷ Suspect 0 1 ∷ Sus
 
 answers-suspicions_looking_ahead : answers looking_ahead [] suspicions_of_idle_servers
     ≡ None ∷ None ∷ None ∷ Some NothingToRevoke ∷ []
-unfolding below instances most_messages most_events
+unfolding numbers_below instances most_messages most_events
 answers-suspicions_looking_ahead = refl
 
 report-suspicions_looking_ahead : report looking_ahead (Ok (outcome looking_ahead [] suspicions_of_idle_servers))
     ≡ (6, 3, (0, 0, []) ∷ (1, 0, []) ∷ (2, 0, []) ∷ [])
-unfolding below instances most_messages most_events
+unfolding numbers_below instances most_messages most_events
 report-suspicions_looking_ahead = refl
 
 answers-suspicions_to_the_front : answers three [] suspicions_of_idle_servers
     ≡ None ∷ Some NothingToRevoke ∷ Some NothingToRevoke ∷ Some NothingToRevoke ∷ []
-unfolding below instances most_messages most_events
+unfolding numbers_below instances most_messages most_events
 answers-suspicions_to_the_front = refl

@@ -9,7 +9,7 @@ use Rattle.mencius_base.specs.declared.command.Op.TheVariants.{Set, Get}
 use Rattle.mencius_base.specs.declared.event.Event.{Event}
 use Rattle.mencius_base.specs.declared.event.Event.TheVariants.{Submit, Deliver, Lose, Suspect, Retry, Execute}
 use Rattle.mencius_base.specs.declared.refusal.Refusal.{Refusal}
-use Rattle.mencius_base.specs.Members.{Membership, new_members, below, instances, most_messages, most_events}
+use Rattle.mencius_base.specs.Members.{Membership, new_members, numbers_below, instances, most_messages, most_events}
 use Rattle.mencius_model.specs.Trace.{Trace, events, sent_messages}
 use Rattle.mencius_model.specs.Server.{front, done}
 use Rattle.mencius_model.specs.Next.{replay}
@@ -30,14 +30,14 @@ set_a = record { id = record { client = 1; number = 0 }; op = Set (97 ∷ []) (1
 -- how many messages and events there were, and of each server its front, how many instances it executed and its history
 abbrev pub report : Membership → Result Trace Refusal → ℕ × ℕ × List (ℕ × ℕ × List ℕ)
 report m (Err r) = (0, 0, [])
-report m (Ok w) = (length (sent_messages w), events w, map (λ p. (front m w p, done w p, history w p)) (below m.count))
+report m (Ok w) = (length (sent_messages w), events w, map (λ p. (front m w p, done w p, history w p)) (numbers_below m.count))
 
 -- the only server is a majority
 abbrev one_server : List Event
 one_server = Submit 0 set_a ∷ Deliver 0 0 ∷ Deliver 1 0 ∷ Execute 0 ∷ []
 
 report-one_server : report one (replay one one_server) ≡ (3, 4, (1, 1, 0 ∷ []) ∷ [])
-unfolding below instances most_messages most_events
+unfolding numbers_below instances most_messages most_events
 report-one_server = refl
 
 -- a command that nobody suspects
@@ -45,7 +45,7 @@ abbrev pub one_command : List Event
 one_command = Submit 0 set_a ∷ Deliver 0 1 ∷ Deliver 0 0 ∷ Deliver 1 0 ∷ Deliver 2 0 ∷ Execute 0 ∷ []
 
 report-one_command : report three (replay three one_command) ≡ (4, 6, (3, 1, 0 ∷ []) ∷ (1, 0, []) ∷ (2, 0, []) ∷ [])
-unfolding below instances most_messages most_events
+unfolding numbers_below instances most_messages most_events
 report-one_command = refl
 
 -- two servers give up their instances before a suggestion
@@ -56,7 +56,7 @@ skip_before_a_suggestion =
 
 report-skip_before_a_suggestion : report three (replay three skip_before_a_suggestion)
     ≡ (6, 10, (3, 0, []) ∷ (4, 0, []) ∷ (5, 3, 0 ∷ []) ∷ [])
-unfolding below instances most_messages most_events
+unfolding numbers_below instances most_messages most_events
 report-skip_before_a_suggestion = refl
 
 -- a server that is wrongly suspected: the revoker hears of the command and has to propose it
@@ -67,7 +67,7 @@ wrong_suspicion_keeps_the_command =
 
 report-wrong_suspicion_keeps_the_command : report three (replay three wrong_suspicion_keeps_the_command)
     ≡ (9, 14, (3, 1, 0 ∷ []) ∷ (1, 1, 0 ∷ []) ∷ (2, 0, []) ∷ [])
-unfolding below instances most_messages most_events
+unfolding numbers_below instances most_messages most_events
 report-wrong_suspicion_keeps_the_command = refl
 
 -- a suggestion comes where no-op is decided: nobody answers it, and it is suggested again
@@ -78,7 +78,7 @@ late_suggestion_where_noop_is_decided =
 
 report-late_suggestion_where_noop_is_decided : report three (replay three late_suggestion_where_noop_is_decided)
     ≡ (9, 14, (6, 0, []) ∷ (1, 0, []) ∷ (2, 0, []) ∷ [])
-unfolding below instances most_messages most_events
+unfolding numbers_below instances most_messages most_events
 report-late_suggestion_where_noop_is_decided = refl
 
 -- and there, further on, it is decided
@@ -90,7 +90,7 @@ late_suggestion_decided_further_on =
 
 report-late_suggestion_decided_further_on : report three (replay three late_suggestion_decided_further_on)
     ≡ (15, 25, (6, 4, 0 ∷ []) ∷ (4, 0, []) ∷ (5, 0, []) ∷ [])
-unfolding below instances most_messages most_events
+unfolding numbers_below instances most_messages most_events
 report-late_suggestion_decided_further_on = refl
 
 -- two servers revoke one instance at once: the greater ballot goes on
@@ -102,7 +102,7 @@ duelling_revokers =
 
 report-duelling_revokers : report three (replay three duelling_revokers)
     ≡ (12, 19, (0, 0, []) ∷ (1, 1, []) ∷ (2, 1, []) ∷ [])
-unfolding below instances most_messages most_events
+unfolding numbers_below instances most_messages most_events
 report-duelling_revokers = refl
 
 -- a command that was executed already survives a wrong suspicion: the revoker hears of it and proposes it
@@ -113,7 +113,7 @@ decided_command_survives =
 
 report-decided_command_survives : report three (replay three decided_command_survives)
     ≡ (11, 16, (3, 1, 0 ∷ []) ∷ (1, 1, 0 ∷ []) ∷ (2, 0, []) ∷ [])
-unfolding below instances most_messages most_events
+unfolding numbers_below instances most_messages most_events
 report-decided_command_survives = refl
 
 -- a suggestion that reached nobody is revoked, and made again
@@ -124,7 +124,7 @@ revoked_and_suggested_again =
 
 report-revoked_and_suggested_again : report three (replay three revoked_and_suggested_again)
     ≡ (9, 14, (6, 0, []) ∷ (1, 0, []) ∷ (2, 0, []) ∷ [])
-unfolding below instances most_messages most_events
+unfolding numbers_below instances most_messages most_events
 report-revoked_and_suggested_again = refl
 
 -- a suggestion passes over an own instance that was learned already
@@ -135,7 +135,7 @@ submit_passes_a_learned_instance =
 
 report-submit_passes_a_learned_instance : report three (replay three submit_passes_a_learned_instance)
     ≡ (8, 11, (6, 0, []) ∷ (1, 0, []) ∷ (2, 0, []) ∷ [])
-unfolding below instances most_messages most_events
+unfolding numbers_below instances most_messages most_events
 report-submit_passes_a_learned_instance = refl
 
 -- who learned the instance answers a Prepare with what it learned
@@ -144,7 +144,7 @@ prepare_answered_with_learn = one_command ++ (Suspect 1 0 ∷ Deliver 4 0 ∷ De
 
 report-prepare_answered_with_learn : report three (replay three prepare_answered_with_learn)
     ≡ (6, 10, (3, 1, 0 ∷ []) ∷ (1, 1, 0 ∷ []) ∷ (2, 0, []) ∷ [])
-unfolding below instances most_messages most_events
+unfolding numbers_below instances most_messages most_events
 report-prepare_answered_with_learn = refl
 
 -- promises at a ballot that is no longer tried count for nothing
@@ -154,7 +154,7 @@ stale_promises =
     ∷ Deliver 4 1 ∷ Deliver 5 1 ∷ Deliver 6 2 ∷ Deliver 6 1 ∷ Deliver 7 1 ∷ Deliver 8 1 ∷ Deliver 0 0 ∷ Execute 1 ∷ []
 
 report-stale_promises : report three (replay three stale_promises) ≡ (10, 16, (0, 0, []) ∷ (1, 1, []) ∷ (2, 0, []) ∷ [])
-unfolding below instances most_messages most_events
+unfolding numbers_below instances most_messages most_events
 report-stale_promises = refl
 
 -- ---- replies
@@ -174,24 +174,24 @@ reply_in (Ok w) = reply_of w (record { client = 1; number = 0 })
 
 -- executed by its home: nothing stood at the key
 reply-one_command : reply_in (replay three one_command) ≡ Some (Given None)
-unfolding below instances most_messages most_events
+unfolding numbers_below instances most_messages most_events
 reply-one_command = ap (λ o. Some (Given o)) nothing
 
 -- suggested again, and executed by nobody
 reply-late_suggestion_where_noop_is_decided : reply_in (replay three late_suggestion_where_noop_is_decided)
     ≡ Some Pending
-unfolding below instances most_messages most_events
+unfolding numbers_below instances most_messages most_events
 reply-late_suggestion_where_noop_is_decided = refl
 
 -- executed further on
 reply-late_suggestion_decided_further_on : reply_in (replay three late_suggestion_decided_further_on)
     ≡ Some (Given None)
-unfolding below instances most_messages most_events
+unfolding numbers_below instances most_messages most_events
 reply-late_suggestion_decided_further_on = ap (λ o. Some (Given o)) nothing
 
 -- nobody submitted it
 reply-duelling_revokers : reply_in (replay three duelling_revokers) ≡ None
-unfolding below instances most_messages most_events
+unfolding numbers_below instances most_messages most_events
 reply-duelling_revokers = refl
 
 -- a command that reads what another server's command wrote, and is answered at its own home
@@ -205,7 +205,7 @@ get_at_another_server =
 
 report-get_at_another_server : report three (replay three get_at_another_server)
     ≡ (8, 14, (3, 1, 0 ∷ []) ∷ (4, 2, 0 ∷ 1 ∷ []) ∷ (2, 0, []) ∷ [])
-unfolding below instances most_messages most_events
+unfolding numbers_below instances most_messages most_events
 report-get_at_another_server = refl
 
 abbrev replies_and_longest : Result Trace Refusal → List (Option Reply) × ℕ
@@ -217,7 +217,7 @@ replies_and_longest (Ok w) = (
 
 replies-get_at_another_server : replies_and_longest (replay three get_at_another_server)
     ≡ (Some (Given None) ∷ Some (Given (Some (120 ∷ []))) ∷ [], 1)
-unfolding below instances most_messages most_events
+unfolding numbers_below instances most_messages most_events
 replies-get_at_another_server =
     ap (λ o. (Some (Given o) ∷ Some (Given (finite.get (map_after (set_a ∷ [])) (97 ∷ []))) ∷ [], 1)) nothing
     ∙ ap (λ o. (Some (Given None) ∷ Some (Given o) ∷ [], 1)) text_x

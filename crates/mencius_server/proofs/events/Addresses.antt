@@ -5,7 +5,7 @@ use Rattle.std.specs.List.{range_with_len}
 use Rattle.std.proofs.lemmas.Bool.{and_from, and_parts, cases_Bool, le-leb, lt-ltb, ltb-true}
 use Rattle.std.proofs.lemmas.List.Elements.{All-append, All-cons, All-nil}
 use Rattle.mencius_base.specs.Limits.{greatest_front, instance_count, most_servers}
-use Rattle.mencius_base.specs.Members.{Membership, below, first_owned, instances, round}
+use Rattle.mencius_base.specs.Members.{Membership, numbers_below, first_owned, instances, round}
 use Rattle.mencius_base.specs.Message.{is_within}
 use Rattle.mencius_base.specs.declared.message.Message.{Message}
 use Rattle.mencius_base.specs.declared.message.Message.TheVariants.{Suggest, Skip, Accepted, Prepare, Promise, Propose, Learn}
@@ -84,7 +84,7 @@ prepared_hearable s member g i (suc n) h =
     ]
 
 pub suspect_addresses : SuspectAddresses
-unfolding below instances
+unfolding numbers_below instances
 suspect_addresses s member q = prepared_hearable s member (is_covered_at s q) 0 instance_count (omega arith)
 
 -- what is sent on a message

@@ -13,7 +13,7 @@ use Rattle.mencius_server.specs.Reached.{server_at}
 use Rattle.std.proofs.lemmas.Bool.{and_parts, eqb-true, ltb-true}
 use Rattle.mencius_base.specs.declared.message.Message.TheVariants.{Suggest, Skip, Accepted, Prepare, Promise, Propose, Learn}
 use Rattle.mencius_base.specs.Members.{Membership}
-use Rattle.mencius_base.specs.Message.{goes_to, is_for, is_within}
+use Rattle.mencius_base.specs.Message.{is_sent_to, is_for, is_within}
 use Rattle.mencius_model.specs.Instance.{IsVoted}
 use Rattle.mencius_model.proofs.reached.ServerFacts.{HasServerFacts, server_facts}
 use Rattle.mencius_server.proofs.events.ServerTrace.{Meets, meets_propose}
@@ -27,7 +27,7 @@ voted_at m w p i facts = record { proposal = λ b e. facts.voted p i b e }
 pub within_of : (m : Membership) (p : ℕ) (x : Message) → IsTrue (is_for m p x) → is_within m x ≡ true
 within_of m p x addressed = (and_parts _ _ (and_parts _ _ addressed).1).1
 
-goes_of : (m : Membership) (p : ℕ) (x : Message) → IsTrue (is_for m p x) → goes_to p x ≡ true
+goes_of : (m : Membership) (p : ℕ) (x : Message) → IsTrue (is_for m p x) → is_sent_to p x ≡ true
 goes_of m p x addressed = (and_parts _ _ (and_parts _ _ addressed).1).0
 
 meets_any : (m : Membership) (w : Trace) (k p : ℕ) (x : Message) → HasServerFacts m w → IsTrue (is_for m p x)

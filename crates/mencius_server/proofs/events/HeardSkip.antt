@@ -6,7 +6,7 @@ use Rattle.std.proofs.lemmas.Bool.{cases_eq, eq-eqb, eqb-false, eqb-true, ne_eqb
 use Rattle.mencius_base.specs.declared.message.Message.TheVariants.{Skip}
 use Rattle.mencius_base.specs.declared.message.Value.{Value}
 use Rattle.mencius_base.specs.declared.message.Value.TheVariants.{Noop}
-use Rattle.mencius_base.specs.Members.{Membership, below, instances}
+use Rattle.mencius_base.specs.Members.{Membership, numbers_below, instances}
 use Rattle.mencius_model.specs.Trace.{Heard, Learned, Line, Trace, first_some, followed_by, sent_messages, messages_of}
 use Rattle.mencius_model.specs.Instance.{learned_value, tried_ballot}
 use Rattle.mencius_model.specs.Server.{front}
@@ -124,7 +124,7 @@ in_interval i (suc n) j low high =
     (cases_eq i j)
 
 pub is_instance : (j : ℕ) → j < instance_count → list_any (λ (i : ℕ). eqb i j) instances ≡ true
-unfolding below instances
+unfolding numbers_below instances
 is_instance j small = in_interval 0 instance_count j (omega arith) small
 
 counts_from : (p n : ℕ) (test : ℕ → Bool) (xs : List ℕ)
@@ -163,7 +163,7 @@ counts_same f g total a (suc n) e =
 
 count_by-instances_same : (f g : ℕ → Bool) → ((j : ℕ) → j < instance_count → f j ≡ g j)
     → count_by f instances ≡ count_by g instances
-unfolding below instances
+unfolding numbers_below instances
 count_by-instances_same f g e = counts_same f g 0 0 instance_count e
 
 -- the test of the row, and the slot's

@@ -9,7 +9,7 @@ use Rattle.mencius_base.specs.declared.refusal.Refusal.TheVariants.{MessagesFull
 use Rattle.mencius_base.specs.declared.message.Message.{Message}
 use Rattle.mencius_base.specs.declared.message.Message.TheVariants.{Prepare, Propose}
 use Rattle.mencius_base.specs.declared.message.Value.{Value}
-use Rattle.mencius_base.specs.Members.{Membership, ballot_of, below, instances, owner, first_item}
+use Rattle.mencius_base.specs.Members.{Membership, ballot_of, numbers_below, instances, owner, first_item}
 use Rattle.mencius_base.specs.Outbox.{OutboxState}
 use Rattle.mencius_model.specs.Trace.{Line, Sent, Suspected, Trace, followed_by, heard_messages, messages_of}
 use Rattle.mencius_model.specs.Instance.{accepted_ballot, accepted_by, accepters, highest_vote, is_acceptance, is_promise, learned_by, promised_by, promisers, proposal, proposal_by, tried_by, tried_ballot, vote_of, vote_reported, IsUntried}
@@ -61,8 +61,8 @@ trying_same m w l p j b quiet deaf =
     refl
     (ap (λ (hs : List Message). highest_vote (map (vote_reported j b) hs)) deaf)
     (ap (if_own m p j b) (proposals b))
-    (ap (λ (hs : List Message). map (λ (q : ℕ). list_any (is_promise j b q) hs) (below m.count)) deaf)
-    (ap (λ (hs : List Message). map (λ (q : ℕ). list_any (is_acceptance j b q) hs) (below m.count)) deaf)
+    (ap (λ (hs : List Message). map (λ (q : ℕ). list_any (is_promise j b q) hs) (numbers_below m.count)) deaf)
+    (ap (λ (hs : List Message). map (λ (q : ℕ). list_any (is_acceptance j b q) hs) (numbers_below m.count)) deaf)
 
 prepared_same : (m : Membership) (w0 : Trace) (p j b : ℕ) (js : List ℕ) (v : Trace)
     → slot_trying m (followed_by v (map (preparation m w0 p) js)) p j b ≡ slot_trying m v p j b

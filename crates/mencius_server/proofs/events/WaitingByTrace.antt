@@ -24,7 +24,7 @@ use Rattle.mencius_server.specs.Machine.{first_waiting, is_suggested_again, is_t
 use Rattle.mencius_server.specs.Reached.{server_at}
 use Rattle.mencius_server.proofs.events.ServerTrace.{slot-server_at}
 use Rattle.mencius_base.specs.Limits.{instance_count}
-use Rattle.mencius_model.specs.Rules.{is_noop, unless}
+use Rattle.mencius_model.specs.Rules.{is_noop, ticket_unless}
 
 past_line : (p t i : ℕ) (l : Line) → is_suggested_again_by p t i l ≡ true
     → (j : ℕ) × (ltb i j ≡ true) × (l ≡ Sent (Suggest p j t))
@@ -106,10 +106,10 @@ module _ (m : Membership) (w : Trace) (p : ℕ) (r : IsReached m w) where
   waits_same : (i : ℕ) → i < instance_count → (o : Option ℕ) → own_waiting_of (server_at m w p) i o ≡ waiting_of w p i o
   waits_same i small None = refl
   waits_same i small (Some t) =
-      ap (λ (s : SlotState). unless
+      ap (λ (s : SlotState). ticket_unless
       (not (is_noop s.learned) || list_any (is_suggested_again (server_at m w p) t i) instances) (Some t))
       (slot-server_at m w p i small)
-      ∙ ap (λ (d : Bool). unless (not (is_noop (learned_value w p i)) || d) (Some t)) (past_same i t)
+      ∙ ap (λ (d : Bool). ticket_unless (not (is_noop (learned_value w p i)) || d) (Some t)) (past_same i t)
 
   pub waiting_at_same : (i : ℕ) → i < instance_count → own_waiting_at (server_at m w p) i ≡ waiting_at w p i
   waiting_at_same i small =

@@ -4,7 +4,7 @@ use Rattle.std.specs.List.{count_by}
 use Rattle.std.proofs.Math.Nat.{div-add-mod, mul-le-mul_left, mod-eq_of_lt, add-mod_right}
 use Rattle.std.proofs.lemmas.Bool.{cases_eq, cases_lt, eq-eqb, ne_eqb, and_right}
 use Rattle.mencius_base.proofs.LeastOwned.{first_owned_least, first_owned_owner}
-use Rattle.mencius_base.specs.Members.{Membership, below, first_owned, owner}
+use Rattle.mencius_base.specs.Members.{Membership, numbers_below, first_owned, owner}
 use Rattle.mencius_model.proofs.trace.NumberLists.{count_by-below_more, count_by-below_zero}
 use Rattle.mencius_server.specs.declared.skipped_intervals.Interval.{Interval}
 use Rattle.mencius_server.specs.Intervals.{IsOwned, IsRising, is_between, is_in_any, reach_of}
@@ -17,7 +17,7 @@ bit a = cond a 1 0
 
 -- a test that is one of two, and never both
 pub count_split : (f g h : ℕ → Bool) (n : ℕ) → ((j : ℕ) → j < n → bit (f j) ≡ bit (g j) + bit (h j))
-    → count_by f (below n) ≡ count_by g (below n) + count_by h (below n)
+    → count_by f (numbers_below n) ≡ count_by g (numbers_below n) + count_by h (numbers_below n)
 count_split f g h zero e = omega (arith, count_by-below_zero f, count_by-below_zero g, count_by-below_zero h)
 count_split f g h (suc n) e =
     let next : suc n ≡ n + 1 = omega arith in
@@ -25,7 +25,7 @@ count_split f g h (suc n) e =
     let here = e n (omega arith) in
     rw next (omega (arith, count_by-below_more f n, count_by-below_more g n, count_by-below_more h n, before, here))
 
-pub count_same : (f g : ℕ → Bool) (n : ℕ) → ((j : ℕ) → j < n → f j ≡ g j) → count_by f (below n) ≡ count_by g (below n)
+pub count_same : (f g : ℕ → Bool) (n : ℕ) → ((j : ℕ) → j < n → f j ≡ g j) → count_by f (numbers_below n) ≡ count_by g (numbers_below n)
 count_same f g zero e = count_by-below_zero f ∙ sym (count_by-below_zero g)
 count_same f g (suc n) e =
     let next : suc n ≡ n + 1 = omega arith in
@@ -40,8 +40,8 @@ and-true false = refl
 -- as many as pass below the interval's end, less those before it, pass below n and lie in the interval
 abbrev IsCountWithin : (ℕ → Bool) → ℕ → ℕ → ℕ → Type 0
 IsCountWithin test first stop n =
-    count_by (λ j. test j && is_between first stop j) (below n) + count_by test (below (min n first))
-    ≡ count_by test (below (min n stop))
+    count_by (λ j. test j && is_between first stop j) (numbers_below n) + count_by test (numbers_below (min n first))
+    ≡ count_by test (numbers_below (min n stop))
 
 module _ (test : ℕ → Bool) (first stop n : ℕ) (before : IsCountWithin test first stop n) where
   count_before : first ≤ stop → n < first → IsCountWithin test first stop (n + 1)
@@ -53,8 +53,8 @@ module _ (test : ℕ → Bool) (first stop n : ℕ) (before : IsCountWithin test
       let b_now : min n stop ≡ n = omega arith in
       let a_next : min (n + 1) first ≡ n + 1 = omega arith in
       let b_next : min (n + 1) stop ≡ n + 1 = omega arith in
-      let old : count_by (λ j. test j && is_between first stop j) (below n) + count_by test (below n)
-      ≡ count_by test (below n) =
+      let old : count_by (λ j. test j && is_between first stop j) (numbers_below n) + count_by test (numbers_below n)
+      ≡ count_by test (numbers_below n) =
       rw (a_now, b_now) at before in
       rw (a_next, b_next) (omega (arith, more, none, old))
 
@@ -68,8 +68,8 @@ module _ (test : ℕ → Bool) (first stop n : ℕ) (before : IsCountWithin test
       let one : bit (test n && is_between first stop n) ≡ bit (test n) = ap bit here in
       let b_now : min n stop ≡ n = omega arith in
       let b_next : min (n + 1) stop ≡ n + 1 = omega arith in
-      let old : count_by (λ j. test j && is_between first stop j) (below n) + count_by test (below first)
-      ≡ count_by test (below n) =
+      let old : count_by (λ j. test j && is_between first stop j) (numbers_below n) + count_by test (numbers_below first)
+      ≡ count_by test (numbers_below n) =
       rw (a_now, b_now) at before in
       rw (a_next, b_next) (omega (arith, more, one, old, count_by-below_more test n))
 
@@ -82,8 +82,8 @@ module _ (test : ℕ → Bool) (first stop n : ℕ) (before : IsCountWithin test
       let none : bit (test n && is_between first stop n) ≡ 0 = ap bit out in
       let b_now : min n stop ≡ stop = omega arith in
       let b_next : min (n + 1) stop ≡ stop = omega arith in
-      let old : count_by (λ j. test j && is_between first stop j) (below n) + count_by test (below first)
-      ≡ count_by test (below stop) =
+      let old : count_by (λ j. test j && is_between first stop j) (numbers_below n) + count_by test (numbers_below first)
+      ≡ count_by test (numbers_below stop) =
       rw (a_now, b_now) at before in
       rw (a_next, b_next) (omega (arith, more, none, old))
 
@@ -107,7 +107,7 @@ count_within test first stop (suc n) h =
 -- ---- a server's instances
 
 abbrev pub owned_below : Membership → ℕ → ℕ → ℕ
-owned_below m q j = count_by (λ i. eqb (owner m i) q) (below j)
+owned_below m q j = count_by (λ i. eqb (owner m i) q) (numbers_below j)
 
 -- an instance of q is its own first one from there on
 pub first_owned_here : (m : Membership) (q j : ℕ) → q < m.count → owner m j ≡ q → first_owned m q j ≡ j
@@ -207,10 +207,10 @@ end_place m q n stop member own low =
 pub count_interval : (m : Membership) (q n first stop : ℕ) → q < m.count → owner m first ≡ q → owner m stop ≡ q
     → first ≤ stop
     → stop ≤ first_owned m q n
-    → m.count * count_by (λ j. eqb (owner m j) q && is_between first stop j) (below n) + first ≡ stop
+    → m.count * count_by (λ j. eqb (owner m j) q && is_between first stop j) (numbers_below n) + first ≡ stop
 count_interval m q n first stop member own_a own_b h low =
     let both = count_within (λ j. eqb (owner m j) q) first stop n h in
-    let all : m.count * (count_by (λ j. eqb (owner m j) q && is_between first stop j) (below n) + owned_below m q
+    let all : m.count * (count_by (λ j. eqb (owner m j) q && is_between first stop j) (numbers_below n) + owned_below m q
     (min n first))
     ≡ m.count * owned_below m q (min n stop) = ap (λ x. m.count * x) both in
     let a_is = end_place m q n first member own_a (omega (arith, low)) in
@@ -220,7 +220,7 @@ count_interval m q n first stop member own_a own_b h low =
       all,
       a_is,
       b_is,
-      distribute m.count (count_by (λ j. eqb (owner m j) q && is_between first stop j) (below n))
+      distribute m.count (count_by (λ j. eqb (owner m j) q && is_between first stop j) (numbers_below n))
           (owned_below m q (min n first)),
     )
   where
@@ -243,7 +243,7 @@ one_of_two false d x h = omega arith
 distribute : (n x y : ℕ) → n * (x + y) ≡ n * x + n * y
 distribute n x y = grind arith
 
-count_none : (n : ℕ) → count_by (λ j. false) (below n) ≡ 0
+count_none : (n : ℕ) → count_by (λ j. false) (numbers_below n) ≡ 0
 count_none zero = count_by-below_zero (λ j. false)
 count_none (suc n) =
     let next : suc n ≡ n + 1 = omega arith in
@@ -252,9 +252,9 @@ count_none (suc n) =
 -- so have all intervals of a server
 pub count_covered : (m : Membership) (q n low : ℕ) (rs : List Interval) → q < m.count → IsRising low rs
     → IsOwned m q (first_owned m q n) rs
-    → m.count * count_by (λ j. eqb (owner m j) q && is_in_any rs j) (below n) ≡ reach_of rs
+    → m.count * count_by (λ j. eqb (owner m j) q && is_in_any rs j) (numbers_below n) ≡ reach_of rs
 count_covered m q n low [] member h own =
-    let none : count_by (λ j. eqb (owner m j) q && false) (below n) ≡ 0 =
+    let none : count_by (λ j. eqb (owner m j) q && false) (numbers_below n) ≡ 0 =
     count_same (λ j. eqb (owner m j) q && false) (λ j. false) n (λ j l. and_right _ _ refl) ∙ count_none n in
     ap (λ x. m.count * x) none ∙ mul-zero m.count
 count_covered m q n low (r ∷ rs) member h own =
@@ -270,8 +270,8 @@ count_covered m q n low (r ∷ rs) member h own =
       head,
       tail,
       h.1,
-      distribute m.count (count_by (λ j. eqb (owner m j) q && is_between r.first r.stop j) (below n))
-          (count_by (λ j. eqb (owner m j) q && is_in_any rs j) (below n)),
+      distribute m.count (count_by (λ j. eqb (owner m j) q && is_between r.first r.stop j) (numbers_below n))
+          (count_by (λ j. eqb (owner m j) q && is_in_any rs j) (numbers_below n)),
     )
   where
     apart_from : (j : ℕ) → is_between r.first r.stop j ≡ true → is_in_any rs j ≡ false

@@ -4,7 +4,7 @@ use Rattle.std.specs.Prelude.{nat_le, nat_lt}
 use Rattle.std.specs.List.{count_by}
 use Rattle.std.proofs.Math.Nat.{mul-div_cancel_left}
 use Rattle.std.proofs.lemmas.Bool.{cases_Bool, and_left, and_parts, and_right, leb-true, ltb-true}
-use Rattle.mencius_base.specs.Members.{below, first_owned, instances, owner}
+use Rattle.mencius_base.specs.Members.{numbers_below, first_owned, instances, owner}
 use Rattle.mencius_model.proofs.trace.NumberLists.{instances-below}
 use Rattle.coord_paxos.specs.SlotState.{SlotState}
 use Rattle.mencius_server.specs.Intervals.{IsOwned, IsRising, is_between, is_in_any, reach_of, with_interval}
@@ -80,19 +80,19 @@ news_count a rs ss further learned_before member own_a own_b some low rising own
     let split = count_split (is_fresh a rs) (is_learned_before a rs ss) (is_newly_skipped_in a rs ss) instance_count
     (λ j l. fresh_split a rs ss j) in
     let all = ap (λ x. m.count * x) more in
-    let is : further ≡ m.count * count_by (is_fresh a rs) (below instance_count) =
+    let is : further ≡ m.count * count_by (is_fresh a rs) (numbers_below instance_count) =
     omega (
       arith,
       now,
       old,
       all,
       reach,
-      distribute m.count (count_by (λ j. eqb (owner m j) q && is_in_any rs j) (below instance_count))
-          (count_by (is_fresh a rs) (below instance_count)),
+      distribute m.count (count_by (λ j. eqb (owner m j) q && is_in_any rs j) (numbers_below instance_count))
+          (count_by (is_fresh a rs) (numbers_below instance_count)),
     ) in
-    ap (λ x. x / m.count) is ∙ mul-div_cancel_left (count_by (is_fresh a rs) (below instance_count)) (omega arith)
+    ap (λ x. x / m.count) is ∙ mul-div_cancel_left (count_by (is_fresh a rs) (numbers_below instance_count)) (omega arith)
     ∙ split
-    ∙ ap (λ x. x + count_by (is_newly_skipped_in a rs ss) (below instance_count))
+    ∙ ap (λ x. x + count_by (is_newly_skipped_in a rs ss) (numbers_below instance_count))
     (ap (count_by (is_learned_before a rs ss)) (sym instances-below) ∙ sym learned_before_is)
     ∙ ap (λ xs. learned_before + count_by (is_newly_skipped_in a rs ss) xs) (sym instances-below)
   where

@@ -4,7 +4,7 @@ use Rattle.std.specs.List.{count_by}
 use Rattle.std.specs.Prelude.{is_none}
 use Rattle.std.proofs.lemmas.Bool.{and_left, and_parts, and_right, cases_eq, cases_lt, eq-eqb, eqb-true, le-leb, le-ltb, leb-true, lt-leb, lt-ltb, ne_eqb}
 use Rattle.mencius_base.specs.declared.message.Message.{Message}
-use Rattle.mencius_base.specs.Members.{Membership, below, owner}
+use Rattle.mencius_base.specs.Members.{Membership, numbers_below, owner}
 use Rattle.mencius_model.proofs.trace.NumberLists.{count_by-below_none, filter-below_none}
 use Rattle.coord_paxos.specs.SlotState.{SlotState}
 use Rattle.mencius_server.specs.State.{ServerState, slot}
@@ -26,7 +26,7 @@ count_gap test i n count h none before =
     let all : i + (n - i) ≡ n = omega arith in
     record {
       counted = before.counted
-          ∙ sym (ap (λ (x : ℕ). count_by test (below x)) (sym all)
+          ∙ sym (ap (λ (x : ℕ). count_by test (numbers_below x)) (sym all)
           ∙ count_by-below_none test i (n - i) (λ j low high. none j low (omega arith)));
     }
 
@@ -39,7 +39,7 @@ count_to test i n count ahead behind before =
     let all : n + (i - n) ≡ i = omega arith in
     record {
       counted = before.counted
-          ∙ (ap (λ (x : ℕ). count_by test (below x)) (sym all)
+          ∙ (ap (λ (x : ℕ). count_by test (numbers_below x)) (sym all)
           ∙ count_by-below_none test n (i - n) (λ j low high. behind j low (omega arith)));
     })
     (λ (more : i ≤ n). count_gap test i n count more ahead before)
@@ -53,7 +53,7 @@ sent_gap f test before after i n h none old =
     record {
       sent = old.sent
           ∙ ap (λ (xs : List ℕ). before ++ map f xs)
-          (sym (ap (λ (x : ℕ). filter test (below x)) (sym all)
+          (sym (ap (λ (x : ℕ). filter test (numbers_below x)) (sym all)
           ∙ filter-below_none test i (n - i) (λ j low high. none j low (omega arith))));
     }
 
@@ -66,7 +66,7 @@ sent_to f test before after i n ahead behind old =
     let all : n + (i - n) ≡ i = omega arith in
     record {
       sent = old.sent
-          ∙ ap (λ (xs : List ℕ). before ++ map f xs) (ap (λ (x : ℕ). filter test (below x)) (sym all)
+          ∙ ap (λ (xs : List ℕ). before ++ map f xs) (ap (λ (x : ℕ). filter test (numbers_below x)) (sym all)
           ∙ filter-below_none test n (i - n) (λ j low high. behind j low (omega arith)));
     })
     (λ (more : i ≤ n). sent_gap f test before after i n more ahead old)
@@ -77,7 +77,7 @@ pub room_gap : (test : ℕ → Bool) (n room i stop : ℕ) → i ≤ stop → ((
 room_gap test n room i stop h none has =
     let all : i + (stop - i) ≡ stop = omega arith in
     record {
-      enough = let e = ap (λ (x : ℕ). count_by test (below x)) (sym all)
+      enough = let e = ap (λ (x : ℕ). count_by test (numbers_below x)) (sym all)
           ∙ count_by-below_none test i (stop - i) (λ j low high. none j low (omega arith)) in omega
           (arith, has.enough, e);
     }

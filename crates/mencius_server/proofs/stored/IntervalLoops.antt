@@ -6,7 +6,7 @@ use Rattle.std.specs.Option.{option_map}
 use Rattle.std.proofs.lemmas.Bool.{cases_Bool, cases_eq, cases_lt, eq-eqb, ne_eqb, and_left, and_right}
 use Rattle.mencius_base.specs.declared.message.Value.TheVariants.{Noop}
 use Rattle.mencius_base.specs.Limits.{instance_count}
-use Rattle.mencius_base.specs.Members.{below, owner}
+use Rattle.mencius_base.specs.Members.{numbers_below, owner}
 use Rattle.mencius_model.proofs.trace.NumberLists.{count_by-below_le, count_by-below_more}
 use Rattle.coord_paxos.specs.SlotState.{SlotState}
 use Rattle.coord_paxos.specs.Slot.{after_learn}
@@ -317,13 +317,13 @@ module _ (a : OwnedInterval) (rs : List Interval) (old : List (Option SlotState)
       (cases_eq j i)) walked (cap - len) room
 
 -- a count of none
-pub none_of_all : (test : ℕ → Bool) (n : ℕ) → count_by test (below n) ≤ 0 → (j : ℕ) → j < n → test j ≡ false
+pub none_of_all : (test : ℕ → Bool) (n : ℕ) → count_by test (numbers_below n) ≤ 0 → (j : ℕ) → j < n → test j ≡ false
 none_of_all test n few j less =
     ⊎_elim
     (λ (yes : test j ≡ true).
-    let more : count_by test (below (j + 1)) ≡ count_by test (below j) + 1 = count_by-below_more test j
-    ∙ ap (λ (a : Bool). count_by test (below j) + cond a 1 0) yes in
-    let all : count_by test (below (j + 1)) ≤ count_by test (below n) =
+    let more : count_by test (numbers_below (j + 1)) ≡ count_by test (numbers_below j) + 1 = count_by-below_more test j
+    ∙ ap (λ (a : Bool). count_by test (numbers_below j) + cond a 1 0) yes in
+    let all : count_by test (numbers_below (j + 1)) ≤ count_by test (numbers_below n) =
     count_by-below_le test (j + 1) n (omega arith) in
     absurd (omega (arith, more, all, few)))
     (λ (no : test j ≡ false). no)

@@ -1,12 +1,12 @@
 -- A loop over the slots that learns no-op at some.
 use Rattle.std.proofs.Common.{◌≡◌, ℕ, ◌+◌, Bool, cond, sym}
 use Rattle.std.specs.List.{count_by}
-use Rattle.mencius_base.specs.Members.{below}
+use Rattle.mencius_base.specs.Members.{numbers_below}
 use Rattle.mencius_model.proofs.trace.NumberLists.{count_by-below_more, count_by-below_zero}
 
 -- so many of the first i places pass
 pub record IsCountUpTo (test : ℕ → Bool) (i count : ℕ) : Type 0 where
-  pub counted : count ≡ count_by test (below i)
+  pub counted : count ≡ count_by test (numbers_below i)
 
 pub count_none : (test : ℕ → Bool) → IsCountUpTo test 0 0
 count_none test = record { counted = sym (count_by-below_zero test) }

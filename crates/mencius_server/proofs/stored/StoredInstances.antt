@@ -6,7 +6,7 @@ use Rattle.std.proofs.lemmas.List.Sums.{sum_by-cons}
 use Rattle.std.proofs.lemmas.List.{get_or-set_other}
 use Rattle.std.proofs.lemmas.Grind.{get_or-set_at}
 use Rattle.std.proofs.lemmas.Bool.{cases_eq, cases_lt, eq-eqb, ne_eqb}
-use Rattle.mencius_base.specs.Members.{Membership, below, instances, owner}
+use Rattle.mencius_base.specs.Members.{Membership, numbers_below, instances, owner}
 use Rattle.mencius_model.proofs.trace.NumberLists.{get_or-map-instances, instances-below, map-below_by, map-instances_same, map-instances_set}
 use Rattle.coord_paxos.specs.SlotState.{SlotState}
 use Rattle.coord_paxos.specs.Fresh.{new_slot}
@@ -340,7 +340,7 @@ pub stored_count : (m : Membership) (slots : List (Option SlotState)) (rs : List
     → count_by is_some slots ≡ count_by (λ a. a) now.is_stored
 stored_count m slots rs now shown all =
     ap (count_by is_some) (map-below_by (stored_at slots) slots instance_count None all (λ j l. refl))
-    ∙ counts (below instance_count)
+    ∙ counts (numbers_below instance_count)
     ∙ ap (λ xs. count_by (λ a. a) (map (λ j. is_some (stored_at slots j)) xs)) (sym instances-below)
     ∙ ap (λ (s : InstancesState). count_by (λ a. a) s.is_stored) shown
   where

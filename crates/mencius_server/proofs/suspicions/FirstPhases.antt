@@ -9,7 +9,7 @@ use Rattle.std.proofs.lemmas.List.Sums.{length-filter}
 use Rattle.std.proofs.lemmas.Bool.{and_parts, cases_Bool, cases_eq, cases_lt, eqb-true, ltb-false, ne_eqb}
 use Rattle.mencius_base.specs.declared.refusal.Refusal.TheVariants.{NothingToRevoke, RoundsFull}
 use Rattle.mencius_base.specs.Outbox.{OutboxState, outbox_full}
-use Rattle.mencius_base.specs.Members.{first_item, Membership, below, instances, owner}
+use Rattle.mencius_base.specs.Members.{first_item, Membership, numbers_below, instances, owner}
 use Rattle.mencius_base.specs.declared.message.Message.{Message}
 use Rattle.mencius_model.proofs.trace.NumberLists.{any-filter, any-instances, count_by-below_le, count_by-below_more, filter-below_more, filter-below_zero, get_or-map-instances, length-map-instances}
 use Rattle.coord_paxos.specs.SlotState.{SlotState}
@@ -22,7 +22,7 @@ use Rattle.mencius_base.specs.Limits.{greatest_round, instance_count}
 
 -- the messages for the places before i that pass stand after those before
 pub record IsSentUpTo (f : ℕ → Message) (test : ℕ → Bool) (before after : List Message) (i : ℕ) : Type 0 where
-  pub sent : after ≡ before ++ map f (filter test (below i))
+  pub sent : after ≡ before ++ map f (filter test (numbers_below i))
 
 pub sent_none : (f : ℕ → Message) (test : ℕ → Bool) (before : List Message) → IsSentUpTo f test before before 0
 sent_none f test before =
@@ -38,25 +38,25 @@ pub sent_more : (f : ℕ → Message) (test : ℕ → Bool) (before after new al
 sent_more f test before after new all i here pushed old = record {
   sent =
       pushed ∙ ap (λ (xs : List Message). xs ++ new) old.sent
-      ∙ append_assoc before (map f (filter test (below i))) new
-      ∙ ap (λ (xs : List Message). before ++ (map f (filter test (below i)) ++ xs)) (here ∙ sym (one_sent f i (test i)))
+      ∙ append_assoc before (map f (filter test (numbers_below i))) new
+      ∙ ap (λ (xs : List Message). before ++ (map f (filter test (numbers_below i)) ++ xs)) (here ∙ sym (one_sent f i (test i)))
       ∙ ap (λ (xs : List Message). before ++ xs)
-      (sym (map-append f (filter test (below i)) (cond (test i) (i ∷ []) []))
+      (sym (map-append f (filter test (numbers_below i)) (cond (test i) (i ∷ []) []))
       ∙ ap (map f) (sym (filter-below_more test i)));
 }
 
 -- there is room for the places from i on
 pub record HasRoomFrom (test : ℕ → Bool) (n room i : ℕ) : Type 0 where
-  pub enough : count_by test (below n) ≤ room + count_by test (below i)
+  pub enough : count_by test (numbers_below n) ≤ room + count_by test (numbers_below i)
 
-pub room_none : (test : ℕ → Bool) (n room : ℕ) → count_by test (below n) ≤ room → HasRoomFrom test n room 0
+pub room_none : (test : ℕ → Bool) (n room : ℕ) → count_by test (numbers_below n) ≤ room → HasRoomFrom test n room 0
 room_none test n room h = record { enough = omega (arith, h) }
 
 pub room_here : (test : ℕ → Bool) (n room i : ℕ) → i < n → test i ≡ true → HasRoomFrom test n room i → 0 < room
 room_here test n room i within here has =
-    let more : count_by test (below (i + 1)) ≡ count_by test (below i) + 1 =
-    count_by-below_more test i ∙ ap (λ (a : Bool). count_by test (below i) + cond a 1 0) here in
-    let all : count_by test (below (i + 1)) ≤ count_by test (below n) =
+    let more : count_by test (numbers_below (i + 1)) ≡ count_by test (numbers_below i) + 1 =
+    count_by-below_more test i ∙ ap (λ (a : Bool). count_by test (numbers_below i) + cond a 1 0) here in
+    let all : count_by test (numbers_below (i + 1)) ≤ count_by test (numbers_below n) =
     count_by-below_le test (i + 1) n (omega arith) in
     omega (arith, more, all, has.enough)
 

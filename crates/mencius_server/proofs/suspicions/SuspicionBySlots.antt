@@ -7,7 +7,7 @@ use Rattle.std.proofs.lemmas.List.{get_or_default, map-append}
 use Rattle.std.proofs.lemmas.Bool.{cases_Bool, and_left, and_parts, and_right, eqb-true, le-ltb, ltb-true, ne_eqb}
 use Rattle.std.proofs.Math.Nat.{zero-div}
 use Rattle.mencius_base.specs.declared.message.Message.{Message}
-use Rattle.mencius_base.specs.Members.{Membership, below, instances, owner}
+use Rattle.mencius_base.specs.Members.{Membership, numbers_below, instances, owner}
 use Rattle.mencius_model.proofs.trace.NumberLists.{count_by-below_none, filter-below_more, filter-below_none, filter-below_zero, get_or-map-instances, instances-below}
 use Rattle.coord_paxos.specs.SlotState.{SlotState}
 use Rattle.coord_paxos.specs.Fresh.{new_slot}
@@ -39,17 +39,17 @@ in_low a j e = ltb-true j a.stop (and_parts _ _ e).1
 -- messages for the instances that pass, where tests and messages are the same
 sent_same : (f g : ℕ → Message) (a test : ℕ → Bool) (n : ℕ) → ((j : ℕ) → j < n → a j ≡ test j)
     → ((j : ℕ) → j < n → a j ≡ true → f j ≡ g j)
-    → map f (filter a (below n)) ≡ map g (filter test (below n))
+    → map f (filter a (numbers_below n)) ≡ map g (filter test (numbers_below n))
 sent_same f g a test zero e h = ap (map f) (filter-below_zero a) ∙ sym (ap (map g) (filter-below_zero test))
 sent_same f g a test (suc n) e h =
     let next : suc n ≡ n + 1 = omega arith in
     let before = sent_same f g a test n (λ j l. e j (omega arith)) (λ j l passes. h j (omega arith) passes) in
     let tests : a n ≡ test n = e n (omega arith) in
     rw next
-    (ap (map f) (filter-below_more a n) ∙ map-append f (filter a (below n)) _
+    (ap (map f) (filter-below_more a n) ∙ map-append f (filter a (numbers_below n)) _
     ∙ ap (λ xs. xs ++ map f (cond (a n) (n ∷ []) [])) before
-    ∙ ap (λ xs. map g (filter test (below n)) ++ xs) (last (a n) refl ∙ ap (λ d. map g (cond d (n ∷ []) [])) tests)
-    ∙ sym (ap (map g) (filter-below_more test n) ∙ map-append g (filter test (below n)) _))
+    ∙ ap (λ xs. map g (filter test (numbers_below n)) ++ xs) (last (a n) refl ∙ ap (λ d. map g (cond d (n ∷ []) [])) tests)
+    ∙ sym (ap (map g) (filter-below_more test n) ∙ map-append g (filter test (numbers_below n)) _))
   where
     last : (d : Bool) → a n ≡ d → map f (cond (a n) (n ∷ []) []) ≡ map g (cond (a n) (n ∷ []) [])
     last true same = rw same (ap (λ x. x ∷ []) (h n (omega arith) same))
@@ -119,7 +119,7 @@ module _ (m : Membership) (slots : List (Option SlotState)) (rs : List (List Int
           | inr none ↦ none
         ]
 
-    pub lacking_count : count_by (is_lacking a r slots) (below a.stop) ≤ count_by (is_open_in now a) (below a.stop)
+    pub lacking_count : count_by (is_lacking a r slots) (numbers_below a.stop) ≤ count_by (is_open_in now a) (numbers_below a.stop)
     lacking_count =
         count_less (is_lacking a r slots) (is_open_in now a) a.stop
         (λ j l. lacking_open j (omega (arith, small)) (stored_at slots j) refl)
@@ -228,7 +228,7 @@ module _ (m : Membership) (slots : List (Option SlotState)) (rs : List (List Int
         → AreLearnedIntervals a.members (is_covered_slot a slots) ends
     phase_intervals ends known = intervals_stay _ _ _ _ closed_slots (intervals_of _ _ _ _ (sym members) known)
 
-    pub phase_count : count_by (is_covered_slot a slots) (below a.stop) ≡ count_by (is_open_in now a) (below a.stop)
+    pub phase_count : count_by (is_covered_slot a slots) (numbers_below a.stop) ≡ count_by (is_open_in now a) (numbers_below a.stop)
     phase_count =
         count_same (is_covered_slot a slots) (is_open_in now a) a.stop
         (λ j l. phase_is j (omega (arith, small)) (stored_at slots j) refl)
@@ -245,7 +245,7 @@ module _ (m : Membership) (slots : List (Option SlotState)) (rs : List (List Int
         (seen_some m slots rs now shown j s l e) (rounds j l opens))
 
     pub phase_sent : (p : ℕ)
-        → map (prepare_of a p slots) (filter (is_covered_slot a slots) (below a.stop)) ≡ prepares_in now p a
+        → map (prepare_of a p slots) (filter (is_covered_slot a slots) (numbers_below a.stop)) ≡ prepares_in now p a
     phase_sent p =
         sent_same (prepare_of a p slots)
         (prepare_stored now p) (is_covered_slot a slots) (is_open_in now a) a.stop
@@ -430,19 +430,19 @@ module _ (now : InstancesState) (q reach : ℕ) (a : OwnedInterval) (o : IsOpenI
   past_closed j h = and_left _ _ (unskipped_past a.members a.server a.first a.stop j h)
 
   count_all : (f g : ℕ → Bool) → ((j : ℕ) → a.stop ≤ j → f j ≡ false) → ((j : ℕ) → j < instance_count → f j ≡ g j)
-      → count_by f (below a.stop) ≡ count_by g instances
+      → count_by f (numbers_below a.stop) ≡ count_by g instances
   count_all f g past same =
-      sym (ap (λ n. count_by f (below n)) (sym all_places)
+      sym (ap (λ n. count_by f (numbers_below n)) (sym all_places)
       ∙ count_by-below_none f a.stop (instance_count - a.stop) (λ j low high. past j low))
       ∙ count_same f g instance_count same ∙ ap (count_by g) (sym instances-below)
 
-  pub open_count : count_by (is_open_in now a) (below a.stop) ≡ count_by (is_covered_stored now q reach) instances
+  pub open_count : count_by (is_open_in now a) (numbers_below a.stop) ≡ count_by (is_covered_stored now q reach) instances
   open_count = count_all (is_open_in now a) (is_covered_stored now q reach) past_closed (open_same now q reach a o)
 
   pub open_sent : (p : ℕ) → prepares_in now p a ≡ prepares_stored now p q reach
   open_sent p =
       ap (map (prepare_stored now p))
-      (sym (ap (λ n. filter (is_open_in now a) (below n)) (sym all_places)
+      (sym (ap (λ n. filter (is_open_in now a) (numbers_below n)) (sym all_places)
       ∙ filter-below_none (is_open_in now a) a.stop (instance_count - a.stop) (λ j low high. past_closed j low)))
       ∙ sent_same (prepare_stored now p)
       (prepare_stored now p) (is_open_in now a) (is_covered_stored now q reach) instance_count

@@ -3,12 +3,12 @@ use Rattle.std.proofs.Common.{◌≡◌, ℕ, zero, suc, ◌+◌, ◌-◌, ◌<�
 use Rattle.std.specs.Prelude.{nat_lt}
 use Rattle.std.specs.List.{count_by, list_any}
 use Rattle.std.proofs.lemmas.Bool.{cases_Bool, cases_eq, cases_lt, le-ltb, lt-ltb}
-use Rattle.mencius_base.specs.Members.{below, instances}
+use Rattle.mencius_base.specs.Members.{numbers_below, instances}
 use Rattle.mencius_model.proofs.trace.NumberLists.{any-instances, any-instances_found, count_by-below_le, count_by-below_more, count_by-below_none, count_by-below_zero, instances-below}
 use Rattle.mencius_server.proofs.intervals.IntervalCounts.{bit, count_same}
 use Rattle.mencius_base.specs.Limits.{instance_count}
 
-pub count_few : (f : ℕ → Bool) (n : ℕ) → count_by f (below n) ≤ n
+pub count_few : (f : ℕ → Bool) (n : ℕ) → count_by f (numbers_below n) ≤ n
 count_few f zero = omega (arith, count_by-below_zero f)
 count_few f (suc n) =
     let next : suc n ≡ n + 1 = omega arith in
@@ -18,13 +18,13 @@ count_few f (suc n) =
     bit_small true = omega arith
     bit_small false = omega arith
 
-pub count_one : (f : ℕ → Bool) (i n : ℕ) → i < n → bit (f i) ≤ count_by f (below n)
+pub count_one : (f : ℕ → Bool) (i n : ℕ) → i < n → bit (f i) ≤ count_by f (numbers_below n)
 count_one f i n less =
     omega (arith, count_by-below_more f i, count_by-below_le f (i + 1) n (omega arith))
 
 -- what passes one test passes another
 pub count_less : (f g : ℕ → Bool) (n : ℕ) → ((j : ℕ) → j < n → f j ≡ true → g j ≡ true)
-    → count_by f (below n) ≤ count_by g (below n)
+    → count_by f (numbers_below n) ≤ count_by g (numbers_below n)
 count_less f g zero h = omega (arith, count_by-below_zero f, count_by-below_zero g)
 count_less f g (suc n) h =
     let next : suc n ≡ n + 1 = omega arith in
@@ -38,7 +38,7 @@ count_less f g (suc n) h =
 
 -- two tests that differ at one place
 pub count_but : (f g : ℕ → Bool) (n i : ℕ) → i < n → ((j : ℕ) → (j ≡ i → ⊥) → f j ≡ g j)
-    → count_by f (below n) + bit (g i) ≡ count_by g (below n) + bit (f i)
+    → count_by f (numbers_below n) + bit (g i) ≡ count_by g (numbers_below n) + bit (f i)
 count_but f g zero i less same = absurd (omega arith)
 count_but f g (suc n) i less same =
     let next : suc n ≡ n + 1 = omega arith in
@@ -60,12 +60,12 @@ any_counted f = elim (cases_Bool (list_any f instances)) [
   | inl some ↦
       let found = any-instances_found f some in
       let one : bit (f found.0) ≡ 1 = ap bit found.2 in
-      let all : count_by f instances ≡ count_by f (below instance_count) = ap (count_by f) instances-below in
+      let all : count_by f instances ≡ count_by f (numbers_below instance_count) = ap (count_by f) instances-below in
       some ∙ sym (lt-ltb 0 (count_by f instances) (omega (arith, one, all, count_one f found.0 instance_count found.1)))
   | inr none ↦
-      let zero_all : count_by f (below instance_count) ≡ count_by f (below 0) =
+      let zero_all : count_by f (numbers_below instance_count) ≡ count_by f (numbers_below 0) =
       count_by-below_none f 0 instance_count (λ j low high. unfound none j high) in
-      let all : count_by f instances ≡ count_by f (below instance_count) = ap (count_by f) instances-below in
+      let all : count_by f instances ≡ count_by f (numbers_below instance_count) = ap (count_by f) instances-below in
       none ∙ sym (le-ltb 0 (count_by f instances) (omega (arith, all, zero_all, count_by-below_zero f)))
 ]
   where
@@ -77,7 +77,7 @@ any_counted f = elim (cases_Bool (list_any f instances)) [
 
 -- what passes between two places, by another test that agrees there
 pub count_between : (f g : ℕ → Bool) (a n : ℕ) → a ≤ n → ((j : ℕ) → a ≤ j → j < n → f j ≡ g j)
-    → count_by f (below n) + count_by g (below a) ≡ count_by g (below n) + count_by f (below a)
+    → count_by f (numbers_below n) + count_by g (numbers_below a) ≡ count_by g (numbers_below n) + count_by f (numbers_below a)
 count_between f g a zero h same = let e : a ≡ 0 = omega arith in rw e (omega arith)
 count_between f g a (suc n) h same =
     let next : suc n ≡ n + 1 = omega arith in
@@ -93,8 +93,8 @@ count_between f g a (suc n) h same =
 
 -- where none passes, the count stays
 pub count_still : (f : ℕ → Bool) (a n : ℕ) → a ≤ n → ((j : ℕ) → a ≤ j → j < n → f j ≡ false)
-    → count_by f (below n) ≡ count_by f (below a)
+    → count_by f (numbers_below n) ≡ count_by f (numbers_below a)
 count_still f a n h none =
     let all : a + (n - a) ≡ n = omega arith in
-    sym (ap (λ (m : ℕ). count_by f (below m)) all)
+    sym (ap (λ (m : ℕ). count_by f (numbers_below m)) all)
     ∙ count_by-below_none f a (n - a) (λ j low high. none j low (omega (arith, all)))

@@ -3,7 +3,7 @@ use Rattle.std.proofs.Common.{◌≡◌, ℕ, ◌+◌, ◌-◌, ◌<◌, ◌≤�
 use Rattle.std.specs.Prelude.{is_none, nat_lt}
 use Rattle.std.specs.List.{count_by}
 use Rattle.std.proofs.lemmas.Bool.{and_left, cases_eq, eq-eqb, lt-ltb, ne_eqb}
-use Rattle.mencius_base.specs.Members.{Membership, below, instances, owner}
+use Rattle.mencius_base.specs.Members.{Membership, numbers_below, instances, owner}
 use Rattle.mencius_model.proofs.trace.NumberLists.{any-filter, count_by-below_none, instances-below}
 use Rattle.coord_paxos.specs.SlotState.{SlotState}
 use Rattle.mencius_server.specs.Instances.{AreSlotsAndSkips, InstancesState, instance_slot, instance_slot_in, instances_in, is_covered_stored, is_spent_stored}
@@ -53,11 +53,11 @@ module _ (m : Membership) (slots : List (Option SlotState)) (rs : List (List Int
 
   count_all : (f g : ℕ → Bool) → ((j : ℕ) → j < d.stop → f j ≡ g j)
       → ((j : ℕ) → d.stop ≤ j → j < instance_count → g j ≡ false)
-      → count_by f (below d.stop) ≡ count_by g instances
+      → count_by f (numbers_below d.stop) ≡ count_by g instances
   count_all f g same past =
       let all : d.stop + (instance_count - d.stop) ≡ instance_count = omega (arith, h.small) in
       count_same f g d.stop same
-      ∙ sym (ap (count_by g) instances-below ∙ ap (λ n. count_by g (below n)) (sym all)
+      ∙ sym (ap (count_by g) instances-below ∙ ap (λ n. count_by g (numbers_below n)) (sym all)
       ∙ count_by-below_none g d.stop (instance_count - d.stop) (λ j low high. past j low (omega (arith, all))))
 
   closed_past : (j : ℕ) → d.stop ≤ j → j < instance_count → is_covered_stored now q reach j ≡ false

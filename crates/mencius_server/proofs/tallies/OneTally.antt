@@ -4,7 +4,7 @@ use Rattle.std.specs.Prelude.{is_none, unwrap_or}
 use Rattle.std.specs.List.{count_by}
 use Rattle.std.proofs.lemmas.Bool.{and_left, and_right, cases_eq, cases_lt, eq-eqb, le-ltb, lt-ltb, ne_eqb}
 use Rattle.std.proofs.lemmas.List.{get_or_default}
-use Rattle.mencius_base.specs.Members.{Membership, below, owner}
+use Rattle.mencius_base.specs.Members.{Membership, numbers_below, owner}
 use Rattle.mencius_model.proofs.trace.NumberLists.{count_by-below_zero}
 use Rattle.coord_paxos.specs.SlotState.{SlotState}
 use Rattle.mencius_server.specs.Instances.{AreSlotsAndSkips, instance_slot_in, is_in_skipped, slot_by_skip}
@@ -148,8 +148,8 @@ module _ (m : Membership) (f : ℕ → SlotState) (q i : ℕ) (a : Tally) (own :
 pub record IsTalliedTo (m : Membership) (f : ℕ → SlotState) (q first stop : ℕ) (a : Tally) (i : ℕ) : Type 0 where
   pub own : owner m i ≡ q
   pub over : (j : ℕ) → stop ≤ j → j < i → owner m j ≡ q → ⊥
-  pub opens : IsCountUpTo (is_open_of m f q) i (a.open_count + count_by (is_open_of m f q) (below first))
-  pub spent : IsCountUpTo (is_spent_of m f q) i (a.spent_count + count_by (is_spent_of m f q) (below first))
+  pub opens : IsCountUpTo (is_open_of m f q) i (a.open_count + count_by (is_open_of m f q) (numbers_below first))
+  pub spent : IsCountUpTo (is_spent_of m f q) i (a.spent_count + count_by (is_spent_of m f q) (numbers_below first))
 
 module _ (m : Membership) (f : ℕ → SlotState) (q first stop : ℕ) where
   pub tallied_start : (a : Tally) (i : ℕ) → a.open_count ≡ 0 → a.spent_count ≡ 0 → first ≤ stop → owner m i ≡ q
@@ -182,10 +182,10 @@ module _ (m : Membership) (f : ℕ → SlotState) (q first stop : ℕ) where
         over = λ j past before mine.
             let far = least j (omega arith) (mine ∙ sym h.own) in absurd (omega (arith, far));
         opens = count_gap (is_open_of m f q) (i + 1) next _ ahead between
-            (one_more (is_open_of m f q) a.open_count (open_one (f i)) (count_by (is_open_of m f q) (below first))
+            (one_more (is_open_of m f q) a.open_count (open_one (f i)) (count_by (is_open_of m f q) (numbers_below first))
             (sym (ap bit (own_open m f q i h.own))) h.opens);
         spent = count_gap (is_spent_of m f q) (i + 1) next _ ahead (λ j low high. and_left _ _ (between j low high))
-            (one_more (is_spent_of m f q) a.spent_count (spent_one m (f i)) (count_by (is_spent_of m f q) (below first))
+            (one_more (is_spent_of m f q) a.spent_count (spent_one m (f i)) (count_by (is_spent_of m f q) (numbers_below first))
             (sym (ap bit (own_spent m f q i h.own))) h.spent);
       })
     where
@@ -205,10 +205,10 @@ module _ (m : Membership) (f : ℕ → SlotState) (q first stop : ℕ) where
     small = omega (arith, end);
     open_count = (count_to (is_open_of m f q) i stop _ (λ j low high. absurd (omega arith))
         (λ j low high. other_open m f q j (h.over j low high)) h.opens).counted
-        ∙ ap (λ n. count_by (is_open_of m f q) (below n)) (sym end);
+        ∙ ap (λ n. count_by (is_open_of m f q) (numbers_below n)) (sym end);
     spent_count = (count_to (is_spent_of m f q) i stop _ (λ j low high. absurd (omega arith))
         (λ j low high. and_left _ _ (other_open m f q j (h.over j low high))) h.spent).counted
-        ∙ ap (λ n. count_by (is_spent_of m f q) (below n)) (sym end);
+        ∙ ap (λ n. count_by (is_spent_of m f q) (numbers_below n)) (sym end);
   }
 
 -- ---- counts between two places

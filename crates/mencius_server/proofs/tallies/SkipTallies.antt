@@ -3,7 +3,7 @@ use Rattle.std.proofs.Common.{◌≡◌, ℕ, ◌+◌, ◌<◌, ◌≤◌, Bool,
 use Rattle.std.specs.Prelude.{is_none}
 use Rattle.std.specs.List.{count_by}
 use Rattle.std.proofs.lemmas.Bool.{cases_eq, cases_lt, eq-eqb, ne_eqb}
-use Rattle.mencius_base.specs.Members.{below, owner}
+use Rattle.mencius_base.specs.Members.{numbers_below, owner}
 use Rattle.mencius_model.proofs.trace.NumberLists.{count_by-below_le}
 use Rattle.coord_paxos.specs.SlotState.{SlotState}
 use Rattle.mencius_server.specs.Intervals.{is_between}
@@ -18,14 +18,14 @@ use Rattle.mencius_server.specs.Machine.{is_spent}
 
 -- what passes below a place, once nothing between two others passes any more
 count_after_skip : (test r : ℕ → Bool) (first stop n end count some : ℕ) → first ≤ stop → first ≤ n → end ≡ min stop n
-    → some + count_by test (below first) ≡ count_by test (below end) → count ≡ count_by test (below n)
+    → some + count_by test (numbers_below first) ≡ count_by test (numbers_below end) → count ≡ count_by test (numbers_below n)
     → ((j : ℕ) → j < n → r j ≡ (test j && not (is_between first stop j)))
-    → count_by r (below n) + some ≡ count
+    → count_by r (numbers_below n) + some ≡ count
 count_after_skip test r first stop n end count some order low at some_is count_is rest =
     let low_is : min n first ≡ first = omega arith in
     let high_is : min n stop ≡ end = omega (arith, at) in
-    let within : count_by (λ j. test j && is_between first stop j) (below n) + count_by test (below first)
-    ≡ count_by test (below end) = rw (low_is, high_is) at (count_within test first stop n order) in
+    let within : count_by (λ j. test j && is_between first stop j) (numbers_below n) + count_by test (numbers_below first)
+    ≡ count_by test (numbers_below end) = rw (low_is, high_is) at (count_within test first stop n order) in
     let split = count_split test (λ j. test j && is_between first stop j) (λ j. test j && not (is_between first stop j))
     n
     (λ j l. both (test j) (is_between first stop j)) in

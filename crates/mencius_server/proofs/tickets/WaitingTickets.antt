@@ -16,7 +16,7 @@ use Rattle.mencius_server.specs.Machine.{after_submit, is_suggested_again, is_ti
 use Rattle.mencius_model.specs.Server.{ticket_of}
 use Rattle.mencius_server.specs.State.{IsServer, ServerState, slot}
 use Rattle.mencius_base.specs.Limits.{instance_count}
-use Rattle.mencius_model.specs.Rules.{is_noop, unless}
+use Rattle.mencius_model.specs.Rules.{is_noop, ticket_unless}
 
 -- two tests that follow from each other
 pub both_ways : (a d : Bool) → (a ≡ true → d ≡ true) → (d ≡ true → a ≡ true) → a ≡ d
@@ -39,7 +39,7 @@ past_same s x said t i =
     any-instances (is_suggested_again x t i) so.0 so.1
     (ap (λ (o : Option ℕ). ltb i so.0 && is_ticket t o) (said.same so.0 so.1) ∙ so.2))
 
-unless_none : (d : Bool) (t : ℕ) → unless d (Some t) ≡ None → d ≡ true
+unless_none : (d : Bool) (t : ℕ) → ticket_unless d (Some t) ≡ None → d ≡ true
 unless_none true t h = refl
 unless_none false t h = absurd (cc)
 
@@ -172,7 +172,7 @@ module _ (s : ServerState) (i t : ℕ) (kept : IsServer s) (mine : owner s.membe
           let known : (slot later i).learned ≡ None = ap (λ (y : SlotState). y.learned) here ∙ e in rw known refl
       free (Some x) e = let no = rw e at blank in absurd (cc)
 
-      longer : (a d z : Bool) (u : ℕ) → (a || d) ≡ true → unless (a || (d || z)) (Some u) ≡ None
+      longer : (a d z : Bool) (u : ℕ) → (a || d) ≡ true → ticket_unless (a || (d || z)) (Some u) ≡ None
       longer true d z u h = refl
       longer false true z u h = refl
       longer false false z u h = absurd (cc)

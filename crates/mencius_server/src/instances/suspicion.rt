@@ -1,6 +1,6 @@
 //! What a suspicion of a server would revoke, and the first phases that it starts.
 ghost use Rattle.mencius_base.specs.Limits.{greatest_front, instance_count};
-ghost use Rattle.mencius_base.specs.Members.{below, instances};
+ghost use Rattle.mencius_base.specs.Members.{numbers_below, instances};
 ghost use Rattle.mencius_server.specs.Instances.{instances_after_suspect, is_open_in, prepares_in, prepares_stored, reach_stored, with_first_phases, with_open_stored};
 ghost use Rattle.mencius_server.specs.OwnedIntervals.{IsOwnedInterval};
 ghost use Rattle.mencius_server.specs.Tallies.{IsOpenInterval, IsSurvey};
@@ -95,7 +95,7 @@ impl Instances {
         requires interval { IsOwnedInterval interval.now }
         requires members { interval.now.members ≡ self.old.members }
         requires small { interval.now.stop ≤ instance_count }
-        requires few { count_by (is_open_in self.old interval.now) (below interval.now.stop)
+        requires few { count_by (is_open_in self.old interval.now) (numbers_below interval.now.stop)
             ≤ open_count }
         ensures ok { OnOk result (self.new ≡ with_open_stored self.old interval.now) }
         ensures err { OnErr result (self.new ≡ self.old) }

@@ -99,7 +99,7 @@ fn two_workers<R: Abort>(rt: &R, alloc: Global) -> Plan
 }
 
 // Whether an event submits the command of a number at a server.
-fn submits(event: &Event, wanted: Option<&(u8, u32)>) -> bool {
+fn is_submission_of(event: &Event, wanted: Option<&(u8, u32)>) -> bool {
     match (event, wanted) {
         (Event::Submit { server, command }, Some((at, number))) => {
             server == at && command.id().number == *number
@@ -117,13 +117,13 @@ fn is_picked<R: Abort>(
     left: &mut Iter<(u8, u32)>,
 ) -> bool {
     match picked {
-        Pick::NextCommand => submits(event, left.next()),
+        Pick::NextCommand => is_submission_of(event, left.next()),
         Pick::Is(wanted) => shown(rt, alloc, event).as_str() == shown(rt, alloc, &wanted).as_str(),
     }
 }
 
 // Whether a worker's choice is what the words pick. The cluster is stepped by it.
-fn turns<R: Abort>(
+fn take_turn<R: Abort>(
     rt: &R,
     alloc: Global,
     words: [u32; 3],
@@ -140,7 +140,7 @@ fn turns<R: Abort>(
 
 // Whether 200 choices of a worker are what the words drawn beside them pick, and its commands come in this order of
 // servers and numbers.
-fn follows<R: Abort>(
+fn take_turns<R: Abort>(
     rt: &R,
     alloc: Global,
     plan: &Plan,
@@ -158,7 +158,7 @@ fn follows<R: Abort>(
         let second = words_beside.next_word();
         let third = words_beside.next_word();
         let words = [first, second, third];
-        if !turns(rt, alloc, words, &mut left, &mut chooser, cluster) {
+        if !take_turn(rt, alloc, words, &mut left, &mut chooser, cluster) {
             return false;
         }
     }
@@ -171,6 +171,6 @@ fn choices_follow_the_words_and_the_lists(rt: HostRuntime) {
     let plan = two_workers(&rt, alloc);
     let mut cluster = new_cluster(&rt, alloc, 3);
     let first = [(0, 0), (2, 20), (0, 1), (2, 21)];
-    assert!(rt; follows(&rt, alloc, &plan, 0, &first, &mut cluster));
-    assert!(rt; follows(&rt, alloc, &plan, 1, &[(1, 10)], &mut cluster));
+    assert!(rt; take_turns(&rt, alloc, &plan, 0, &first, &mut cluster));
+    assert!(rt; take_turns(&rt, alloc, &plan, 1, &[(1, 10)], &mut cluster));
 }

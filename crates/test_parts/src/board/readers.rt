@@ -176,7 +176,7 @@ fn take_and_show<R: Wait + Abort>(rt: &R, alloc: Global, place: &mut Board) -> b
 }
 
 // Whether each of 1,000 lookups finds a number, none below 1 or the one before.
-fn finds_rising(alloc: Global, mut reader: Reader) -> bool {
+fn look_up_rising(alloc: Global, mut reader: Reader) -> bool {
     let mut least = 1u32;
     for _ in 0..1000 {
         match reader.lookup(alloc, "a") {
@@ -202,8 +202,8 @@ fn readers_beside_a_thread_that_owns_the_board(rt: HostRuntime) {
         || {
             thread::join(
                 &rt,
-                || finds_rising(alloc, first),
-                || finds_rising(alloc, second),
+                || look_up_rising(alloc, first),
+                || look_up_rising(alloc, second),
             )
         },
     );

@@ -1,7 +1,7 @@
 use Rattle.std.proofs.Common.{◌≡◌, arith, false, refl, true}
 use Rattle.std.proofs.lemmas.Result.{IfErr-weaker}
 use Rattle.mencius_command_line.specs.CommandLine.{asked_check, asked_replay, asked_trace}
-use Rattle.mencius_app.specs.Ending.{reports_refusals}
+use Rattle.mencius_app.specs.Ending.{are_refusals_reported}
 use Rattle.mencius_app.specs.declared.ending.Ending.TheVariants.{BadCommandLine, BoardFailed}
 use Rattle.mencius_app.proofs.inputs.EndingCauses.{as_text, done_no_other, found_no_other, of_finding, of_result, text_of_replay}
 use Rattle.mencius_app.proofs.inputs.LogFaults.{judged_done, judged_no_other, of_judgement, text_of_judgement, told_of_judgement}
@@ -82,5 +82,5 @@ returns-in-Judge-clause-written g c = rw c.in-Judge.is (
 pub returns-then-not-all_accepted-clause-written : goal.returns-then-not-all_accepted-clause-written
 returns-then-not-all_accepted-clause-written g c =
     let done = c.in-Ok.ensures.done in
-    let told : true ≡ reports_refusals c.in-Replay.is_strict c.in-Ok.all_accepted = grind arith in
+    let told : true ≡ are_refusals_reported c.in-Replay.is_strict c.in-Ok.all_accepted = grind arith in
     (λ e. absurd (cc e), λ e. rw c.in-Replay.is (done.0, (c.in-Ok.all_accepted, done.1, told), done.2))

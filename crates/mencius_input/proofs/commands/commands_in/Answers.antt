@@ -1,7 +1,7 @@
 use Rattle.std.proofs.Common.{◌≡◌, None, Ok, refl, ap, ◌∙◌, arith, max}
 use Rattle.std.specs.List.{list_all}
 use Rattle.json.specs.Json.{after_end_array}
-use Rattle.mencius_format.specs.Grammar.{command_of, command_within, newest_version}
+use Rattle.mencius_format.specs.Grammar.{command_of, is_command_within, newest_version}
 use Rattle.mencius_input.specs.Newest.{command_item_version}
 use Rattle.mencius_input.specs.Scenario.{said_by}
 use Rattle.mencius_input.proofs.Stops.{stops_at, stops_whole}
@@ -10,7 +10,7 @@ use Rattle.mencius_input.proofs.commands.commands_in.Goals as goal
 
 pub items-init : goal.items-init
 items-init c =
-    list_start (said_by (command_of newest_version)) (list_all command_within) command_item_version _ _ _ refl
+    list_start (said_by (command_of newest_version)) (list_all is_command_within) command_item_version _ _ _ refl
     (ap Ok c.new-commands.ensures.items)
 
 pub returns-in_err-needed-clause-err : goal.returns-in_err-needed-clause-err
@@ -25,7 +25,7 @@ items-preserved c =
     let l = c.items in
     let going : (after_end_array l.reader ≡ None) × (c.take_end_array.new.self ≡ l.reader) = grind arith in
     let done = c.in_ok-needed.ensures in
-    list_further command_within l.invariant going.0 _ done.ok.0 _ _ _ (rw (← going.1) done.shorter)
+    list_further is_command_within l.invariant going.0 _ done.ok.0 _ _ _ (rw (← going.1) done.shorter)
     (rw (← going.1) done.ok.1)
     (c.max-version.ensures ∙ ap (max l.version) done.ok.3)
     refl done.ok.2

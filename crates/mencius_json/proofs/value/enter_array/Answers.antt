@@ -10,11 +10,11 @@ returns-in_err-token-clause-err c =
     let empty : c.args.reader.now ≡ [] = grind arith in
     err_anyway _ (ap (next_value c.args.depth) empty ∙ next_none c.args.depth)
 
-pub returns-then-opens_array-clause-ok : goal.returns-then-opens_array-clause-ok
-returns-then-opens_array-clause-ok c =
+pub returns-then-is_begin_array-clause-ok : goal.returns-then-is_begin_array-clause-ok
+returns-then-is_begin_array-clause-ok c =
     let first : c.args.reader.now ≡ token_of c.in_ok-token.token ∷ c.next.new.self = grind arith in
     array_first c.args.depth (token_of c.in_ok-token.token) c.next.new.self c.args.reader.now first c.requires
-    (sym c.opens_array.ensures ∙ c.if-opens_array.true)
+    (sym c.is_begin_array.ensures ∙ c.if-is_begin_array.true)
 
 pub returns-clause-ok : goal.returns-clause-ok
 returns-clause-ok c =
@@ -23,5 +23,5 @@ returns-clause-ok c =
       done.0,
       passed_first c.args.depth (token_of c.in_ok-token.token) c.next.new.self c.args.reader.now first done.0 _ done.1,
       passed_no_array c.args.depth (token_of c.in_ok-token.token) c.next.new.self c.args.reader.now first done.0 _
-          done.1 (sym c.opens_array.ensures ∙ c.if-opens_array.false),
+          done.1 (sym c.is_begin_array.ensures ∙ c.if-is_begin_array.false),
     )

@@ -14,7 +14,7 @@ push_at-requires-clause-room c =
     filled_room c.args.interval c.args.skipped.now (stored_slots c.args.places.now.items c.args.slots.now.items)
     (stored_slots c.loop-inst.places.items c.loop-inst.slots.items) c.loop-inst.inst (c.loop-inst.inst + 1)
     inv.own inv.low c.loop-inst-test.true (omega arith) (λ j l mine. l) inv.walked _ _ inv.room
-    (sym c.has.ensures ∙ c.if-has.false)
+    (sym c.has_instance.ensures ∙ c.if-has_instance.false)
 
 pub loop-inst-preserved-then-is_some : goal.loop-inst-preserved-then-is_some
 loop-inst-preserved-then-is_some c =
@@ -40,8 +40,8 @@ loop-inst-preserved-then-is_some c =
       room = passing.1;
     }
 
-pub loop-inst-preserved-then-has : goal.loop-inst-preserved-then-has
-loop-inst-preserved-then-has c =
+pub loop-inst-preserved-then-has_instance : goal.loop-inst-preserved-then-has_instance
+loop-inst-preserved-then-has_instance c =
     let inv = c.loop-inst.invariant in
     let a = c.args.interval in
     let m = a.members in
@@ -55,7 +55,7 @@ loop-inst-preserved-then-has c =
     let above = c.next_owned-next.ensures.above in
     let ahead = past_above m ends i next past c.past-inst.ensures above owned in
     let whole : lacks i ≡ false =
-    lacking_covered a c.args.skipped.now old i (sym c.has.ensures ∙ c.if-has.true) in
+    lacking_covered a c.args.skipped.now old i (sym c.has_instance.ensures ∙ c.if-has_instance.true) in
     let small : a.stop ≤ instance_count =
     omega (arith, c.requires.places.wide, c.requires.places.placed.few, c.args.places.now.ok.0) in
     let along = along_interval a i past lacks (lacking_out a c.args.skipped.now old) inv.own small
@@ -76,7 +76,7 @@ pub loop-inst-preserved : goal.loop-inst-preserved
 loop-inst-preserved c =
     let inv = c.loop-inst.invariant in
     let ahead = c.next_owned-next.ensures.above in
-    let clear = sym c.has.ensures ∙ c.if-has.false in
+    let clear = sym c.has_instance.ensures ∙ c.if-has_instance.false in
     let pushed = filled c.args.interval c.args.skipped.now (stored_slots c.args.places.now.items c.args.slots.now.items)
     (stored_slots c.loop-inst.places.items c.loop-inst.slots.items) c.loop-inst.inst c.next_owned-next.result
     inv.own inv.low c.loop-inst-test.true ahead c.next_owned-next.ensures.least inv.walked _ _ inv.room clear _

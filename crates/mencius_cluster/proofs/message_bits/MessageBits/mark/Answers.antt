@@ -2,7 +2,7 @@ use Rattle.std.proofs.Common.{ℕ, ◌<◌, ◌&&◌, ◌||◌, length, ap, subs
 use Rattle.std.specs.Prelude.{◌==◌}
 use Rattle.std.specs.Int.{bit_at}
 use Rattle.std.proofs.lemmas.Grind.{get_or_default_zero}
-use Rattle.mencius_cluster.specs.MessageBits.{MessageBitsState, bit_in}
+use Rattle.mencius_cluster.specs.MessageBits.{MessageBitsState, has_bit_in}
 use Rattle.mencius_cluster.proofs.tables.LossMasks.{marked}
 use Rattle.mencius_cluster.proofs.message_bits.MessageBits.mark.Goals as goal
 
@@ -14,4 +14,4 @@ returns c k d =
     marked masks.items c.args.message c.args.server c.index_mut.result.now there c.requires.server
     (c.index_mut.ensures.value ∙ get_or_default_zero masks.items c.args.message c.index_mut.result.now there) k d
     ∙ ap (λ x. (c.args.message == k && c.args.server == d) || (bit_at x d == 1)) (c.fill.ensures.kept k)
-    ∙ ap (λ (y : MessageBitsState). (c.args.message == k && c.args.server == d) || bit_in y k d) c.self.view_is
+    ∙ ap (λ (y : MessageBitsState). (c.args.message == k && c.args.server == d) || has_bit_in y k d) c.self.view_is

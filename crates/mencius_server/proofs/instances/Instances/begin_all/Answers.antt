@@ -1,6 +1,6 @@
 use Rattle.std.proofs.Common.{◌≡◌, ℕ, ◌<◌, ◌≤◌, ◌++◌, true, ap, arith, rules, subst, sym, ◌∙◌}
 use Rattle.std.specs.List.{count_by}
-use Rattle.mencius_base.specs.Members.{below}
+use Rattle.mencius_base.specs.Members.{numbers_below}
 use Rattle.mencius_server.specs.Machine.{next_round_of}
 use Rattle.mencius_server.specs.Instances.{InstancesState, has_slot, instance_slot, is_open_in, prepares_in, with_first_phases}
 use Rattle.mencius_server.proofs.suspicions.SuspicionBySlots.{open_count, open_sent, stored_has, suspect_is}
@@ -32,7 +32,7 @@ begin_open-requires c =
       stored = subst stored (sym c.in_ok-store_open.ensures.ok) (stored_has _ _ _ _ c.open_interval-interval.ensures);
       rounds = subst rounds (sym c.in_ok-store_open.ensures.ok)
           (λ j l e. c.requires.rounds j l (sym (open_same _ _ _ _ c.open_interval-interval.ensures j l) ∙ e));
-      room = subst (λ (s : InstancesState). count_by (is_open_in s interval) (below interval.stop)
+      room = subst (λ (s : InstancesState). count_by (is_open_in s interval) (numbers_below interval.stop)
           ≤ c.args.out.now.room) (sym c.in_ok-store_open.ensures.ok)
           (omega (arith, c.requires.room, open_count _ _ _ _ c.open_interval-interval.ensures));
     }

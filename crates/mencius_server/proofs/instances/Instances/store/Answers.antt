@@ -6,21 +6,21 @@ use Rattle.mencius_server.proofs.tallies.OneTally.{alike_same}
 use Rattle.mencius_server.proofs.tallies.InstanceTallies.{counts_kept, unchanged}
 use Rattle.mencius_server.proofs.instances.Instances.store.Goals as goal
 
-pub returns-then-has-clause-ok : goal.returns-then-has-clause-ok
-returns-then-has-clause-ok c =
-    stored_already _ _ _ _ c.args.inst c.self.view_is (sym c.has.ensures ∙ c.if-has.true)
+pub returns-then-has_slot-clause-ok : goal.returns-then-has_slot-clause-ok
+returns-then-has_slot-clause-ok c =
+    stored_already _ _ _ _ c.args.inst c.self.view_is (sym c.has_slot.ensures ∙ c.if-has_slot.true)
 
-pub returns-then-has-clause-there : goal.returns-then-has-clause-there
-returns-then-has-clause-there c =
-    seen_stored _ _ _ _ c.self.view_is c.args.inst c.requires ∙ sym c.has.ensures ∙ c.if-has.true
+pub returns-then-has_slot-clause-there : goal.returns-then-has_slot-clause-there
+returns-then-has_slot-clause-there c =
+    seen_stored _ _ _ _ c.self.view_is c.args.inst c.requires ∙ sym c.has_slot.ensures ∙ c.if-has_slot.true
 
 pub invariant_of-self : goal.invariant_of-self
 invariant_of-self c = unchanged _ _ _ _ _ _ _ c.in_err-store.ensures.err c.self.invariant
 
 pub invariant_of-self-2 : goal.invariant_of-self-2
 invariant_of-self-2 c =
-    let gone = none_there (stored_at c.self.inside.stored.slots c.args.inst) c.has.result c.has.ensures
-    c.if-has.false in
+    let gone = none_there (stored_at c.self.inside.stored.slots c.args.inst) c.has_slot.result c.has_slot.ensures
+    c.if-has_slot.false in
     let stored =
     λ (j : ℕ). c.in_ok-store.ensures.ok j
     ∙ ap (λ bit. cond (eqb j c.args.inst) (Some (slot_by_skip c.self.inside.stored.members bit))
@@ -34,8 +34,8 @@ invariant_of-self-2 c =
 
 pub returns-clause-ok : goal.returns-clause-ok
 returns-clause-ok c =
-    let gone = none_there (stored_at c.self.inside.stored.slots c.args.inst) c.has.result c.has.ensures
-    c.if-has.false in
+    let gone = none_there (stored_at c.self.inside.stored.slots c.args.inst) c.has_slot.result c.has_slot.ensures
+    c.if-has_slot.false in
     store_shows _ _ _ _ _ gone
     (λ j. c.in_ok-store.ensures.ok j
     ∙ ap (λ bit. cond (eqb j c.args.inst) (Some (slot_by_skip c.self.inside.stored.members bit))

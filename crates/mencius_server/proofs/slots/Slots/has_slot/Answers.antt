@@ -2,7 +2,7 @@ use Rattle.std.proofs.Common.{None, get_or, ◌∙◌, ap, sym}
 use Rattle.std.specs.Prelude.{is_some}
 use Rattle.mencius_server.specs.Slots.{stored_at}
 use Rattle.mencius_server.proofs.stored.PlaceTable.{somewhere}
-use Rattle.mencius_server.proofs.slots.Slots.has.Goals as goal
+use Rattle.mencius_server.proofs.slots.Slots.has_slot.Goals as goal
 
 pub returns : goal.returns
 returns c =
