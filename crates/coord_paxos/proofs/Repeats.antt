@@ -12,7 +12,7 @@ use Rattle.mencius_model.proofs.trace.Reports.{higher_vote_twice}
 
 with_promise_twice : (s : SlotState) (q : ℕ) (o : Option Vote)
     → with_promise (with_promise s q o) q o ≡ with_promise s q o
-with_promise_twice s q o = rw (set-set s.promisers q true true, higher_vote_twice s.reported o)
+with_promise_twice s q o = rw (set-set s.promises q true true, higher_vote_twice s.reported o)
 
 -- a promise that adds nothing, where nothing is due
 promise_ignored : (s : SlotState) (q b : ℕ) (o : Option Vote) → with_promise s q o ≡ s → due_proposal s ≡ None
@@ -63,7 +63,7 @@ promise_twice s q b o = either (eqb b s.trying) refl
 -- ---- acceptances
 
 with_acceptance_twice : (s : SlotState) (q : ℕ) → with_acceptance (with_acceptance s q) q ≡ with_acceptance s q
-with_acceptance_twice s q = rw (set-set s.accepters q true true)
+with_acceptance_twice s q = rw (set-set s.accepts q true true)
 
 -- an acceptance that adds nothing, where nothing is due
 acceptance_ignored : (s : SlotState) (q b : ℕ) → with_acceptance s q ≡ s → due_decision s ≡ None

@@ -91,8 +91,8 @@ slot_trying m w p i b = record (slot_at m w p i) {
   trying = b;
   reported = reported_vote w p i b;
   proposal = if_own m p i b (proposal w i b);
-  promisers = map (promisers w p i b) (numbers_below m.count);
-  accepters = map (accepters w p i b) (numbers_below m.count);
+  promises = map (promisers w p i b) (numbers_below m.count);
+  accepts = map (accepters w p i b) (numbers_below m.count);
 }
 
 slot_at-tried : (m : Membership) (w : Trace) (p i b : ℕ) → tried_ballot w p i < b

@@ -32,8 +32,8 @@ same_parts : (m n : Membership) (a b : ℕ) (o d : Option Vote) (e f : Option Va
       trying = g;
       reported = x;
       proposal = z;
-      promisers = xs;
-      accepters = s;
+      promises = xs;
+      accepts = s;
     })
     (record {
       members = n;
@@ -43,23 +43,23 @@ same_parts : (m n : Membership) (a b : ℕ) (o d : Option Vote) (e f : Option Va
       trying = h;
       reported = y;
       proposal = l;
-      promisers = r;
-      accepters = ys;
+      promises = r;
+      accepts = ys;
     })
 same_parts m n a b o d e f g h x y z l xs r s ys p1 p2 p3 p4 p5 p6 p7 p8 p9 = rw (p1, p2, p3, p4, p5, p6, p7, p8, p9)
 
 pub same_slot : (s r : SlotState) → s.members ≡ r.members → s.promised ≡ r.promised → s.vote ≡ r.vote
     → s.learned ≡ r.learned
-    → s.trying ≡ r.trying → s.reported ≡ r.reported → s.proposal ≡ r.proposal → s.promisers ≡ r.promisers
-    → s.accepters ≡ r.accepters → s ≡ r
+    → s.trying ≡ r.trying → s.reported ≡ r.reported → s.proposal ≡ r.proposal → s.promises ≡ r.promises
+    → s.accepts ≡ r.accepts → s ≡ r
 same_slot s r = same_parts _ _ _ _ _ _ _ _ _ _ _ _ _ _ _ _ _ _
 
 -- p's slot for i, with the sets of other messages heard
 abbrev pub slot_hearing : Membership → Trace → ServerId → Inst → List Message → SlotState
 slot_hearing m w p i hs = record (slot_at m w p i) {
   reported = highest_vote (map (vote_reported i (tried_ballot w p i)) hs);
-  promisers = map (λ (q : ℕ). list_any (is_promise i (tried_ballot w p i) q) hs) (numbers_below m.count);
-  accepters = map (λ (q : ℕ). list_any (is_acceptance i (tried_ballot w p i) q) hs) (numbers_below m.count);
+  promises = map (λ (q : ℕ). list_any (is_promise i (tried_ballot w p i) q) hs) (numbers_below m.count);
+  accepts = map (λ (q : ℕ). list_any (is_acceptance i (tried_ballot w p i) q) hs) (numbers_below m.count);
 }
 
 -- a line that proposes nothing and tries nothing

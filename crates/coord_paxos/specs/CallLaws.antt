@@ -5,7 +5,7 @@ use Rattle.mencius_base.specs.declared.message.Value.{Value}
 use Rattle.mencius_base.specs.declared.message.Vote.{Vote}
 use Rattle.coord_paxos.specs.SlotState.{SlotState}
 use Rattle.coord_paxos.specs.Slot.{acceptance_answer, after_accept, after_acceptance, after_begin, after_learn, after_prepare, after_promise, prepare_answer, promise_answer, with_promise}
-use Rattle.mencius_base.specs.declared.message.Answer.TheVariants.{Promise, Learn}
+use Rattle.mencius_base.specs.declared.message.Answer.TheVariants.{Promise, Known}
 
 -- ---- the promise
 
@@ -31,7 +31,7 @@ PromiseGrows =
 abbrev pub BeginEmpties : Type 0
 BeginEmpties =
     (s : SlotState) (b : BallotNo)
-    → (¬ Contains (after_begin s b).promisers true) × (¬ Contains (after_begin s b).accepters true)
+    → (¬ Contains (after_begin s b).promises true) × (¬ Contains (after_begin s b).accepts true)
 
 -- ---- repeats
 
@@ -79,7 +79,7 @@ pub record KeepsProposal (s : SlotState) (z : Value) : Type 0 where
   pub accept : (b : BallotNo) (x : Value) → (after_accept s b x).proposal ≡ Some z
   pub add_promise : (q : ServerId) (b : BallotNo) (reported : Option Vote)
       → (after_promise s q b reported).proposal ≡ Some z
-  pub add_acceptance : (q : ServerId) (b : BallotNo) → (after_acceptance s q b).proposal ≡ Some z
+  pub add_accept : (q : ServerId) (b : BallotNo) → (after_acceptance s q b).proposal ≡ Some z
   pub learn : (x : Value) → (after_learn s x).proposal ≡ Some z
 
 abbrev pub ProposalStays : Type 0
@@ -95,7 +95,7 @@ LearnsOwnProposal =
 
 -- a learned value stays, and nothing more is proposed or decided
 pub record KeepsLearned (s : SlotState) (z : Value) : Type 0 where
-  pub known : (b : BallotNo) → prepare_answer s b ≡ Learn z
+  pub known : (b : BallotNo) → prepare_answer s b ≡ Known z
   pub unproposed : (q : ServerId) (b : BallotNo) (reported : Option Vote) → promise_answer s q b reported ≡ None
   pub undecided : (q : ServerId) (b : BallotNo) → acceptance_answer s q b ≡ None
   pub prepare : (b : BallotNo) → (after_prepare s b).learned ≡ Some z
@@ -103,7 +103,7 @@ pub record KeepsLearned (s : SlotState) (z : Value) : Type 0 where
   pub begin : (b : BallotNo) → (after_begin s b).learned ≡ Some z
   pub add_promise : (q : ServerId) (b : BallotNo) (reported : Option Vote)
       → (after_promise s q b reported).learned ≡ Some z
-  pub add_acceptance : (q : ServerId) (b : BallotNo) → (after_acceptance s q b).learned ≡ Some z
+  pub add_accept : (q : ServerId) (b : BallotNo) → (after_acceptance s q b).learned ≡ Some z
   pub learn : (x : Value) → (after_learn s x).learned ≡ Some z
 
 abbrev pub LearnedStays : Type 0

@@ -17,6 +17,6 @@ new_slot m = record {
   trying = 0;
   reported = None;
   proposal = None;
-  promisers = no_servers m;
-  accepters = no_servers m;
+  promises = no_servers m;
+  accepts = no_servers m;
 }

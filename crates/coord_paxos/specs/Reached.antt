@@ -25,6 +25,6 @@ slot_at m w p i = record {
   trying = tried_ballot w p i;
   reported = reported_vote w p i (tried_ballot w p i);
   proposal = own_proposal m w p i;
-  promisers = map (promisers w p i (tried_ballot w p i)) (numbers_below m.count);
-  accepters = map (accepters w p i (tried_ballot w p i)) (numbers_below m.count);
+  promises = map (promisers w p i (tried_ballot w p i)) (numbers_below m.count);
+  accepts = map (accepters w p i (tried_ballot w p i)) (numbers_below m.count);
 }

@@ -39,20 +39,20 @@ after_begin s b = record s {
   trying = b;
   reported = None;
   proposal = None;
-  promisers = no_servers s.members;
-  accepters = no_servers s.members;
+  promises = no_servers s.members;
+  accepts = no_servers s.members;
 }
 
 -- one more promise of the ballot that is tried, and the vote in it
 abbrev pub with_promise : SlotState → ServerId → Option Vote → SlotState
 with_promise s q x = record s {
-  promisers = slice_set s.promisers q true;
+  promises = slice_set s.promises q true;
   reported = higher_vote s.reported x;
 }
 
 -- the value to propose, if one is due
 abbrev pub due_proposal : SlotState → Option Value
-due_proposal s = due_proposal_from s.learned s.proposal (has_majority s.members s.promisers) s.reported
+due_proposal s = due_proposal_from s.learned s.proposal (has_majority s.members s.promises) s.reported
 
 -- with the proposal noted, if there is one
 abbrev pub with_proposal : SlotState → Option Value → SlotState
@@ -69,11 +69,11 @@ after_promise s q b x =
 
 -- one more acceptance at the ballot that is tried
 abbrev pub with_acceptance : SlotState → ServerId → SlotState
-with_acceptance s q = record s { accepters = slice_set s.accepters q true }
+with_acceptance s q = record s { accepts = slice_set s.accepts q true }
 
 -- the value that is decided, if one is: what this slot proposed
 abbrev pub due_decision : SlotState → Option Value
-due_decision s = due_decision_from s.learned s.proposal (has_majority s.members s.accepters)
+due_decision s = due_decision_from s.learned s.proposal (has_majority s.members s.accepts)
 
 -- with the value noted as learned, if there is one
 abbrev pub with_learned : SlotState → Option Value → SlotState

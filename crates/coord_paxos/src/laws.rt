@@ -41,7 +41,7 @@ pub fn counts_promises()
     ensures after { SlotAfterPromise }
 {}
 
-/// [`add_acceptance`](crate::Slot::add_accept) gives the value that is decided by all acceptances
+/// [`add_accept`](crate::Slot::add_accept) gives the value that is decided by all acceptances
 /// heard, and the slot after it is learned is the one that the call leaves.
 pub fn counts_acceptances()
     ensures tried { AcceptanceAnswered }

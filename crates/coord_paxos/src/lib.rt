@@ -39,8 +39,8 @@ pub struct Slot {
     trying: Ballot,
     reported: Option<Vote>,
     proposal: Option<Value>,
-    promisers: ServerSet,
-    accepters: ServerSet,
+    promises: ServerSet,
+    accepts: ServerSet,
 }
 
 impl Model for Slot {
@@ -57,8 +57,8 @@ impl Model for Slot {
       trying = s.trying;
       reported = s.reported;
       proposal = s.proposal;
-      promisers = take s.members.count s.promisers;
-      accepters = take s.members.count s.accepters;
+      promises = take s.members.count s.promises;
+      accepts = take s.members.count s.accepts;
     } };
 }
 
@@ -77,13 +77,13 @@ impl Slot {
             trying: Ballot::OWNER,
             reported: None,
             proposal: None,
-            promisers: [false; MOST_SERVERS as usize],
-            accepters: [false; MOST_SERVERS as usize],
+            promises: [false; MOST_SERVERS as usize],
+            accepts: [false; MOST_SERVERS as usize],
         }
     }
 
     /// The slot of an instance of which only the value was heard: a new one that learned it.
-    pub fn new_learned(members: Members, value: Value) -> Slot
+    pub fn known(members: Members, value: Value) -> Slot
         ensures { result ≡ after_learn (new_slot members) value }
     {
         let mut slot = Slot::new(members);
@@ -135,19 +135,19 @@ impl Slot {
     }
 
     /// Of whose promises of the ballot tried this server heard: one truth value for each server.
-    pub fn promisers(&self) -> &[bool]
-        ensures value { result.now ≡ self.now.promisers }
+    pub fn promises(&self) -> &[bool]
+        ensures value { result.now ≡ self.now.promises }
         ensures count { length result.now ≡ self.now.members.count }
     {
-        &self.promisers[..self.members.count() as usize]
+        &self.promises[..self.members.count() as usize]
     }
 
     /// Of whose acceptances at the ballot tried this server heard: one truth value for each server.
-    pub fn accepters(&self) -> &[bool]
-        ensures value { result.now ≡ self.now.accepters }
+    pub fn accepts(&self) -> &[bool]
+        ensures value { result.now ≡ self.now.accepts }
         ensures count { length result.now ≡ self.now.members.count }
     {
-        &self.accepters[..self.members.count() as usize]
+        &self.accepts[..self.members.count() as usize]
     }
 
     /// Notes the owner's own proposal at ballot 0, which needs no first phase. Only the instance's
@@ -178,7 +178,7 @@ impl Slot {
         ensures { result ≡ prepare_answer self.now ballot }
     {
         if let Some(value) = self.learned {
-            return Answer::Learn(value);
+            return Answer::Known(value);
         }
         if ballot <= self.promised {
             return Answer::Silent;
@@ -210,8 +210,8 @@ impl Slot {
         self.trying = ballot;
         self.reported = None;
         self.proposal = None;
-        self.promisers = [false; MOST_SERVERS as usize];
-        self.accepters = [false; MOST_SERVERS as usize];
+        self.promises = [false; MOST_SERVERS as usize];
+        self.accepts = [false; MOST_SERVERS as usize];
     }
 
     /// Learns the instance's value where none was learned: whether it did. The first value stays.
@@ -240,7 +240,7 @@ impl Slot {
             return None;
         }
         self.note_promise(from, vote);
-        let majority = has_majority(self.members, self.promisers());
+        let majority = has_majority(self.members, self.promises());
         let value = self.due_proposal(majority, self.reported);
         if value.is_some() {
             self.proposal = value;
@@ -256,14 +256,14 @@ impl Slot {
         if ballot != self.trying {
             return None;
         }
-        let majority = has_majority_with(self.members, self.promisers, from);
+        let majority = has_majority_with(self.members, self.promises, from);
         self.due_proposal(majority, higher(self.reported, vote))
     }
 
     /// Counts a server's acceptance, if it is at the ballot tried; any other is ignored. Gives the
     /// value that is thereby learned, once a majority of servers accepted: what this server
     /// proposed at that ballot. It gives one at most once, and none where a value is learned.
-    pub fn add_acceptance(&mut self, from: u8, ballot: Ballot) -> Option<Value>
+    pub fn add_accept(&mut self, from: u8, ballot: Ballot) -> Option<Value>
         requires { from < self.old.members.count }
         ensures answer { result ≡ acceptance_answer self.old from ballot }
         ensures after { self.new ≡ after_acceptance self.old from ballot }
@@ -278,7 +278,7 @@ impl Slot {
         value
     }
 
-    /// What [`Slot::add_acceptance`] would give: nothing changes.
+    /// What [`Slot::add_accept`] would give: nothing changes.
     pub fn acceptance_answer(&self, from: u8, ballot: Ballot) -> Option<Value>
         requires { from < self.now.members.count }
         ensures { result ≡ acceptance_answer self.now from ballot }
@@ -286,7 +286,7 @@ impl Slot {
         if ballot != self.trying || self.learned.is_some() {
             return None;
         }
-        if !has_majority_with(self.members, self.accepters, from) {
+        if !has_majority_with(self.members, self.accepts, from) {
             return None;
         }
         self.proposal
@@ -307,7 +307,7 @@ impl Slot {
         ensures { self.new ≡ with_promise self.old from vote }
     {
         let _few = self.members.count();
-        self.promisers[from as usize] = true;
+        self.promises[from as usize] = true;
         self.reported = higher(self.reported, vote);
     }
 
@@ -316,7 +316,7 @@ impl Slot {
         ensures { self.new ≡ with_acceptance self.old from }
     {
         let _few = self.members.count();
-        self.accepters[from as usize] = true;
+        self.accepts[from as usize] = true;
     }
 }
 

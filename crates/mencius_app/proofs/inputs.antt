@@ -8,3 +8,4 @@ pub mod PictureFaults
 pub mod LogFaults
 pub mod CheckedInputs
 pub mod ScenarioKinds
+pub mod HandedFaults

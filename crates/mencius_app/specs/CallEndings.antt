@@ -3,7 +3,7 @@ use Rattle.std.specs.Prelude.{◌≡◌, ◌≢◌, ◌⊎◌, ℕ, Bool, true, 
 use Rattle.std.specs.Io.KnownBytes.{Appends}
 use Rattle.clap.specs.Words.{Text}
 use Rattle.mencius_ends.specs.Ends.{HasFailed, WritesFront}
-use Rattle.mencius_ends.specs.declared.fault.AppFault.TheVariants.{NoMemory}
+use Rattle.mencius_ends.specs.declared.fault.IoFault.TheVariants.{NoMemory}
 use Rattle.mencius_command_line.specs.CommandLine.{TaskState, are_texts, asked_draw, faults, line_of, task_in}
 use Rattle.mencius_app.specs.Calls.{IsCause}
 use Rattle.mencius_app.specs.Ending.{IsAskedFor, IsComplaint, IsFaultFor, IsMistaken, TellsOf, fault_in, is_explained, task_with}

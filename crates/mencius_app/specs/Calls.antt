@@ -2,8 +2,8 @@
 use Rattle.std.specs.Prelude.{◌≡◌, ◌≢◌, ◌≤◌, ◌+◌, ℕ, List, Option}
 use Rattle.std.specs.Io.KnownBytes.{Keeps}
 use Rattle.mencius_ends.specs.Ends.{HasFailed, TakesAtMost, WritesFront, most_bytes, most_failed_calls}
-use Rattle.mencius_ends.specs.declared.fault.AppFault.{AppFault}
-use Rattle.mencius_ends.specs.declared.fault.AppFault.TheVariants.{ReadFailed, WriteFailed}
+use Rattle.mencius_ends.specs.declared.fault.IoFault.{IoFault}
+use Rattle.mencius_ends.specs.declared.fault.IoFault.TheVariants.{ReadFailed, WriteFailed}
 use Rattle.mencius_command_line.specs.CommandLine.{TaskState, asked_judge}
 use Rattle.mencius_app.specs.Input.{IsBadInput}
 
@@ -25,15 +25,15 @@ AsksAs asked_judge had left reads reads_now writes writes_now =
 AsksAs _ had left reads reads_now writes writes_now = AsksLittle had left reads reads_now writes writes_now
 
 -- why there is no text to write: the input has the fault, more calls of the reader failed, or it is the program's own
-pub record IsReadingCause (IsInputFault : AppFault → Type 0) (reads reads_now : ℕ) (fault : AppFault) : Type 0 where
+pub record IsReadingCause (IsInputFault : IoFault → Type 0) (reads reads_now : ℕ) (fault : IoFault) : Type 0 where
   pub bad_input : IsBadInput fault → IsInputFault fault
   pub read_failed : fault ≡ ReadFailed → HasFailed reads reads_now
   pub no_writer : fault ≢ WriteFailed
 
 -- why a task ended at a fault: its input has it, or more calls of the reader or of the writer failed. Where the writer
 -- failed a front of a text of the task was written, and else nothing
-pub record IsCause (IsInputFault : AppFault → Type 0) (IsText : List ℕ → Type 0) (reads reads_now writes writes_now : ℕ)
-    (old new : Option (List ℕ)) (fault : AppFault) : Type 0 where
+pub record IsCause (IsInputFault : IoFault → Type 0) (IsText : List ℕ → Type 0) (reads reads_now writes writes_now : ℕ)
+    (old new : Option (List ℕ)) (fault : IoFault) : Type 0 where
   pub bad_input : IsBadInput fault → IsInputFault fault
   pub read_failed : fault ≡ ReadFailed → HasFailed reads reads_now
   pub write_failed : fault ≡ WriteFailed → HasFailed writes writes_now

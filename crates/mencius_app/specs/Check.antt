@@ -2,7 +2,7 @@
 use Rattle.std.specs.Prelude.{ℕ, ◌≡◌, List, ◌∷◌, ◌++◌, codes, decimal, length, Option, Result, Ok, Err}
 use Rattle.std.specs.List.{flat_map}
 use Rattle.mencius_base.specs.CommandState.{CommandState}
-use Rattle.mencius_ends.specs.declared.fault.AppFault.{AppFault}
+use Rattle.mencius_ends.specs.declared.fault.IoFault.{IoFault}
 use Rattle.mencius_input.specs.declared.kind.Kind.{Kind}
 use Rattle.mencius_input.specs.declared.kind.Kind.TheVariants as kind
 use Rattle.mencius_input.specs.Kinds.{kind_in}
@@ -19,21 +19,21 @@ pub data EitherScenario : Type 0 where
   replay_scenario : (written : Scenario (List Event)) → EitherScenario
   run_scenario : (written : Scenario PlanState) → EitherScenario
 
-abbrev pub as_replay : Result (Scenario (List Event)) AppFault → Result EitherScenario AppFault
+abbrev pub as_replay : Result (Scenario (List Event)) IoFault → Result EitherScenario IoFault
 as_replay (Ok written) = Ok (replay_scenario written)
 as_replay (Err fault) = Err fault
 
-abbrev pub as_run : Result (Scenario PlanState) AppFault → Result EitherScenario AppFault
+abbrev pub as_run : Result (Scenario PlanState) IoFault → Result EitherScenario IoFault
 as_run (Ok written) = Ok (run_scenario written)
 as_run (Err fault) = Err fault
 
 -- what bytes say as a scenario of this kind
-abbrev pub scenario_of_kind : Kind → List ℕ → Result EitherScenario AppFault
+abbrev pub scenario_of_kind : Kind → List ℕ → Result EitherScenario IoFault
 scenario_of_kind kind.Replay bytes = as_replay (scenario bytes)
 scenario_of_kind kind.Run bytes = as_run (plan bytes)
 
 -- of the kind that they are meant as
-abbrev pub either_scenario : List ℕ → Result EitherScenario AppFault
+abbrev pub either_scenario : List ℕ → Result EitherScenario IoFault
 either_scenario bytes = scenario_of_kind (kind_in bytes) bytes
 
 -- ---- the line
@@ -57,7 +57,7 @@ ok_line (run_scenario written) = run_line written
 
 -- ---- the whole
 
-abbrev pub check_input_of : List ℕ → Result EitherScenario AppFault
+abbrev pub check_input_of : List ℕ → Result EitherScenario IoFault
 check_input_of bytes = unless_long either_scenario bytes
 
 -- the line of a scenario that is all that a reader has, so far as that is known
@@ -66,5 +66,5 @@ pub record IsCheckOf (known : Option (List ℕ)) (text : List ℕ) : Type 0 wher
   pub says : Says check_input_of known written
   pub is : text ≡ ok_line written
 
-abbrev pub IsCheckFaultOf : Option (List ℕ) → AppFault → Type 0
+abbrev pub IsCheckFaultOf : Option (List ℕ) → IoFault → Type 0
 IsCheckFaultOf known fault = HasFault check_input_of known fault

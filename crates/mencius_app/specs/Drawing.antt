@@ -1,7 +1,7 @@
 -- The picture of a scenario, which input it is of, and when it is refused.
 use Rattle.std.specs.Prelude.{◌≡◌, ◌⊎◌, ◌<◌, ◌≤◌, ℕ, List, ◌++◌, Option, Some, None, codes, decimal, IfSome, string_bytes}
-use Rattle.mencius_ends.specs.declared.fault.AppFault.{AppFault}
-use Rattle.mencius_ends.specs.declared.fault.AppFault.TheVariants.{BadLimit, NoMemory}
+use Rattle.mencius_ends.specs.declared.fault.IoFault.{IoFault}
+use Rattle.mencius_ends.specs.declared.fault.IoFault.TheVariants.{BadLimit, NoMemory}
 use Rattle.mencius_draw.specs.declared.options.Options.{Options}
 use Rattle.mencius_draw.specs.Layout.{lines_of}
 use Rattle.mencius_draw.specs.Picture.{levels_of, picture_of}
@@ -28,7 +28,7 @@ IsTooLarge options known levels =
     (trace : List ℕ) × IsTraceOf known trace × (levels ≡ levels_in options trace) × (most_levels < levels)
 
 -- an input that no trace is of, or whose picture is too large
-abbrev pub IsDrawingFaultOf : Options → Option (List ℕ) → AppFault → Type 0
+abbrev pub IsDrawingFaultOf : Options → Option (List ℕ) → IoFault → Type 0
 IsDrawingFaultOf options known fault =
     IsFaultOf known fault ⊎ ((fault ≡ BadLimit) × (levels : ℕ) × IsTooLarge options known levels)
 
@@ -39,7 +39,7 @@ too_large_words levels =
     ++ codes ": ask for fewer events by `--from` and `--to`"
 
 -- a picture's fault is explained as that of a trace, or it says how many levels are too many
-abbrev pub ExplainsPicture : Options → AppFault → List ℕ → List ℕ → Type 0
+abbrev pub ExplainsPicture : Options → IoFault → List ℕ → List ℕ → Type 0
 ExplainsPicture options fault bytes words =
     ExplainsAs Replay fault bytes words
     ⊎ ((fault ≡ BadLimit) × (levels : ℕ) × IsTooLarge options (Some bytes) levels × (words ≡ too_large_words levels))

@@ -4,12 +4,13 @@ use Rattle.std.specs.Global.{Global}
 use Rattle.std.specs.Io.KnownBytes.{Appends}
 use Rattle.clap.specs.Words.{IsAmong, Text}
 use Rattle.clap.specs.declared.error.kind.ErrorKind.{ErrorKind}
-use Rattle.mencius_ends.specs.declared.fault.AppFault.{AppFault}
-use Rattle.mencius_ends.specs.declared.fault.AppFault.TheVariants.{NotJson, BadShape, BadLimit, ReadFailed, WriteFailed, NoMemory}
+use Rattle.mencius_ends.specs.declared.fault.IoFault.{IoFault}
+use Rattle.mencius_app.specs.declared.fault.AppFault.{AppFault}
+use Rattle.mencius_app.specs.declared.fault.AppFault.TheVariants as app
 use Rattle.mencius_command_line.specs.CommandLine.{TaskState, are_texts, asked_check, asked_draw, asked_judge, asked_replay, asked_run, asked_trace, faults, line_of, task_in}
 use Rattle.mencius_command_line.specs.Help.{shown_for}
 use Rattle.mencius_input.specs.declared.kind.Kind.TheVariants as input
-use Rattle.mencius_ends.specs.Fault.{fault_name, fault_number}
+use Rattle.mencius_app.specs.Fault.{app_fault, fault_name, fault_number}
 use Rattle.mencius_app.specs.Input.{IsFaultOf, IsPlanFaultOf}
 use Rattle.mencius_app.specs.Judging.{ExplainsByLine, IsJudgementOf, IsLogFaultOf}
 use Rattle.mencius_app.specs.Replay.{IsJudgedReplayOf}
@@ -29,25 +30,26 @@ use Rattle.mencius_app.specs.declared.ending.Ending.TheVariants.{Done, Refused, 
 
 -- ---- the end
 
--- the exit status of a fault: of a bad scenario, of a reader or writer that failed, and where memory ran out
+-- the exit status of a fault: of a bad scenario, of a reader or writer that failed, and of memory or a board that did
 abbrev pub status_of : AppFault → ℕ
-status_of NotJson = 3
-status_of BadShape = 3
-status_of BadLimit = 3
-status_of ReadFailed = 4
-status_of WriteFailed = 4
-status_of NoMemory = 5
+status_of app.NotJson = 3
+status_of app.BadShape = 3
+status_of app.BadLimit = 3
+status_of app.ReadFailed = 4
+status_of app.WriteFailed = 4
+status_of app.NoMemory = 5
+status_of app.BoardFailed = 5
 
 abbrev pub status_of_ending : Ending → ℕ
 status_of_ending Done = 0
 status_of_ending Refused = 1
 status_of_ending BadCommandLine = 2
-status_of_ending (Failed fault) = status_of fault
-status_of_ending (Explained fault words) = status_of fault
-status_of_ending BoardFailed = 5
+status_of_ending (Failed fault) = status_of (app_fault fault)
+status_of_ending (Explained fault words) = status_of (app_fault fault)
+status_of_ending BoardFailed = status_of app.BoardFailed
 
 -- the fault that a call ended at, unless it is its board's
-abbrev pub fault_in : Ending → Option AppFault
+abbrev pub fault_in : Ending → Option IoFault
 fault_in (Failed fault) = Some fault
 fault_in (Explained fault words) = Some fault
 fault_in _ = None
@@ -56,10 +58,6 @@ fault_in _ = None
 abbrev pub fault_line : AppFault → List ℕ
 fault_line fault = codes "mencius: fault " ++ decimal (fault_number fault) ++ 32 ∷ fault_name fault ++ line_feed
 
--- and of a board that failed
-abbrev pub board_line : List ℕ
-board_line = codes "mencius: fault 27 BoardFailed" ++ line_feed
-
 -- there are words for the fault
 abbrev pub is_explained : Ending → Bool
 is_explained (Explained fault words) = true
@@ -67,13 +65,13 @@ is_explained _ = false
 
 -- what standard error says of the end: nothing but of a fault, and then what words there are for it
 abbrev pub lines_of_ending : Ending → List ℕ
-lines_of_ending (Failed fault) = fault_line fault
-lines_of_ending (Explained fault words) = fault_line fault ++ string_bytes words
-lines_of_ending BoardFailed = board_line
+lines_of_ending (Failed fault) = fault_line (app_fault fault)
+lines_of_ending (Explained fault words) = fault_line (app_fault fault) ++ string_bytes words
+lines_of_ending BoardFailed = fault_line app.BoardFailed
 lines_of_ending _ = []
 
 -- how a call ends at a fault, with words for it where there are any
-abbrev pub ending_with : AppFault → Option (String Global) → Ending
+abbrev pub ending_with : IoFault → Option (String Global) → Ending
 ending_with fault (Some words) = Explained fault words
 ending_with fault None = Failed fault
 
@@ -181,7 +179,7 @@ abbrev pub AsksToRun : List Text → Type 0
 AsksToRun arguments = (faults (line_of arguments) ≡ []) × (is_run (task_in (line_of arguments)) ≡ true)
 
 -- the input of a task is bad in this way, where it is known
-abbrev pub IsInputFaultOf : TaskState → Option (List ℕ) → AppFault → Type 0
+abbrev pub IsInputFaultOf : TaskState → Option (List ℕ) → IoFault → Type 0
 IsInputFaultOf (asked_run with_journal with_observations key) known fault = IsPlanFaultOf known fault
 IsInputFaultOf asked_check known fault = IsCheckFaultOf known fault
 IsInputFaultOf (asked_draw (Some part)) known fault = IsDrawingFaultOf part known fault
@@ -189,6 +187,6 @@ IsInputFaultOf asked_judge known fault = IsLogFaultOf known fault
 IsInputFaultOf _ known fault = IsFaultOf known fault
 
 -- the arguments ask for a task, whose input is bad in this way
-abbrev pub IsFaultFor : List Text → Option (List ℕ) → AppFault → Type 0
+abbrev pub IsFaultFor : List Text → Option (List ℕ) → IoFault → Type 0
 IsFaultFor arguments known fault =
     (faults (line_of arguments) ≡ []) × IsInputFaultOf (task_in (line_of arguments)) known fault

@@ -1,7 +1,7 @@
 -- The words of a finding: of which fault in which bytes they are.
 use Rattle.std.specs.Prelude.{ℕ, ◌≡◌, ◌⊎◌, ◌<◌, List, ◌++◌, codes, length, Option, IfSome, Ok, string_bytes}
-use Rattle.mencius_ends.specs.declared.fault.AppFault.{AppFault}
-use Rattle.mencius_ends.specs.declared.fault.AppFault.TheVariants.{BadLimit}
+use Rattle.mencius_ends.specs.declared.fault.IoFault.{IoFault}
+use Rattle.mencius_ends.specs.declared.fault.IoFault.TheVariants.{BadLimit}
 use Rattle.mencius_ends.specs.Ends.{most_bytes}
 use Rattle.mencius_input.specs.declared.kind.Kind.{Kind}
 use Rattle.mencius_input.specs.declared.kind.Kind.TheVariants.{Replay, Run}
@@ -19,7 +19,7 @@ use Rattle.mencius_base.specs.Plan.{PlanState}
 
 -- words of a fault that bytes have
 abbrev pub Explanation : Type 1
-Explanation = AppFault → List ℕ → List ℕ → Type 0
+Explanation = IoFault → List ℕ → List ℕ → Type 0
 
 -- the bytes are no scenario of this kind, but one of the other
 abbrev pub IsOtherKind : Kind → List ℕ → Type 0
@@ -46,12 +46,12 @@ IsTooLong fault bytes words = (fault ≡ BadLimit) × (most_bytes < length bytes
 -- ---- the words of a finding
 
 -- the line says where these bytes have the fault
-abbrev pub AreWordsOf : Explanation → AppFault → List ℕ → List ℕ → Type 0
+abbrev pub AreWordsOf : Explanation → IoFault → List ℕ → List ℕ → Type 0
 AreWordsOf Tells fault bytes line =
     (words : List ℕ) × (Tells fault bytes words ⊎ IsTooLong fault bytes words) × (line ≡ words ++ line_feed)
 
 -- the line says where all that a reader has, so far as that is known, has the fault
-abbrev pub AreWordsOfInput : Explanation → Option (List ℕ) → AppFault → List ℕ → Type 0
+abbrev pub AreWordsOfInput : Explanation → Option (List ℕ) → IoFault → List ℕ → Type 0
 AreWordsOfInput Tells known fault line = IfSome known (λ bytes. AreWordsOf Tells fault bytes line)
 
 -- the words, where there are any, are of the fault in all that a reader has

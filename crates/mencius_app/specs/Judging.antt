@@ -1,6 +1,6 @@
 -- The text of a judgement, and which log it is of.
 use Rattle.std.specs.Prelude.{◌≡◌, ℕ, Bool, true, false, List, Option, IfSome}
-use Rattle.mencius_ends.specs.declared.fault.AppFault.{AppFault}
+use Rattle.mencius_ends.specs.declared.fault.IoFault.{IoFault}
 use Rattle.mencius_judge.specs.declared.reading.Verdict.{Verdict}
 use Rattle.mencius_judge.specs.declared.reading.Verdict.TheVariants.{Kept, Broken}
 use Rattle.mencius_judge.specs.Reading.{AreBad, ExplainsLine, IsVerdictOf}
@@ -27,12 +27,12 @@ abbrev pub IsJudgement : Option (List ℕ) → List ℕ → Type 0
 IsJudgement known text = (kept : Bool) × IsJudgementOf known text kept
 
 -- a line of a log has this fault, before which all promises are kept
-abbrev pub HasBadLine : List ℕ → AppFault → Type 0
+abbrev pub HasBadLine : List ℕ → IoFault → Type 0
 HasBadLine bytes fault = (number : ℕ) × AreBad bytes fault number
 
-abbrev pub IsLogFaultOf : Option (List ℕ) → AppFault → Type 0
+abbrev pub IsLogFaultOf : Option (List ℕ) → IoFault → Type 0
 IsLogFaultOf known fault = IfSome known (λ bytes. HasBadLine bytes fault)
 
 -- the words tell of that line
-abbrev pub ExplainsByLine : AppFault → List ℕ → List ℕ → Type 0
+abbrev pub ExplainsByLine : IoFault → List ℕ → List ℕ → Type 0
 ExplainsByLine fault bytes words = (number : ℕ) × AreBad bytes fault number × ExplainsLine number words

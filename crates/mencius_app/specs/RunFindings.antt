@@ -2,7 +2,7 @@
 use Rattle.std.specs.Prelude.{◌≡◌, None}
 use Rattle.mencius_board.specs.declared.fault.BoardFault.{BoardFault}
 use Rattle.mencius_board.specs.declared.fault.BoardFault.TheVariants as board
-use Rattle.mencius_ends.specs.declared.fault.AppFault.TheVariants.{NoMemory}
+use Rattle.mencius_ends.specs.declared.fault.IoFault.TheVariants.{NoMemory}
 use Rattle.mencius_app.specs.declared.finding.Finding.{Finding}
 use Rattle.mencius_app.specs.declared.run_finding.RunFinding.{RunFinding}
 use Rattle.mencius_app.specs.declared.run_finding.RunFinding.TheVariants.{Found, BoardFailed}

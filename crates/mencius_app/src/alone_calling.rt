@@ -11,11 +11,11 @@ use crate::calling::{ending_at, ending_of, ending_of_judgement};
 use crate::checking::check;
 use crate::ending::Ending;
 use crate::judging::judge;
-use crate::replaying::replay_judged;
+use crate::replaying::replay_explained;
 use crate::tracing::trace;
 use mencius_command_line::{Task, are_texts, read_arguments};
 use mencius_draw::Options;
-use mencius_input::{AppFault, Sink, Source, write_all};
+use mencius_input::{IoFault, Sink, Source, write_all};
 use std::alloc::Global;
 
 /// A task that [`perform_alone`] leaves to its caller.
@@ -51,7 +51,7 @@ pub(crate) fn perform_alone<R: Source, W: Sink, E: Sink>(
     ensures left { IfErr result (λ left. AsksFor (bytes_of arguments.now) (task_left left)
         × (source.new ≡ source.old) × (sink.new ≡ sink.old) × (errors.new ≡ errors.old)) }
     ensures ended { IfOk result (λ ending. (ending ≢ Ending.BoardFailed)
-        × (AsksToDraw (bytes_of arguments.now) → (ending ≡ Ending.Failed AppFault.NoMemory)
+        × (AsksToDraw (bytes_of arguments.now) → (ending ≡ Ending.Failed IoFault.NoMemory)
         × (source.new ≡ source.old) × (sink.new ≡ sink.old) × (errors.new ≡ errors.old))) }
 
     // Of the rest what `perform` promises.
@@ -102,7 +102,7 @@ fn perform_task<R: Source, W: Sink>(
         (R.failed source.old) (R.failed source.new) (W.failed sink.old) (W.failed sink.new) }
 {
     match task {
-        Task::Replay { is_strict } => match replay_judged(alloc, source, sink) {
+        Task::Replay { is_strict } => match replay_explained(alloc, source, sink) {
             Ok(all_accepted) => {
                 if is_strict && !all_accepted {
                     Ok(Ending::Refused)

@@ -13,7 +13,7 @@ use crate::ending::{Ending, write_both};
 use clap::Error;
 use clap::error::ErrorKind;
 use mencius_command_line::text_to_show;
-use mencius_input::{AppFault, Sink, write_all};
+use mencius_input::{IoFault, Sink, write_all};
 use std::alloc::Global;
 
 /// What `clap` says of an argument that is no text. It takes no memory, so that such an argument is
@@ -48,7 +48,7 @@ pub(crate) fn answer_command_line<W: Sink, E: Sink>(
         × Appends (W.contents sink.old) (W.contents sink.new) text) result }
     ensures plain { (is_explained result ≡ false) × (result ≢ Ending.BoardFailed)
         × (kind_of error.now ≡ ErrorKind.OutOfMemory
-        → (result ≡ Ending.Failed AppFault.NoMemory)) }
+        → (result ≡ Ending.Failed IoFault.NoMemory)) }
 
     // A mistake is told of, and nothing was written to `sink`.
     ensures misused { result ≡ Ending.BadCommandLine → (kind_of error.now ≢ ErrorKind.OutOfMemory)
@@ -58,15 +58,15 @@ pub(crate) fn answer_command_line<W: Sink, E: Sink>(
         (E.contents errors.new) (E.failed errors.old) (E.failed errors.new))
         (errors.new ≡ errors.old) result }
 
-    ensures fault { IfSome (fault_in result) (λ f. ((f ≡ AppFault.WriteFailed)
+    ensures fault { IfSome (fault_in result) (λ f. ((f ≡ IoFault.WriteFailed)
         × HasFailed (W.failed sink.old) (W.failed sink.new) × (text : List ℕ)
         × (shown_for (kind_of error.now) (bytes_of arguments.now) ≡ Some text)
         × WritesFront (W.contents sink.old) (W.contents sink.new) text)
-        ⊎ ((f ≡ AppFault.NoMemory) × (sink.new ≡ sink.old))) }
+        ⊎ ((f ≡ IoFault.NoMemory) × (sink.new ≡ sink.old))) }
     ensures tried { W.failed sink.new ≤ W.failed sink.old + most_failed_calls }
 {
     if error.kind() == ErrorKind::OutOfMemory {
-        return Ending::Failed(AppFault::NoMemory);
+        return Ending::Failed(IoFault::NoMemory);
     }
     match text_to_show(error.kind(), arguments) {
         Some(text) => match write_all(sink, text.as_bytes()) {
@@ -80,13 +80,13 @@ pub(crate) fn answer_command_line<W: Sink, E: Sink>(
 // Writes what is wrong with the command line.
 fn complain<E: Sink>(alloc: Global, error: &Error, errors: &mut E) -> Ending
     ensures cases { (result ≡ Ending.BadCommandLine)
-        ⊎ (result ≡ Ending.Failed AppFault.NoMemory) }
+        ⊎ (result ≡ Ending.Failed IoFault.NoMemory) }
     ensures complaint { Complains IsMistakeText (WritesOrFails (E.contents errors.old)
         (E.contents errors.new) (E.failed errors.old) (E.failed errors.new))
         (errors.new ≡ errors.old) result }
 {
     let Ok(text) = format!(in alloc; "{error}") else {
-        return Ending::Failed(AppFault::NoMemory);
+        return Ending::Failed(IoFault::NoMemory);
     };
     let text = text.as_str();
     // `clap` says nothing of the text; it begins so, and with this it is sure to.

@@ -11,7 +11,7 @@ use crate::drawing::draw;
 use crate::ending::Ending;
 use crate::finding::Finding;
 use crate::run_finding::RunFinding;
-use crate::running::run;
+use crate::running::run_explained;
 use mencius_board::Open;
 use mencius_draw::Options;
 use mencius_input::{Sink, Source};
@@ -86,7 +86,7 @@ fn perform_run<R: Source, W: Sink, T: Threads + Wait + Sync>(
         (R.failed source.old) (R.failed source.new) (W.failed sink.old) (W.failed sink.new) }
 {
     let key = options.key.as_deref();
-    ending_of_run(run(
+    ending_of_run(run_explained(
         rt,
         alloc,
         source,

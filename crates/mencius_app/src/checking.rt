@@ -14,7 +14,7 @@ ghost use Rattle.mencius_trace.specs.Words.{line_feed};
 use crate::finding::{Finding, misread, unread};
 use mencius_base::{Command, Plan};
 use mencius_input::{
-    AppFault, Events, Kind, Scenario, Sink, Source, kind_of, read_all, read_plan, read_scenario,
+    Events, IoFault, Kind, Scenario, Sink, Source, kind_of, read_all, read_plan, read_scenario,
     write_all,
 };
 use std::alloc::{AllocError, Global};
@@ -71,7 +71,7 @@ fn read_line<R: Source>(alloc: Global, source: &mut R) -> Result<String, Finding
 fn line_in(alloc: Global, bytes: &[u8]) -> Result<String, Finding>
     ensures line { IfOk result (λ s. (written : EitherScenario)
         × (either_scenario bytes.now ≡ Ok written) × (string_bytes s ≡ ok_line written)) }
-    ensures fault { IfErr result (λ found. (found.fault ≡ AppFault.NoMemory)
+    ensures fault { IfErr result (λ found. (found.fault ≡ IoFault.NoMemory)
         ⊎ (either_scenario bytes.now ≡ Err found.fault)) }
     ensures words { IfErr result (λ found. IfSome found.words (λ line. (words : List ℕ)
         × ExplainsByFields found.fault bytes.now words
@@ -80,7 +80,7 @@ fn line_in(alloc: Global, bytes: &[u8]) -> Result<String, Finding>
     match read_scenario(alloc, bytes) {
         Ok(scenario) => Ok(replay_line(alloc, &scenario)?),
         Err(fault) => {
-            if fault == AppFault::BadShape {
+            if fault == IoFault::BadShape {
                 line_of_other_shape(alloc, bytes)
             } else {
                 Err(misread(alloc, Kind::Replay, bytes, fault))
@@ -91,17 +91,17 @@ fn line_in(alloc: Global, bytes: &[u8]) -> Result<String, Finding>
 
 // The same of bytes that do not have the shape of `replay`'s.
 fn line_of_other_shape(alloc: Global, bytes: &[u8]) -> Result<String, Finding>
-    requires { scenario bytes.now ≡ Err AppFault.BadShape }
+    requires { scenario bytes.now ≡ Err IoFault.BadShape }
     ensures line { IfOk result (λ s. (written : EitherScenario)
         × (either_scenario bytes.now ≡ Ok written) × (string_bytes s ≡ ok_line written)) }
-    ensures fault { IfErr result (λ found. (found.fault ≡ AppFault.NoMemory)
+    ensures fault { IfErr result (λ found. (found.fault ≡ IoFault.NoMemory)
         ⊎ (either_scenario bytes.now ≡ Err found.fault)) }
     ensures words { IfErr result (λ found. IfSome found.words (λ line. (words : List ℕ)
         × ExplainsByFields found.fault bytes.now words
         × (string_bytes line ≡ words ++ line_feed))) }
 {
     match kind_of(alloc, bytes)? {
-        Kind::Replay => Err(misread(alloc, Kind::Replay, bytes, AppFault::BadShape)),
+        Kind::Replay => Err(misread(alloc, Kind::Replay, bytes, IoFault::BadShape)),
         Kind::Run => line_of_run(alloc, bytes),
     }
 }
@@ -111,7 +111,7 @@ fn line_of_run(alloc: Global, bytes: &[u8]) -> Result<String, Finding>
     requires { kind_in bytes.now ≡ Kind.Run }
     ensures line { IfOk result (λ s. (written : EitherScenario)
         × (either_scenario bytes.now ≡ Ok written) × (string_bytes s ≡ ok_line written)) }
-    ensures fault { IfErr result (λ found. (found.fault ≡ AppFault.NoMemory)
+    ensures fault { IfErr result (λ found. (found.fault ≡ IoFault.NoMemory)
         ⊎ (either_scenario bytes.now ≡ Err found.fault)) }
     ensures words { IfErr result (λ found. IfSome found.words (λ line. (words : List ℕ)
         × ExplainsByFields found.fault bytes.now words

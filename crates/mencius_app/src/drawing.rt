@@ -12,7 +12,7 @@ use crate::finding::{Finding, as_line};
 use crate::reading::read_input;
 use crate::tracing::traced;
 use mencius_draw::{MOST_LEVELS, Options, TooLarge, picture};
-use mencius_input::{AppFault, Sink, Source, write_all};
+use mencius_input::{IoFault, Sink, Source, write_all};
 use std::alloc::Global;
 
 /// Reads a scenario to its end, and writes the picture of the text that a [`trace`](crate::trace) of
@@ -62,12 +62,12 @@ fn drawn(alloc: Global, trace: &str, options: &Options) -> Result<String, Findin
 
 // What is found of a part that is too large.
 fn too_large(alloc: Global, large: TooLarge) -> Finding
-    ensures fault { result.fault ≡ AppFault.BadLimit }
+    ensures fault { result.fault ≡ IoFault.BadLimit }
     ensures words { IfSome result.words (λ line.
         string_bytes line ≡ too_large_words large.levels ++ line_feed) }
 {
     Finding {
-        fault: AppFault::BadLimit,
+        fault: IoFault::BadLimit,
         words: words_of_levels(alloc, large.levels),
     }
 }

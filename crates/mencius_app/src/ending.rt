@@ -3,9 +3,10 @@
 ghost use Rattle.std.specs.Prelude.{◌≡◌, ◌⊎◌, ◌++◌, OnOk, OnErr};
 ghost use Rattle.std.specs.Io.KnownBytes.{Appends};
 ghost use Rattle.mencius_ends.specs.Ends.{HasFailed, WritesFront};
-ghost use Rattle.mencius_app.specs.Ending.{board_line, fault_line, lines_of_ending, status_of, status_of_ending};
+ghost use Rattle.mencius_app.specs.Ending.{fault_line, lines_of_ending, status_of, status_of_ending};
 
-use mencius_input::{AppFault, Sink, write_all};
+use crate::fault::AppFault;
+use mencius_input::{IoFault, Sink, write_all};
 
 /// How a call of the program went.
 #[derive(Debug, Drop, PartialEq, Eq)]
@@ -17,11 +18,11 @@ pub enum Ending {
     /// The command line is refused.
     BadCommandLine,
     /// It ended at a fault.
-    Failed(AppFault),
+    Failed(IoFault),
     /// A task ended at a fault, and there are words for it.
     Explained {
         /// The fault.
-        fault: AppFault,
+        fault: IoFault,
         /// Where the input is wrong, and how, with a line feed at the end of each line.
         words: String,
     },
@@ -32,8 +33,8 @@ pub enum Ending {
 /// Ends a call of the program: writes the line of a fault, `mencius: fault NUMBER NAME`, where the
 /// call ended at one, and behind it the words for it, if there are any; and answers the exit status:
 /// 0 where it was done, 1 where a strict replay had refused events or a judged log breaks a promise, 2
-/// for a bad command line, 5 where the board failed, and else [`exit_status`] of the fault. If the lines
-/// can't be written, the status stays the same.
+/// for a bad command line, and else [`exit_status`] of the fault. If the lines can't be written, the status
+/// stays the same.
 pub fn end<E: Sink>(ending: Ending, errors: &mut E) -> u8
     ensures status { result ≡ status_of_ending ending }
     ensures lines { Appends (E.contents errors.old) (E.contents errors.new) (lines_of_ending ending)
@@ -45,25 +46,23 @@ pub fn end<E: Sink>(ending: Ending, errors: &mut E) -> u8
         Ending::Done => 0,
         Ending::Refused => 1,
         Ending::BadCommandLine => 2,
-        Ending::Failed(fault) => write_fault(errors, fault, ""),
-        Ending::Explained { fault, words } => write_fault(errors, fault, words.as_str()),
-        Ending::BoardFailed => {
-            // Nobody is left to tell where standard error fails.
-            let _ = write_all(errors, line_of_board().as_bytes());
-            5
+        Ending::Failed(fault) => write_fault(errors, AppFault::from(fault), ""),
+        Ending::Explained { fault, words } => {
+            write_fault(errors, AppFault::from(fault), words.as_str())
         }
+        Ending::BoardFailed => write_fault(errors, AppFault::BoardFailed, ""),
     }
 }
 
 /// The exit status of a task that ended at a fault: 3 for a bad scenario, 4 where reading or writing
-/// failed, and 5 where memory ran out.
+/// failed, and 5 where memory ran out or the board failed.
 pub fn exit_status(fault: AppFault) -> u8
     ensures { result ≡ status_of fault }
 {
     match fault {
         AppFault::NotJson | AppFault::BadShape | AppFault::BadLimit => 3,
         AppFault::ReadFailed | AppFault::WriteFailed => 4,
-        AppFault::NoMemory => 5,
+        AppFault::NoMemory | AppFault::BoardFailed => 5,
     }
 }
 
@@ -81,7 +80,7 @@ fn write_fault<E: Sink>(errors: &mut E, fault: AppFault, words: &str) -> u8
 }
 
 /// Writes two texts, one behind the other.
-pub(crate) fn write_both<E: Sink>(errors: &mut E, first: &str, second: &str) -> Result<(), AppFault>
+pub(crate) fn write_both<E: Sink>(errors: &mut E, first: &str, second: &str) -> Result<(), IoFault>
     ensures whole { OnOk result (Appends (E.contents errors.old) (E.contents errors.new)
         (first.now ++ second.now)) }
     ensures front { WritesFront (E.contents errors.old) (E.contents errors.new)
@@ -105,12 +104,6 @@ fn line_of_fault(fault: AppFault) -> &'static str
         AppFault::ReadFailed => "mencius: fault 24 ReadFailed\n",
         AppFault::WriteFailed => "mencius: fault 25 WriteFailed\n",
         AppFault::NoMemory => "mencius: fault 26 NoMemory\n",
+        AppFault::BoardFailed => "mencius: fault 27 BoardFailed\n",
     }
-}
-
-// And of a board that failed.
-fn line_of_board() -> &'static str
-    ensures { result.now ≡ board_line }
-{
-    "mencius: fault 27 BoardFailed\n"
 }

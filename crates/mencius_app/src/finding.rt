@@ -6,58 +6,58 @@ ghost use Rattle.mencius_app.specs.Findings.{ExplainsAs, IsOtherKind, other_kind
 ghost use Rattle.mencius_trace.specs.Words.{line_feed};
 
 use mencius_base::NoMemory;
-use mencius_input::{AppFault, Kind, explain, explain_unread, read_plan, read_scenario};
+use mencius_input::{IoFault, Kind, explain, explain_unread, read_plan, read_scenario};
 use std::alloc::{AllocError, Global};
 
 /// Why a task ended: a fault, and where its scenario has it.
 #[derive(Debug, Drop, PartialEq, Eq)]
 pub struct Finding {
     /// The fault.
-    pub fault: AppFault,
+    pub fault: IoFault,
     /// A line that says where the scenario is wrong, and how, with its line feed. There is none
     /// where the text could not be written or memory ran out.
     pub words: Option<String>,
 }
 
-impl From<AppFault> for Finding {
+impl From<IoFault> for Finding {
     ghost use Rattle.std.specs.Prelude.{◌≡◌, None};
 
     ghost from_gives = { λ fault found. (found.fault ≡ fault) × (found.words ≡ None) };
 
-    fn from(fault: AppFault) -> Finding {
+    fn from(fault: IoFault) -> Finding {
         Finding { fault, words: None }
     }
 }
 
 impl From<AllocError> for Finding {
     ghost use Rattle.std.specs.Prelude.{◌≡◌, None};
-    ghost use Rattle.mencius_ends.specs.declared.fault.AppFault.TheVariants as fault;
+    ghost use Rattle.mencius_ends.specs.declared.fault.IoFault.TheVariants as fault;
 
     ghost from_gives = { λ _ found. (found.fault ≡ fault.NoMemory) × (found.words ≡ None) };
 
     fn from(_refused: AllocError) -> Finding {
-        Finding::from(AppFault::NoMemory)
+        Finding::from(IoFault::NoMemory)
     }
 }
 
 impl From<NoMemory> for Finding {
     ghost use Rattle.std.specs.Prelude.{◌≡◌, None};
-    ghost use Rattle.mencius_ends.specs.declared.fault.AppFault.TheVariants as fault;
+    ghost use Rattle.mencius_ends.specs.declared.fault.IoFault.TheVariants as fault;
 
     ghost from_gives = { λ _ found. (found.fault ≡ fault.NoMemory) × (found.words ≡ None) };
 
     fn from(_refused: NoMemory) -> Finding {
-        Finding::from(AppFault::NoMemory)
+        Finding::from(IoFault::NoMemory)
     }
 }
 
 /// What is found where reading all of an input failed.
-pub(crate) fn unread(alloc: Global, fault: AppFault) -> Finding
+pub(crate) fn unread(alloc: Global, fault: IoFault) -> Finding
     ensures fault { result.fault ≡ fault }
     ensures words { IfSome result.words (λ line. (words : List ℕ)
         × ExplainsUnread fault words × (string_bytes line ≡ words ++ line_feed)) }
 {
-    let words = if fault == AppFault::NoMemory {
+    let words = if fault == IoFault::NoMemory {
         None
     } else {
         words_unread(alloc, fault)
@@ -66,12 +66,12 @@ pub(crate) fn unread(alloc: Global, fault: AppFault) -> Finding
 }
 
 /// What is found where these bytes have a fault as a scenario of this kind.
-pub(crate) fn misread(alloc: Global, kind: Kind, bytes: &[u8], fault: AppFault) -> Finding
+pub(crate) fn misread(alloc: Global, kind: Kind, bytes: &[u8], fault: IoFault) -> Finding
     ensures fault { result.fault ≡ fault }
     ensures words { IfSome result.words (λ line. (words : List ℕ)
         × Explains kind fault bytes.now words × (string_bytes line ≡ words ++ line_feed)) }
 {
-    let words = if fault == AppFault::NoMemory {
+    let words = if fault == IoFault::NoMemory {
         None
     } else {
         words_at(alloc, kind, bytes, fault)
@@ -80,12 +80,12 @@ pub(crate) fn misread(alloc: Global, kind: Kind, bytes: &[u8], fault: AppFault) 
 }
 
 /// The same by a task that takes no other kind.
-pub(crate) fn misread_as(alloc: Global, kind: Kind, bytes: &[u8], fault: AppFault) -> Finding
+pub(crate) fn misread_as(alloc: Global, kind: Kind, bytes: &[u8], fault: IoFault) -> Finding
     ensures fault { result.fault ≡ fault }
     ensures words { IfSome result.words (λ line. (words : List ℕ)
         × ExplainsAs kind fault bytes.now words × (string_bytes line ≡ words ++ line_feed)) }
 {
-    if fault == AppFault::BadShape && is_other_kind(alloc, kind, bytes) {
+    if fault == IoFault::BadShape && is_other_kind(alloc, kind, bytes) {
         let words = words_of_other(alloc, kind);
         return Finding { fault, words };
     }
@@ -112,14 +112,14 @@ fn words_of_other(alloc: Global, kind: Kind) -> Option<String>
     as_line(String::from_str(alloc, words).ok()?)
 }
 
-fn words_unread(alloc: Global, fault: AppFault) -> Option<String>
+fn words_unread(alloc: Global, fault: IoFault) -> Option<String>
     ensures { IfSome result (λ line. (words : List ℕ)
         × ExplainsUnread fault words × (string_bytes line ≡ words ++ line_feed)) }
 {
     as_line(explain_unread(alloc, fault).ok()?)
 }
 
-fn words_at(alloc: Global, kind: Kind, bytes: &[u8], fault: AppFault) -> Option<String>
+fn words_at(alloc: Global, kind: Kind, bytes: &[u8], fault: IoFault) -> Option<String>
     ensures { IfSome result (λ line. (words : List ℕ)
         × Explains kind fault bytes.now words × (string_bytes line ≡ words ++ line_feed)) }
 {

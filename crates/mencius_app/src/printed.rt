@@ -9,9 +9,10 @@ ghost use Rattle.mencius_model.specs.Trace.{submitted_commands};
 ghost use Rattle.mencius_cluster.specs.State.{trace_of};
 ghost use Rattle.mencius_trace.specs.Words.{spaced_ticket, tickets_text};
 
+use crate::fault::AppFault;
 use mencius_cluster::{Cluster, laws};
 use mencius_format::push_id;
-use mencius_input::{AppFault, Sink, write_all};
+use mencius_input::{Sink, write_all};
 use mencius_trace::push_answer;
 use std::alloc::{AllocError, Global};
 
@@ -30,7 +31,8 @@ pub fn report<W: Sink>(alloc: Global, cluster: &Cluster, sink: &mut W) -> Result
 {
     let mut text = String::new(alloc);
     push_report(&mut text, cluster)?;
-    write_all(sink, text.as_bytes())
+    write_all(sink, text.as_bytes())?;
+    Ok(())
 }
 
 /// Adds the report of a cluster to a text.

@@ -2,7 +2,7 @@
 
 use crate::finding::Finding;
 use mencius_board::BoardFault;
-use mencius_input::AppFault;
+use mencius_input::IoFault;
 use std::alloc::AllocError;
 
 /// Why a run ended: as any task may, or at its board.
@@ -26,13 +26,13 @@ impl From<Finding> for RunFinding {
     }
 }
 
-impl From<AppFault> for RunFinding {
+impl From<IoFault> for RunFinding {
     ghost use Rattle.std.specs.Prelude.{◌≡◌, None};
     ghost use Rattle.mencius_app.specs.declared.run_finding.RunFinding.TheVariants as at;
 
     ghost from_gives = { λ fault run. run ≡ at.Found (record { fault = fault; words = None }) };
 
-    fn from(fault: AppFault) -> RunFinding {
+    fn from(fault: IoFault) -> RunFinding {
         RunFinding::Found(Finding { fault, words: None })
     }
 }
@@ -44,7 +44,7 @@ impl From<AllocError> for RunFinding {
     ghost from_gives = { λ _ run. run ≡ out_of_memory };
 
     fn from(_refused: AllocError) -> RunFinding {
-        RunFinding::from(AppFault::NoMemory)
+        RunFinding::from(IoFault::NoMemory)
     }
 }
 
@@ -56,7 +56,7 @@ impl From<BoardFault> for RunFinding {
 
     fn from(fault: BoardFault) -> RunFinding {
         match fault {
-            BoardFault::NoMemory => RunFinding::from(AppFault::NoMemory),
+            BoardFault::NoMemory => RunFinding::from(IoFault::NoMemory),
             BoardFault::NoReader | BoardFault::ShowRefused | BoardFault::NoWorker => {
                 RunFinding::BoardFailed
             }

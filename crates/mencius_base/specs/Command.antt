@@ -24,11 +24,11 @@ is_text_length text = nat_le (length text) most_text_bytes
 
 -- what is wrong with a key and two texts: bytes first, then lengths
 abbrev pub bad_entry : List ℕ → List ℕ → List ℕ → Option BadCommand
-bad_entry key expected text =
+bad_entry key held text =
     if not (is_name key) then Some KeyByte
-    else (if not (is_name expected && is_name text) then Some TextByte
+    else (if not (is_name held && is_name text) then Some TextByte
     else (if not (is_key_length key) then Some KeyLength
-    else (if not (is_text_length expected && is_text_length text) then Some TextLength
+    else (if not (is_text_length held && is_text_length text) then Some TextLength
     else None)))
 
 -- the first thing that is wrong with an operation; nothing is wrong with an empty text
@@ -36,7 +36,7 @@ abbrev pub bad_op : Op → Option BadCommand
 bad_op (Set key text) = bad_entry key [] text
 bad_op (Get key) = bad_entry key [] []
 bad_op (Del key) = bad_entry key [] []
-bad_op (Cas key expected text) = bad_entry key expected text
+bad_op (Cas key held text) = bad_entry key held text
 
 abbrev pub is_same_id : CommandId → CommandId → Bool
 is_same_id a x = a.client == x.client && a.number == x.number

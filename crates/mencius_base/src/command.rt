@@ -81,25 +81,14 @@ impl Text {
 #[derive(Clone, Debug, Drop)]
 pub enum Op {
     /// Binds the key to the text. The reply is the former text of the key.
-    Set {
-        key: Key,
-        text: Text,
-    },
+    Set { key: Key, text: Text },
     /// Leaves the map. The reply is the present text of the key.
-    Get {
-        key: Key,
-    },
+    Get { key: Key },
     /// Removes the key. The reply is its former text.
-    Del {
-        key: Key,
-    },
-    /// Compares and sets: binds the key to the text only where its former text is exactly `expected`. A
-    /// key that is not there stays so, also where `expected` is empty. The reply is the former text.
-    Cas {
-        key: Key,
-        expected: Text,
-        text: Text,
-    },
+    Del { key: Key },
+    /// Compares and sets: binds the key to the text only where its former text is exactly `held`. A
+    /// key that is not there stays so, also where `held` is empty. The reply is the former text.
+    Cas { key: Key, held: Text, text: Text },
 }
 
 /// Why an operation makes no command.
@@ -173,28 +162,26 @@ fn find_fault(op: &Op) -> Option<BadCommand>
     match op {
         Op::Set { key, text } => find_fault_of_entry(key.as_str(), "", text.as_str()),
         Op::Get { key } | Op::Del { key } => find_fault_of_entry(key.as_str(), "", ""),
-        Op::Cas {
-            key,
-            expected,
-            text,
-        } => { find_fault_of_entry(key.as_str(), expected.as_str(), text.as_str()) }
+        Op::Cas { key, held, text } => {
+            find_fault_of_entry(key.as_str(), held.as_str(), text.as_str())
+        }
     }
 }
 
 // Of a key and two texts. An empty text has no fault.
-fn find_fault_of_entry(key: &str, expected: &str, text: &str) -> Option<BadCommand>
-    ensures { result ≡ bad_entry key.now expected.now text.now }
+fn find_fault_of_entry(key: &str, held: &str, text: &str) -> Option<BadCommand>
+    ensures { result ≡ bad_entry key.now held.now text.now }
 {
     if !is_name(key) {
         return Some(BadCommand::KeyByte);
     }
-    if !is_name(expected) || !is_name(text) {
+    if !is_name(held) || !is_name(text) {
         return Some(BadCommand::TextByte);
     }
     if key.is_empty() || key.len() > MOST_KEY_BYTES {
         return Some(BadCommand::KeyLength);
     }
-    if expected.len() > MOST_TEXT_BYTES || text.len() > MOST_TEXT_BYTES {
+    if held.len() > MOST_TEXT_BYTES || text.len() > MOST_TEXT_BYTES {
         return Some(BadCommand::TextLength);
     }
     None

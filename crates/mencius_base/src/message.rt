@@ -26,7 +26,7 @@ pub enum Answer {
     /// It will accept nothing below the ballot from now on, and reports what it accepted last.
     Promise(Option<Vote>),
     /// It has learned the instance's value already, and no ballot is needed any more.
-    Learn(Value),
+    Known(Value),
     /// It promised this ballot or a greater one before, and says nothing.
     Silent,
 }

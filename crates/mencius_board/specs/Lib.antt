@@ -8,3 +8,4 @@ pub mod Faults
 pub mod Turns
 pub mod Running
 pub mod Runs
+pub mod Readings

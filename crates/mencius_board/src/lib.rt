@@ -17,6 +17,7 @@ mod longest;
 mod news;
 mod pending;
 mod reader;
+pub mod readings;
 mod running;
 mod shown;
 mod shown_log;

@@ -9,7 +9,7 @@ use Rattle.mencius_app.specs.CallEndings.{AsksToDraw, EndsForCause, RefusesArgum
 use Rattle.mencius_app.specs.Ending.{Did, TellsOf, fault_in, lines_of_ending, status_of, status_of_ending}
 use Rattle.mencius_app.specs.Input.{IsFaultOf}
 use Rattle.mencius_app.specs.States.{IsStateOf}
-use Rattle.mencius_ends.specs.declared.fault.AppFault.TheVariants.{NoMemory}
+use Rattle.mencius_app.specs.declared.fault.AppFault.TheVariants.{NoMemory}
 use Rattle.mencius_calls.specs.declared.answer.Answer.{Answer}
 
 -- ---- arguments

@@ -4,9 +4,9 @@ use Rattle.std.specs.Option.{option_map}
 use Rattle.mencius_base.specs.declared.command.Command.{Command}
 use Rattle.mencius_base.specs.Members.{Membership}
 use Rattle.mencius_base.specs.Numbers.{ServerId}
-use Rattle.mencius_model.specs.Replying.{Reply, Pending, Given, commands_of}
-use Rattle.mencius_cluster.specs.declared.submission.Reply.{Reply as StoredReply}
-use Rattle.mencius_cluster.specs.declared.submission.Reply.TheVariants.{Pending as Pending_stored, Given as Given_stored}
+use Rattle.mencius_model.specs.Replying.{Answered, Pending, Given, commands_of}
+use Rattle.mencius_cluster.specs.declared.submission.Answered.{Answered as StoredAnswered}
+use Rattle.mencius_cluster.specs.declared.submission.Answered.TheVariants.{Pending as Pending_stored, Given as Given_stored}
 use Rattle.mencius_cluster.specs.declared.submission.Submission.{Submission}
 use Rattle.mencius_model.specs.Trace.{Trace}
 use Rattle.mencius_model.specs.Executed.{history}
@@ -14,7 +14,7 @@ use Rattle.mencius_model.specs.KeyMap.{map_after}
 use Rattle.map_exec.specs.State.{ExecutorState}
 
 -- a stored reply, its text as bytes
-abbrev pub bytes_in : StoredReply → Reply
+abbrev pub bytes_in : StoredAnswered → Answered
 bytes_in Pending_stored = Pending
 bytes_in (Given_stored text) = Given (option_map string_bytes text)
 

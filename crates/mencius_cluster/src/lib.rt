@@ -15,4 +15,4 @@ pub use mencius_model::laws;
 pub use mencius_server::Glance;
 pub use message_bits::MessageBits;
 pub use salt::salt_after;
-pub use submission::{Reply, Submission};
+pub use submission::{Answered, Submission};

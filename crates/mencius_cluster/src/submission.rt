@@ -5,16 +5,16 @@ ghost use Rattle.mencius_model.specs.KeyMap.{key_of};
 ghost use Rattle.mencius_cluster.specs.Answers.{bytes_in};
 ghost use Rattle.mencius_model.specs.Replying.{first_reply};
 
-use map_exec::{Executor, FormerText};
+use map_exec::{Executor, Reply};
 use mencius_base::{Command, NoMemory};
 
 /// Whether a submitted command has its reply.
 #[derive(Debug, Drop)]
-pub enum Reply {
+pub enum Answered {
     /// The server that it was submitted at has not executed it yet.
     Pending,
     /// What the map of that server held at the command's key when it first executed the command.
-    Given(FormerText),
+    Given(Reply),
 }
 
 /// A command that was submitted, as a cluster keeps it.
@@ -25,7 +25,7 @@ pub struct Submission {
     /// The server that it was submitted at.
     pub home: u8,
     /// Whether it has its reply, and which.
-    pub reply: Reply,
+    pub reply: Answered,
 }
 
 impl Submission {
@@ -48,9 +48,9 @@ impl Submission {
     {
         let reply = executor.execute(&self.command, ticket)?;
         if self.home == server
-            && let Reply::Pending = self.reply
+            && let Answered::Pending = self.reply
         {
-            self.reply = Reply::Given(reply);
+            self.reply = Answered::Given(reply);
         }
         Ok(())
     }

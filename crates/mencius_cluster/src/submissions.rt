@@ -1,13 +1,13 @@
 ghost use Rattle.std.specs.Prelude.{◌≡◌, ◌<◌, [], ◌∷◌, ◌++◌, None, OnOk, OnErr, length, option_copied, option_map, slice_get};
 ghost use Rattle.std.specs.Map.{lookup};
 ghost use Rattle.mencius_base.specs.Command.{is_same_id};
-ghost use Rattle.mencius_cluster.specs.declared.submission.Reply.TheVariants.{Pending};
+ghost use Rattle.mencius_cluster.specs.declared.submission.Answered.TheVariants.{Pending};
 ghost use Rattle.mencius_cluster.specs.Performed.{IsExecution, IsPerformed};
 ghost use Rattle.mencius_cluster.specs.Salt.{hash_by, hasher_with};
 ghost use Rattle.mencius_model.specs.WithinLimits.{IsTicketBelow};
 
 use crate::salt::{BuildSaltedHasher, Identity};
-use crate::submission::{Reply, Submission};
+use crate::submission::{Answered, Submission};
 use indexmap::IndexMap;
 use map_exec::Executor;
 use mencius_base::{Command, CommandId, INSTANCES, NoMemory, Value};
@@ -109,7 +109,7 @@ impl Submissions {
         let submission = Submission {
             command,
             home,
-            reply: Reply::Pending,
+            reply: Answered::Pending,
         };
         let Ok(_) = self.rows.insert(identity, submission) else {
             unreachable!();

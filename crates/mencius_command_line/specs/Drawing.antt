@@ -3,7 +3,7 @@ use Rattle.std.specs.Prelude.{ℕ, ◌-◌, ◌^◌, Bool, true, false, List, []
 use Rattle.clap.specs.Words.{App, Kinds, Row, Rule, Text, first_of, new_app, new_rule, with_rule}
 use Rattle.clap.specs.declared.builder.action.ArgAction.TheVariants.{Set, SetTrue}
 use Rattle.clap.specs.declared.error.kind.ErrorKind.TheVariants as kind
-use Rattle.mencius_ends.specs.declared.fault.AppFault.{AppFault}
+use Rattle.mencius_ends.specs.declared.fault.IoFault.{IoFault}
 use Rattle.mencius_format.specs.ValuesOrFaults.{value_or_fault}
 use Rattle.mencius_format.specs.Words.{is_u32, number_of}
 use Rattle.mencius_draw.specs.declared.options.Options.{Options}
@@ -36,7 +36,7 @@ abbrev pub last_place : ℕ
 last_place = 2 ^ 32 - 1
 
 -- the place that a word is, as events write numbers, and another one where there is no word
-abbrev pub place_in : ℕ → Option Text → Result ℕ AppFault
+abbrev pub place_in : ℕ → Option Text → Result ℕ IoFault
 place_in other None = Ok other
 place_in other (Some word) = value_or_fault is_u32 (number_of word)
 
@@ -46,7 +46,7 @@ scheme_by true false = Dark
 scheme_by false true = Light
 scheme_by is_dark is_light = Both
 
-abbrev pub options_by : Scheme → Result ℕ AppFault → Result ℕ AppFault → Option Options
+abbrev pub options_by : Scheme → Result ℕ IoFault → Result ℕ IoFault → Option Options
 options_by scheme (Ok first) (Ok last) = Some (record { first = first; last = last; scheme = scheme })
 options_by scheme first last = None
 
@@ -58,7 +58,7 @@ options_of rows =
 
 -- ---- what is wrong with it
 
-abbrev pub place_faults : Result ℕ AppFault → Kinds
+abbrev pub place_faults : Result ℕ IoFault → Kinds
 place_faults (Ok place) = []
 place_faults (Err fault) = kind.ValueValidation ∷ []
 

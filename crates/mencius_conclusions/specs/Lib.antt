@@ -3,4 +3,3 @@ pub mod Longest
 pub mod Ballots
 pub mod OneWorker
 pub mod HistoriesAcross
-pub mod Readings

@@ -1,15 +1,14 @@
 ghost use Rattle.std.specs.Prelude.{◌≡◌, ◌≢◌, MatchResult};
-ghost use Rattle.mencius_ends.specs.Fault.{fault_name, fault_number};
-ghost use Rattle.mencius_ends.specs.declared.fault.AppFault.TheVariants as fault;
+ghost use Rattle.mencius_ends.specs.declared.fault.IoFault.TheVariants as fault;
 
 use json::Invalid;
 use mencius_base::NoMemory;
 use std::alloc::{AllocError, AllocFailed};
 use thiserror::Error;
 
-/// Why a task ended without doing its work: what its input, its reader, its writer or its memory lacked.
+/// What an input, a reader, a writer or memory lacked, so that a task ended without doing its work.
 #[derive(Clone, Copy, Debug, PartialEq, Eq, Error)]
-pub enum AppFault {
+pub enum IoFault {
     #[error("the scenario is not JSON")]
     NotJson,
     #[error("the scenario has another shape than a scenario")]
@@ -24,75 +23,47 @@ pub enum AppFault {
     NoMemory,
 }
 
-impl AppFault {
-    /// The number of the fault, 21 to 26, as the program prints it.
-    pub fn number(&self) -> u8
-        ensures { result ≡ fault_number self.now }
-    {
-        match self {
-            AppFault::NotJson => 21,
-            AppFault::BadShape => 22,
-            AppFault::BadLimit => 23,
-            AppFault::ReadFailed => 24,
-            AppFault::WriteFailed => 25,
-            AppFault::NoMemory => 26,
-        }
-    }
-
-    /// The name of the fault, as the program prints it.
-    pub fn name(&self) -> &'static str
-        ensures { result.now ≡ fault_name self.now }
-    {
-        match self {
-            AppFault::NotJson => "NotJson",
-            AppFault::BadShape => "BadShape",
-            AppFault::BadLimit => "BadLimit",
-            AppFault::ReadFailed => "ReadFailed",
-            AppFault::WriteFailed => "WriteFailed",
-            AppFault::NoMemory => "NoMemory",
-        }
-    }
-
+impl IoFault {
     /// The fault, where it is one of what was read or written: that memory ran out says nothing of either.
-    pub fn memory_apart(self) -> Result<AppFault, NoMemory>
+    pub fn memory_apart(self) -> Result<IoFault, NoMemory>
         ensures { MatchResult result (λ other. (other ≡ self) × (self ≢ fault.NoMemory))
             (λ _. self ≡ fault.NoMemory) }
     {
-        if self == AppFault::NoMemory {
+        if self == IoFault::NoMemory {
             return Err(NoMemory);
         }
         Ok(self)
     }
 }
 
-impl From<AllocError> for AppFault {
+impl From<AllocError> for IoFault {
     ghost from_gives = { λ _ f. f ≡ fault.NoMemory };
 
-    fn from(_refused: AllocError) -> AppFault {
-        AppFault::NoMemory
+    fn from(_refused: AllocError) -> IoFault {
+        IoFault::NoMemory
     }
 }
 
-impl<T: Drop> From<AllocFailed<T>> for AppFault {
+impl<T: Drop> From<AllocFailed<T>> for IoFault {
     ghost from_gives = { λ _ f. f ≡ fault.NoMemory };
 
-    fn from(_refused: AllocFailed<T>) -> AppFault {
-        AppFault::NoMemory
+    fn from(_refused: AllocFailed<T>) -> IoFault {
+        IoFault::NoMemory
     }
 }
 
-impl From<NoMemory> for AppFault {
+impl From<NoMemory> for IoFault {
     ghost from_gives = { λ _ f. f ≡ fault.NoMemory };
 
-    fn from(_refused: NoMemory) -> AppFault {
-        AppFault::NoMemory
+    fn from(_refused: NoMemory) -> IoFault {
+        IoFault::NoMemory
     }
 }
 
-impl From<Invalid> for AppFault {
+impl From<Invalid> for IoFault {
     ghost from_gives = { λ _ f. f ≡ fault.NotJson };
 
-    fn from(_invalid: Invalid) -> AppFault {
-        AppFault::NotJson
+    fn from(_invalid: Invalid) -> IoFault {
+        IoFault::NotJson
     }
 }

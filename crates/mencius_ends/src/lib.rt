@@ -8,7 +8,7 @@ mod sink;
 mod source;
 mod write;
 
-pub use fault::AppFault;
+pub use fault::IoFault;
 pub use read::read_all;
 pub use sink::Sink;
 pub use source::{Source, Std};

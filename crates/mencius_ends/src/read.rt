@@ -2,7 +2,7 @@ ghost use Rattle.std.specs.Prelude.{◌≡◌, ◌⊎◌, ◌+◌, ◌<◌, ◌�
 ghost use Rattle.std.specs.Io.KnownBytes.{IsAtEnd};
 ghost use Rattle.mencius_ends.specs.Ends.{HasFailed, TakesAtMost, most_bytes, most_failed_calls};
 
-use crate::fault::AppFault;
+use crate::fault::IoFault;
 use crate::source::Source;
 use std::alloc::Global;
 use std::io::ErrorKind;
@@ -20,18 +20,18 @@ pub(crate) const MOST_RETRIES: u32 = 1_000;
 /// `BadLimit` and leaves the rest. A call that was interrupted is made again, up to 1,000 times in
 /// all; any other error is `ReadFailed`. `NoMemory` comes where there is no room for the bytes that
 /// were read, or for the 8,192 that one call asks for.
-pub fn read_all<R: Source>(alloc: Global, source: &mut R) -> Result<Vec<u8>, AppFault>
+pub fn read_all<R: Source>(alloc: Global, source: &mut R) -> Result<Vec<u8>, IoFault>
     ensures whole { IfOk result (λ x. IfSome (R.remaining source.old) (λ bytes. x.items ≡ bytes)) }
     ensures end { OnOk result (IsAtEnd (R.remaining source.new)) }
     ensures fits { IfOk result (λ x. vec_len x ≤ most_bytes) }
 
     // Which fault, and when.
-    ensures too_long { IsErrOf result AppFault.BadLimit
+    ensures too_long { IsErrOf result IoFault.BadLimit
         → IfSome (R.remaining source.old) (λ bytes. most_bytes < length bytes) }
-    ensures failed { IsErrOf result AppFault.ReadFailed
+    ensures failed { IsErrOf result IoFault.ReadFailed
         → HasFailed (R.failed source.old) (R.failed source.new) }
-    ensures faults { IfErr result (λ f. (f ≡ AppFault.BadLimit) ⊎ (f ≡ AppFault.ReadFailed)
-        ⊎ (f ≡ AppFault.NoMemory)) }
+    ensures faults { IfErr result (λ f. (f ≡ IoFault.BadLimit) ⊎ (f ≡ IoFault.ReadFailed)
+        ⊎ (f ≡ IoFault.NoMemory)) }
 
     // How much was asked of the source, whatever the answer.
     ensures taken { TakesAtMost (most_bytes + 1) (R.remaining source.old) (R.remaining source.new) }
@@ -49,11 +49,11 @@ pub fn read_all<R: Source>(alloc: Global, source: &mut R) -> Result<Vec<u8>, App
             Ok(n) => bytes.extend_from_slice(&buf[..n])?,
             Err(e) => {
                 if e.kind() != ErrorKind::Interrupted || retries >= MOST_RETRIES {
-                    return Err(AppFault::ReadFailed);
+                    return Err(IoFault::ReadFailed);
                 }
                 retries += 1;
             }
         }
     }
-    Err(AppFault::BadLimit)
+    Err(IoFault::BadLimit)
 }

@@ -3,8 +3,8 @@ use Rattle.std.specs.Prelude.{◌≡◌, Option, Some, None, Result, Ok, Err, if
 use Rattle.mencius_base.specs.declared.command.BadCommand.{BadCommand}
 use Rattle.mencius_base.specs.declared.command.BadCommand.TheVariants.{KeyByte, TextByte, KeyLength, TextLength}
 use Rattle.mencius_base.specs.declared.command.Op.{Op}
-use Rattle.mencius_ends.specs.declared.fault.AppFault.{AppFault}
-use Rattle.mencius_ends.specs.declared.fault.AppFault.TheVariants.{BadShape, BadLimit}
+use Rattle.mencius_ends.specs.declared.fault.IoFault.{IoFault}
+use Rattle.mencius_ends.specs.declared.fault.IoFault.TheVariants.{BadShape, BadLimit}
 use Rattle.mencius_format.specs.ValuesOrFaults.{value_or_fault, has_no_limit, FailsBy}
 use Rattle.mencius_format.specs.Operations.{has_names}
 
@@ -13,12 +13,12 @@ abbrev pub without_bad_byte : Op → Option Op
 without_bad_byte op = if has_names op then Some op else None
 
 -- what was returned is what the words say, but for bad bytes; or it is their fault, unless memory ran out
-abbrev pub Spells : Result Op AppFault → Option Op → Type 0
+abbrev pub Spells : Result Op IoFault → Option Op → Type 0
 Spells (Ok op) said = said ≡ without_bad_byte op
 Spells (Err f) said = FailsBy f (value_or_fault has_no_limit said)
 
 -- a bad byte is a bad shape, and a bad length is past a limit
-abbrev pub fault_of : BadCommand → AppFault
+abbrev pub fault_of : BadCommand → IoFault
 fault_of KeyByte = BadShape
 fault_of TextByte = BadShape
 fault_of KeyLength = BadLimit

@@ -27,8 +27,8 @@ impl BareEvent {
     {
         match self {
             BareEvent::Submit { .. } => None,
-            BareEvent::Deliver { server, message } => Some(Event::Deliver { message, server }),
-            BareEvent::Lose { server, message } => Some(Event::Lose { message, server }),
+            BareEvent::Deliver { message, server } => Some(Event::Deliver { message, server }),
+            BareEvent::Lose { message, server } => Some(Event::Lose { message, server }),
             BareEvent::Suspect { server, suspected } => Some(Event::Suspect { server, suspected }),
             BareEvent::Retry { server } => Some(Event::Retry { server }),
             BareEvent::Execute { server } => Some(Event::Execute { server }),

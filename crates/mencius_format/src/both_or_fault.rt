@@ -1,19 +1,19 @@
 ghost use Rattle.std.specs.Prelude.{◌≡◌};
 ghost use Rattle.mencius_format.specs.ValuesOrFaults.{both_or_fault};
 
-use mencius_ends::AppFault;
+use mencius_ends::IoFault;
 
 /// Both values, or the fault of one of them: a passed limit gives way to the fault of the other,
 /// since shape is judged everywhere before any limit.
 pub(crate) fn both<A: Drop, B: Drop>(
-    first: Result<A, AppFault>,
-    second: Result<B, AppFault>,
-) -> Result<(A, B), AppFault>
+    first: Result<A, IoFault>,
+    second: Result<B, IoFault>,
+) -> Result<(A, B), IoFault>
     ensures { result ≡ both_or_fault first second }
 {
     match (first, second) {
         (Ok(a), Ok(b)) => Ok((a, b)),
-        (Err(AppFault::BadLimit), Err(fault)) => Err(fault),
+        (Err(IoFault::BadLimit), Err(fault)) => Err(fault),
         (Err(fault), _) | (Ok(_), Err(fault)) => Err(fault),
     }
 }

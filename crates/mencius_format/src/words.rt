@@ -6,37 +6,37 @@ ghost use Rattle.std.specs.Char.{is_ascii_digit};
 ghost use Rattle.mencius_format.specs.ValuesOrFaults.{value_or_fault};
 ghost use Rattle.mencius_format.specs.Words.{is_number, is_u8, is_u32, number_of, parts, words};
 
-use mencius_ends::AppFault;
+use mencius_ends::IoFault;
 
 // The text before the first byte `at` and the text behind it. A text that has none is a bad shape.
-fn cut(text: &str, at: u8) -> Result<(&str, &str), AppFault>
+fn cut(text: &str, at: u8) -> Result<(&str, &str), IoFault>
     requires { at < 128 }
     ensures { MatchResult result
         (λ x. parts at text.now ≡ x.0.now ∷ parts at x.1.now)
-        (λ f. (f ≡ AppFault.BadShape) × (parts at text.now ≡ text.now ∷ [])) }
+        (λ f. (f ≡ IoFault.BadShape) × (parts at text.now ≡ text.now ∷ [])) }
 {
     match first_of(text, at) {
         Some(place) => Ok((&text[..place], &text[place + 1..])),
-        None => Err(AppFault::BadShape),
+        None => Err(IoFault::BadShape),
     }
 }
 
 /// The first word of a text and the text behind it, cut at the first space. A text that has no space
 /// is a bad shape.
-pub fn cut_at_space(text: &str) -> Result<(&str, &str), AppFault>
+pub fn cut_at_space(text: &str) -> Result<(&str, &str), IoFault>
     ensures { MatchResult result
         (λ x. words text.now ≡ x.0.now ∷ words x.1.now)
-        (λ f. (f ≡ AppFault.BadShape) × (words text.now ≡ text.now ∷ [])) }
+        (λ f. (f ≡ IoFault.BadShape) × (words text.now ≡ text.now ∷ [])) }
 {
     cut(text, b' ')
 }
 
 /// The two numbers of an identity as words, cut at the first dot. A word that has no dot is a bad
 /// shape.
-pub fn cut_at_dot(word: &str) -> Result<(&str, &str), AppFault>
+pub fn cut_at_dot(word: &str) -> Result<(&str, &str), IoFault>
     ensures { MatchResult result
         (λ x. parts 46 word.now ≡ x.0.now ∷ parts 46 x.1.now)
-        (λ f. (f ≡ AppFault.BadShape) × (parts 46 word.now ≡ word.now ∷ [])) }
+        (λ f. (f ≡ IoFault.BadShape) × (parts 46 word.now ≡ word.now ∷ [])) }
 {
     cut(word, b'.')
 }
@@ -109,25 +109,25 @@ fn read_u32(word: &str) -> Option<u32>
 /// The number that a word is, 0 to 255: digits, of which the first is a 0 only where it is the one
 /// digit. Another word is a bad shape, and a greater number is past a limit.
 #[tactic(auto, using(crate::proofs::NumberWords::parsed), unfolding(crate::specs::Words::number_of))]
-pub fn parse_u8(word: &str) -> Result<u8, AppFault>
+pub fn parse_u8(word: &str) -> Result<u8, IoFault>
     ensures { result ≡ value_or_fault is_u8 (number_of word.now) }
 {
     if let Some(digit) = one_digit(word) {
         return Ok(digit);
     }
     if !is_number(word) {
-        return Err(AppFault::BadShape);
+        return Err(IoFault::BadShape);
     }
     match word.parse::<u8>() {
         Ok(n) => Ok(n),
-        Err(_) => Err(AppFault::BadLimit),
+        Err(_) => Err(IoFault::BadLimit),
     }
 }
 
 /// The number that a word is, 0 to 4,294,967,295: digits, of which the first is a 0 only where it is
 /// the one digit. Another word is a bad shape, and a greater number is past a limit.
 #[tactic(auto, using(crate::proofs::NumberWords::parsed), unfolding(crate::specs::Words::number_of))]
-pub fn parse_u32(word: &str) -> Result<u32, AppFault>
+pub fn parse_u32(word: &str) -> Result<u32, IoFault>
     ensures { result ≡ value_or_fault is_u32 (number_of word.now) }
 {
     if let Some(digit) = one_digit(word) {
@@ -137,10 +137,10 @@ pub fn parse_u32(word: &str) -> Result<u32, AppFault>
         return Ok(number);
     }
     if !is_number(word) {
-        return Err(AppFault::BadShape);
+        return Err(IoFault::BadShape);
     }
     match word.parse::<u32>() {
         Ok(n) => Ok(n),
-        Err(_) => Err(AppFault::BadLimit),
+        Err(_) => Err(IoFault::BadLimit),
     }
 }

@@ -1,7 +1,7 @@
 -- The words that tell where a scenario has a fault.
 use Rattle.std.specs.Prelude.{ℕ, ◌≡◌, ◌+◌, ◌++◌, ◌==◌, List, ◌∷◌, codes, decimal, drop, flat_map, Option, Some, None, MatchOption, if◌then◌else◌}
-use Rattle.mencius_ends.specs.declared.fault.AppFault.{AppFault}
-use Rattle.mencius_ends.specs.declared.fault.AppFault.TheVariants.{BadLimit, BadShape, NotJson}
+use Rattle.mencius_ends.specs.declared.fault.IoFault.{IoFault}
+use Rattle.mencius_ends.specs.declared.fault.IoFault.TheVariants.{BadLimit, BadShape, NotJson}
 use Rattle.mencius_json.specs.Crowds.{crowd_in}
 use Rattle.mencius_json.specs.declared.crowd.Crowd.{Crowd}
 use Rattle.mencius_json.specs.declared.crowd.Crowd.TheVariants.{Braces, Brackets, Separators}
@@ -31,7 +31,7 @@ shape_words shape.List = codes "no list"
 unfoldable pub limit_words : Field → List ℕ
 limit_words field = shape_words (row field).shape
 
-abbrev pub number_words : AppFault → Field → List ℕ
+abbrev pub number_words : IoFault → Field → List ℕ
 number_words BadShape field = codes "no whole number"
 number_words fault field = limit_words field
 
@@ -60,7 +60,7 @@ abbrev pub ExplainsItem : Option (List ℕ) → List ℕ → Type 0
 ExplainsItem None words = words ≡ codes "is no string"
 ExplainsItem (Some text) words = (said : List ℕ) × (words ≡ shown_text text ++ 58 ∷ 32 ∷ said)
 
-abbrev pub ExplainsPlace : Kind → AppFault → PlaceState → List ℕ → Type 0
+abbrev pub ExplainsPlace : Kind → IoFault → PlaceState → List ℕ → Type 0
 ExplainsPlace kind fault place.no_object words = words ≡ codes "the text is no JSON object"
 ExplainsPlace kind fault (place.unknown_field name) words = words ≡ shown_text name ++ unknown_words kind
 ExplainsPlace kind fault (place.missing_field field) words = words ≡ field_words field (codes "missing")
@@ -84,12 +84,12 @@ crowd_words Brackets = codes "more than 65,536 [ stand in the text, where a scen
 crowd_words Separators = codes "more than 1,700,000 commas and colons stand in the text, which has no room for so many events"
 
 -- what is said where no place was found
-abbrev pub unplaced_words : AppFault → List ℕ
+abbrev pub unplaced_words : IoFault → List ℕ
 unplaced_words BadLimit = codes "a number, a length or a count is past its limit"
 unplaced_words fault = codes "the text is no scenario"
 
 -- why no place is looked for, or words of the first one, or that there is none
-abbrev pub IsPlaced : Kind → AppFault → List ℕ → List ℕ → Type 0
+abbrev pub IsPlaced : Kind → IoFault → List ℕ → List ℕ → Type 0
 IsPlaced kind fault bytes words =
     MatchOption (crowd_in bytes)
     (MatchOption (first_place kind fault bytes) (words ≡ unplaced_words fault)
@@ -97,7 +97,7 @@ IsPlaced kind fault bytes words =
     (λ crowd. words ≡ crowd_words crowd)
 
 -- what is said of a fault of bytes that were read
-abbrev pub Explains : Kind → AppFault → List ℕ → List ℕ → Type 0
+abbrev pub Explains : Kind → IoFault → List ℕ → List ℕ → Type 0
 Explains kind NotJson bytes words = IsStop bytes words
 Explains kind BadShape bytes words = IsPlaced kind BadShape bytes words
 Explains kind BadLimit bytes words = IsPlaced kind BadLimit bytes words
@@ -107,6 +107,6 @@ Explains kind fault bytes words = Unit {0}
 abbrev pub too_long_words : List ℕ
 too_long_words = codes "the scenario is longer than 16,777,216 bytes"
 
-abbrev pub ExplainsUnread : AppFault → List ℕ → Type 0
+abbrev pub ExplainsUnread : IoFault → List ℕ → Type 0
 ExplainsUnread BadLimit words = words ≡ too_long_words
 ExplainsUnread fault words = Unit {0}

@@ -9,8 +9,8 @@ use Rattle.mencius_base.specs.declared.command.Command.{Command}
 use Rattle.mencius_base.specs.declared.event.Event.{Event}
 use Rattle.mencius_base.specs.Plan.{PlanState, plan_of}
 use Rattle.mencius_base.specs.CommandState.{CommandState}
-use Rattle.mencius_ends.specs.declared.fault.AppFault.{AppFault}
-use Rattle.mencius_ends.specs.declared.fault.AppFault.TheVariants.{BadLimit, BadShape, NoMemory, NotJson}
+use Rattle.mencius_ends.specs.declared.fault.IoFault.{IoFault}
+use Rattle.mencius_ends.specs.declared.fault.IoFault.TheVariants.{BadLimit, BadShape, NoMemory, NotJson}
 use Rattle.mencius_format.specs.Grammar.{is_command_within, is_event_within, newest_version}
 use Rattle.mencius_format.specs.ValuesOrFaults.{map_ok, value_or_fault}
 use Rattle.mencius_input.specs.declared.field.Field.{Field}
@@ -90,7 +90,7 @@ abbrev pub IsForeign : Kind → Data → Type 0
 IsForeign kind d = (ms : Members) → as_object d ≡ Some ms → has_only (names kind) ms ≡ false
 
 -- why there are no fields: memory ran out, or there is no value, or it is no such object
-abbrev pub IsUnread : Kind → Option Data → AppFault → Type 0
+abbrev pub IsUnread : Kind → Option Data → IoFault → Type 0
 IsUnread kind o fault =
     (fault ≡ NoMemory) ⊎ ((fault ≡ NotJson) × (o ≡ None))
     ⊎ ((fault ≡ BadShape) × (d : Data) × (o ≡ Some d) × IsForeign kind d)
@@ -125,19 +125,19 @@ with_course shared course = record {
 abbrev pub is_shared_within : Shared → Bool
 is_shared_within shared = is_cluster_within shared.version (record { count = shared.servers; beta = shared.beta })
 
-abbrev pub scenario_or_fault : {X : Type 0} → Shared → Result X AppFault → Result (Scenario X) AppFault
+abbrev pub scenario_or_fault : {X : Type 0} → Shared → Result X IoFault → Result (Scenario X) IoFault
 scenario_or_fault shared (Ok course) = if is_shared_within shared then Ok (with_course shared course) else Err BadLimit
 scenario_or_fault shared (Err fault) = Err fault
 
 -- what the numbers say, and a course that is read by them
-abbrev pub said_of : {X : Type 0} → (Shared → List (Option ℕ) → Result X AppFault)
-    → Option (Shared × List (Option ℕ)) → Result (Scenario X) AppFault
+abbrev pub said_of : {X : Type 0} → (Shared → List (Option ℕ) → Result X IoFault)
+    → Option (Shared × List (Option ℕ)) → Result (Scenario X) IoFault
 said_of course_said None = Err BadShape
 said_of course_said (Some (shared, own)) = scenario_or_fault shared (course_said shared own)
 
 -- ---- a scenario of `replay`
 
-abbrev pub schedule_said : Option SaidList → Shared → Result (List Event) AppFault
+abbrev pub schedule_said : Option SaidList → Shared → Result (List Event) IoFault
 schedule_said (Some (of_events es)) shared = in_version shared.version es
 schedule_said _ shared = Err BadShape
 
@@ -148,13 +148,13 @@ abbrev pub is_plan_for : ℕ → PlanState → Bool
 is_plan_for servers plan =
     (are_numbers_within plan && (length plan.commands == servers)) && nat_le (length plan.commands) most_servers
 
-abbrev pub plan_or_fault : ℕ → (List (List CommandState) → PlanState) → Result (List (List CommandState)) AppFault
-    → Result PlanState AppFault
+abbrev pub plan_or_fault : ℕ → (List (List CommandState) → PlanState) → Result (List (List CommandState)) IoFault
+    → Result PlanState IoFault
 plan_or_fault servers of (Ok lists) = if is_plan_for servers (of lists) then Ok (of lists) else Err BadLimit
 plan_or_fault servers of (Err fault) = Err fault
 
 -- what the numbers of a run alone and its lists say
-abbrev pub plan_said : Shared → List (Option ℕ) → Option SaidList → Result PlanState AppFault
+abbrev pub plan_said : Shared → List (Option ℕ) → Option SaidList → Result PlanState IoFault
 plan_said shared (Some workers ∷ Some seed ∷ Some turns ∷ Some loss ∷ []) (Some (of_lists lists)) =
     plan_or_fault shared.servers (plan_of workers seed turns loss) (in_version shared.version lists)
 plan_said shared _ _ = Err BadShape

@@ -1,7 +1,7 @@
 -- What holds of all texts of scenarios.
 use Rattle.std.specs.Prelude.{ℕ, ◌≡◌, List, true, is_some, Result, Err}
-use Rattle.mencius_ends.specs.declared.fault.AppFault.{AppFault}
-use Rattle.mencius_ends.specs.declared.fault.AppFault.TheVariants.{BadLimit, BadShape}
+use Rattle.mencius_ends.specs.declared.fault.IoFault.{IoFault}
+use Rattle.mencius_ends.specs.declared.fault.IoFault.TheVariants.{BadLimit, BadShape}
 use Rattle.mencius_input.specs.declared.kind.Kind.{Kind}
 use Rattle.mencius_input.specs.declared.kind.Kind.TheVariants.{Replay, Run}
 use Rattle.mencius_input.specs.Places.{first_place}
@@ -9,7 +9,7 @@ use Rattle.mencius_input.specs.Plan.{plan}
 use Rattle.mencius_input.specs.Scenario.{scenario}
 
 -- the fault that bytes have as a scenario of the kind has a place in them, if it is one of the shape or of the limits
-abbrev pub HasPlace : {X : Type 0} → Kind → List ℕ → Result X AppFault → Type 0
+abbrev pub HasPlace : {X : Type 0} → Kind → List ℕ → Result X IoFault → Type 0
 HasPlace kind bytes (Err BadShape) = is_some (first_place kind BadShape bytes) ≡ true
 HasPlace kind bytes (Err BadLimit) = is_some (first_place kind BadLimit bytes) ≡ true
 HasPlace kind bytes said = Unit {0}

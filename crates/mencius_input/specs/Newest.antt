@@ -3,8 +3,8 @@
 use Rattle.std.specs.Prelude.{ℕ, max, List, Option, option_map, unwrap_or, Result, Err, if◌then◌else◌}
 use Rattle.serde_json.specs.Data.{Data, Items, no_items, item}
 use Rattle.serde_json.specs.Find.{as_array, as_str}
-use Rattle.mencius_ends.specs.declared.fault.AppFault.{AppFault}
-use Rattle.mencius_ends.specs.declared.fault.AppFault.TheVariants.{BadShape}
+use Rattle.mencius_ends.specs.declared.fault.IoFault.{IoFault}
+use Rattle.mencius_ends.specs.declared.fault.IoFault.TheVariants.{BadShape}
 use Rattle.mencius_input.specs.declared.newest.Newest.{Newest}
 use Rattle.mencius_format.specs.TextVersions.{command_version, event_version}
 use Rattle.mencius_format.specs.Versions.{first_version, may_stand_in}
@@ -35,5 +35,5 @@ list_version needed d = unwrap_or (option_map (items_version needed) (as_array d
 -- ---- once the version is known
 
 -- what is said in a version
-abbrev pub in_version : {X : Type 0} → ℕ → Newest X → Result X AppFault
+abbrev pub in_version : {X : Type 0} → ℕ → Newest X → Result X IoFault
 in_version version x = if may_stand_in x.version version then x.said else Err BadShape

@@ -12,8 +12,8 @@ use Rattle.serde_json.specs.Data.{Data, Items, Num, no_items, item}
 use Rattle.serde_json.specs.Events.{items_len}
 use Rattle.serde_json.specs.Find.{as_array, as_number, as_object, as_str, as_u64, get, to_float}
 use Rattle.serde_json.specs.Read.{max_depth}
-use Rattle.mencius_ends.specs.declared.fault.AppFault.{AppFault}
-use Rattle.mencius_ends.specs.declared.fault.AppFault.TheVariants.{BadLimit, BadShape}
+use Rattle.mencius_ends.specs.declared.fault.IoFault.{IoFault}
+use Rattle.mencius_ends.specs.declared.fault.IoFault.TheVariants.{BadLimit, BadShape}
 use Rattle.mencius_format.specs.Grammar.{newest_version}
 use Rattle.mencius_input.specs.declared.field.Field.{Field}
 use Rattle.mencius_input.specs.declared.field.Field.TheVariants.{Version, Servers}
@@ -55,16 +55,16 @@ place_state (place.Lists count servers) = list_count count servers
 
 -- ---- the fault that is looked for
 
-abbrev pub is_shape : AppFault → Bool
+abbrev pub is_shape : IoFault → Bool
 is_shape BadShape = true
 is_shape fault = false
 
-abbrev pub is_limit : AppFault → Bool
+abbrev pub is_limit : IoFault → Bool
 is_limit BadLimit = true
 is_limit fault = false
 
 -- what was found is that fault
-abbrev pub is_fault : AppFault → Option AppFault → Bool
+abbrev pub is_fault : IoFault → Option IoFault → Bool
 is_fault fault None = false
 is_fault fault (Some BadShape) = is_shape fault
 is_fault fault (Some BadLimit) = is_limit fault
@@ -76,7 +76,7 @@ is_fault fault (Some found) = false
 abbrev pub version_in : Data → ℕ
 version_in d = unwrap_or (number_of Version d) newest_version
 
-abbrev pub item_fault : Kind → ℕ → Data → Option AppFault
+abbrev pub item_fault : Kind → ℕ → Data → Option IoFault
 item_fault Replay version d = result_err (item_said version d)
 item_fault Run version d = result_err (command_said version d)
 
@@ -91,45 +91,45 @@ first_of ask n no_items = None
 first_of ask n (item d ds) = option_or (ask n d) (first_of ask (n + 1) ds)
 
 -- the index and the text of an item that has the fault, and of the first that has it
-abbrev pub fault_at : Kind → AppFault → ℕ → ℕ → Data → Option (ℕ × Option (List ℕ))
+abbrev pub fault_at : Kind → IoFault → ℕ → ℕ → Data → Option (ℕ × Option (List ℕ))
 fault_at kind fault version n d =
     if is_fault fault (item_fault kind version d) then Some (n, as_str d) else None
 
-abbrev pub first_item : Kind → AppFault → ℕ → Items → Option (ℕ × Option (List ℕ))
+abbrev pub first_item : Kind → IoFault → ℕ → Items → Option (ℕ × Option (List ℕ))
 first_item kind fault version items = first_of (fault_at kind fault version) 0 items
 
 -- ---- the field that is a list
 
 -- in the events of a schedule
-abbrev pub events_place : AppFault → ℕ → Items → Option PlaceState
+abbrev pub events_place : IoFault → ℕ → Items → Option PlaceState
 events_place fault version items = option_map (λ x. event_item x.0 version x.1) (first_item Replay fault version items)
 
 -- in an item of the commands of a run, which should be a list
-abbrev pub commands_place : AppFault → ℕ → ℕ → Option Items → Option PlaceState
+abbrev pub commands_place : IoFault → ℕ → ℕ → Option Items → Option PlaceState
 commands_place fault version at None = if is_shape fault then Some (no_sublist at) else None
 commands_place fault version at (Some items) = option_map (λ x. command_item at x.0 version x.1) (first_item Run fault version items)
 
-abbrev pub list_place : AppFault → ℕ → ℕ → Data → Option PlaceState
+abbrev pub list_place : IoFault → ℕ → ℕ → Data → Option PlaceState
 list_place fault version at d = commands_place fault version at (as_array d)
 
 -- the commands themselves, where they are not one list for each of so many servers as there may be
-abbrev pub count_place : AppFault → ℕ → Option ℕ → Option PlaceState
+abbrev pub count_place : IoFault → ℕ → Option ℕ → Option PlaceState
 count_place fault count None = None
 count_place fault count (Some servers) =
     if is_limit fault && is_field_within Servers servers && not (count == servers) then Some (list_count count servers) else None
 
 -- in the items that the field of a kind has in this scenario
-abbrev pub items_place : Kind → AppFault → Data → Items → Option PlaceState
+abbrev pub items_place : Kind → IoFault → Data → Items → Option PlaceState
 items_place Replay fault d items = events_place fault (version_in d) items
 items_place Run fault d items =
     option_or (first_of (list_place fault (version_in d)) 0 items)
     (count_place fault (items_len items) (number_of Servers d))
 
-abbrev pub course_place : Kind → AppFault → Data → Option Items → Option PlaceState
+abbrev pub course_place : Kind → IoFault → Data → Option Items → Option PlaceState
 course_place kind fault d None = if is_shape fault then Some (no_list (list_field kind)) else None
 course_place kind fault d (Some items) = items_place kind fault d items
 
-abbrev pub list_field_place : Kind → AppFault → Data → Option PlaceState
+abbrev pub list_field_place : Kind → IoFault → Data → Option PlaceState
 list_field_place kind fault d = option_and_then (λ value. course_place kind fault d (as_array value)) (get (field_name (list_field kind)) d)
 
 -- ---- the fields that are whole numbers
@@ -142,11 +142,11 @@ is_great_number (Some n) = not (is_some (as_u64 n)) && le (two_to 64) (to_float 
 abbrev pub not_whole : Field → Data → PlaceState
 not_whole field value = if is_great_number (as_number value) then great_number field else bad_number field
 
-abbrev pub whole_place : AppFault → Field → Data → Option ℕ → Option PlaceState
+abbrev pub whole_place : IoFault → Field → Data → Option ℕ → Option PlaceState
 whole_place fault field value None = if is_shape fault then Some (not_whole field value) else None
 whole_place fault field value (Some n) = if is_limit fault && not (is_field_within field n) then Some (bad_number field) else None
 
-abbrev pub number_place : AppFault → Field → Data → Option PlaceState
+abbrev pub number_place : IoFault → Field → Data → Option PlaceState
 number_place fault field d = option_and_then (λ value. whole_place fault field value (whole_in value)) (get (field_name field) d)
 
 -- ---- all fields
@@ -156,17 +156,17 @@ abbrev pub field_named : Kind → List ℕ → Option Field
 field_named kind name = find (λ field. bytes_eq name (field_name field)) (whole_fields kind)
 
 -- in the field of this name, which stands in the scenario
-abbrev pub named_place : Kind → AppFault → Data → List ℕ → Option Field → Option PlaceState
+abbrev pub named_place : Kind → IoFault → Data → List ℕ → Option Field → Option PlaceState
 named_place kind fault d name (Some field) = number_place fault field d
 named_place kind fault d name None =
     if bytes_eq name (field_name (list_field kind)) then list_field_place kind fault d
     else if is_shape fault then Some (unknown_field name) else None
 
-abbrev pub field_place : Kind → AppFault → Data → List ℕ → Option PlaceState
+abbrev pub field_place : Kind → IoFault → Data → List ℕ → Option PlaceState
 field_place kind fault d name = named_place kind fault d name (field_named kind name)
 
 -- in the first of the fields of these names that has one
-unfoldable pub first_in : Kind → AppFault → Data → List (List ℕ) → Option PlaceState
+unfoldable pub first_in : Kind → IoFault → Data → List (List ℕ) → Option PlaceState
 first_in kind fault d [] = None
 first_in kind fault d (name ∷ names) = option_or (field_place kind fault d name) (first_in kind fault d names)
 
@@ -186,17 +186,17 @@ names_in text = names_read (json.value max_depth (tokens text))
 abbrev pub is_lacking : Data → Field → Bool
 is_lacking d field = not (is_some (default_of field)) && not (is_some (get (field_name field) d))
 
-abbrev pub lack_place : Kind → AppFault → Data → Option PlaceState
+abbrev pub lack_place : Kind → IoFault → Data → Option PlaceState
 lack_place kind fault d = if is_shape fault then option_map missing_field (find (is_lacking d) (fields kind)) else None
 
 -- ---- the text
 
 -- in the value of a text whose fields stand in this order: a field that is not there comes last
-abbrev pub place_in : Kind → AppFault → List (List ℕ) → Data → Option PlaceState
+abbrev pub place_in : Kind → IoFault → List (List ℕ) → Data → Option PlaceState
 place_in kind fault names d =
     if is_some (as_object d) then option_or (first_in kind fault d names) (lack_place kind fault d)
     else if is_shape fault then Some no_object else None
 
 -- in what the bytes say as JSON
-abbrev pub first_place : Kind → AppFault → List ℕ → Option PlaceState
+abbrev pub first_place : Kind → IoFault → List ℕ → Option PlaceState
 first_place kind fault bytes = option_and_then (place_in kind fault (names_in bytes)) (json_of bytes)

@@ -6,7 +6,7 @@ use Rattle.serde_json.specs.Find.{as_array, get}
 use Rattle.mencius_base.specs.Members.{Membership}
 use Rattle.mencius_base.specs.Plan.{PlanState}
 use Rattle.mencius_base.specs.CommandState.{CommandState}
-use Rattle.mencius_ends.specs.declared.fault.AppFault.{AppFault}
+use Rattle.mencius_ends.specs.declared.fault.IoFault.{IoFault}
 use Rattle.mencius_input.specs.declared.field.Field.TheVariants.{Workers, Seed, Turns, Loss, Commands}
 use Rattle.mencius_input.specs.declared.kind.Kind.TheVariants.{Run}
 use Rattle.mencius_input.specs.declared.scenario.Scenario.{Scenario}
@@ -46,11 +46,11 @@ is_plan_within members plan =
     (are_numbers_within plan && (length plan.commands == members.count)) && list_all (list_all is_command_within) plan.commands
 
 -- what an item of a list of commands says in a version, or its fault
-abbrev pub command_said : ℕ → Data → Result CommandState AppFault
+abbrev pub command_said : ℕ → Data → Result CommandState IoFault
 command_said version d = value_or_fault is_command_within (said_by (command_of version) d)
 
 -- ---- the bytes
 
 -- what the bytes say as a scenario of `run`, or the fault that they have
-abbrev pub plan : List ℕ → Result (Scenario PlanState) AppFault
+abbrev pub plan : List ℕ → Result (Scenario PlanState) IoFault
 plan bytes = scenario_in Run plan_read is_plan_within bytes

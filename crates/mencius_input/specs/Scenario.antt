@@ -7,8 +7,8 @@ use Rattle.serde_json.specs.Find.{as_object, as_array, as_str, as_number, as_u64
 use Rattle.serde_json.specs.Read.{read}
 use Rattle.mencius_base.specs.Members.{Membership}
 use Rattle.mencius_base.specs.declared.event.Event.{Event}
-use Rattle.mencius_ends.specs.declared.fault.AppFault.{AppFault}
-use Rattle.mencius_ends.specs.declared.fault.AppFault.TheVariants.{NotJson}
+use Rattle.mencius_ends.specs.declared.fault.IoFault.{IoFault}
+use Rattle.mencius_ends.specs.declared.fault.IoFault.TheVariants.{NotJson}
 use Rattle.mencius_input.specs.declared.field.Field.{Field}
 use Rattle.mencius_input.specs.declared.field.Field.TheVariants.{Version, Servers, Beta, Events}
 use Rattle.mencius_input.specs.declared.kind.Kind.{Kind}
@@ -106,7 +106,7 @@ abbrev pub is_within_limits : Scenario (List Event) → Bool
 is_within_limits x = is_scenario_within is_schedule_within x
 
 -- what an item of the events says in a version, or its fault
-abbrev pub item_said : ℕ → Data → Result Event AppFault
+abbrev pub item_said : ℕ → Data → Result Event IoFault
 item_said version d = value_or_fault is_event_within (said_by (event_of version) d)
 
 -- ---- the bytes
@@ -115,21 +115,21 @@ item_said version d = value_or_fault is_event_within (said_by (event_of version)
 unfoldable pub json_of : List ℕ → Option Data
 json_of bytes = if is_utf8 bytes then read bytes else None
 
-abbrev pub or_not_json : Option Data → Result Data AppFault
+abbrev pub or_not_json : Option Data → Result Data IoFault
 or_not_json None = Err NotJson
 or_not_json (Some d) = Ok d
 
 -- what is read of the value that there is
-abbrev pub read_there : {X : Type 0} → (Data → Result X AppFault) → Result Data AppFault → Result X AppFault
+abbrev pub read_there : {X : Type 0} → (Data → Result X IoFault) → Result Data IoFault → Result X IoFault
 read_there read (Err f) = Err f
 read_there read (Ok d) = read d
 
 -- what the bytes say as a scenario of the kind, whose course is read and has to fit so, or the fault that they have
 abbrev pub scenario_in : {X : Type 0} → Kind → (ℕ → Data → Option X) → (Membership → X → Bool) → List ℕ
-    → Result (Scenario X) AppFault
+    → Result (Scenario X) IoFault
 scenario_in kind course_of fits bytes =
     read_there (λ d. value_or_fault (is_scenario_within fits) (scenario_of kind course_of d)) (or_not_json (json_of bytes))
 
 -- as one of `replay`
-abbrev pub scenario : List ℕ → Result (Scenario (List Event)) AppFault
+abbrev pub scenario : List ℕ → Result (Scenario (List Event)) IoFault
 scenario bytes = scenario_in Replay schedule_of is_schedule_within bytes

@@ -1,8 +1,8 @@
 -- Why reading a value stops.
 use Rattle.std.specs.Prelude.{◌≡◌, ◌⊎◌, Option, None}
-use Rattle.mencius_ends.specs.declared.fault.AppFault.{AppFault}
-use Rattle.mencius_ends.specs.declared.fault.AppFault.TheVariants.{NoMemory, NotJson}
+use Rattle.mencius_ends.specs.declared.fault.IoFault.{IoFault}
+use Rattle.mencius_ends.specs.declared.fault.IoFault.TheVariants.{NoMemory, NotJson}
 
 -- memory ran out, or nothing of the kind comes next
-abbrev pub StopsBy : {X : Type 0} → Option X → AppFault → Type 0
+abbrev pub StopsBy : {X : Type 0} → Option X → IoFault → Type 0
 StopsBy next fault = (fault ≡ NoMemory) ⊎ ((fault ≡ NotJson) × (next ≡ None))

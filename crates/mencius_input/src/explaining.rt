@@ -11,7 +11,7 @@ use crate::places::{Place, place_of};
 use crate::shown::shown;
 use crate::wrong::wrong_item;
 use mencius_base::NoMemory;
-use mencius_ends::AppFault;
+use mencius_ends::IoFault;
 use mencius_json::{Crowd, crowd_in, stop_in};
 use std::alloc::Global;
 
@@ -42,11 +42,11 @@ fn limit_words(alloc: Global, field: Field) -> Result<String, NoMemory>
 }
 
 // What is wrong with a field that should be a whole number.
-fn number_words(alloc: Global, field: Field, fault: AppFault) -> Result<String, NoMemory>
+fn number_words(alloc: Global, field: Field, fault: IoFault) -> Result<String, NoMemory>
     ensures { IfOk result (λ s. string_bytes s ≡ number_words fault field) }
 {
     match fault {
-        AppFault::BadShape => Ok(String::from_str(alloc, "no whole number")?),
+        IoFault::BadShape => Ok(String::from_str(alloc, "no whole number")?),
         _ => limit_words(alloc, field),
     }
 }
@@ -108,7 +108,7 @@ fn of_item(
     kind: Kind,
     version: u64,
     text: &Option<String>,
-    fault: AppFault,
+    fault: IoFault,
 ) -> Result<String, NoMemory>
     ensures { IfOk result (λ s. ExplainsItem (option_map string_bytes text.now) (string_bytes s)) }
 {
@@ -163,12 +163,7 @@ fn of_lists(alloc: Global, count: usize, servers: u64) -> Result<String, NoMemor
 }
 
 // What is wrong at a place that has the fault.
-fn wrong_place(
-    alloc: Global,
-    kind: Kind,
-    place: &Place,
-    fault: AppFault,
-) -> Result<String, NoMemory>
+fn wrong_place(alloc: Global, kind: Kind, place: &Place, fault: IoFault) -> Result<String, NoMemory>
     ensures { IfOk result (λ s. ExplainsPlace kind fault (place_state place.now) (string_bytes s)) }
 {
     match place {
@@ -222,17 +217,17 @@ fn crowd_words(crowd: Crowd) -> &'static str
 }
 
 // What is said where no place was found that has the fault.
-fn unplaced(fault: AppFault) -> &'static str
+fn unplaced(fault: IoFault) -> &'static str
     ensures { result.now ≡ unplaced_words fault }
 {
     match fault {
-        AppFault::BadLimit => "a number, a length or a count is past its limit",
+        IoFault::BadLimit => "a number, a length or a count is past its limit",
         _ => "the text is no scenario",
     }
 }
 
 // Where the shape is bad or a limit is passed.
-fn tell_place(alloc: Global, kind: Kind, bytes: &[u8], fault: AppFault) -> Result<String, NoMemory>
+fn tell_place(alloc: Global, kind: Kind, bytes: &[u8], fault: IoFault) -> Result<String, NoMemory>
     ensures { IfOk result (λ s. IsPlaced kind fault bytes.now (string_bytes s)) }
 {
     if let Some(crowd) = crowd_in(bytes) {
@@ -257,13 +252,13 @@ fn tell_place(alloc: Global, kind: Kind, bytes: &[u8], fault: AppFault) -> Resul
 /// # Errors
 ///
 /// `NoMemory` where memory ran out.
-pub fn explain(alloc: Global, kind: Kind, bytes: &[u8], fault: AppFault) -> Result<String, NoMemory>
+pub fn explain(alloc: Global, kind: Kind, bytes: &[u8], fault: IoFault) -> Result<String, NoMemory>
     ensures { IfOk result (λ s. Explains kind fault bytes.now (string_bytes s)) }
 {
     match fault {
-        AppFault::NotJson => stop_in(alloc, bytes),
-        AppFault::BadShape => tell_place(alloc, kind, bytes, AppFault::BadShape),
-        AppFault::BadLimit => tell_place(alloc, kind, bytes, AppFault::BadLimit),
+        IoFault::NotJson => stop_in(alloc, bytes),
+        IoFault::BadShape => tell_place(alloc, kind, bytes, IoFault::BadShape),
+        IoFault::BadLimit => tell_place(alloc, kind, bytes, IoFault::BadLimit),
         _ => Ok(format!(in alloc; "{fault}")?),
     }
 }
@@ -274,11 +269,11 @@ pub fn explain(alloc: Global, kind: Kind, bytes: &[u8], fault: AppFault) -> Resu
 /// # Errors
 ///
 /// `NoMemory` where memory ran out.
-pub fn explain_unread(alloc: Global, fault: AppFault) -> Result<String, NoMemory>
+pub fn explain_unread(alloc: Global, fault: IoFault) -> Result<String, NoMemory>
     ensures { IfOk result (λ s. ExplainsUnread fault (string_bytes s)) }
 {
     match fault {
-        AppFault::BadLimit => Ok(String::from_str(
+        IoFault::BadLimit => Ok(String::from_str(
             alloc,
             "the scenario is longer than 16,777,216 bytes",
         )?),

@@ -11,7 +11,7 @@ ghost use Rattle.mencius_format.specs.Words.{words};
 
 use crate::kind::Kind;
 use mencius_base::NoMemory;
-use mencius_ends::AppFault;
+use mencius_ends::IoFault;
 use mencius_format::{
     FIRST_VERSION, command_version, event_version, may_stand_in, parse_command, parse_event,
 };
@@ -24,7 +24,7 @@ pub(crate) fn first_item(
     kind: Kind,
     version: u64,
     items: &[Value],
-    fault: AppFault,
+    fault: IoFault,
 ) -> Result<Option<(usize, Option<String>)>, NoMemory>
     ensures { IfOk result (λ o. option_map (λ x. (x.0, option_map string_bytes x.1)) o
         ≡ first_item kind fault version (items_view items.now)) }
@@ -44,7 +44,7 @@ fn has_fault(
     kind: Kind,
     version: u64,
     item: &Value,
-    fault: AppFault,
+    fault: IoFault,
 ) -> Result<bool, NoMemory>
     ensures { IfOk result (λ x. x ≡ is_fault fault (item_fault kind version (view item.now))) }
 {
@@ -53,28 +53,28 @@ fn has_fault(
 }
 
 // Whether what was found is the fault.
-fn is_fault(fault: AppFault, found: Option<AppFault>) -> bool
+fn is_fault(fault: IoFault, found: Option<IoFault>) -> bool
     ensures { result ≡ is_fault fault found }
 {
     match found {
-        Some(AppFault::BadShape) => is_shape(fault),
-        Some(AppFault::BadLimit) => is_limit(fault),
+        Some(IoFault::BadShape) => is_shape(fault),
+        Some(IoFault::BadLimit) => is_limit(fault),
         _ => false,
     }
 }
 
 /// Whether the fault is a bad shape.
-pub(crate) fn is_shape(fault: AppFault) -> bool
+pub(crate) fn is_shape(fault: IoFault) -> bool
     ensures { result ≡ is_shape fault }
 {
-    matches!(fault, AppFault::BadShape)
+    matches!(fault, IoFault::BadShape)
 }
 
 /// Whether the fault is a limit that is passed.
-pub(crate) fn is_limit(fault: AppFault) -> bool
+pub(crate) fn is_limit(fault: IoFault) -> bool
     ensures { result ≡ is_limit fault }
 {
-    matches!(fault, AppFault::BadLimit)
+    matches!(fault, IoFault::BadLimit)
 }
 
 // The fault of an item.
@@ -83,11 +83,11 @@ fn fault_of_item(
     kind: Kind,
     version: u64,
     item: &Value,
-) -> Result<Option<AppFault>, NoMemory>
+) -> Result<Option<IoFault>, NoMemory>
     ensures { IfOk result (λ o. o ≡ item_fault kind version (view item.now)) }
 {
     if is_too_new(kind, version, item) {
-        return Ok(Some(AppFault::BadShape));
+        return Ok(Some(IoFault::BadShape));
     }
     newest_fault_of_item(alloc, kind, item)
 }
@@ -115,18 +115,18 @@ fn newest_fault_of_item(
     alloc: Global,
     kind: Kind,
     item: &Value,
-) -> Result<Option<AppFault>, NoMemory>
+) -> Result<Option<IoFault>, NoMemory>
     ensures { IfOk result (λ o. o ≡ item_fault kind newest_version (view item.now)) }
 {
     match (item.as_str(), kind) {
         (Some(text), Kind::Replay) => fault_of_event(alloc, text),
         (Some(text), Kind::Run) => fault_of_command(alloc, text),
-        (None, _) => Ok(Some(AppFault::BadShape)),
+        (None, _) => Ok(Some(IoFault::BadShape)),
     }
 }
 
 // The fault of an event in the newest version.
-fn fault_of_event(alloc: Global, text: &str) -> Result<Option<AppFault>, NoMemory>
+fn fault_of_event(alloc: Global, text: &str) -> Result<Option<IoFault>, NoMemory>
     ensures { IfOk result (λ o.
         o ≡ result_err (value_or_fault is_event_within (event_of newest_version (words text.now)))) }
 {
@@ -137,7 +137,7 @@ fn fault_of_event(alloc: Global, text: &str) -> Result<Option<AppFault>, NoMemor
 }
 
 // The fault of a command in the newest version.
-fn fault_of_command(alloc: Global, text: &str) -> Result<Option<AppFault>, NoMemory>
+fn fault_of_command(alloc: Global, text: &str) -> Result<Option<IoFault>, NoMemory>
     ensures { IfOk result (λ o.
         o ≡ result_err
         (value_or_fault is_command_within (command_of newest_version (words text.now)))) }

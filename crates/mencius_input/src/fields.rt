@@ -17,7 +17,7 @@ use crate::newest::Newest;
 use crate::schedule::next_events;
 use json::{Reader, Scratch};
 use mencius_base::{Command, NoMemory};
-use mencius_ends::AppFault;
+use mencius_ends::IoFault;
 use mencius_json::{MOST_DEPTH, enter_object, next_whole, pass};
 use std::alloc::Global;
 
@@ -54,18 +54,18 @@ fn defaults(alloc: Global, kind: Kind) -> Result<Vec<Option<u64>>, NoMemory>
 /// The fields of the scenario of a kind that a JSON text says. Bytes that are not JSON are `NotJson`; a
 /// value that is no object, or one with a field that no scenario of the kind has, is `BadShape`.
 #[tactic(auto, using(crate::proofs::JsonTexts::utf8_yes, crate::proofs::JsonTexts::utf8_no))]
-pub(crate) fn read_fields(alloc: Global, kind: Kind, bytes: &[u8]) -> Result<FieldValues, AppFault>
+pub(crate) fn read_fields(alloc: Global, kind: Kind, bytes: &[u8]) -> Result<FieldValues, IoFault>
     ensures ok { IfOk result (λ f. AreAll kind f (json_of bytes.now)) }
     ensures err { IfErr result (IsUnread kind (json_of bytes.now)) }
 {
     match std::str::from_utf8(bytes) {
         Ok(text) => read_text(alloc, kind, text),
-        Err(_) => Err(AppFault::NotJson),
+        Err(_) => Err(IoFault::NotJson),
     }
 }
 
 // The fields of the scenario that a text says.
-fn read_text(alloc: Global, kind: Kind, text: &str) -> Result<FieldValues, AppFault>
+fn read_text(alloc: Global, kind: Kind, text: &str) -> Result<FieldValues, IoFault>
     ensures ok { IfOk result (λ f. AreAll kind f (read text.now)) }
     ensures err { IfErr result (IsUnread kind (read text.now)) }
 {
@@ -73,7 +73,7 @@ fn read_text(alloc: Global, kind: Kind, text: &str) -> Result<FieldValues, AppFa
     let mut reader = Reader::new(text, &mut scratch)?;
     let fields = next_scenario(alloc, kind, &mut reader)?;
     if reader.next().is_some() {
-        return Err(AppFault::NotJson);
+        return Err(IoFault::NotJson);
     }
     fields
 }
@@ -83,7 +83,7 @@ fn next_scenario(
     alloc: Global,
     kind: Kind,
     reader: &mut Reader<'_>,
-) -> Result<Result<FieldValues, AppFault>, AppFault>
+) -> Result<Result<FieldValues, IoFault>, IoFault>
     ensures ok { IfOk result (λ r. (d : Data)
         × (next_value max_depth reader.old ≡ Some (d, reader.new))
         × IfOk r (λ f. AreAll kind f (Some d)) × IfErr r (IsUnread kind (Some d))) }
@@ -92,11 +92,11 @@ fn next_scenario(
     if enter_object(reader, MOST_DEPTH)? {
         let fields = next_fields(alloc, kind, reader, MOST_DEPTH - 1)?;
         if fields.has_other {
-            return Ok(Err(AppFault::BadShape));
+            return Ok(Err(IoFault::BadShape));
         }
         Ok(Ok(fields))
     } else {
-        Ok(Err(AppFault::BadShape))
+        Ok(Err(IoFault::BadShape))
     }
 }
 
@@ -106,7 +106,7 @@ fn next_fields(
     kind: Kind,
     reader: &mut Reader<'_>,
     depth: usize,
-) -> Result<FieldValues, AppFault>
+) -> Result<FieldValues, IoFault>
     requires { 1 < depth }
     ensures ok { IfOk result
         (λ f. (ms : Members) × (next_members depth reader.old ≡ Some (ms, reader.new))
@@ -133,7 +133,7 @@ fn read_field(
     depth: usize,
     fields: &mut FieldValues,
     name: &str,
-) -> Result<(), AppFault>
+) -> Result<(), IoFault>
     requires depth { 1 < depth }
     requires known { (ms : Members) × AreFieldValues kind fields.old ms }
     ensures ok { OnOk result ((d : Data) × (next_value depth reader.old ≡ Some (d, reader.new))
@@ -168,7 +168,7 @@ fn next_list(
     kind: Kind,
     reader: &mut Reader<'_>,
     depth: usize,
-) -> Result<KeptList, AppFault>
+) -> Result<KeptList, IoFault>
     requires { 1 < depth }
     ensures ok { IfOk result (λ r. (d : Data) × (next_value depth reader.old ≡ Some (d, reader.new))
         × (list_kept r ≡ list_said kind d)) }

@@ -23,7 +23,7 @@ pub use events::{Events, EventsLeft};
 pub use explaining::{explain, explain_unread};
 pub use field::Field;
 pub use kind::{Kind, kind_of};
-pub use mencius_ends::{AppFault, Sink, Source, Std, read_all, write_all};
+pub use mencius_ends::{IoFault, Sink, Source, Std, read_all, write_all};
 pub use places::{Place, place_of};
 pub use plan::read_plan;
 pub use scenario::{Scenario, read_scenario};

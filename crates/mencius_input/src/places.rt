@@ -14,7 +14,7 @@ use crate::field::{Field, list_field, whole_fields};
 use crate::kind::Kind;
 use json::{Reader, Scratch};
 use mencius_base::NoMemory;
-use mencius_ends::AppFault;
+use mencius_ends::IoFault;
 use mencius_format::NEWEST_VERSION;
 use mencius_json::{MOST_DEPTH, pass, tree_of};
 use serde_json::Value;
@@ -94,7 +94,7 @@ fn place_in_list(
     version: u64,
     list: usize,
     value: &Value,
-    fault: AppFault,
+    fault: IoFault,
 ) -> Result<Option<Place>, NoMemory>
     ensures { IfOk result (λ o. option_map place_state o
         ≡ list_place fault version list (view value.now)) }
@@ -121,7 +121,7 @@ fn first_in_lists(
     alloc: Global,
     version: u64,
     lists: &[Value],
-    fault: AppFault,
+    fault: IoFault,
 ) -> Result<Option<Place>, NoMemory>
     ensures { IfOk result (λ o. option_map place_state o
         ≡ first_of (list_place fault version) 0 (items_view lists.now)) }
@@ -136,7 +136,7 @@ fn first_in_lists(
 }
 
 // The commands as a place, where they are not one list for each server.
-fn lists_amiss(scenario: &Value, count: usize, fault: AppFault) -> Option<Place>
+fn lists_amiss(scenario: &Value, count: usize, fault: IoFault) -> Option<Place>
     ensures { option_map place_state result
         ≡ count_place fault count (number_of Servers (view scenario.now)) }
 {
@@ -152,7 +152,7 @@ fn place_in_commands(
     alloc: Global,
     scenario: &Value,
     lists: &[Value],
-    fault: AppFault,
+    fault: IoFault,
 ) -> Result<Option<Place>, NoMemory>
     ensures { IfOk result (λ o. option_map place_state o
         ≡ items_place Kind.Run fault (view scenario.now) (items_view lists.now)) }
@@ -169,7 +169,7 @@ fn place_in_events(
     alloc: Global,
     scenario: &Value,
     events: &[Value],
-    fault: AppFault,
+    fault: IoFault,
 ) -> Result<Option<Place>, NoMemory>
     ensures { IfOk result (λ o. option_map place_state o
         ≡ items_place Kind.Replay fault (view scenario.now) (items_view events.now)) }
@@ -190,7 +190,7 @@ fn place_in_list_field(
     alloc: Global,
     kind: Kind,
     scenario: &Value,
-    fault: AppFault,
+    fault: IoFault,
 ) -> Result<Option<Place>, NoMemory>
     ensures { IfOk result (λ o. option_map place_state o
         ≡ list_field_place kind fault (view scenario.now)) }
@@ -237,7 +237,7 @@ fn not_whole(field: Field, value: &Value) -> Place
 }
 
 // The place in a field that should be a whole number.
-fn place_in_number(scenario: &Value, field: Field, fault: AppFault) -> Option<Place>
+fn place_in_number(scenario: &Value, field: Field, fault: IoFault) -> Option<Place>
     ensures { option_map place_state result ≡ number_place fault field (view scenario.now) }
 {
     let value = scenario.get(field.name())?;
@@ -277,7 +277,7 @@ fn place_named(
     in_list: &mut Option<Place>,
     scenario: &Value,
     name: &str,
-    fault: AppFault,
+    fault: IoFault,
 ) -> Result<Option<Place>, NoMemory>
     requires { option_map place_state in_list.old ≡ list_field_place kind fault (view scenario.now) }
     ensures place { IfOk result (λ o. option_map place_state o
@@ -305,7 +305,7 @@ fn first_in_fields(
     kind: Kind,
     text: &str,
     scenario: &Value,
-    fault: AppFault,
+    fault: IoFault,
 ) -> Result<Option<Place>, NoMemory>
     requires of { read text.now ≡ Some (view scenario.now) }
     requires object { is_some (as_object (view scenario.now)) ≡ true }
@@ -352,7 +352,7 @@ fn first_lack(kind: Kind, scenario: &Value) -> Option<Field>
 }
 
 // The field that is not there, as a place.
-fn lack_in(kind: Kind, scenario: &Value, fault: AppFault) -> Option<Place>
+fn lack_in(kind: Kind, scenario: &Value, fault: IoFault) -> Option<Place>
     ensures { option_map place_state result ≡ lack_place kind fault (view scenario.now) }
 {
     if !is_shape(fault) {
@@ -368,7 +368,7 @@ fn place_in(
     kind: Kind,
     text: &str,
     scenario: &Value,
-    fault: AppFault,
+    fault: IoFault,
 ) -> Result<Option<Place>, NoMemory>
     requires { read text.now ≡ Some (view scenario.now) }
     ensures { IfOk result (λ o. option_map place_state o
@@ -398,7 +398,7 @@ pub fn place_of(
     alloc: Global,
     kind: Kind,
     bytes: &[u8],
-    fault: AppFault,
+    fault: IoFault,
 ) -> Result<Option<Place>, NoMemory>
     ensures { IfOk result (λ o. option_map place_state o ≡ first_place kind fault bytes.now) }
 {

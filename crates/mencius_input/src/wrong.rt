@@ -3,7 +3,7 @@
 use crate::kind::Kind;
 use crate::shown::shown;
 use mencius_base::{BadCommand, Command, CommandId, Key, NoMemory, Op, Text};
-use mencius_ends::AppFault;
+use mencius_ends::IoFault;
 use mencius_format::{
     NO_OPERATION, Part, command_version, cut_at_dot, cut_at_space, event_version, fault_of,
     may_stand_in, operands_of, parse_id, parse_u8, parse_u32,
@@ -49,10 +49,10 @@ fn wrong_number(
     alloc: Global,
     name: &str,
     word: &str,
-    found: AppFault,
+    found: IoFault,
     greatest: u32,
 ) -> Result<String, NoMemory> {
-    if found == AppFault::BadLimit {
+    if found == IoFault::BadLimit {
         return Ok(format!(in alloc; "{name} is greater than {greatest}")?);
     }
     if has_leading_zero(word) {
@@ -66,7 +66,7 @@ fn wrong_u8(
     alloc: Global,
     name: &str,
     word: &str,
-    fault: AppFault,
+    fault: IoFault,
 ) -> Result<Option<String>, NoMemory> {
     match parse_u8(word) {
         Err(found) if found == fault => {
@@ -80,7 +80,7 @@ fn wrong_u32(
     alloc: Global,
     name: &str,
     word: &str,
-    fault: AppFault,
+    fault: IoFault,
 ) -> Result<Option<String>, NoMemory> {
     match parse_u32(word) {
         Err(found) if found == fault => {
@@ -90,7 +90,7 @@ fn wrong_u32(
     }
 }
 
-fn wrong_id(alloc: Global, word: &str, fault: AppFault) -> Result<Option<String>, NoMemory> {
+fn wrong_id(alloc: Global, word: &str, fault: IoFault) -> Result<Option<String>, NoMemory> {
     if parse_id(word).err() != Some(fault) {
         return Ok(None);
     }
@@ -105,12 +105,7 @@ fn wrong_id(alloc: Global, word: &str, fault: AppFault) -> Result<Option<String>
 }
 
 // What is wrong with a key or a text, of which an operation is, as a command judges it.
-fn wrong_op(
-    alloc: Global,
-    part: Part,
-    op: Op,
-    fault: AppFault,
-) -> Result<Option<String>, NoMemory> {
+fn wrong_op(alloc: Global, part: Part, op: Op, fault: IoFault) -> Result<Option<String>, NoMemory> {
     let id = CommandId {
         client: 0,
         number: 0,
@@ -137,14 +132,14 @@ fn wrong_text(
     alloc: Global,
     part: Part,
     word: &str,
-    fault: AppFault,
+    fault: IoFault,
 ) -> Result<Option<String>, NoMemory> {
     let key = Key::new(String::from_str(alloc, "k")?);
     let text = Text::new(String::from_str(alloc, word)?);
     wrong_op(alloc, part, Op::Set { key, text }, fault)
 }
 
-fn wrong_key(alloc: Global, word: &str, fault: AppFault) -> Result<Option<String>, NoMemory> {
+fn wrong_key(alloc: Global, word: &str, fault: IoFault) -> Result<Option<String>, NoMemory> {
     let key = Key::new(String::from_str(alloc, word)?);
     wrong_op(alloc, Part::Key, Op::Get { key }, fault)
 }
@@ -154,7 +149,7 @@ fn wrong_word(
     alloc: Global,
     part: Part,
     word: &str,
-    fault: AppFault,
+    fault: IoFault,
 ) -> Result<Option<String>, NoMemory> {
     match part {
         Part::Server | Part::Suspected => wrong_u8(alloc, part.name(), word, fault),
@@ -187,7 +182,7 @@ fn wrong_words(
     alloc: Global,
     parts: &[Part],
     left: &mut Option<&str>,
-    fault: AppFault,
+    fault: IoFault,
 ) -> Result<Option<String>, NoMemory> {
     for part in parts {
         let Some(word) = next_word(left) else {
@@ -207,7 +202,7 @@ fn wrong_words(
 fn wrong_operation(
     alloc: Global,
     left: &mut Option<&str>,
-    fault: AppFault,
+    fault: IoFault,
 ) -> Result<Option<String>, NoMemory> {
     let name = "the operation";
     let Some(operation) = next_word(left) else {
@@ -252,7 +247,7 @@ fn left_over(alloc: Global, left: &mut Option<&str>) -> Result<String, NoMemory>
 }
 
 // What is wrong with the text of an event.
-fn wrong_event(alloc: Global, text: &str, fault: AppFault) -> Result<String, NoMemory> {
+fn wrong_event(alloc: Global, text: &str, fault: IoFault) -> Result<String, NoMemory> {
     let mut left = Some(text);
     let first = next_word(&mut left).unwrap_or("");
     let Some(parts) = parts_behind(first) else {
@@ -270,7 +265,7 @@ fn wrong_event(alloc: Global, text: &str, fault: AppFault) -> Result<String, NoM
 }
 
 // What is wrong with the text of a command.
-fn wrong_command(alloc: Global, text: &str, fault: AppFault) -> Result<String, NoMemory> {
+fn wrong_command(alloc: Global, text: &str, fault: IoFault) -> Result<String, NoMemory> {
     let mut left = Some(text);
     if let Some(words) = wrong_words(alloc, &[Part::Id], &mut left, fault)? {
         return Ok(words);
@@ -307,7 +302,7 @@ pub(crate) fn wrong_item(
     kind: Kind,
     version: u64,
     text: &str,
-    fault: AppFault,
+    fault: IoFault,
 ) -> Result<String, NoMemory> {
     let needed = version_of_text(kind, text);
     if !may_stand_in(needed, version) {

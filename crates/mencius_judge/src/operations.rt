@@ -22,19 +22,15 @@ pub fn is_same_op(first: &Op, second: &Op) -> bool
         (Op::Get { key }, Op::Get { key: other }) => key.as_str() == other.as_str(),
         (Op::Del { key }, Op::Del { key: other }) => key.as_str() == other.as_str(),
         (
-            Op::Cas {
-                key,
-                expected,
-                text,
-            },
+            Op::Cas { key, held, text },
             Op::Cas {
                 key: other,
-                expected: former,
+                held: former,
                 text: value,
             },
         ) => {
             key.as_str() == other.as_str()
-                && expected.as_str() == former.as_str()
+                && held.as_str() == former.as_str()
                 && text.as_str() == value.as_str()
         }
         _ => false,
@@ -53,24 +49,24 @@ pub fn key_of(op: &Op) -> &str
 
 /// What the key of an operation holds after it, where it held this before.
 #[tactic(auto, using(crate::proofs::keys::Changes::put_there, crate::proofs::keys::Changes::taken_there, crate::proofs::keys::Changes::put_where_held))]
-pub fn text_after(held: &Option<Text>, op: &Op) -> Result<Option<Text>, NoMemory>
-    ensures { IfOk result (Becomes held.now op.now) }
+pub fn text_after(former: &Option<Text>, op: &Op) -> Result<Option<Text>, NoMemory>
+    ensures { IfOk result (Becomes former.now op.now) }
 {
     match op {
         Op::Set { text, .. } => Ok(Some(text.clone()?)),
-        Op::Get { .. } => copy_of(held),
+        Op::Get { .. } => copy_of(former),
         Op::Del { .. } => Ok(None),
-        Op::Cas { expected, text, .. } if has_text(held, expected) => Ok(Some(text.clone()?)),
-        Op::Cas { .. } => copy_of(held),
+        Op::Cas { held, text, .. } if has_text(former, held) => Ok(Some(text.clone()?)),
+        Op::Cas { .. } => copy_of(former),
     }
 }
 
-// Whether a text is held, and it is exactly this one.
-fn has_text(held: &Option<Text>, expected: &Text) -> bool
-    ensures { result ≡ has_text held.now expected.now }
+// Whether there is a former text, and it is exactly the one that has to be held.
+fn has_text(former: &Option<Text>, held: &Text) -> bool
+    ensures { result ≡ has_text former.now held.now }
 {
-    match held {
-        Some(held) => held.as_str() == expected.as_str(),
+    match former {
+        Some(former) => former.as_str() == held.as_str(),
         None => false,
     }
 }

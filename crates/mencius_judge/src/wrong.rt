@@ -2,7 +2,7 @@
 
 use crate::line::MOST_LINE_BYTES;
 use mencius_base::{MOST_KEY_BYTES, MOST_TEXT_BYTES, is_name};
-use mencius_ends::AppFault;
+use mencius_ends::IoFault;
 use mencius_format::{
     NO_OPERATION, Part, cut_at_space, operands_of, parse_id, parse_u8, parse_u32,
 };
@@ -22,7 +22,7 @@ enum Word {
 }
 
 /// What is wrong with a line that has this fault: the first of its words that has it.
-pub(crate) fn wrong_line(line: &[u8], fault: AppFault) -> &'static str {
+pub(crate) fn wrong_line(line: &[u8], fault: IoFault) -> &'static str {
     if line.len() > MOST_LINE_BYTES {
         return TOO_LONG;
     }
@@ -32,7 +32,7 @@ pub(crate) fn wrong_line(line: &[u8], fault: AppFault) -> &'static str {
     }
 }
 
-fn wrong_text(text: &str, fault: AppFault) -> &'static str {
+fn wrong_text(text: &str, fault: IoFault) -> &'static str {
     let mut left = Some(text);
     let first = next_word(&mut left).unwrap_or("");
     let Some(words) = words_behind(first) else {
@@ -80,7 +80,7 @@ fn next_word<'a>(left: &mut Option<&'a str>) -> Option<&'a str> {
 }
 
 // The first of these words that has the fault, or is missing.
-fn wrong_words(words: &[Word], left: &mut Option<&str>, fault: AppFault) -> Option<&'static str> {
+fn wrong_words(words: &[Word], left: &mut Option<&str>, fault: IoFault) -> Option<&'static str> {
     for word in words {
         let Some(text) = next_word(left) else {
             return Some(missing(*word));
@@ -93,7 +93,7 @@ fn wrong_words(words: &[Word], left: &mut Option<&str>, fault: AppFault) -> Opti
 }
 
 // The operation, or the first of its words that has the fault.
-fn wrong_operation(left: &mut Option<&str>, fault: AppFault) -> Option<&'static str> {
+fn wrong_operation(left: &mut Option<&str>, fault: IoFault) -> Option<&'static str> {
     let Some(operands) = operands_of(next_word(left).unwrap_or("")) else {
         return Some(NO_OPERATION);
     };
@@ -112,7 +112,7 @@ fn wrong_operation(left: &mut Option<&str>, fault: AppFault) -> Option<&'static 
     None
 }
 
-fn has_fault(word: Word, text: &str, fault: AppFault) -> bool {
+fn has_fault(word: Word, text: &str, fault: IoFault) -> bool {
     match word {
         Word::Server => parse_u8(text).err() == Some(fault),
         Word::Reader => parse_u32(text).err() == Some(fault),
@@ -124,23 +124,23 @@ fn has_fault(word: Word, text: &str, fault: AppFault) -> bool {
 }
 
 // The fault of a name that has at least and at most so many bytes.
-fn named_fault(text: &str, least: usize, most: usize) -> Option<AppFault> {
+fn named_fault(text: &str, least: usize, most: usize) -> Option<IoFault> {
     if !is_name(text) {
-        return Some(AppFault::BadShape);
+        return Some(IoFault::BadShape);
     }
     if text.len() < least || text.len() > most {
-        return Some(AppFault::BadLimit);
+        return Some(IoFault::BadLimit);
     }
     None
 }
 
-fn answer_fault(text: &str) -> Option<AppFault> {
+fn answer_fault(text: &str) -> Option<IoFault> {
     if text == "none" {
         return None;
     }
     match text.strip_prefix("=") {
         Some(text) => named_fault(text, 0, MOST_TEXT_BYTES),
-        None => Some(AppFault::BadShape),
+        None => Some(IoFault::BadShape),
     }
 }
 

@@ -14,23 +14,23 @@ KeyMap = finite.FinMap (slice_cmp nat_cmp) (List ℕ)
 
 -- whether a key has a text, and it is exactly this one
 abbrev pub has_text : Option (List ℕ) → List ℕ → Bool
-has_text None expected = false
-has_text (Some former) expected = bytes_eq former expected
+has_text None held = false
+has_text (Some former) held = bytes_eq former held
 
 -- Set binds the key, Del removes it, Get changes nothing, and Cas binds the key where it held the text that it expects
 abbrev pub apply : KeyMap → Op → KeyMap
 apply store (Set key text) = finite.insert store key text
 apply store (Get key) = store
 apply store (Del key) = finite.remove store key
-apply store (Cas key expected text) =
-    if has_text (finite.get store key) expected then finite.insert store key text else store
+apply store (Cas key held text) =
+    if has_text (finite.get store key) held then finite.insert store key text else store
 
 -- the key that an operation is about
 abbrev pub key_of : Op → List ℕ
 key_of (Set key text) = key
 key_of (Get key) = key
 key_of (Del key) = key
-key_of (Cas key expected text) = key
+key_of (Cas key held text) = key
 
 -- what these commands make of the empty map
 abbrev pub map_after : List Command → KeyMap

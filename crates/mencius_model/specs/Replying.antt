@@ -19,9 +19,9 @@ abbrev pub commands_of : Trace → List TicketNo → List Command
 commands_of w ts = filter_map (command_at w) ts
 
 -- the reply of a command that was submitted: none yet, or the text that stood at its key, if one did
-pub data Reply : Type 0 where
-  Pending : Reply
-  Given : (text : Option (List ℕ)) → Reply
+pub data Answered : Type 0 where
+  Pending : Answered
+  Given : (text : Option (List ℕ)) → Answered
 
 -- the place of the first item that passes
 abbrev pub index_of_first : {A : Type 0} → (A → Bool) → List A → Option ℕ
@@ -29,20 +29,20 @@ index_of_first test [] = None
 index_of_first test (x ∷ xs) = if test x then Some 0 else option_map suc (index_of_first test xs)
 
 -- the reply of a command that stands at this place of its home's history: what the commands before it leave at its key
-abbrev pub reply_from : Trace → Command → ServerId → Option ℕ → Reply
+abbrev pub reply_from : Trace → Command → ServerId → Option ℕ → Answered
 reply_from w command home None = Pending
 reply_from w command home (Some place) = Given (out (commands_of w (take place (history w home))) command)
 
 -- what the home's map held when the home first executed the ticket
-abbrev pub reply_at : Trace → TicketNo → Command → ServerId → Reply
+abbrev pub reply_at : Trace → TicketNo → Command → ServerId → Answered
 reply_at w t command home = reply_from w command home (index_of_first (λ u. u == t) (history w home))
 
-abbrev pub reply_of_place : Trace → Option TicketNo → Option Reply
+abbrev pub reply_of_place : Trace → Option TicketNo → Option Answered
 reply_of_place w None = None
 reply_of_place w (Some t) = option_map (λ x. reply_at w t x.0 x.1) (slice_get (submitted_commands w) t)
 
 -- the reply of an identity, where it was submitted
-abbrev pub reply_of : Trace → CommandId → Option Reply
+abbrev pub reply_of : Trace → CommandId → Option Answered
 reply_of w id = reply_of_place w (index_of_first (λ x. is_same_id x.0.id id) (submitted_commands w))
 
 -- of two servers the second, where its history is longer
@@ -58,7 +58,7 @@ abbrev pub longest_commands : Membership → Trace → List Command
 longest_commands m w = commands_of w (history w (longest_at m w))
 
 -- the reply that stays: the first one that the home gave
-abbrev pub first_reply : Bool → Reply → Option (List ℕ) → Reply
+abbrev pub first_reply : Bool → Answered → Option (List ℕ) → Answered
 first_reply true Pending text = Given text
 first_reply true (Given old) text = Given old
 first_reply false reply text = reply

@@ -4,7 +4,7 @@ use Rattle.std.specs.Prelude.{ℕ, ◌+◌, ◌*◌, max, Bool, false, List, [],
 use Rattle.mencius_base.specs.Numbers.{ServerId, Inst, BallotNo, TicketNo}
 use Rattle.mencius_base.specs.Members.{Membership, owner, first_owned, round}
 use Rattle.mencius_base.specs.declared.message.Answer.{Answer}
-use Rattle.mencius_base.specs.declared.message.Answer.TheVariants.{Promise as Promised, Learn as Learn_answer, Silent}
+use Rattle.mencius_base.specs.declared.message.Answer.TheVariants.{Promise as Promised, Known, Silent}
 use Rattle.mencius_base.specs.declared.message.Message.{Message}
 use Rattle.mencius_base.specs.declared.message.Message.TheVariants.{Suggest, Skip, Accepted, Promise, Propose, Learn}
 use Rattle.mencius_base.specs.declared.message.Value.{Value}
@@ -83,13 +83,13 @@ is_newly_skipped_from m i x learned = is_skipped_by m i x && may_learn learned
 
 -- what is learned is told; else a ballot above all promised ones is promised, with the vote
 abbrev pub prepare_answer_from : BallotNo → Option Vote → BallotNo → Option Value → Answer
-prepare_answer_from promised vote b (Some x) = Learn_answer x
+prepare_answer_from promised vote b (Some x) = Known x
 prepare_answer_from promised vote b None = if nat_lt promised b then Promised vote else Silent
 
 -- p answers the Prepare of q at (i, b)
 abbrev pub answer_lines : ServerId → ServerId → Inst → BallotNo → Answer → List Line
 answer_lines p q i b (Promised vote) = Sent (Promise p q i b vote) ∷ []
-answer_lines p q i b (Learn_answer x) = Sent (Learn p i x) ∷ []
+answer_lines p q i b (Known x) = Sent (Learn p i x) ∷ []
 answer_lines p q i b Silent = []
 
 -- ---- a Promise

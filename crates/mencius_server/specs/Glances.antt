@@ -10,6 +10,6 @@ glance_of s = record {
   learned = s.learned;
   trying = s.trying;
   proposal = s.proposal;
-  promise_count = count_by (λ a. a) s.promisers;
-  acceptance_count = count_by (λ a. a) s.accepters;
+  promise_count = count_by (λ a. a) s.promises;
+  acceptance_count = count_by (λ a. a) s.accepts;
 }

@@ -35,7 +35,7 @@ impl Change {
                 slot.add_promise(from, ballot, vote);
             }
             Change::CountAcceptance(from, ballot) => {
-                slot.add_acceptance(from, ballot);
+                slot.add_accept(from, ballot);
             }
             Change::Learn(value) => {
                 slot.learn(value);

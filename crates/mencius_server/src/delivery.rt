@@ -154,7 +154,7 @@ impl Server {
                     vote,
                 });
             }
-            Answer::Learn(value) => {
+            Answer::Known(value) => {
                 out.reserve(1)?;
                 out.push(Message::Learn {
                     from: self.id,

@@ -31,8 +31,8 @@ pub(crate) fn glance_at(slot: &Slot) -> Glance
         learned: slot.learned(),
         trying: slot.trying(),
         proposal: slot.proposal(),
-        promise_count: count_of(slot.promisers()),
-        acceptance_count: count_of(slot.accepters()),
+        promise_count: count_of(slot.promises()),
+        acceptance_count: count_of(slot.accepts()),
     }
 }
 

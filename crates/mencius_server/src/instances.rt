@@ -167,13 +167,13 @@ impl Instances {
     /// Whether a server's acceptance at the ballot that is tried was counted at an instance.
     pub(crate) fn has_accepter(&self, inst: u32, from: u8) -> bool
         requires { inst < instance_count }
-        ensures { result ≡ true → slice_index_or (instance_slot self.now inst).accepters from false
+        ensures { result ≡ true → slice_index_or (instance_slot self.now inst).accepts from false
             ≡ true }
     {
         match self.stored.slots.get(inst) {
             Some(slot) => {
-                let accepters = slot.accepters();
-                (from as usize) < accepters.len() && accepters[from as usize]
+                let accepts = slot.accepts();
+                (from as usize) < accepts.len() && accepts[from as usize]
             }
             None => false,
         }
@@ -262,7 +262,7 @@ impl Instances {
     }
 
     /// How many slots are stored, and how many intervals there are.
-    pub(crate) fn stored_counts(&self) -> (u32, u32)
+    pub(crate) fn kept(&self) -> (u32, u32)
         ensures { result.0 ≡ count_by (λ x. x) self.now.is_stored }
     {
         let slots = self.stored.slots.len() as u32;

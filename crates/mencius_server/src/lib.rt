@@ -144,8 +144,8 @@ impl Server {
     ///
     /// A slot is stored only where something else than a Skip was heard or done, so that neither count
     /// grows with the number of instances. For tests: nothing that the server says rests on it.
-    pub fn stored_counts(&self) -> (u32, u32) {
-        self.instances.stored_counts()
+    pub fn kept(&self) -> (u32, u32) {
+        self.instances.kept()
     }
 
     // The least own instance from a place on.

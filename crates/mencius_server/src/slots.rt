@@ -335,7 +335,7 @@ pub(crate) fn blank(members: Members, is_skipped: bool) -> Slot
     ensures { result ≡ slot_by_skip members is_skipped }
 {
     if is_skipped {
-        Slot::new_learned(members, Value::Noop)
+        Slot::known(members, Value::Noop)
     } else {
         Slot::new(members)
     }

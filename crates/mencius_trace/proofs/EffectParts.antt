@@ -8,7 +8,7 @@ use Rattle.mencius_base.specs.Members.{IsMember, Membership, first_item, instanc
 use Rattle.mencius_base.specs.declared.event.Event.{Event}
 use Rattle.mencius_base.specs.declared.event.Event.TheVariants.{Submit, Deliver, Lose, Suspect, Retry, Execute}
 use Rattle.mencius_base.specs.declared.message.Answer.{Answer}
-use Rattle.mencius_base.specs.declared.message.Answer.TheVariants.{Promise as Promised, Learn as Learn_answer, Silent}
+use Rattle.mencius_base.specs.declared.message.Answer.TheVariants.{Promise as Promised, Known, Silent}
 use Rattle.mencius_base.specs.declared.message.Message.{Message}
 use Rattle.mencius_base.specs.declared.message.Message.TheVariants.{Suggest, Skip, Accepted, Prepare, Promise, Propose, Learn}
 use Rattle.mencius_base.specs.declared.message.Value.{Value}
@@ -88,7 +88,7 @@ two_if v false d x y = one_if v d y
 
 answered : (v : Trace) (p q i b : ℕ) (answer : Answer) → learned_lines v (answer_lines p q i b answer) ≡ []
 answered v p q i b (Promised vote) = refl
-answered v p q i b (Learn_answer x) = refl
+answered v p q i b (Known x) = refl
 answered v p q i b Silent = refl
 
 proposing : (v : Trace) (p i b : ℕ) (o : Option Value) → learned_lines v (proposal_lines p i b o) ≡ []

@@ -19,7 +19,7 @@ use Rattle.mencius_model.specs.Trace.{Line, Learned, Trace, messages_of, sent_me
 use Rattle.mencius_model.specs.Instance.{learned_value}
 use Rattle.mencius_model.specs.Server.{done, front}
 use Rattle.mencius_model.specs.Next.{learned_count, lines, message_count, next, server_of}
-use Rattle.mencius_model.specs.Replying.{Reply, Given, Pending, command_at, reply_of}
+use Rattle.mencius_model.specs.Replying.{Answered, Given, Pending, command_at, reply_of}
 use Rattle.mencius_trace.specs.declared.reaction.Reaction.{Reaction}
 use Rattle.mencius_trace.specs.declared.reaction.Reaction.TheVariants.{Effective, Counted, Promised, Tries, Learned as LearnedBefore, Proposed}
 use Rattle.mencius_trace.specs.Facts.{event_line, executed_line, front_line, learned_line, refused_line, sent_line, tally_line, value_text}
@@ -127,7 +127,7 @@ sent_lines v k ls = flat_map (sent_line v) (enumerate_from k (messages_of ls))
 abbrev pub front_lines : ServerId → Inst → Inst → List ℕ
 front_lines p old new = if old == new then [] else front_line p new
 
-abbrev pub is_not_yet : Option Reply → Bool
+abbrev pub is_not_yet : Option Answered → Bool
 is_not_yet (Some Pending) = true
 is_not_yet _ = false
 
@@ -136,7 +136,7 @@ abbrev pub is_pending : Trace → Option Command → Bool
 is_pending w None = false
 is_pending w (Some command) = is_not_yet (reply_of w command.id)
 
-abbrev pub given_line : CommandId → Option Reply → List ℕ
+abbrev pub given_line : CommandId → Option Answered → List ℕ
 given_line id (Some (Given former)) = answer_line id (Some (Given former))
 given_line id _ = []
 

@@ -13,8 +13,8 @@ use Rattle.mencius_trace.specs.Closing.{is_settled_by}
 
 -- the message that an event settles, and the server that hears or loses it
 abbrev pub settled_pair : Entry → Option (MessageNo × ServerId)
-settled_pair (Deliver server message) = Some (message, server)
-settled_pair (Lose server message) = Some (message, server)
+settled_pair (Deliver message server) = Some (message, server)
+settled_pair (Lose message server) = Some (message, server)
 settled_pair _ = None
 
 -- by this event p heard or lost message k

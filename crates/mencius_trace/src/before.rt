@@ -14,7 +14,7 @@ ghost use Rattle.mencius_trace.specs.Before.{IsBefore, IsReaction, IsSkippedText
 use crate::facts::push_learned;
 use crate::reaction::Reaction;
 use mencius_base::{Ballot, Event, INSTANCES, Message, Value, Vote};
-use mencius_cluster::{Cluster, Glance, Reply};
+use mencius_cluster::{Answered, Cluster, Glance};
 use std::alloc::{AllocError, Global};
 
 /// What is noted before an event.
@@ -100,7 +100,7 @@ fn is_awaited(cluster: &Cluster, execution: &Option<(u32, Value)>) -> bool
         return false;
     };
     match cluster.submission(*ticket) {
-        Some(submission) => matches!(submission.reply, Reply::Pending),
+        Some(submission) => matches!(submission.reply, Answered::Pending),
         None => false,
     }
 }

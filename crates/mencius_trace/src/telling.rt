@@ -24,7 +24,7 @@ use crate::facts::{
 use crate::reaction::Reaction;
 use crate::words::push_answer;
 use mencius_base::{Event, Members, Message, NoMemory, Refusal, Value, Vote};
-use mencius_cluster::{Cluster, Effect, Glance, Reply};
+use mencius_cluster::{Answered, Cluster, Effect, Glance};
 use mencius_format::push_id;
 use std::alloc::{AllocError, Global};
 
@@ -373,7 +373,7 @@ fn push_given(text: &mut String, cluster: &Cluster, ticket: u32) -> Result<(), A
     let Some(submission) = cluster.submission(ticket) else {
         return Ok(());
     };
-    if matches!(submission.reply, Reply::Pending) {
+    if matches!(submission.reply, Answered::Pending) {
         return Ok(());
     }
     text.push_str("reply ")?;

@@ -49,7 +49,7 @@ fn settle(marks: &mut MessageBits, entry: &Entry) -> Result<(), NoMemory>
         ≡ (is_settled_by_entry k p entry.now || has_bit_in marks.old k p)) }
 {
     match *entry {
-        Entry::Deliver { server, message } | Entry::Lose { server, message } => {
+        Entry::Deliver { message, server } | Entry::Lose { message, server } => {
             marks.reserve(message)?;
             marks.mark(message, server);
             Ok(())

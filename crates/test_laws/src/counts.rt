@@ -2,7 +2,7 @@
 
 use crate::operations::has_bound;
 use mencius_base::Entry;
-use mencius_cluster::{Cluster, Reply};
+use mencius_cluster::{Answered, Cluster};
 use std::alloc::{AllocError, Global};
 
 /// How often each kind of event was accepted, how many deliveries repeated an earlier one, how many suspicions were
@@ -65,7 +65,7 @@ impl EventCounts {
     fn add_entry(&mut self, entry: Entry, looks_ahead: bool, heard: &mut Vec<bool>) {
         match entry {
             Entry::Submit { .. } => count(&mut self.submissions),
-            Entry::Deliver { server, message } => {
+            Entry::Deliver { message, server } => {
                 count(&mut self.deliveries);
                 if mark_heard(heard, message, server) {
                     count(&mut self.repeats);
@@ -88,7 +88,7 @@ impl EventCounts {
         let Some(command) = cluster.command(ticket) else {
             return;
         };
-        let Some(Reply::Given(found)) = cluster.reply(command.id()) else {
+        let Some(Answered::Given(found)) = cluster.reply(command.id()) else {
             return;
         };
         let found = match found {

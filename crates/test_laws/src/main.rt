@@ -33,7 +33,7 @@ use crate::mail::Mail;
 use mencius_app::report;
 use mencius_base::{Event, GREATEST_BETA, INSTANCES, Members};
 use mencius_cluster::Cluster;
-use mencius_input::{AppFault, Events, Scenario, Std, read_all, read_scenario, write_all};
+use mencius_input::{Events, IoFault, Scenario, Std, read_all, read_scenario, write_all};
 use std::alloc::{AllocError, Global};
 use std::process::ExitCode;
 use test_watch::again::again;
@@ -252,7 +252,7 @@ fn attack_by(alloc: Global, bytes: &[u8]) -> Result<(u8, String), AllocError> {
             let ended = attack_given(alloc, scenario, &mut counts).map_err(|stop| (0, stop));
             conclude(alloc, ended, None, &counts)
         }
-        Err(AppFault::NoMemory) => Ok((6, String::from_str(alloc, "no memory")?)),
+        Err(IoFault::NoMemory) => Ok((6, String::from_str(alloc, "no memory")?)),
         Err(_) => Ok((
             2,
             String::from_str(alloc, "neither two numbers nor a scenario")?,

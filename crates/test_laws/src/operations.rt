@@ -7,7 +7,7 @@ use std::alloc::{AllocError, Global};
 /// Whether an operation that may leave its key as it is did bind it, of one that found this there.
 pub fn has_bound(op: &Op, found: Option<&str>) -> Option<bool> {
     match op {
-        Op::Cas { expected, .. } => Some(found == Some(expected.as_str())),
+        Op::Cas { held, .. } => Some(found == Some(held.as_str())),
         Op::Set { .. } | Op::Get { .. } | Op::Del { .. } => None,
     }
 }
@@ -34,7 +34,7 @@ pub fn draw_op(alloc: Global, dice: &mut Dice, number: u32) -> Result<Op, AllocE
         6 => Op::Del { key },
         _ => Op::Cas {
             key,
-            expected: draw_text(alloc, dice)?,
+            held: draw_text(alloc, dice)?,
             text: draw_text(alloc, dice)?,
         },
     })

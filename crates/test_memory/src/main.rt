@@ -8,18 +8,24 @@
 //! Or the scenario is one of a run with two workers. Then these run, by `run_workers` where beta is 0 and else by
 //! `run_plan`, and one line is printed: the name of their fault, or `Ok`, and how many turns each of them began.
 //!
-//! It ends with status 0, and then standard error has the name of the call that was made again, if one was; with 6 where
-//! memory ran out in anything else; or with 9 where something changed, which standard error names.
+//! With the argument `parts` it steps single servers and executors through the scenario in place of a board, and makes
+//! their calls again in the same way: no cluster stands about them then, which makes room before it calls them. It
+//! prints a line for each server, and how many messages were sent.
+//!
+//! It ends with status 0, and then standard error has the name of the call that was made again, if one was; with 6
+//! where memory ran out in anything else; or with 9 where something changed, which standard error names.
 #![tactic(auto)]
 
+mod parts;
 mod watched;
 mod workers;
 
+use crate::parts::step_parts;
 use crate::watched::{Call, Stop, Watched};
 use crate::workers::run_counted;
-use mencius_app::{Std, read_plan, report};
+use mencius_app::{Std, arguments_of, read_plan, report};
 use mencius_cluster::Cluster;
-use mencius_input::{AppFault, Events, Scenario, Sink, read_all, read_scenario, write_all};
+use mencius_input::{Events, IoFault, Scenario, Sink, read_all, read_scenario, write_all};
 use std::alloc::Global;
 use std::process::ExitCode;
 use std::sync::Wait;
@@ -101,8 +107,32 @@ fn perform<R: Threads + Wait + Sync, W: Sink>(
 ) -> Result<Option<Call>, Stop> {
     match read_scenario(alloc, bytes) {
         Ok(scenario) => course(rt, alloc, bytes, scenario, sink),
-        Err(AppFault::BadShape) => run(rt, alloc, bytes, sink).map(|()| None),
+        Err(IoFault::BadShape) => run(rt, alloc, bytes, sink).map(|()| None),
         Err(_) => Err(Stop::Elsewhere),
+    }
+}
+
+// Whether the first argument asks for single servers and executors.
+fn asks_for_parts(arguments: &[Vec<u8>]) -> bool {
+    match arguments.first() {
+        Some(word) => word.as_slice() == b"parts".as_slice(),
+        None => false,
+    }
+}
+
+// The status that the program ends with. What else is to be known goes to standard error.
+fn status_of<W: Sink>(done: Result<Option<Call>, Stop>, errors: &mut W) -> u8 {
+    match done {
+        Ok(None) => 0,
+        Ok(Some(call)) => {
+            let _ = write_all(errors, call.name().as_bytes());
+            0
+        }
+        Err(Stop::Elsewhere) => 6,
+        Err(Stop::Changed(answer)) => {
+            let _ = write_all(errors, answer.as_bytes());
+            9
+        }
     }
 }
 
@@ -111,19 +141,16 @@ fn main(rt: HostRuntime) -> ExitCode {
     let mut source = Std::new(rt.stdin());
     let mut sink = Std::new(rt.stdout());
     let mut errors = Std::new(rt.stderr());
+    let Ok(arguments) = arguments_of(&rt, alloc) else {
+        return ExitCode::from(6);
+    };
     let Ok(bytes) = read_all(alloc, &mut source) else {
         return ExitCode::from(6);
     };
-    match perform(&rt, alloc, bytes.as_slice(), &mut sink) {
-        Ok(None) => ExitCode::from(0),
-        Ok(Some(call)) => {
-            let _ = write_all(&mut errors, call.name().as_bytes());
-            ExitCode::from(0)
-        }
-        Err(Stop::Elsewhere) => ExitCode::from(6),
-        Err(Stop::Changed(answer)) => {
-            let _ = write_all(&mut errors, answer.as_bytes());
-            ExitCode::from(9)
-        }
-    }
+    let done = if asks_for_parts(arguments.as_slice()) {
+        step_parts(alloc, bytes.as_slice(), &mut sink)
+    } else {
+        perform(&rt, alloc, bytes.as_slice(), &mut sink)
+    };
+    ExitCode::from(status_of(done, &mut errors))
 }

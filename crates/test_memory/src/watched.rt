@@ -29,6 +29,16 @@ pub enum Call {
     Show,
     /// `Reader::lookup`.
     Lookup,
+    /// `Server::submit`.
+    Submit,
+    /// `Server::hear`.
+    Hear,
+    /// `Server::suspect`.
+    Suspect,
+    /// `Server::retry`.
+    Retry,
+    /// `Executor::execute`.
+    Execute,
 }
 
 impl Call {
@@ -38,6 +48,11 @@ impl Call {
             Call::Step => "step",
             Call::Show => "show",
             Call::Lookup => "lookup",
+            Call::Submit => "submit",
+            Call::Hear => "hear",
+            Call::Suspect => "suspect",
+            Call::Retry => "retry",
+            Call::Execute => "execute",
         }
     }
 }

@@ -44,7 +44,7 @@ fn commands_have_limits(rt: HostRuntime) -> Result<(), Fail> {
 fn fault_of_cas(
     alloc: Global,
     key: &str,
-    expected: &str,
+    held: &str,
     text: &str,
 ) -> Result<Option<BadCommand>, Fail> {
     let id = CommandId {
@@ -53,7 +53,7 @@ fn fault_of_cas(
     };
     let op = Op::Cas {
         key: Key::new(String::from_str(alloc, key)?),
-        expected: Text::new(String::from_str(alloc, expected)?),
+        held: Text::new(String::from_str(alloc, held)?),
         text: Text::new(String::from_str(alloc, text)?),
     };
     Ok(Command::new(id, op).err())
@@ -67,7 +67,7 @@ fn both_texts_have_limits(rt: HostRuntime) -> Result<(), Fail> {
     let most = most.as_str();
     let long = "t".repeat(alloc, 257)?;
     let long = long.as_str();
-    for (key, expected, text, fault) in [
+    for (key, held, text, fault) in [
         ("a", "", "", None),
         ("a", most, most, None),
         ("a b", "x y", "", Some(BadCommand::KeyByte)),
@@ -81,7 +81,7 @@ fn both_texts_have_limits(rt: HostRuntime) -> Result<(), Fail> {
         ("a", long, "", Some(BadCommand::TextLength)),
         ("a", "", long, Some(BadCommand::TextLength)),
     ] {
-        assert_eq!(rt; fault_of_cas(alloc, key, expected, text)?, fault);
+        assert_eq!(rt; fault_of_cas(alloc, key, held, text)?, fault);
     }
     Ok(())
 }

@@ -1,12 +1,12 @@
 //! What commands at one key are answered, one after the other.
 
-use map_exec::{Executor, FormerText};
+use map_exec::{Executor, Reply};
 use mencius_format::parse_command;
 use std::alloc::Global;
 use std::panic::Expect;
 use std::process::Abort;
 
-fn text_of(reply: &FormerText) -> Option<&str> {
+fn text_of(reply: &Reply) -> Option<&str> {
     match reply {
         Some(text) => Some(text.as_str()),
         None => None,

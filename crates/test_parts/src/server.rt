@@ -298,7 +298,7 @@ fn two_skips_keep_one_interval_and_a_suggestion_one_slot(rt: HostRuntime) {
 
 // A server keeps so many slots and so many intervals.
 fn assert_stored(rt: &impl Abort, server: &Server, counts: (u32, u32)) {
-    assert_eq!(rt; server.stored_counts(), counts);
+    assert_eq!(rt; server.kept(), counts);
 }
 
 #[test]

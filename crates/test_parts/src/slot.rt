@@ -89,7 +89,7 @@ fn an_acceptor_answers(rt: HostRuntime) {
     assert_slot_learns(&rt, &mut slot, ticket, true);
     assert_slot_learns(&rt, &mut slot, Value::Noop, false);
     assert_eq!(rt; slot.learned(), Some(ticket));
-    assert_answers(&rt, &mut slot, ballot(&rt, 8), Answer::Learn(ticket));
+    assert_answers(&rt, &mut slot, ballot(&rt, 8), Answer::Known(ticket));
     assert_eq!(rt; slot.promised(), seven);
     assert_accepts(&rt, &mut slot, seven, ticket, true);
 }
@@ -115,14 +115,14 @@ fn assert_accept(rt: &impl Abort, slot: &mut Slot, from: u8, ballot: Ballot, wan
     requires { from < slot.old.members.count }
     ensures { slot.new.members ≡ slot.old.members }
 {
-    assert_eq!(rt; slot.add_acceptance(from, ballot), want);
+    assert_eq!(rt; slot.add_accept(from, ballot), want);
 }
 
 // All three promised the ballot that is tried, and accepted what was proposed at it.
 fn assert_has_all(rt: &impl Abort, slot: &Slot, ballot: Ballot, value: Value) {
     assert_eq!(rt; (slot.trying(), slot.proposal()), (ballot, Some(value)));
-    assert_eq!(rt; slot.promisers(), [true, true, true].as_slice());
-    assert_eq!(rt; slot.accepters(), [true, true, true].as_slice());
+    assert_eq!(rt; slot.promises(), [true, true, true].as_slice());
+    assert_eq!(rt; slot.accepts(), [true, true, true].as_slice());
 }
 
 #[test]

@@ -2,7 +2,7 @@
 
 use crate::plain_map::change;
 use mencius_base::{Command, Entry, INSTANCES, Message, Value, Vote};
-use mencius_cluster::{Cluster, Reply};
+use mencius_cluster::{Answered, Cluster};
 use std::alloc::{AllocError, Global};
 use std::collections::BTreeMap;
 
@@ -67,7 +67,7 @@ impl Observed {
         entry: Entry,
     ) -> Result<Option<&'static str>, AllocError> {
         match entry {
-            Entry::Deliver { server, message } => self.see_delivery(cluster, message, server),
+            Entry::Deliver { message, server } => self.see_delivery(cluster, message, server),
             Entry::Execute { server } => self.see_execution(cluster, server),
             Entry::Submit { ticket, .. } => Ok(self.see_reply(cluster, ticket)),
             Entry::Lose { .. } | Entry::Suspect { .. } | Entry::Retry { .. } => Ok(None),
@@ -243,10 +243,10 @@ impl Observed {
             &submission.reply,
             self.place_at(cluster, submission.home, ticket),
         ) {
-            (Reply::Pending, None) => None,
-            (Reply::Pending, Some(_)) => Some("an executed command has no reply"),
-            (Reply::Given(_), None) => Some("a command has a reply too early"),
-            (Reply::Given(reply), Some(place)) => self.compare(reply, place),
+            (Answered::Pending, None) => None,
+            (Answered::Pending, Some(_)) => Some("an executed command has no reply"),
+            (Answered::Given(_), None) => Some("a command has a reply too early"),
+            (Answered::Given(reply), Some(place)) => self.compare(reply, place),
         }
     }
 

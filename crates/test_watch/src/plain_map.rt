@@ -14,13 +14,9 @@ pub fn change(
         Op::Set { key, text } => set(texts, alloc, key.as_str(), text.as_str()),
         Op::Get { key } => get(texts, alloc, key.as_str()),
         Op::Del { key } => Ok(texts.remove(key.as_str())),
-        Op::Cas {
-            key,
-            expected,
-            text,
-        } => {
+        Op::Cas { key, held, text } => {
             let former = get(texts, alloc, key.as_str())?;
-            if former.as_deref() == Some(expected.as_str()) {
+            if former.as_deref() == Some(held.as_str()) {
                 drop(set(texts, alloc, key.as_str(), text.as_str())?);
             }
             Ok(former)

@@ -20,6 +20,9 @@ fn of_server(first: &Cluster, second: &Cluster, server: u8, end: u32) -> Option<
         if first.learned(server, inst) != second.learned(server, inst) {
             return Some("learned");
         }
+        if first.waiting_at(server, inst) != second.waiting_at(server, inst) {
+            return Some("waiting");
+        }
     }
     None
 }

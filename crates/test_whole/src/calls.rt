@@ -3,8 +3,9 @@
 use crate::courses::{
     GET_AT_ANOTHER_SERVER, REVOKED_AND_SUGGESTED_AGAIN, cluster_after, new_cluster, scenario_of,
 };
-use mencius_base::{CommandId, Entry, Event, Members, Message, Value};
-use mencius_cluster::{Cluster, Effect, Reply};
+use mencius_base::{Command, CommandId, Entry, Event, Members, Message, Value};
+use mencius_cluster::{Answered, Cluster, Effect};
+use mencius_format::parse_command;
 use std::alloc::Global;
 use std::panic::Expect;
 use std::process::Abort;
@@ -31,9 +32,9 @@ const EFFECTS: [(u32, u32); 14] = [
 fn shown(cluster: &Cluster, client: u32) -> &str {
     match cluster.reply(CommandId { client, number: 0 }) {
         None => "not submitted",
-        Some(Reply::Pending) => "pending",
-        Some(Reply::Given(None)) => "none",
-        Some(Reply::Given(Some(text))) => text.as_str(),
+        Some(Answered::Pending) => "pending",
+        Some(Answered::Given(None)) => "none",
+        Some(Answered::Given(Some(text))) => text.as_str(),
     }
 }
 
@@ -58,6 +59,56 @@ fn each_event_has_its_effect(rt: HostRuntime) {
         assert_effect(&rt, &mut cluster, event, effect);
         first = first.wrapping_add(sent);
     }
+}
+
+// So many commands are submitted to server 2, one after the other. The last one's instance is its own of this many.
+const SUBMITTED: u32 = 1365;
+
+// Client 1 sets `a`, by its command of this number.
+fn set_a<R: Abort>(rt: &R, alloc: Global, number: u32) -> Command {
+    let text = format!(in alloc; "1.{number} set a x").expect(rt, "memory");
+    parse_command(alloc, text.as_str()).expect(rt, "a command")
+}
+
+// Server 2 suggests each of the commands, by the message of the command's number.
+fn submit_all<R: Abort>(rt: &R, alloc: Global, cluster: &mut Cluster) {
+    for number in 0..SUBMITTED {
+        let submission = Event::Submit {
+            server: 2,
+            command: set_a(rt, alloc, number),
+        };
+        let effect = Effect {
+            first: number,
+            sent: 1,
+            learned: 0,
+        };
+        assert_effect(rt, cluster, submission, effect);
+    }
+}
+
+// Server 0 hears the last suggestion alone, and skips all of its own instances before it: as many as server 2 has up
+// to there. Server 1 learns all of them from the one message that says so, which comes before the answer to server 2.
+#[test]
+fn one_message_teaches_a_long_skip(rt: HostRuntime) {
+    let alloc = rt.alloc();
+    let members = Members::new(3).expect(&rt, "three servers");
+    let mut cluster = new_cluster(&rt, alloc, members);
+    submit_all(&rt, alloc, &mut cluster);
+    let suggestion = Event::Deliver {
+        message: 1364,
+        server: 0,
+    };
+    assert!(rt; cluster.step(suggestion).is_ok());
+    let skip = Event::Deliver {
+        message: 1365,
+        server: 1,
+    };
+    let effect = Effect {
+        first: 1367,
+        sent: 0,
+        learned: 1365,
+    };
+    assert_effect(&rt, &mut cluster, skip, effect);
 }
 
 // What a cluster answers of a server: its front, how many instances it executed, and how many commands.

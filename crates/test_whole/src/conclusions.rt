@@ -4,14 +4,15 @@ ghost use Rattle.mencius_server.specs.Reached.{server_at};
 ghost use Rattle.std.specs.Prelude.{[], ◌≡◌, ◌<◌};
 
 use crate::courses::{
-    GET_AT_ANOTHER_SERVER, ONE_COMMAND, cluster_after, new_board, new_cluster, scenario_of,
+    COMPARED_AND_SET, GET_AT_ANOTHER_SERVER, ONE_COMMAND, cluster_after, new_board, new_cluster,
+    scenario_of,
 };
 use mencius_base::{Ballot, Event, Members, Message, Outbox, Refusal};
+use mencius_board::readings::{Reading, look_up_shown, look_up_within};
 use mencius_board::{Board, BoardFault, Reader};
 use mencius_cluster::Cluster;
 use mencius_conclusions::conclusions::{TwoHistories, histories, note_across};
 use mencius_conclusions::hands::deliver;
-use mencius_conclusions::readings::{Reading, look_up_shown, look_up_within};
 use mencius_server::Server;
 use std::alloc::Global;
 use std::panic::Expect;
@@ -161,6 +162,39 @@ fn a_told_reader_finds_what_was_executed(rt: HostRuntime) {
     let cluster = board.end(&rt);
     assert_reading(&rt, &answer.expect(&rt, "a reading"), 1, Some("x"));
     assert_eq!(rt; cluster.events(), 6);
+}
+
+// A board that accepted each event of a schedule.
+fn board_after<R: Abort + Wait>(rt: &R, alloc: Global, text: &str) -> Board {
+    let scenario = scenario_of(rt, alloc, text);
+    let mut board = new_board(rt, alloc, new_cluster(rt, alloc, scenario.members));
+    for event in scenario.course {
+        assert!(rt; board.step(event).is_ok());
+    }
+    board
+}
+
+// What a reader finds at `a` that learned what its board shows.
+fn learn_and_look_up<R: Wait>(
+    rt: &R,
+    alloc: Global,
+    board: &mut Board,
+) -> Result<Option<String>, BoardFault> {
+    let mut reader = board.reader()?;
+    let news = board.show(rt, alloc)?;
+    reader.learn(news);
+    reader.lookup(alloc, "a")
+}
+
+#[test]
+fn a_told_reader_finds_the_empty_text(rt: HostRuntime) {
+    let alloc = rt.alloc();
+    let mut board = board_after(&rt, alloc, COMPARED_AND_SET);
+    let answer = learn_and_look_up(&rt, alloc, &mut board);
+    let cluster = board.end(&rt);
+    let found = answer.expect(&rt, "a lookup");
+    assert_eq!(rt; found.as_deref(), Some(""));
+    assert_eq!(rt; cluster.events(), 20);
 }
 
 fn look_within(alloc: Global, board: &mut Board, reader: &mut Reader) -> Result<Reading, BoardFault>

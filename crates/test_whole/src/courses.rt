@@ -13,6 +13,14 @@ use std::sync::Wait;
 pub const ONE_COMMAND: &str = "{\"version\":1,\"servers\":3,\"events\":[\
     \"submit 0 1.0 set a x\",\"deliver 0 1\",\"deliver 0 0\",\"deliver 1 0\",\"deliver 2 0\",\"execute 0\"]}";
 
+/// The only server compares and sets `a` three times: where it is not there, where its text is another, and where its
+/// text is the one that is compared, which leaves the empty text.
+pub const COMPARED_AND_SET: &str = "{\"version\":2,\"servers\":1,\"events\":[\
+    \"submit 0 1.0 cas a  x\",\"submit 0 1.1 set a x\",\"submit 0 1.2 cas a y z\",\"submit 0 1.3 cas a x \",\
+    \"submit 0 1.4 get a\",\"deliver 0 0\",\"deliver 1 0\",\"deliver 2 0\",\"deliver 3 0\",\"deliver 4 0\",\
+    \"deliver 5 0\",\"deliver 6 0\",\"deliver 7 0\",\"deliver 8 0\",\"deliver 9 0\",\
+    \"execute 0\",\"execute 0\",\"execute 0\",\"execute 0\",\"execute 0\"]}";
+
 /// Server 0 sets `a`, and server 1 looks it up.
 pub const GET_AT_ANOTHER_SERVER: &str = "{\"version\":1,\"servers\":3,\"events\":[\
     \"submit 0 1.0 set a x\",\"deliver 0 0\",\"deliver 0 1\",\"deliver 1 0\",\"deliver 2 0\",\"execute 0\",\

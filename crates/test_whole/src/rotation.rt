@@ -5,7 +5,7 @@ ghost use Rattle.std.specs.Prelude.{◌≡◌};
 use crate::courses::{new_cluster, plan_of};
 use mencius_base::{Command, CommandId};
 use mencius_board::{Board, BoardFault, Chooser, Plan, Reader, worker_turn};
-use mencius_cluster::{Cluster, Reply};
+use mencius_cluster::{Answered, Cluster};
 use std::alloc::{AllocError, Global};
 use std::collections::BTreeMap;
 use std::marker::Model;
@@ -167,7 +167,7 @@ fn found_by_cas(cluster: &Cluster) -> Option<&str> {
         number: 1,
     };
     match cluster.reply(second) {
-        Some(Reply::Given(Some(text))) => Some(text.as_str()),
+        Some(Answered::Given(Some(text))) => Some(text.as_str()),
         _ => None,
     }
 }

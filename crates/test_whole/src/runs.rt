@@ -1,10 +1,11 @@
 //! Workers of a run: one alone takes its turns on a board one after the other, and each turn passes the gate.
 
-use crate::courses::{cluster_after, new_board, new_cluster, plan_of};
-use mencius_app::{Open, RunFinding, Std, report, run};
+use crate::courses::{new_board, new_cluster, plan_of};
+use mencius_app::{AppFault, Open, Std, report, run};
+use mencius_base::{Command, CommandId, Entry, Op};
 use mencius_board::{Board, Chooser, Gate, Plan, lend, run_workers, worker_turn};
 use mencius_cluster::Cluster;
-use std::alloc::Global;
+use std::alloc::{AllocError, Global};
 use std::panic::Expect;
 use std::process::Abort;
 use std::sync::atomic::{AtomicU64, Ordering};
@@ -22,10 +23,10 @@ fn ran<R: Threads + Wait + Sync, G: Gate + Sync>(
     scenario: &str,
     gate: &G,
     written: &mut Vec<u8>,
-) -> Result<(), RunFinding> {
+) -> Result<(), AppFault> {
     let mut source = Std::new(scenario.as_bytes());
     let mut sink = Std::new(written);
-    run(rt, alloc, &mut source, &mut sink, gate, true, false, None)
+    run(rt, alloc, &mut source, &mut sink, gate, true, None)
 }
 
 /// What a run prints, with its journal before the report.
@@ -72,12 +73,63 @@ fn report_of<R: Abort>(rt: &R, alloc: Global, cluster: &Cluster) -> Vec<u8> {
     taken
 }
 
-/// Whether a run's text is the journal of a cluster, and then its report.
+// Adds a command's text: who asks, the operation, and its key and texts.
+fn push_command(line: &mut String, command: &Command) -> Result<(), AllocError> {
+    let CommandId { client, number } = command.id();
+    write!(line, "{client}.{number} ")?;
+    match command.op() {
+        Op::Set { key, text } => write!(line, "set {} {}", key.as_str(), text.as_str()),
+        Op::Get { key } => write!(line, "get {}", key.as_str()),
+        Op::Del { key } => write!(line, "del {}", key.as_str()),
+        Op::Cas { key, held, text } => {
+            let (key, held, text) = (key.as_str(), held.as_str(), text.as_str());
+            write!(line, "cas {key} {held} {text}")
+        }
+    }
+}
+
+// Adds the text of a cluster's event: its word, and its numbers or its command.
+fn push_entry<R: Abort>(
+    rt: &R,
+    line: &mut String,
+    cluster: &Cluster,
+    entry: &Entry,
+) -> Result<(), AllocError> {
+    match *entry {
+        Entry::Submit { server, ticket } => {
+            write!(line, "submit {server} ")?;
+            push_command(line, cluster.command(ticket).expect(rt, "a command"))
+        }
+        Entry::Deliver { message, server } => write!(line, "deliver {message} {server}"),
+        Entry::Lose { message, server } => write!(line, "lose {message} {server}"),
+        Entry::Suspect { server, suspected } => write!(line, "suspect {server} {suspected}"),
+        Entry::Retry { server } => write!(line, "retry {server}"),
+        Entry::Execute { server } => write!(line, "execute {server}"),
+    }
+}
+
+// All events of a cluster as a scenario on one line, without the line's end: its fields are sorted, and no space stands
+// between them. No server looks ahead, so there is no `beta`; no command compares and sets, so the version is 1.
+fn line_of<R: Abort>(rt: &R, alloc: Global, cluster: &Cluster) -> Result<String, AllocError> {
+    let mut line = String::new(alloc);
+    line.push_str("{\"events\":[")?;
+    let mut before = "\"";
+    for entry in cluster.journal() {
+        line.push_str(before)?;
+        push_entry(rt, &mut line, cluster, entry)?;
+        line.push('"')?;
+        before = ",\"";
+    }
+    let servers = cluster.servers();
+    write!(line, "],\"servers\":{servers},\"version\":1}}")?;
+    Ok(line)
+}
+
+/// Whether a run's text is the line of a cluster's events, byte for byte, and then the cluster's report.
 pub fn is_printed<R: Abort>(rt: &R, alloc: Global, text: &str, cluster: &Cluster) -> bool {
     let (line, rest) = text.split_once('\n').expect(rt, "one line");
-    let again = cluster_after(rt, alloc, line);
-    again.journal() == cluster.journal()
-        && report_of(rt, alloc, cluster).as_slice() == rest.as_bytes()
+    let wanted = line_of(rt, alloc, cluster).expect(rt, "memory");
+    line == wanted.as_str() && report_of(rt, alloc, cluster).as_slice() == rest.as_bytes()
 }
 
 #[test]
@@ -85,6 +137,28 @@ fn one_worker_is_a_board_that_is_stepped(rt: HostRuntime) {
     let alloc = rt.alloc();
     let text = printed(&rt, alloc, ONE_WORKER, &Open);
     let cluster = cluster_of_turns(&rt, alloc, ONE_WORKER);
+    assert!(rt; is_printed(&rt, alloc, text.as_str(), &cluster));
+}
+
+// A cluster after a run's one worker ran on a board under a lock.
+fn cluster_of_run<R: Abort + Threads + Wait + Sync>(
+    rt: &R,
+    alloc: Global,
+    scenario: &str,
+) -> Cluster {
+    let scenario = plan_of(rt, alloc, scenario);
+    let cluster = new_cluster(rt, alloc, scenario.members);
+    let board = Mutex::new(new_board(rt, alloc, cluster));
+    let choosers = run_workers(rt, alloc, &board, &scenario.course, &Open).expect(rt, "a run");
+    assert_eq!(rt; choosers.len(), 1);
+    board.into_inner().end(rt)
+}
+
+#[test]
+fn one_worker_under_a_lock_does_what_is_printed(rt: HostRuntime) {
+    let alloc = rt.alloc();
+    let text = printed(&rt, alloc, ONE_WORKER, &Open);
+    let cluster = cluster_of_run(&rt, alloc, ONE_WORKER);
     assert!(rt; is_printed(&rt, alloc, text.as_str(), &cluster));
 }
 

@@ -2,8 +2,7 @@
 
 use crate::courses::cluster_after;
 use mencius_app::{
-    AppFault, Finding, Open, RunFinding, Sink, Source, Std, check, draw, judge, replay, report,
-    run, trace,
+    AppFault, Finding, Open, Sink, Source, Std, check, draw, judge, replay, report, run, trace,
 };
 use mencius_draw::{Options, Scheme, picture};
 use std::alloc::Global;
@@ -147,15 +146,6 @@ const READS: [(Call, &str, &str); 5] = [
 // The same of the call that only writes.
 const REPORTED: (Call, &str, &str) = (Call::Report, SCENARIO, REPORT);
 
-// What a run found, whose board does not fail here.
-fn found_in<R: Abort>(rt: &R, ran: Result<(), RunFinding>) -> Result<(), Finding> {
-    match ran {
-        Ok(()) => Ok(()),
-        Err(RunFinding::Found(found)) => Err(found),
-        Err(RunFinding::BoardFailed) => panic!(rt; "the board failed"),
-    }
-}
-
 // What a judgement found, of a log that keeps all promises.
 fn judged_in<R: Abort>(rt: &R, judged: Result<bool, Finding>) -> Result<(), Finding> {
     let all_kept = judged?;
@@ -172,18 +162,15 @@ fn make<R: Abort + Threads + Wait + Sync>(
     sink: &mut Std<Page>,
 ) -> Result<(), AppFault> {
     let made = match call {
-        Call::Replay => replay(alloc, source, sink),
+        Call::Replay => return replay(alloc, source, sink),
         Call::Trace => trace(alloc, source, sink),
         Call::Check => check(alloc, source, sink),
         Call::Judge => judged_in(rt, judge(alloc, source, sink)),
         Call::Draw => draw(alloc, source, sink, &WHOLE),
-        Call::Run => found_in(
-            rt,
-            run(rt, alloc, source, sink, &Open, true, false, Some("a")),
-        ),
+        Call::Run => return run(rt, alloc, source, sink, &Open, true, Some("a")),
         Call::Report => return report(alloc, &cluster_after(rt, alloc, SCENARIO), sink),
     };
-    made.map_err(|finding| finding.fault)
+    made.map_err(AppFault::from)
 }
 
 fn reader<'a>(

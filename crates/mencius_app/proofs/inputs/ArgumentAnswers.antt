@@ -4,8 +4,8 @@ use Rattle.std.specs.Io.KnownBytes.{Keeps}
 use Rattle.clap.specs.Words.{IsAmong, Text}
 use Rattle.clap.specs.declared.error.kind.ErrorKind.{ErrorKind}
 use Rattle.clap.specs.declared.error.kind.ErrorKind.TheVariants.{OutOfMemory}
-use Rattle.mencius_ends.specs.declared.fault.AppFault.{AppFault}
-use Rattle.mencius_ends.specs.declared.fault.AppFault.TheVariants.{NotJson, BadShape, BadLimit, ReadFailed, WriteFailed, NoMemory}
+use Rattle.mencius_ends.specs.declared.fault.IoFault.{IoFault}
+use Rattle.mencius_ends.specs.declared.fault.IoFault.TheVariants.{NotJson, BadShape, BadLimit, ReadFailed, WriteFailed, NoMemory}
 use Rattle.mencius_ends.specs.Ends.{HasFailed, WritesFront}
 use Rattle.mencius_command_line.specs.CommandLine.{faults, line_of, task_in}
 use Rattle.mencius_command_line.specs.Help.{shown_for}
@@ -17,7 +17,7 @@ use Rattle.mencius_app.specs.declared.ending.Ending.{Ending}
 use Rattle.mencius_app.proofs.inputs.FindingWords.{unexplained}
 
 -- no input has such a fault
-no_input : (fault : AppFault) → (fault ≡ WriteFailed) ⊎ (fault ≡ NoMemory) → IsBadInput fault → ⊥
+no_input : (fault : IoFault) → (fault ≡ WriteFailed) ⊎ (fault ≡ NoMemory) → IsBadInput fault → ⊥
 no_input fault (inl is) (inl bad) = (let both : WriteFailed ≡ NotJson = sym is ∙ bad in absurd (cc))
 no_input fault (inl is) (inr (inl bad)) = (let both : WriteFailed ≡ BadShape = sym is ∙ bad in absurd (cc))
 no_input fault (inl is) (inr (inr bad)) = (let both : WriteFailed ≡ BadLimit = sym is ∙ bad in absurd (cc))
@@ -33,7 +33,7 @@ keeps_same (Some bytes) = refl
 module _ {W : Type 0} (contents : W → Option (List ℕ)) (failed_writes : W → ℕ) (arguments : List Text)
     (kind : ErrorKind) (known : Option (List ℕ)) (reads : ℕ) (empty full : W)
     (has : (kind ≡ OutOfMemory) ⊎ IsAmong kind (faults (line_of arguments))) where
-  abbrev pub IsAnswerFault : AppFault → Type 0
+  abbrev pub IsAnswerFault : IoFault → Type 0
   IsAnswerFault fault =
       ((fault ≡ WriteFailed) × HasFailed (failed_writes empty) (failed_writes full) × (text : List ℕ)
       × (shown_for kind arguments ≡ Some text) × WritesFront (contents empty) (contents full) text)
@@ -45,7 +45,7 @@ module _ {W : Type 0} (contents : W → Option (List ℕ)) (failed_writes : W �
       (let none : None ≡ Some text = subst (λ k. shown_for k arguments ≡ Some text) memory shown in absurd (cc))
   is_shown text (inr among) shown = (kind, among, shown)
 
-  cause_of : (fault : AppFault) → IsAnswerFault fault
+  cause_of : (fault : IoFault) → IsAnswerFault fault
       → IsCause (IsFaultFor arguments known) (IsAskedFor arguments known) reads reads (failed_writes empty)
       (failed_writes full) (contents empty) (contents full) fault
   cause_of fault (inl h) = record {
@@ -63,7 +63,7 @@ module _ {W : Type 0} (contents : W → Option (List ℕ)) (failed_writes : W �
     nothing = λ _. subst (λ w. Keeps (contents empty) (contents w)) (sym h.1) (keeps_same (contents empty));
   }
 
-  cause_in : (fault : Option AppFault) → IfSome fault IsAnswerFault
+  cause_in : (fault : Option IoFault) → IfSome fault IsAnswerFault
       → IfSome fault (IsCause (IsFaultFor arguments known) (IsAskedFor arguments known) reads reads
       (failed_writes empty) (failed_writes full) (contents empty) (contents full))
   cause_in None h = tt

@@ -1,7 +1,7 @@
 -- What a check reads of an input.
 use Rattle.std.proofs.Common.{◌≡◌, ◌≢◌, ◌≤◌, ◌⊎◌, ◌++◌, inl, inr, ℕ, List, length, Option, Some, None, IfSome, IfOk, IfErr, Result, Ok, Err, String, Global, string_bytes, ap, sym, subst, ◌∙◌}
-use Rattle.mencius_ends.specs.declared.fault.AppFault.{AppFault}
-use Rattle.mencius_ends.specs.declared.fault.AppFault.TheVariants.{BadShape, NoMemory}
+use Rattle.mencius_ends.specs.declared.fault.IoFault.{IoFault}
+use Rattle.mencius_ends.specs.declared.fault.IoFault.TheVariants.{BadShape, NoMemory}
 use Rattle.mencius_ends.specs.Ends.{most_bytes}
 use Rattle.mencius_input.specs.declared.kind.Kind.{Kind}
 use Rattle.mencius_input.specs.declared.kind.Kind.TheVariants as kind
@@ -26,18 +26,18 @@ use Rattle.mencius_base.specs.Plan.{PlanState}
 -- ---- by kind
 
 -- words of a fault that bytes have as a scenario of this kind
-abbrev pub AreWordsAs : Kind → AppFault → List ℕ → Option (String Global) → Type 0
+abbrev pub AreWordsAs : Kind → IoFault → List ℕ → Option (String Global) → Type 0
 AreWordsAs kind fault bytes words =
     IfSome words (λ line. (said : List ℕ) × Explains kind fault bytes said × (string_bytes line ≡ said ++ line_feed))
 
-abbrev pub AreWordsByFields : AppFault → List ℕ → Option (String Global) → Type 0
+abbrev pub AreWordsByFields : IoFault → List ℕ → Option (String Global) → Type 0
 AreWordsByFields fault bytes words = AreWordsAs (kind_in bytes) fault bytes words
 
-pub words_as : (kind : Kind) (fault : AppFault) (bytes : List ℕ) (words : Option (String Global))
+pub words_as : (kind : Kind) (fault : IoFault) (bytes : List ℕ) (words : Option (String Global))
     → kind_in bytes ≡ kind → AreWordsAs kind fault bytes words → AreWordsByFields fault bytes words
 words_as kind fault bytes words meant h = subst (λ k. AreWordsAs k fault bytes words) (sym meant) h
 
-pub words_of_memory : (kind : Kind) (fault : AppFault) (bytes : List ℕ) (words : Option (String Global))
+pub words_of_memory : (kind : Kind) (fault : IoFault) (bytes : List ℕ) (words : Option (String Global))
     → fault ≡ NoMemory → AreWordsAs kind fault bytes words → AreWordsByFields fault bytes words
 words_of_memory kind fault bytes None memory h = tt
 words_of_memory kind fault bytes (Some line) memory h =
@@ -51,7 +51,7 @@ replay_checked bytes written e =
     subst (λ k. scenario_of_kind k bytes ≡ Ok (replay_scenario written)) (sym meant) (ap as_replay e)
 
 -- and what is meant as one has the fault that it has as one
-pub replay_fault : (bytes : List ℕ) (fault : AppFault) → kind_in bytes ≡ kind.Replay → FailsBy fault (scenario bytes)
+pub replay_fault : (bytes : List ℕ) (fault : IoFault) → kind_in bytes ≡ kind.Replay → FailsBy fault (scenario bytes)
     → (fault ≡ NoMemory) ⊎ (either_scenario bytes ≡ Err fault)
 replay_fault bytes fault meant fails = elim (failing fault (scenario bytes) fails) [
   | inl memory ↦ inl memory
@@ -64,7 +64,7 @@ pub run_checked : (bytes : List ℕ) (written : Scenario PlanState) → kind_in 
 run_checked bytes written meant e =
     subst (λ k. scenario_of_kind k bytes ≡ Ok (run_scenario written)) (sym meant) (ap as_run e)
 
-pub run_fault : (bytes : List ℕ) (fault : AppFault) → kind_in bytes ≡ kind.Run → FailsBy fault (plan bytes)
+pub run_fault : (bytes : List ℕ) (fault : IoFault) → kind_in bytes ≡ kind.Run → FailsBy fault (plan bytes)
     → (fault ≡ NoMemory) ⊎ (either_scenario bytes ≡ Err fault)
 run_fault bytes fault meant fails = elim (failing fault (plan bytes) fails) [
   | inl memory ↦ inl memory
@@ -72,7 +72,7 @@ run_fault bytes fault meant fails = elim (failing fault (plan bytes) fails) [
 ]
 
 -- a fault other than a bad shape is that of a scenario of `replay`, unless memory ran out
-pub other_fault : (bytes : List ℕ) (fault : AppFault) → fault ≢ BadShape → FailsBy fault (scenario bytes)
+pub other_fault : (bytes : List ℕ) (fault : IoFault) → fault ≢ BadShape → FailsBy fault (scenario bytes)
     → (fault ≡ NoMemory) ⊎ ((kind_in bytes ≡ kind.Replay) × (either_scenario bytes ≡ Err fault))
 other_fault bytes fault other fails = elim (failing fault (scenario bytes) fails) [
   | inl memory ↦ inl memory
@@ -82,15 +82,15 @@ other_fault bytes fault other fails = elim (failing fault (scenario bytes) fails
 
 -- ---- the faults
 
-of_replay : (r : Result (Scenario (List Event)) AppFault) (fault : AppFault) → as_replay r ≡ Err fault → r ≡ Err fault
+of_replay : (r : Result (Scenario (List Event)) IoFault) (fault : IoFault) → as_replay r ≡ Err fault → r ≡ Err fault
 of_replay (Ok written) fault e = absurd (cc)
 of_replay (Err other) fault e = cc
 
-of_run : (r : Result (Scenario PlanState) AppFault) (fault : AppFault) → as_run r ≡ Err fault → r ≡ Err fault
+of_run : (r : Result (Scenario PlanState) IoFault) (fault : IoFault) → as_run r ≡ Err fault → r ≡ Err fault
 of_run (Ok written) fault e = absurd (cc)
 of_run (Err other) fault e = cc
 
-checked_bad : (bytes : List ℕ) (fault : AppFault) → either_scenario bytes ≡ Err fault → IsBadInput fault
+checked_bad : (bytes : List ℕ) (fault : IoFault) → either_scenario bytes ≡ Err fault → IsBadInput fault
 checked_bad bytes fault e = by_kind (kind_in bytes) e where
   by_kind : (k : Kind) → scenario_of_kind k bytes ≡ Err fault → IsBadInput fault
   by_kind kind.Replay e = scenario_bad bytes fault (of_replay (scenario bytes) fault e)

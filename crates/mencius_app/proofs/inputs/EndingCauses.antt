@@ -1,7 +1,7 @@
 -- Why a task ended at a fault.
 use Rattle.std.proofs.Common.{◌≡◌, ◌≢◌, ◌≤◌, ◌+◌, ◌∙◌, arith, inr, ℕ, Bool, false, List, [], Option, Some, None, IfSome, IfErr, Result, Ok, Err, String, Global, refl, sym, subst, ap}
 use Rattle.clap.specs.Words.{Text}
-use Rattle.mencius_ends.specs.declared.fault.AppFault.{AppFault}
+use Rattle.mencius_ends.specs.declared.fault.IoFault.{IoFault}
 use Rattle.mencius_ends.specs.Ends.{TakesAtMost, most_bytes, most_failed_calls}
 use Rattle.mencius_app.specs.Calls.{AsksAs, AsksLittle, IsCause}
 use Rattle.mencius_app.specs.Replay.{IsReplayOf, are_all_accepted}
@@ -16,8 +16,8 @@ use Rattle.mencius_app.specs.declared.ending.Ending.TheVariants.{Done, BoardFail
 use Rattle.mencius_command_line.specs.CommandLine.{TaskState, asked_check, asked_draw, asked_judge, asked_replay, asked_run, asked_trace, faults, line_of, task_in}
 
 -- where its text is also one of another kind
-pub as_text : {F : AppFault → Type 0} {P Q : List ℕ → Type 0} {reads reads_now writes writes_now : ℕ}
-    {old new : Option (List ℕ)} {fault : AppFault} → ((text : List ℕ) → P text → Q text)
+pub as_text : {F : IoFault → Type 0} {P Q : List ℕ → Type 0} {reads reads_now writes writes_now : ℕ}
+    {old new : Option (List ℕ)} {fault : IoFault} → ((text : List ℕ) → P text → Q text)
     → IsCause F P reads reads_now writes writes_now old new fault
     → IsCause F Q reads reads_now writes writes_now old new fault
 as_text also h = record {
@@ -41,7 +41,7 @@ text_of_run known with_journal with_observations key there text same is =
     (false, (subst (λ y. IsRunOf known with_journal with_observations y text) same is, refl))
 
 -- what holds of the fault of a finding holds of the fault of the ending that it makes
-pub of_finding : (found : Finding) (ending : Ending) (P : AppFault → Type 0) → ending ≡ ending_at found
+pub of_finding : (found : Finding) (ending : Ending) (P : IoFault → Type 0) → ending ≡ ending_at found
     → P found.fault → IfSome (fault_in ending) P
 of_finding found ending P e h = subst (λ d. IfSome (fault_in d) P) (sym e) (worded found.words) where
   worded : (words : Option (String Global)) → IfSome (fault_in (ending_with found.fault words)) P
@@ -49,13 +49,13 @@ of_finding found ending P e h = subst (λ d. IfSome (fault_in d) P) (sym e) (wor
   worded None = h
 
 -- and so of a result
-pub of_result : {T : Type 0} (done : Result T Finding) (ending : Ending) (P : AppFault → Type 0)
+pub of_result : {T : Type 0} (done : Result T Finding) (ending : Ending) (P : IoFault → Type 0)
     → ending ≡ ending_of done → IfErr done (λ found. P found.fault) → IfSome (fault_in ending) P
 of_result (Ok x) ending P e h = subst (λ d. IfSome (fault_in d) P) (sym e) tt
 of_result (Err found) ending P e h = of_finding found ending P e h
 
 -- and so of a run, which found nothing where its board failed
-pub of_run : {T : Type 0} (done : Result T RunFinding) (ending : Ending) (P : AppFault → Type 0)
+pub of_run : {T : Type 0} (done : Result T RunFinding) (ending : Ending) (P : IoFault → Type 0)
     → ending ≡ ending_of_run done → IfErr done (IfFound (λ found. P found.fault)) → IfSome (fault_in ending) P
 of_run (Ok x) ending P e h = subst (λ d. IfSome (fault_in d) P) (sym e) tt
 of_run (Err (at.Found found)) ending P e h = of_finding found ending P e h
@@ -84,7 +84,7 @@ board_of_run (Err at.BoardFailed) ending e failed is = failed refl
 -- what holds of a task holds of the arguments that ask for it
 pub of_task : (arguments : List Text) (task : TaskState) (known : Option (List ℕ))
     (reads reads_now writes writes_now : ℕ)
-    (old new : Option (List ℕ)) (fault : Option AppFault) → faults (line_of arguments) ≡ []
+    (old new : Option (List ℕ)) (fault : Option IoFault) → faults (line_of arguments) ≡ []
     → task ≡ task_in (line_of arguments)
     → IfSome fault (IsCause (IsInputFaultOf task known) (IsTextOf task known) reads reads_now writes writes_now old new)
     → IfSome fault (IsCause (IsFaultFor arguments known) (IsAskedFor arguments known) reads reads_now writes writes_now

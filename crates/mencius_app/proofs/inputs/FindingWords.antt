@@ -1,7 +1,7 @@
 -- The words of a finding: of which bytes they are.
 use Rattle.std.proofs.Common.{◌≡◌, ◌⊎◌, ◌<◌, ◌++◌, inl, inr, ℕ, false, List, length, Option, Some, None, IfSome, IfErr, Result, Ok, Err, String, Global, string_bytes, sym, subst}
-use Rattle.mencius_ends.specs.declared.fault.AppFault.{AppFault}
-use Rattle.mencius_ends.specs.declared.fault.AppFault.TheVariants.{BadLimit, ReadFailed, NoMemory}
+use Rattle.mencius_ends.specs.declared.fault.IoFault.{IoFault}
+use Rattle.mencius_ends.specs.declared.fault.IoFault.TheVariants.{BadLimit, ReadFailed, NoMemory}
 use Rattle.mencius_ends.specs.Ends.{most_bytes}
 use Rattle.mencius_input.specs.declared.kind.Kind.{Kind}
 use Rattle.mencius_input.specs.Explanations.{ExplainsUnread}
@@ -20,7 +20,7 @@ use Rattle.mencius_command_line.specs.CommandLine.{TaskState}
 
 -- of a failed reader anything may be said
 abbrev pub IsFree : Explanation → Type 0
-IsFree Tells = (fault : AppFault) → (fault ≡ ReadFailed) ⊎ (fault ≡ NoMemory) → (bytes words : List ℕ)
+IsFree Tells = (fault : IoFault) → (fault ≡ ReadFailed) ⊎ (fault ≡ NoMemory) → (bytes words : List ℕ)
     → Tells fault bytes words
 
 pub free_as : (kind : Kind) → IsFree (ExplainsAs kind)
@@ -32,7 +32,7 @@ free_by_fields fault (inl failed) bytes words = rw failed tt
 free_by_fields fault (inr memory) bytes words = rw memory tt
 
 -- no bytes were kept
-pub of_unread : (Tells : Explanation) → IsFree Tells → (known : Option (List ℕ)) (fault : AppFault)
+pub of_unread : (Tells : Explanation) → IsFree Tells → (known : Option (List ℕ)) (fault : IoFault)
     (words : Option (String Global)) → (fault ≡ BadLimit) ⊎ (fault ≡ ReadFailed) ⊎ (fault ≡ NoMemory)
     → (fault ≡ BadLimit → IfSome known (λ bytes. most_bytes < length bytes))
     → IfSome words (λ line. (said : List ℕ) × ExplainsUnread fault said × (string_bytes line ≡ said ++ line_feed))
@@ -45,7 +45,7 @@ of_unread Tells free (Some bytes) fault (Some line) (inr other) long h =
     (h.0, inl (free fault other bytes h.0), h.2)
 
 -- all bytes were read
-pub of_bytes : (Tells : Explanation) (known : Option (List ℕ)) (bytes : List ℕ) (fault : AppFault)
+pub of_bytes : (Tells : Explanation) (known : Option (List ℕ)) (bytes : List ℕ) (fault : IoFault)
     (words : Option (String Global)) → IfSome known (λ all. all ≡ bytes)
     → IfSome words (λ line. (said : List ℕ) × Tells fault bytes said × (string_bytes line ≡ said ++ line_feed))
     → IfSome words (λ line. AreWordsOfInput Tells known fault (string_bytes line))

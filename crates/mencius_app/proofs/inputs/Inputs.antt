@@ -6,8 +6,8 @@ use Rattle.std.proofs.lemmas.Result.{err_from_is_err_and}
 use Rattle.std.specs.Io.KnownBytes.{Appends, Keeps}
 use Rattle.std.proofs.lemmas.Bool.{le-ltb, lt-ltb}
 use Rattle.serde_json.specs.Data.{Data}
-use Rattle.mencius_ends.specs.declared.fault.AppFault.{AppFault}
-use Rattle.mencius_ends.specs.declared.fault.AppFault.TheVariants.{NotJson, BadShape, BadLimit, ReadFailed, WriteFailed, NoMemory}
+use Rattle.mencius_ends.specs.declared.fault.IoFault.{IoFault}
+use Rattle.mencius_ends.specs.declared.fault.IoFault.TheVariants.{NotJson, BadShape, BadLimit, ReadFailed, WriteFailed, NoMemory}
 use Rattle.mencius_ends.specs.Ends.{HasFailed, WritesFront, most_bytes}
 use Rattle.mencius_format.specs.ValuesOrFaults.{FailsBy, Gives, map_ok, value_or_fault}
 use Rattle.mencius_input.specs.declared.kind.Kind.TheVariants.{Run}
@@ -27,13 +27,13 @@ use Rattle.mencius_input.specs.declared.scenario.Scenario.{Scenario}
 -- ---- long inputs
 
 -- an input that is not too long says what its bytes say
-pub says_by_bytes : {X : Type 0} (read : List ℕ → Result X AppFault) (bytes : List ℕ) → length bytes ≤ most_bytes
+pub says_by_bytes : {X : Type 0} (read : List ℕ → Result X IoFault) (bytes : List ℕ) → length bytes ≤ most_bytes
     → unless_long read bytes ≡ read bytes
 says_by_bytes read bytes short =
     ap (λ (a : Bool). cond a (Err BadLimit) (read bytes)) (le-ltb most_bytes (length bytes) short)
 
 -- one that is too long is past a limit
-long_fault : {X : Type 0} (read : List ℕ → Result X AppFault) (known : Option (List ℕ))
+long_fault : {X : Type 0} (read : List ℕ → Result X IoFault) (known : Option (List ℕ))
     → IfSome known (λ bytes. most_bytes < length bytes) → HasFault (unless_long read) known BadLimit
 long_fault read None h = tt
 long_fault read (Some bytes) h =
@@ -42,7 +42,7 @@ long_fault read (Some bytes) h =
 -- ---- the faults of bad inputs
 
 -- what is judged has no other fault
-value_fault_bad : {X : Type 0} (fits : X → Bool) (o : Option X) (fault : AppFault) → value_or_fault fits o ≡ Err fault
+value_fault_bad : {X : Type 0} (fits : X → Bool) (o : Option X) (fault : IoFault) → value_or_fault fits o ≡ Err fault
     → IsBadInput fault
 value_fault_bad fits None fault e = inr (inl (cc))
 value_fault_bad {X} fits (Some x) fault e = by_test (fits x) e where
@@ -50,31 +50,31 @@ value_fault_bad {X} fits (Some x) fault e = by_test (fits x) e where
   by_test true e = absurd (cc)
   by_test false e = inr (inr (cc))
 
-json_bad : {X : Type 0} (fits : X → Bool) (of : Data → Option X) (o : Option Data) (fault : AppFault)
+json_bad : {X : Type 0} (fits : X → Bool) (of : Data → Option X) (o : Option Data) (fault : IoFault)
     → read_there (λ d. value_or_fault fits (of d)) (or_not_json o) ≡ Err fault → IsBadInput fault
 json_bad fits of None fault e = inl (cc)
 json_bad fits of (Some d) fault e = value_fault_bad fits (of d) fault e
 
-pub scenario_bad : (bytes : List ℕ) (fault : AppFault) → scenario bytes ≡ Err fault → IsBadInput fault
+pub scenario_bad : (bytes : List ℕ) (fault : IoFault) → scenario bytes ≡ Err fault → IsBadInput fault
 scenario_bad bytes fault e = json_bad is_within_limits written_of (json_of bytes) fault e
 
-pub plan_bad : (bytes : List ℕ) (fault : AppFault) → plan bytes ≡ Err fault → IsBadInput fault
+pub plan_bad : (bytes : List ℕ) (fault : IoFault) → plan bytes ≡ Err fault → IsBadInput fault
 plan_bad bytes fault e = json_bad (is_scenario_within is_plan_within) (scenario_of Run plan_read) (json_of bytes) fault e
 
 -- a bad input is no failed reader or writer
-other_bad : (fault other : AppFault) → fault ≡ other → (other ≢ NotJson) × (other ≢ BadShape) × (other ≢ BadLimit)
+other_bad : (fault other : IoFault) → fault ≡ other → (other ≢ NotJson) × (other ≢ BadShape) × (other ≢ BadLimit)
     → IsBadInput fault → ⊥
 other_bad fault other e none (inl h) = none.0 (sym e ∙ h)
 other_bad fault other e none (inr (inl h)) = none.1 (sym e ∙ h)
 other_bad fault other e none (inr (inr h)) = none.2 (sym e ∙ h)
 
-pub no_read : (fault : AppFault) → IsBadInput fault → fault ≢ ReadFailed
+pub no_read : (fault : IoFault) → IsBadInput fault → fault ≢ ReadFailed
 no_read fault bad e = other_bad fault ReadFailed e (λ h. absurd (cc), λ h. absurd (cc), λ h. absurd (cc)) bad
 
-pub no_write : (fault : AppFault) → IsBadInput fault → fault ≢ WriteFailed
+pub no_write : (fault : IoFault) → IsBadInput fault → fault ≢ WriteFailed
 no_write fault bad e = other_bad fault WriteFailed e (λ h. absurd (cc), λ h. absurd (cc), λ h. absurd (cc)) bad
 
-no_memory : (fault : AppFault) → IsBadInput fault → fault ≢ NoMemory
+no_memory : (fault : IoFault) → IsBadInput fault → fault ≢ NoMemory
 no_memory fault bad e = other_bad fault NoMemory e (λ h. absurd (cc), λ h. absurd (cc), λ h. absurd (cc)) bad
 
 -- ---- reading
@@ -85,7 +85,7 @@ pub at_err : {T E : Type 0} (r : Result T E) (error : E) (P : E → Type 0) → 
 at_err r error P is h = let failed = err_from_is_err_and r is in rw (failed.1, failed.2) h
 
 -- memory ran out
-pub own_fault : {F : AppFault → Type 0} {reads reads_now : ℕ} {fault : AppFault} → fault ≡ NoMemory
+pub own_fault : {F : IoFault → Type 0} {reads reads_now : ℕ} {fault : IoFault} → fault ≡ NoMemory
     → IsReadingCause F reads reads_now fault
 own_fault {F} {reads} {reads_now} {fault} memory = record {
   bad_input = λ bad. absurd (no_memory fault bad memory);
@@ -94,8 +94,8 @@ own_fault {F} {reads} {reads_now} {fault} memory = record {
 }
 
 -- a reader answered no bytes
-pub unread : {X : Type 0} (read : List ℕ → Result X AppFault) (known : Option (List ℕ)) (reads reads_now : ℕ)
-    (fault : AppFault) → (fault ≡ BadLimit) ⊎ (fault ≡ ReadFailed) ⊎ (fault ≡ NoMemory)
+pub unread : {X : Type 0} (read : List ℕ → Result X IoFault) (known : Option (List ℕ)) (reads reads_now : ℕ)
+    (fault : IoFault) → (fault ≡ BadLimit) ⊎ (fault ≡ ReadFailed) ⊎ (fault ≡ NoMemory)
     → (fault ≡ BadLimit → IfSome known (λ bytes. most_bytes < length bytes))
     → (fault ≡ ReadFailed → HasFailed reads reads_now)
     → IsReadingCause (HasFault (unless_long read) known) reads reads_now fault
@@ -116,7 +116,7 @@ pub flipped : (known : Option (List ℕ)) (bytes : List ℕ) → IfSome known (�
 flipped None bytes h = tt
 flipped (Some all) bytes h = sym h
 
-pub failing : {Y : Type 0} (fault : AppFault) (answer : Result Y AppFault) → FailsBy fault answer
+pub failing : {Y : Type 0} (fault : IoFault) (answer : Result Y IoFault) → FailsBy fault answer
     → (fault ≡ NoMemory) ⊎ (answer ≡ Err fault)
 failing NotJson answer h = inr h
 failing BadShape answer h = inr h
@@ -125,8 +125,8 @@ failing ReadFailed answer h = inr h
 failing WriteFailed answer h = inr h
 failing NoMemory answer h = inl refl
 
-pub bad_there : {Y : Type 0} (read : List ℕ → Result Y AppFault) (known : Option (List ℕ)) (bytes : List ℕ)
-    (fault : AppFault) → IfSome known (λ all. bytes ≡ all) → unless_long read bytes ≡ Err fault
+pub bad_there : {Y : Type 0} (read : List ℕ → Result Y IoFault) (known : Option (List ℕ)) (bytes : List ℕ)
+    (fault : IoFault) → IfSome known (λ all. bytes ≡ all) → unless_long read bytes ≡ Err fault
     → HasFault (unless_long read) known fault
 bad_there read None bytes fault same e = tt
 bad_there read (Some all) bytes fault same e = subst (λ input. unless_long read input ≡ Err fault) same e
@@ -136,17 +136,17 @@ pub short : (length_of most : ℕ) {n : ℕ} → n ≡ length_of → length_of �
 short length_of most same few = omega (arith, same, few)
 
 -- all bytes were read, which have these faults alone
-module _ {X Y : Type 0} (read : List ℕ → Result Y AppFault)
-    (bad : (bytes : List ℕ) (fault : AppFault) → read bytes ≡ Err fault → IsBadInput fault) (view : X → Y)
+module _ {X Y : Type 0} (read : List ℕ → Result Y IoFault)
+    (bad : (bytes : List ℕ) (fault : IoFault) → read bytes ≡ Err fault → IsBadInput fault) (view : X → Y)
     (known : Option (List ℕ)) (bytes text : List ℕ) (whole : IfSome known (λ all. bytes ≡ all))
     (fits : length text ≤ most_bytes) (is : text ≡ bytes) where
-  pub said : (r : Result X AppFault) → Gives (map_ok view r) (read text)
+  pub said : (r : Result X IoFault) → Gives (map_ok view r) (read text)
       → IfOk r (λ x. Says (unless_long read) known (view x))
   said (Ok x) gives =
       (bytes, flipped known bytes whole, ap (unless_long read) (sym is) ∙ says_by_bytes read text fits ∙ gives)
   said (Err fault) gives = tt
 
-  pub misread : (reads reads_now : ℕ) (r : Result X AppFault) → Gives (map_ok view r) (read text)
+  pub misread : (reads reads_now : ℕ) (r : Result X IoFault) → Gives (map_ok view r) (read text)
       → IfErr r (IsReadingCause (HasFault (unless_long read) known) reads reads_now)
   misread reads reads_now (Ok x) gives = tt
   misread reads reads_now (Err fault) gives = elim (failing fault (read text) gives) [
@@ -166,8 +166,8 @@ keeps None = tt
 keeps (Some bytes) = refl
 
 -- the fault came before anything was written
-pub unwritten : {F : AppFault → Type 0} {P : List ℕ → Type 0} {reads reads_now writes writes_now : ℕ}
-    {contents : Option (List ℕ)} {fault : AppFault} → IsReadingCause F reads reads_now fault
+pub unwritten : {F : IoFault → Type 0} {P : List ℕ → Type 0} {reads reads_now writes writes_now : ℕ}
+    {contents : Option (List ℕ)} {fault : IoFault} → IsReadingCause F reads reads_now fault
     → IsCause F P reads reads_now writes writes_now contents contents fault
 unwritten {F} {P} {reads} {reads_now} {writes} {writes_now} {contents} {fault} h = record {
   bad_input = h.bad_input;
@@ -178,8 +178,8 @@ unwritten {F} {P} {reads} {reads_now} {writes} {writes_now} {contents} {fault} h
 }
 
 -- once there is a text, only its writing may fail
-pub unwritable : (F : AppFault → Type 0) (P : List ℕ → Type 0) (reads reads_now writes writes_now : ℕ)
-    (old new : Option (List ℕ)) {T : Type 0} (r : Result T AppFault) (made text : List ℕ) → P made → text ≡ made
+pub unwritable : (F : IoFault → Type 0) (P : List ℕ → Type 0) (reads reads_now writes writes_now : ℕ)
+    (old new : Option (List ℕ)) {T : Type 0} (r : Result T IoFault) (made text : List ℕ) → P made → text ≡ made
     → WritesFront old new text → IfErr r (λ fault. fault ≡ WriteFailed) → OnErr r (HasFailed writes writes_now)
     → IfErr r (IsCause F P reads reads_now writes writes_now old new)
 unwritable F P reads reads_now writes writes_now old new (Ok x) made text is same front only failed = tt
@@ -205,7 +205,7 @@ pub made : (text_of : Membership → List Event → List ℕ) (known : Option (L
 made text_of known said_there text says is = record { written = said_there; says = says; is = is }
 
 -- what holds of the fault holds of what was found
-pub at_finding : {T : Type 0} (r : Result T Finding) (fault : AppFault) (P : AppFault → Type 0)
+pub at_finding : {T : Type 0} (r : Result T Finding) (fault : IoFault) (P : IoFault → Type 0)
     → IsErrAnd r (λ found. (found.fault ≡ fault) × (found.words ≡ None)) → P fault → IfErr r (λ found. P found.fault)
 at_finding r fault P is h = let failed = err_from_is_err_and r is in rw (failed.1, failed.2.0) h
 

@@ -2,7 +2,7 @@
 use Rattle.std.proofs.Common.{◌≡◌, ◌≢◌, ◌++◌, ℕ, Bool, true, false, cond, List, Option, Some, None, IfSome, IfOk, IfErr, Result, Ok, Err, String, Global, string_bytes, refl, sym, subst, ◌∙◌}
 use Rattle.std.specs.Prelude.{not}
 use Rattle.std.specs.Io.KnownBytes.{Appends}
-use Rattle.mencius_ends.specs.declared.fault.AppFault.{AppFault}
+use Rattle.mencius_ends.specs.declared.fault.IoFault.{IoFault}
 use Rattle.mencius_trace.specs.Words.{line_feed}
 use Rattle.mencius_command_line.specs.CommandLine.{asked_judge}
 use Rattle.mencius_app.specs.Ending.{DidTask, IsTextOf, TellsOf, ending_of_judgement, fault_in}
@@ -19,7 +19,7 @@ pub text_of_judgement : (known : Option (List ℕ)) (text : List ℕ) → IsJudg
 text_of_judgement known text h = (not h.0, (h.0, h.1, refl))
 
 -- what holds of the fault of a finding holds of the fault of the ending that it makes
-pub of_judgement : (done : Result Bool Finding) (ending : Ending) (P : AppFault → Type 0)
+pub of_judgement : (done : Result Bool Finding) (ending : Ending) (P : IoFault → Type 0)
     → ending ≡ ending_of_judgement done → IfErr done (λ found. P found.fault) → IfSome (fault_in ending) P
 of_judgement (Ok true) ending P e h = subst (λ d. IfSome (fault_in d) P) (sym e) tt
 of_judgement (Ok false) ending P e h = subst (λ d. IfSome (fault_in d) P) (sym e) tt

@@ -1,7 +1,7 @@
 -- Why there is no picture: as there is no trace, or since it would be too large.
 use Rattle.std.proofs.Common.{◌≡◌, ◌<◌, ◌∙◌, ◌++◌, inl, inr, ℕ, List, Option, Some, None, IfSome, String, Global, string_bytes, refl, sym}
-use Rattle.mencius_ends.specs.declared.fault.AppFault.{AppFault}
-use Rattle.mencius_ends.specs.declared.fault.AppFault.TheVariants.{BadLimit, ReadFailed, WriteFailed}
+use Rattle.mencius_ends.specs.declared.fault.IoFault.{IoFault}
+use Rattle.mencius_ends.specs.declared.fault.IoFault.TheVariants.{BadLimit, ReadFailed, WriteFailed}
 use Rattle.mencius_draw.specs.declared.options.Options.{Options}
 use Rattle.mencius_draw.specs.Places.{most_levels}
 use Rattle.mencius_trace.specs.Words.{line_feed}
@@ -13,7 +13,7 @@ use Rattle.mencius_app.specs.declared.finding.Finding.{Finding}
 use Rattle.mencius_app.proofs.inputs.Inputs.{own_fault}
 
 -- where an input's fault is also one of another kind
-pub reading_as : {F G : AppFault → Type 0} {reads reads_now : ℕ} {fault : AppFault} → (F fault → G fault)
+pub reading_as : {F G : IoFault → Type 0} {reads reads_now : ℕ} {fault : IoFault} → (F fault → G fault)
     → IsReadingCause F reads reads_now fault → IsReadingCause G reads reads_now fault
 reading_as also h = record {
   bad_input = λ bad. also (h.bad_input bad);
@@ -33,8 +33,8 @@ refused_cause o known trace reads reads_now found is (inr large) = record {
 
 -- words that are told of bytes may be told of them in another way
 pub found_as : (S T : Explanation)
-    → ((fault : AppFault) (bytes words : List ℕ) → S fault bytes words → T fault bytes words)
-    → (known : Option (List ℕ)) (fault : AppFault) (words : Option (String Global))
+    → ((fault : IoFault) (bytes words : List ℕ) → S fault bytes words → T fault bytes words)
+    → (known : Option (List ℕ)) (fault : IoFault) (words : Option (String Global))
     → IfSome words (λ line. AreWordsOfInput S known fault (string_bytes line))
     → IfSome words (λ line. AreWordsOfInput T known fault (string_bytes line))
 found_as S T also known fault None h = tt
@@ -48,7 +48,7 @@ found_as S T also (Some bytes) fault (Some line) h = (
   h.2,
 )
 
-large_words : (o : Options) (known : Option (List ℕ)) (trace : List ℕ) (fault : AppFault)
+large_words : (o : Options) (known : Option (List ℕ)) (trace : List ℕ) (fault : IoFault)
     (words : Option (String Global)) → IsTraceOf known trace → fault ≡ BadLimit → most_levels < levels_in o trace
     → IfSome words (λ line. string_bytes line ≡ too_large_words (levels_in o trace) ++ line_feed)
     → IfSome words (λ line. AreWordsOfInput (ExplainsPicture o) known fault (string_bytes line))
@@ -57,7 +57,7 @@ large_words o None trace fault (Some line) is limit large h = tt
 large_words o (Some bytes) trace fault (Some line) is limit large h =
     (too_large_words (levels_in o trace), inl (inr (limit, levels_in o trace, (trace, is, refl, large), refl)), h)
 
-none_said : (Tells : Explanation) (known : Option (List ℕ)) (fault : AppFault) (words : Option (String Global))
+none_said : (Tells : Explanation) (known : Option (List ℕ)) (fault : IoFault) (words : Option (String Global))
     → words ≡ None → IfSome words (λ line. AreWordsOfInput Tells known fault (string_bytes line))
 none_said Tells known fault None e = tt
 none_said Tells known fault (Some line) e = absurd (cc)

@@ -3,7 +3,7 @@ use Rattle.std.proofs.Common.{◌≡◌, ◌≢◌, Bool, true, false, cond, not
 use Rattle.std.specs.Prelude.{◌&&◌}
 use Rattle.serde_json.specs.Data.{Data}
 use Rattle.serde_json.specs.Find.{get}
-use Rattle.mencius_ends.specs.declared.fault.AppFault.TheVariants.{BadShape}
+use Rattle.mencius_ends.specs.declared.fault.IoFault.TheVariants.{BadShape}
 use Rattle.mencius_input.specs.declared.kind.Kind.{Kind}
 use Rattle.mencius_input.specs.declared.kind.Kind.TheVariants.{Replay, Run}
 use Rattle.mencius_format.specs.ValuesOrFaults.{value_or_fault}

@@ -10,8 +10,8 @@ use Rattle.std.proofs.lemmas.List.Folds.{list_all-append}
 use Rattle.json.specs.Json.{after_end_array}
 use Rattle.json.specs.Token.{Token}
 use Rattle.serde_json.specs.Data.{Data, Items, no_items}
-use Rattle.mencius_ends.specs.declared.fault.AppFault.{AppFault}
-use Rattle.mencius_ends.specs.declared.fault.AppFault.TheVariants.{BadLimit, BadShape}
+use Rattle.mencius_ends.specs.declared.fault.IoFault.{IoFault}
+use Rattle.mencius_ends.specs.declared.fault.IoFault.TheVariants.{BadLimit, BadShape}
 use Rattle.mencius_format.specs.ValuesOrFaults.{map_ok, value_or_fault}
 use Rattle.mencius_input.specs.Newest.{items_version}
 use Rattle.mencius_format.specs.Versions.{first_version}
@@ -22,7 +22,7 @@ use Rattle.mencius_format.proofs.ValuesOfParts.{both_values, map_ok_value, value
 use Rattle.mencius_json.proofs.NextValues.{ItemsSoFar, items_close, items_further, items_start, items_stop, items_then}
 
 -- a fault more
-pub noted_fault : {X : Type 0} (xs : List X) (fault : Option AppFault) (found : AppFault)
+pub noted_fault : {X : Type 0} (xs : List X) (fault : Option IoFault) (found : IoFault)
     → items_or_fault xs (Some (graver_fault fault found)) ≡ with_one (items_or_fault xs fault) (Err found)
 noted_fault xs None found = refl
 noted_fault xs (Some BadLimit) found = refl
@@ -81,7 +81,7 @@ module _ {X : Type 0} (read : Data → Option X) (within : X → Bool) where
 -- of a list's items these were read, this is noted of them, and the greatest version that one needs; those of `left` are
 -- still to come
 pub record ListSoFar {X : Type 0} (read : Data → Option X) (all_within : List X → Bool) (needed : Data → ℕ) (depth : ℕ)
-    (whole left : List Token) (so_far : Result (List X) AppFault) (version : ℕ) : Type 0 where
+    (whole left : List Token) (so_far : Result (List X) IoFault) (version : ℕ) : Type 0 where
   pub found : List Data
   pub items : ItemsSoFar depth whole left found
   pub noted : value_or_fault all_within (all_of read (items_then found no_items)) ≡ so_far
@@ -99,7 +99,7 @@ one_needed needed [] d = omega arith
 one_needed needed (e ∷ ds) d = omega (arith, one_needed needed ds d)
 
 pub list_start : {X : Type 0} (read : Data → Option X) (all_within : List X → Bool) (needed : Data → ℕ) (depth : ℕ)
-    (whole : List Token) (so_far : Result (List X) AppFault) → all_within [] ≡ true → so_far ≡ Ok []
+    (whole : List Token) (so_far : Result (List X) IoFault) → all_within [] ≡ true → so_far ≡ Ok []
     → ListSoFar read all_within needed depth whole whole so_far first_version
 list_start read all_within needed depth whole so_far fits none = record {
   found = [];
@@ -109,14 +109,14 @@ list_start read all_within needed depth whole so_far fits none = record {
 }
 
 module _ {X : Type 0} {read : Data → Option X} {all_within : List X → Bool} {needed : Data → ℕ} {depth : ℕ}
-    {whole left : List Token} {so_far : Result (List X) AppFault} {version : ℕ}
+    {whole left : List Token} {so_far : Result (List X) IoFault} {version : ℕ}
     (h : ListSoFar read all_within needed depth whole left so_far version)
     (going : after_end_array left ≡ None) where
   pub list_stop : next_value depth left ≡ None → next_items depth whole ≡ None
   list_stop none = items_stop depth whole left h.found h.items going none
 
   -- one item more, by what is noted of it
-  pub list_more : (rest : List Token) (d : Data) (next : Result (List X) AppFault) (now : ℕ)
+  pub list_more : (rest : List Token) (d : Data) (next : Result (List X) IoFault) (now : ℕ)
       → length rest < length left → next_value depth left ≡ Some (d, rest) → now ≡ max version (needed d)
       → ((ds : List Data) → value_or_fault all_within (all_of read (items_then ds no_items)) ≡ so_far
       → value_or_fault all_within (all_of read (items_then (ds ++ d ∷ []) no_items)) ≡ next)
@@ -130,9 +130,9 @@ module _ {X : Type 0} {read : Data → Option X} {all_within : List X → Bool} 
 
 -- where each item has limits of its own
 pub list_further : {X : Type 0} {read : Data → Option X} (within : X → Bool) {needed : Data → ℕ} {depth : ℕ}
-    {whole left : List Token} {so_far : Result (List X) AppFault} {version : ℕ}
+    {whole left : List Token} {so_far : Result (List X) IoFault} {version : ℕ}
     → ListSoFar read (list_all within) needed depth whole left so_far version → after_end_array left ≡ None
-    → (rest : List Token) (d : Data) (one : Result X AppFault) (next : Result (List X) AppFault) (now : ℕ)
+    → (rest : List Token) (d : Data) (one : Result X IoFault) (next : Result (List X) IoFault) (now : ℕ)
     → length rest < length left → next_value depth left ≡ Some (d, rest) → now ≡ max version (needed d)
     → value_or_fault within (read d) ≡ one
     → next ≡ with_one so_far one → ListSoFar read (list_all within) needed depth whole rest next now
@@ -145,7 +145,7 @@ module _ {X : Type 0} (within : X → Bool) (most : ℕ) where
   abbrev few_within : List X → Bool
   few_within xs = list_all within xs && nat_le (length xs) most
 
-  abbrev kept_one : Bool → Option X → Result X AppFault
+  abbrev kept_one : Bool → Option X → Result X IoFault
   kept_one has_room one = where_room has_room (value_or_fault within one)
 
   no_shape_kept : (a : Bool) → kept_one a None ≡ Err BadShape
@@ -153,7 +153,7 @@ module _ {X : Type 0} (within : X → Bool) (most : ℕ) where
   no_shape_kept false = refl
 
   room_and_limit : (kept : List X) (x : X) (a d : Bool)
-      → ◌≡◌ {A = Result (List X) AppFault} (cond (d && a) (Ok (kept ++ x ∷ [])) (Err BadLimit))
+      → ◌≡◌ {A = Result (List X) IoFault} (cond (d && a) (Ok (kept ++ x ∷ [])) (Err BadLimit))
       (with_one (Ok kept) (where_room a (cond d (Ok x) (Err BadLimit))))
   room_and_limit kept x true true = refl
   room_and_limit kept x true false = refl
@@ -161,7 +161,7 @@ module _ {X : Type 0} (within : X → Bool) (most : ℕ) where
   room_and_limit kept x false false = refl
 
   past_already : (x : X) (a d : Bool)
-      → ◌≡◌ {A = Result (List X) AppFault} (Err BadLimit)
+      → ◌≡◌ {A = Result (List X) IoFault} (Err BadLimit)
       (with_one (Err BadLimit) (where_room a (cond d (Ok x) (Err BadLimit))))
   past_already x true true = refl
   past_already x true false = refl
@@ -202,7 +202,7 @@ module _ {X : Type 0} (within : X → Bool) (most : ℕ) where
   past_more xs a (Some x) e =
       ap (λ a. cond a (Ok (xs ++ x ∷ [])) (Err BadLimit)) (fits_no_more xs x e) ∙ past_already x a (within x)
 
-  few_noted : (all : Option (List X)) (one : Option X) (kept : List X) (fault : Option AppFault)
+  few_noted : (all : Option (List X)) (one : Option X) (kept : List X) (fault : Option IoFault)
       → value_or_fault few_within all ≡ items_or_fault kept fault
       → value_or_fault few_within (with_last all one)
       ≡ with_one (items_or_fault kept fault) (kept_one (nat_lt (length kept) most) one)
@@ -215,7 +215,7 @@ module _ {X : Type 0} (within : X → Bool) (most : ℕ) where
   few_noted (Some xs) one kept (Some fault) e = by_test (few_within xs) refl e
     where
       by_test : (a : Bool) → few_within xs ≡ a
-          → ◌≡◌ {A = Result (List X) AppFault} (cond a (Ok xs) (Err BadLimit)) (Err fault)
+          → ◌≡◌ {A = Result (List X) IoFault} (cond a (Ok xs) (Err BadLimit)) (Err fault)
           → value_or_fault few_within (with_last (Some xs) one)
           ≡ with_one (Err fault) (kept_one (nat_lt (length kept) most) one)
       by_test true is e = absurd (cc)
@@ -225,10 +225,10 @@ module _ {X : Type 0} (within : X → Bool) (most : ℕ) where
           ∙ ap (λ fault. with_one (Err fault) (kept_one (nat_lt (length kept) most) one)) limit
 
 pub few_further : {X : Type 0} {read : Data → Option X} {needed : Data → ℕ} {depth : ℕ} {whole left : List Token}
-    {version : ℕ} (within : X → Bool) (most : ℕ) (kept : List X) (fault : Option AppFault)
+    {version : ℕ} (within : X → Bool) (most : ℕ) (kept : List X) (fault : Option IoFault)
     → ListSoFar read (few_within within most) needed depth whole left (items_or_fault kept fault) version
     → after_end_array left ≡ None
-    → (rest : List Token) (d : Data) (one : Result X AppFault) (next : Result (List X) AppFault) (now : ℕ)
+    → (rest : List Token) (d : Data) (one : Result X IoFault) (next : Result (List X) IoFault) (now : ℕ)
     → length rest < length left → next_value depth left ≡ Some (d, rest) → now ≡ max version (needed d)
     → value_or_fault within (read d) ≡ one
     → next ≡ with_one (items_or_fault kept fault) (where_room (nat_lt (length kept) most) one)
@@ -241,7 +241,7 @@ few_further {read} within most kept fault h going rest d one next now less is gr
     ∙ sym noted)
 
 pub list_close : {X : Type 0} {read : Data → Option X} {all_within : List X → Bool} {needed : Data → ℕ} {depth : ℕ}
-    {whole left : List Token} {so_far : Result (List X) AppFault} {version : ℕ}
+    {whole left : List Token} {so_far : Result (List X) IoFault} {version : ℕ}
     → ListSoFar read all_within needed depth whole left so_far version → (rest : List Token)
     → after_end_array left ≡ Some rest
     → (ds : Items) × (next_items depth whole ≡ Some (ds, rest))
@@ -255,7 +255,7 @@ list_close {depth} {whole} {left} h rest closed = (
 
 -- ---- what is kept, seen in another way
 
-pub map_ok_twice : {X Y Z : Type 0} (f : X → Y) (g : Y → Z) (result : Result X AppFault)
+pub map_ok_twice : {X Y Z : Type 0} (f : X → Y) (g : Y → Z) (result : Result X IoFault)
     → map_ok (λ x. g (f x)) result ≡ map_ok g (map_ok f result)
 map_ok_twice each whenever (Ok x) = refl
 map_ok_twice each whenever (Err fault) = refl
@@ -264,35 +264,35 @@ with_last_mapped : {X Y : Type 0} (see : X → Y) (xs : List X) (x : X)
     → map see xs ++ see x ∷ [] ≡ map see (xs ++ x ∷ [])
 with_last_mapped see xs x = sym (map-append see xs (x ∷ []))
 
-with_one_mapped : {X Y : Type 0} (see : X → Y) (all : Result (List X) AppFault) (one : Result X AppFault)
+with_one_mapped : {X Y : Type 0} (see : X → Y) (all : Result (List X) IoFault) (one : Result X IoFault)
     → with_one (map_ok (map see) all) (map_ok see one) ≡ map_ok (map see) (with_one all one)
 with_one_mapped see (Ok xs) (Ok x) = ap Ok (with_last_mapped see xs x)
 with_one_mapped see (Ok xs) (Err fault) = refl
 with_one_mapped {X} see (Err fault) one = with_fault fault one
   where
-    with_fault : (fault : AppFault) (one : Result X AppFault)
+    with_fault : (fault : IoFault) (one : Result X IoFault)
         → with_one (map_ok (map see) (Err fault)) (map_ok see one) ≡ map_ok (map see) (with_one (Err fault) one)
     with_fault BadLimit (Ok x) = refl
     with_fault BadLimit (Err f) = refl
     with_fault fault one = refl
 
-noted_mapped : {X Y : Type 0} (see : X → Y) (next all : Result (List X) AppFault) (one : Result X AppFault)
+noted_mapped : {X Y : Type 0} (see : X → Y) (next all : Result (List X) IoFault) (one : Result X IoFault)
     → next ≡ with_one all one → map_ok (map see) next ≡ with_one (map_ok (map see) all) (map_ok see one)
 noted_mapped see next all one e = ap (map_ok (map see)) e ∙ sym (with_one_mapped see all one)
 
-pub items_mapped : {X Y : Type 0} (see : X → Y) (xs : List X) (fault : Option AppFault)
+pub items_mapped : {X Y : Type 0} (see : X → Y) (xs : List X) (fault : Option IoFault)
     → map_ok (map see) (items_or_fault xs fault) ≡ items_or_fault (map see xs) fault
 items_mapped see xs None = refl
 items_mapped see xs (Some fault) = refl
 
-room_mapped : {X Y : Type 0} (see : X → Y) (has_room : Bool) (one : Result X AppFault)
+room_mapped : {X Y : Type 0} (see : X → Y) (has_room : Bool) (one : Result X IoFault)
     → map_ok see (where_room has_room one) ≡ where_room has_room (map_ok see one)
 room_mapped see true one = refl
 room_mapped see false (Ok x) = refl
 room_mapped see false (Err fault) = refl
 
-pub few_mapped : {X Y : Type 0} (see : X → Y) (most : ℕ) (old new : List X) (before after : Option AppFault)
-    (has_room : Bool) (one item : Result X AppFault) → item ≡ where_room has_room one
+pub few_mapped : {X Y : Type 0} (see : X → Y) (most : ℕ) (old new : List X) (before after : Option IoFault)
+    (has_room : Bool) (one item : Result X IoFault) → item ≡ where_room has_room one
     → has_room ≡ nat_lt (length old) most → items_or_fault new after ≡ with_one (items_or_fault old before) item
     → items_or_fault (map see new) after
     ≡ with_one (items_or_fault (map see old) before) (where_room (nat_lt (length (map see old)) most) (map_ok see one))

@@ -5,8 +5,8 @@ use Rattle.serde_json.specs.Data.{Data, Items, no_items, item}
 use Rattle.serde_json.specs.Find.{as_array, as_str}
 use Rattle.mencius_base.specs.CommandState.{CommandState}
 use Rattle.mencius_base.specs.declared.event.Event.{Event}
-use Rattle.mencius_ends.specs.declared.fault.AppFault.{AppFault}
-use Rattle.mencius_ends.specs.declared.fault.AppFault.TheVariants.{BadShape}
+use Rattle.mencius_ends.specs.declared.fault.IoFault.{IoFault}
+use Rattle.mencius_ends.specs.declared.fault.IoFault.TheVariants.{BadShape}
 use Rattle.mencius_format.specs.Grammar.{command_of, is_command_within, event_of, is_event_within}
 use Rattle.mencius_format.specs.ValuesOrFaults.{value_or_fault}
 use Rattle.mencius_format.specs.TextVersions.{command_version, event_version}
@@ -79,7 +79,7 @@ module _ (version : ℕ) where
       by_test (may_stand_in needed version) ∙ ap (value_or_fault within) (sym h)
     where
       by_test : (a : Bool)
-          → ◌≡◌ {A = Result _ AppFault} (cond a (value_or_fault within newest) (Err BadShape))
+          → ◌≡◌ {A = Result _ IoFault} (cond a (value_or_fault within newest) (Err BadShape))
           (value_or_fault within (where_stands a newest))
       by_test true = refl
       by_test false = refl

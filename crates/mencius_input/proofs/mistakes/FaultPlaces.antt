@@ -10,8 +10,8 @@ use Rattle.serde_json.specs.Data.{Data, Num}
 use Rattle.serde_json.specs.Find.{as_u64, to_float}
 use Rattle.serde_json.specs.View.{items_view, view}
 use Rattle.serde_json.specs.declared.value.Value.{Value}
-use Rattle.mencius_ends.specs.declared.fault.AppFault.{AppFault}
-use Rattle.mencius_ends.specs.declared.fault.AppFault.TheVariants.{BadShape}
+use Rattle.mencius_ends.specs.declared.fault.IoFault.{IoFault}
+use Rattle.mencius_ends.specs.declared.fault.IoFault.TheVariants.{BadShape}
 use Rattle.mencius_input.specs.declared.kind.Kind.{Kind}
 use Rattle.mencius_input.specs.declared.kind.Kind.TheVariants.{Replay, Run}
 use Rattle.mencius_format.specs.Grammar.{may_stand_in, newest_version}
@@ -21,7 +21,7 @@ use Rattle.mencius_input.specs.Plan.{command_said}
 use Rattle.mencius_input.specs.Scenario.{item_said}
 use Rattle.mencius_input.proofs.lists.VersionItems.{command_said_in, item_said_in}
 
-fault_of : {X : Type 0} (stands : Bool) (r s : Result X AppFault) → cond stands r (Err BadShape) ≡ s
+fault_of : {X : Type 0} (stands : Bool) (r s : Result X IoFault) → cond stands r (Err BadShape) ≡ s
     → cond (not stands) (Some BadShape) (result_err r) ≡ result_err s
 fault_of true r s e = ap result_err e
 fault_of false r s e = ap result_err e

@@ -10,8 +10,8 @@ use Rattle.serde_json.specs.Read.{read}
 use Rattle.mencius_base.specs.Members.{Membership}
 use Rattle.mencius_base.specs.Plan.{PlanState, plan_of}
 use Rattle.mencius_base.specs.CommandState.{CommandState}
-use Rattle.mencius_ends.specs.declared.fault.AppFault.{AppFault}
-use Rattle.mencius_ends.specs.declared.fault.AppFault.TheVariants.{BadLimit, BadShape}
+use Rattle.mencius_ends.specs.declared.fault.IoFault.{IoFault}
+use Rattle.mencius_ends.specs.declared.fault.IoFault.TheVariants.{BadLimit, BadShape}
 use Rattle.mencius_format.specs.Grammar.{is_command_within}
 use Rattle.mencius_format.specs.ValuesOrFaults.{value_or_fault}
 use Rattle.mencius_input.specs.declared.field.Field.{Field}
@@ -233,7 +233,7 @@ shared_fit Run ms h version servers beta v s b = (
 
 -- ---- the bytes
 
-module _ (kind : Kind) (fault : AppFault) (bytes : List ℕ) (ms : Members) (is : read bytes ≡ Some (object ms))
+module _ (kind : Kind) (fault : IoFault) (bytes : List ℕ) (ms : Members) (is : read bytes ≡ Some (object ms))
     (none : place_in kind fault (names_in bytes) (object ms) ≡ None) where
   no_first : first_in kind fault (object ms) (names_of (names_made bytes ms is).fields) ≡ None
   no_first =
@@ -297,7 +297,7 @@ module _ {X : Type 0} (kind : Kind) (course_of : ℕ → Data → Option X) (fit
       let numbers = shared_fit kind ms h x.version x.members.count x.members.beta parts.version parts.servers parts.beta in
       and_from _ _ (and_from _ _ (and_from _ _ numbers.0 numbers.1) numbers.2) (fit ms h x parts numbers.1)
 
-  place_none : (fault : AppFault) (d : Data) → json_of bytes ≡ Some d → first_place kind fault bytes ≡ None
+  place_none : (fault : IoFault) (d : Data) → json_of bytes ≡ Some d → first_place kind fault bytes ≡ None
       → place_in kind fault (names_in bytes) d ≡ None
   place_none fault d is none = sym (ap (option_and_then (place_in kind fault (names_in bytes))) is) ∙ none
 

@@ -9,8 +9,8 @@ use Rattle.serde_json.specs.Events.{items_len}
 use Rattle.serde_json.specs.Find.{as_array, get_member}
 use Rattle.mencius_base.specs.CommandState.{CommandState}
 use Rattle.mencius_base.specs.declared.event.Event.{Event}
-use Rattle.mencius_ends.specs.declared.fault.AppFault.{AppFault}
-use Rattle.mencius_ends.specs.declared.fault.AppFault.TheVariants.{BadLimit, BadShape}
+use Rattle.mencius_ends.specs.declared.fault.IoFault.{IoFault}
+use Rattle.mencius_ends.specs.declared.fault.IoFault.TheVariants.{BadLimit, BadShape}
 use Rattle.mencius_format.specs.Grammar.{command_of, is_command_within, event_of, is_event_within, newest_version}
 use Rattle.mencius_format.specs.ValuesOrFaults.{value_or_fault}
 use Rattle.mencius_input.specs.declared.field.Field.{Field}
@@ -28,16 +28,16 @@ use Rattle.mencius_input.proofs.mistakes.PlacedNames.{none_both, none_found, non
 -- ---- the fields of an object in which there is no place
 
 -- no value at a key has one, and no field lacks
-pub record HasNone (kind : Kind) (fault : AppFault) (ms : Members) : Type 0 where
+pub record HasNone (kind : Kind) (fault : IoFault) (ms : Members) : Type 0 where
   pub passed : (key : List ℕ) → is_some (get_member key ms) ≡ true → field_place kind fault (object ms) key ≡ None
   pub whole : lack_place kind fault (object ms) ≡ None
 
-named_list : (kind : Kind) (fault : AppFault) (d : Data)
+named_list : (kind : Kind) (fault : IoFault) (d : Data)
     → field_place kind fault d (field_name (list_field kind)) ≡ list_field_place kind fault d
 named_list Replay fault d = refl
 named_list Run fault d = refl
 
-module _ (kind : Kind) (fault : AppFault) (ms : Members) (h : HasNone kind fault ms) where
+module _ (kind : Kind) (fault : IoFault) (ms : Members) (h : HasNone kind fault ms) where
   number_none : (field : Field) → field_named kind (field_name field) ≡ Some field
       → number_place fault field (object ms) ≡ None
   number_none field named = by_value (get_member (field_name field) ms) refl

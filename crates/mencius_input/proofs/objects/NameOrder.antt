@@ -13,7 +13,7 @@ use Rattle.serde_json.specs.Data.{Data, Items, Members, Num, no_members, put}
 use Rattle.serde_json.specs.Find.{as_object}
 use Rattle.serde_json.specs.Read.{converted, number_of, of_items, of_json, of_members, read}
 use Rattle.mencius_json.specs.Next.{next_value}
-use Rattle.mencius_ends.specs.declared.fault.AppFault.{AppFault}
+use Rattle.mencius_ends.specs.declared.fault.IoFault.{IoFault}
 use Rattle.mencius_input.specs.declared.kind.Kind.{Kind}
 use Rattle.mencius_input.specs.Places.{field_place, first_in, names_in, names_of, names_read}
 
@@ -265,7 +265,7 @@ names_made text ms is = by_value (value 127 (tokens text)) refl is
 
 -- ---- the first of the fields that has a place
 
-module _ (kind : Kind) (fault : AppFault) (d : Data) (names : List (List ℕ)) where
+module _ (kind : Kind) (fault : IoFault) (d : Data) (names : List (List ℕ)) where
   pub first_named : (name : List ℕ) (others : List (List ℕ)) → names ≡ name ∷ others
       → first_in kind fault d names ≡ option_or (field_place kind fault d name) (first_in kind fault d others)
   unfolding first_in

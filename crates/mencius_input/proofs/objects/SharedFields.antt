@@ -5,8 +5,8 @@ use Rattle.std.proofs.Math.Bool.{and-true, and-false}
 use Rattle.serde_json.specs.Data.{Data, Members, object}
 use Rattle.serde_json.specs.Find.{as_object}
 use Rattle.mencius_base.specs.Members.{Membership}
-use Rattle.mencius_ends.specs.declared.fault.AppFault.{AppFault}
-use Rattle.mencius_ends.specs.declared.fault.AppFault.TheVariants.{BadLimit}
+use Rattle.mencius_ends.specs.declared.fault.IoFault.{IoFault}
+use Rattle.mencius_ends.specs.declared.fault.IoFault.TheVariants.{BadLimit}
 use Rattle.mencius_format.specs.ValuesOrFaults.{FailsBy, value_or_fault}
 use Rattle.mencius_input.specs.declared.field.Field.{Field}
 use Rattle.mencius_input.specs.declared.field.Field.TheVariants.{Version, Servers, Beta, Workers, Seed, Turns, Loss, Events, Commands}
@@ -68,7 +68,7 @@ pub scenario_bound : {X : Type 0} (kind : Kind) (course_of : ℕ → Data → Op
 unfolding scenario_of members_of
 scenario_bound kind course_of ms = refl
 
-module _ {X : Type 0} (course_said : Shared → List (Option ℕ) → Result X AppFault) (fits : Membership → X → Bool)
+module _ {X : Type 0} (course_said : Shared → List (Option ℕ) → Result X IoFault) (fits : Membership → X → Bool)
     (course_of : ℕ → Option X) (own : List (Option ℕ))
     (h : (shared : Shared) → scenario_or_fault shared (course_said shared own)
     ≡ value_or_fault (is_scenario_within fits) (option_map (with_course shared) (course_of shared.version))) where
@@ -87,7 +87,7 @@ module _ {X : Type 0} (course_said : Shared → List (Option ℕ) → Result X A
       h shared ∙ ap (value_or_fault (is_scenario_within fits)) (mapped shared (course_of version))
 
 -- the numbers of both kinds, and then a course by those that follow
-pub shared_say : {X : Type 0} (kind : Kind) (course_said : Shared → List (Option ℕ) → Result X AppFault)
+pub shared_say : {X : Type 0} (kind : Kind) (course_said : Shared → List (Option ℕ) → Result X IoFault)
     (fits : Membership → X → Bool) (course_of : ℕ → Data → Option X) (wholes own : List (Option ℕ)) (ms : Members)
     → wholes ≡ number_of Version (object ms) ∷ number_of Servers (object ms) ∷ number_of Beta (object ms) ∷ own
     → has_only (names kind) ms ≡ true
@@ -131,7 +131,7 @@ foreign_said kind course_of d foreign =
 
 -- why there are no fields is the fault of the bytes
 pub unread_fails : {X : Type 0} (kind : Kind) (course_of : ℕ → Data → Option X) (fits : Membership → X → Bool)
-    (o : Option Data) (fault : AppFault) → IsUnread kind o fault
+    (o : Option Data) (fault : IoFault) → IsUnread kind o fault
     → FailsBy fault
     (read_there (λ d. value_or_fault (is_scenario_within fits) (scenario_of kind course_of d)) (or_not_json o))
 unread_fails kind course_of fits o fault (inl memory) = rw memory tt

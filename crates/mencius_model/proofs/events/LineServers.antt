@@ -5,7 +5,7 @@ use Rattle.mencius_base.specs.Numbers.{ServerId}
 use Rattle.mencius_base.specs.declared.event.Event.{Event}
 use Rattle.mencius_base.specs.declared.event.Event.TheVariants.{Submit, Deliver, Lose, Suspect, Retry, Execute}
 use Rattle.mencius_base.specs.declared.message.Answer.{Answer}
-use Rattle.mencius_base.specs.declared.message.Answer.TheVariants.{Promise as Promised, Learn as Learn_answer, Silent}
+use Rattle.mencius_base.specs.declared.message.Answer.TheVariants.{Promise as Promised, Known, Silent}
 use Rattle.mencius_base.specs.declared.message.Message.{Message}
 use Rattle.mencius_base.specs.declared.message.Message.TheVariants.{Suggest, Skip, Accepted, Prepare, Promise, Propose, Learn}
 use Rattle.mencius_base.specs.declared.message.Value.{Value}
@@ -67,7 +67,7 @@ by_proposal p i b (Some x) = (refl, tt)
 
 by_answer : (p q i b : ℕ) (answer : Answer) → AreBy p (answer_lines p q i b answer)
 by_answer p q i b (Promised vote) = (refl, tt)
-by_answer p q i b (Learn_answer x) = (refl, tt)
+by_answer p q i b (Known x) = (refl, tt)
 by_answer p q i b Silent = tt
 
 by_message : (m : Membership) (w v : Trace) (p : ℕ) (x : Message) → AreBy p (on_message m w v p x)

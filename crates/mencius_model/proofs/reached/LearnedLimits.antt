@@ -6,7 +6,7 @@ use Rattle.std.proofs.lemmas.Bool.{cases_Bool}
 use Rattle.mencius_base.specs.declared.event.Event.{Event}
 use Rattle.mencius_base.specs.declared.event.Event.TheVariants.{Submit, Deliver, Lose, Suspect, Retry, Execute}
 use Rattle.mencius_base.specs.declared.message.Answer.{Answer}
-use Rattle.mencius_base.specs.declared.message.Answer.TheVariants.{Promise as Promised, Learn as Learn_answer, Silent}
+use Rattle.mencius_base.specs.declared.message.Answer.TheVariants.{Promise as Promised, Known, Silent}
 use Rattle.mencius_base.specs.declared.message.Message.{Message}
 use Rattle.mencius_base.specs.declared.message.Message.TheVariants.{Suggest, Skip, Accepted, Prepare, Promise, Propose, Learn}
 use Rattle.mencius_base.specs.declared.message.Value.{Value}
@@ -66,7 +66,7 @@ low_prepared m w p (i ∷ is) = (tt, low_prepared m w p is)
 
 low_answer : (p q i b : ℕ) (answer : Answer) → AreLow (answer_lines p q i b answer)
 low_answer p q i b (Promised vote) = (tt, tt)
-low_answer p q i b (Learn_answer x) = (tt, tt)
+low_answer p q i b (Known x) = (tt, tt)
 low_answer p q i b Silent = tt
 
 low_proposal : (p i b : ℕ) (o : Option Value) → AreLow (proposal_lines p i b o)

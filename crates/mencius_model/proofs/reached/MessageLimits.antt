@@ -6,7 +6,7 @@ use Rattle.std.proofs.lemmas.Bool.{le-leb, and_from, cases_Bool, eqb-true, lt-lt
 use Rattle.mencius_base.specs.declared.event.Event.{Event}
 use Rattle.mencius_base.specs.declared.event.Event.TheVariants.{Submit, Deliver, Lose, Suspect, Retry, Execute}
 use Rattle.mencius_base.specs.declared.message.Answer.{Answer}
-use Rattle.mencius_base.specs.declared.message.Answer.TheVariants.{Promise as Promised, Learn as Learn_answer, Silent}
+use Rattle.mencius_base.specs.declared.message.Answer.TheVariants.{Promise as Promised, Known, Silent}
 use Rattle.mencius_base.specs.declared.message.Message.{Message}
 use Rattle.mencius_base.specs.declared.message.Message.TheVariants.{Suggest, Skip, Accepted, Prepare, Promise, Propose, Learn}
 use Rattle.mencius_base.specs.declared.message.Value.{Value}
@@ -97,7 +97,7 @@ module _ (m : Membership) (few : m.count ≤ most_servers) (w : Trace) (k p : �
 
   small_answer : (q i b : ℕ) → i < instance_count → 0 < b → (answer : Answer) → AreSmall m (answer_lines p q i b answer)
   small_answer q i b small pos (Promised vote) = ((member, small, pos), tt)
-  small_answer q i b small pos (Learn_answer y) = ((member, small), tt)
+  small_answer q i b small pos (Known y) = ((member, small), tt)
   small_answer q i b small pos Silent = tt
 
   small_proposal : (i b : ℕ) → i < instance_count → 0 < b → (o : Option Value) → AreSmall m (proposal_lines p i b o)

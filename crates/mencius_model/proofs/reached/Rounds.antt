@@ -9,7 +9,7 @@ use Rattle.mencius_base.specs.Members.{Membership, first_item, instances, round}
 use Rattle.mencius_base.specs.declared.event.Event.{Event}
 use Rattle.mencius_base.specs.declared.event.Event.TheVariants.{Submit, Deliver, Lose, Suspect, Retry, Execute}
 use Rattle.mencius_base.specs.declared.message.Answer.{Answer}
-use Rattle.mencius_base.specs.declared.message.Answer.TheVariants.{Promise as Promised, Learn as Learn_answer, Silent}
+use Rattle.mencius_base.specs.declared.message.Answer.TheVariants.{Promise as Promised, Known, Silent}
 use Rattle.mencius_base.specs.declared.message.Message.{Message}
 use Rattle.mencius_base.specs.declared.message.Message.TheVariants.{Suggest, Skip, Accepted, Prepare, Promise, Propose, Learn}
 use Rattle.mencius_base.specs.declared.message.Value.{Value}
@@ -52,7 +52,7 @@ low_again m w p (Some t) = low_suggestion m p t (free_instance m w p)
 
 low_answer : (m : Membership) (p q i b : ℕ) (answer : Answer) → AreLowBallots m (answer_lines p q i b answer)
 low_answer m p q i b (Promised vote) = (tt, tt)
-low_answer m p q i b (Learn_answer x) = (tt, tt)
+low_answer m p q i b (Known x) = (tt, tt)
 low_answer m p q i b Silent = tt
 
 low_proposal : (m : Membership) (p i b : ℕ) (o : Option Value) → AreLowBallots m (proposal_lines p i b o)

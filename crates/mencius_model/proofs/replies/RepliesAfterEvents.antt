@@ -15,7 +15,7 @@ use Rattle.mencius_model.specs.Next.{head, with_event}
 use Rattle.mencius_model.specs.Executed.{history}
 use Rattle.mencius_model.proofs.trace.NumberLists.{below-more, map-below_same}
 use Rattle.mencius_model.specs.KeyMap.{out}
-use Rattle.mencius_model.specs.Replying.{Given, Reply, command_at, commands_of, index_of_first, reply_at, reply_from}
+use Rattle.mencius_model.specs.Replying.{Given, Answered, command_at, commands_of, index_of_first, reply_at, reply_from}
 use Rattle.mencius_model.proofs.events.EventLines.{done-event, learned_value-event, submitted_commands-event}
 use Rattle.mencius_model.proofs.reached.ClusterFacts.{HasClusterFacts}
 
@@ -113,8 +113,8 @@ pub commands_kept : (m : Membership) (w : Trace) (e : Event) (ts : List ℕ) →
     → commands_of (with_event m w e) ts ≡ commands_of w ts
 commands_kept m w e ts h = commands_same (with_event m w e) w (length (submitted_commands w)) ts (command_kept m w e) h
 
-abbrev Reply_of : List Command → Command → Reply
-Reply_of cs command = Given (out cs command)
+abbrev Answered_of : List Command → Command → Answered
+Answered_of cs command = Given (out cs command)
 
 reply_from_kept : (m : Membership) (w : Trace) (e : Event) (command : Command) (home : ℕ) (o : Option ℕ)
     → HasClusterFacts m w
@@ -122,8 +122,8 @@ reply_from_kept : (m : Membership) (w : Trace) (e : Event) (command : Command) (
     → reply_from (with_event m w e) command home o ≡ reply_from w command home o
 reply_from_kept m w e command home None told none = refl
 reply_from_kept m w e command home (Some n) told none =
-    ap (λ h. Reply_of (commands_of (with_event m w e) (take n h)) command) (history_kept m w e home told none)
-    ∙ ap (λ cs. Reply_of cs command)
+    ap (λ h. Answered_of (commands_of (with_event m w e) (take n h)) command) (history_kept m w e home told none)
+    ∙ ap (λ cs. Answered_of cs command)
     (commands_kept m w e (take n (history w home)) (below_take _ n _ (history-below m w home told)))
 
 -- the reply of a command whose home executes nothing

@@ -8,7 +8,7 @@ use Rattle.mencius_base.specs.Members.{Membership}
 use Rattle.mencius_model.specs.Trace.{Trace, submitted_commands}
 use Rattle.mencius_base.specs.Command.{is_same_id}
 use Rattle.mencius_model.specs.Executed.{history}
-use Rattle.mencius_model.specs.Replying.{Reply, Pending, Given, index_of_first, reply_from, reply_of_place, reply_of}
+use Rattle.mencius_model.specs.Replying.{Answered, Pending, Given, index_of_first, reply_from, reply_of_place, reply_of}
 use Rattle.mencius_model.specs.Laws.{IsReply, IsPending, IsSubmitted}
 use Rattle.mencius_model.proofs.trace.Lists.{none_in, get_in}
 use Rattle.mencius_model.proofs.rights.LineRights.{IsGrown}
@@ -206,7 +206,7 @@ module _ (m : Membership) (few : 1 ≤ m.count) (w : Trace) (g : IsGrown m w) (i
       (get_in (submitted_commands w) t x a) s
 
   -- of the three answers, a reply or a pending command leaves one
-  by_cases : (o : Option Reply) → reply_of w id ≡ o → (t : ℕ) (x : Submission) → slice_get (submitted_commands w) t
+  by_cases : (o : Option Answered) → reply_of w id ≡ o → (t : ℕ) (x : Submission) → slice_get (submitted_commands w) t
       ≡ Some x
       → is_same_id x.0.id id ≡ true
       → ((r : Option (List ℕ)) → IsReply w id r → o ≡ Some (Given r)) × (IsPending w id → o ≡ Some Pending)

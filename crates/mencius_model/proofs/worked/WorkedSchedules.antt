@@ -15,7 +15,7 @@ use Rattle.mencius_model.specs.Server.{front, done}
 use Rattle.mencius_model.specs.Next.{replay}
 use Rattle.mencius_model.specs.KeyMap.{map_after}
 use Rattle.mencius_model.specs.Executed.{history}
-use Rattle.mencius_model.specs.Replying.{Reply, Pending, Given, reply_of, longest_at}
+use Rattle.mencius_model.specs.Replying.{Answered, Pending, Given, reply_of, longest_at}
 
 abbrev one : Membership
 one = new_members 1
@@ -168,7 +168,7 @@ text_x : finite.get (map_after (set_a ∷ [])) (97 ∷ []) ≡ Some (120 ∷ [])
 text_x = get-insert nat_list_cmp_total (map_after []) (97 ∷ []) (120 ∷ []) (97 ∷ [])
 
 -- the reply of client 1's first command
-abbrev reply_in : Result Trace Refusal → Option Reply
+abbrev reply_in : Result Trace Refusal → Option Answered
 reply_in (Err r) = None
 reply_in (Ok w) = reply_of w (record { client = 1; number = 0 })
 
@@ -208,7 +208,7 @@ report-get_at_another_server : report three (replay three get_at_another_server)
 unfolding numbers_below instances most_messages most_events
 report-get_at_another_server = refl
 
-abbrev replies_and_longest : Result Trace Refusal → List (Option Reply) × ℕ
+abbrev replies_and_longest : Result Trace Refusal → List (Option Answered) × ℕ
 replies_and_longest (Err r) = ([], 0)
 replies_and_longest (Ok w) = (
   reply_of w (record { client = 1; number = 0 }) ∷ reply_of w (record { client = 2; number = 0 }) ∷ [],

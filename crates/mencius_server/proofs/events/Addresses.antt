@@ -14,7 +14,7 @@ use Rattle.mencius_model.specs.Trace.{Sent, messages_of}
 use Rattle.mencius_model.specs.Rules.{answer_lines, decision_lines, proposal_lines}
 use Rattle.mencius_model.proofs.trace.NumberLists.{find-instances_found}
 use Rattle.mencius_base.specs.declared.message.Answer.{Answer}
-use Rattle.mencius_base.specs.declared.message.Answer.TheVariants.{Promise as Promised, Learn as Learn_answer, Silent}
+use Rattle.mencius_base.specs.declared.message.Answer.TheVariants.{Promise as Promised, Known, Silent}
 use Rattle.coord_paxos.specs.Slot.{acceptance_answer, prepare_answer, promise_answer}
 use Rattle.mencius_server.specs.Laws.{AreHearable, HearAddresses, IsHearable, RetryAddresses, SubmitAddresses, SuspectAddresses}
 use Rattle.mencius_server.specs.Machine.{first_waiting, free_at, is_free_at, is_covered_at, prepare_for, retry_sent, sent_on, submit_sent, suggest_sent}
@@ -108,7 +108,7 @@ module _ (s : ServerState) (member : s.id < s.members.count) (few : s.members.co
       → (a : Answer) → AreHearable s.members (messages_of (answer_lines s.id q i b a))
   answer_hearable q i b from inst high (Promised y) =
       one s.members (Promise s.id q i b y) (and_from _ _ (and_from _ _ (and_from _ _ sender from) inst) high)
-  answer_hearable q i b from inst high (Learn_answer y) = one s.members (Learn s.id i y) (and_from _ _ sender inst)
+  answer_hearable q i b from inst high (Known y) = one s.members (Learn s.id i y) (and_from _ _ sender inst)
   answer_hearable q i b from inst high Silent = nothing s.members
 
   proposal_hearable : (i b : ℕ) → ltb i instance_count ≡ true → ltb 0 b ≡ true → (o : Option Value)

@@ -3,7 +3,7 @@ use Rattle.std.proofs.Common.{◌≡◌, ℕ, ◌+◌, ◌<◌, ◌≤◌, Bool,
 use Rattle.std.specs.Prelude.{slice_get, is_none}
 use Rattle.std.proofs.lemmas.Bool.{ltb-true, leb-true, eqb-true, eq-eqb, ne_eqb, lt-ltb, cases_lt}
 use Rattle.mencius_base.specs.declared.message.Answer.{Answer}
-use Rattle.mencius_base.specs.declared.message.Answer.TheVariants.{Promise as Promised, Learn as Learn_answer, Silent}
+use Rattle.mencius_base.specs.declared.message.Answer.TheVariants.{Promise as Promised, Known, Silent}
 use Rattle.mencius_base.specs.declared.message.Message.TheVariants.{Suggest, Skip, Accepted, Prepare, Promise, Propose, Learn}
 use Rattle.mencius_base.specs.declared.message.Value.{Value}
 use Rattle.mencius_base.specs.declared.message.Value.TheVariants.{Ticket}
@@ -122,7 +122,7 @@ prepare_cases m w k p q i b small e (Some x) known = record {
   sends = rw (slot-server_at m w p i small, known);
   learns = refl;
   state =
-      prepare_state m w p i b (Learn_answer x) small (rw known)
+      prepare_state m w p i b (Known x) small (rw known)
       ∙ (server_written m w (Sent (Learn p i x) ∷ Heard k p ∷ w) p i (front m w p) _ (omega arith)
       (slot_at-quiet m (Heard k p ∷ w) (Sent (Learn p i x)) p i (quiet_learn p p i i x) refl
       ∙ slot_at-heard m w k p i _ e (uncounted_prepare q i b i (tried_ballot w p i)))

@@ -12,7 +12,7 @@ use Rattle.coord_paxos.specs.SlotState.{SlotState}
 use Rattle.coord_paxos.specs.Fresh.{new_slot}
 use Rattle.coord_paxos.specs.Slot.{after_answer, due_decision, due_proposal, prepare_answer, with_acceptance, with_learned, with_promise, with_proposal}
 use Rattle.mencius_base.specs.declared.message.Answer.{Answer}
-use Rattle.mencius_base.specs.declared.message.Answer.TheVariants.{Promise as Promised, Learn as Told, Silent}
+use Rattle.mencius_base.specs.declared.message.Answer.TheVariants.{Promise as Promised, Known, Silent}
 use Rattle.mencius_base.specs.declared.message.Value.{Value}
 use Rattle.mencius_server.specs.Instances.{AreSlotsAndSkips, InstancesState, has_slot, instance_slot, instance_slot_in, instances_in, is_in_skipped, new_instances, slot_by_skip, with_stored}
 use Rattle.mencius_server.specs.Slots.{stored_at}
@@ -292,7 +292,7 @@ module _ (m : Membership) (slots new : List (Option SlotState)) (rs : List (List
 answered_learned : (s : SlotState) (b : ℕ) (answer : Answer) → is_none s.learned ≡ false
     → is_none (after_answer s b answer).learned ≡ false
 answered_learned s b (Promised x) h = h
-answered_learned s b (Told x) h = h
+answered_learned s b (Known x) h = h
 answered_learned s b Silent h = h
 
 -- and so does each change

@@ -30,23 +30,6 @@ pub fn set_x<R: Abort>(rt: &R, alloc: Global) -> Command {
     set_a(rt, alloc, 0, text)
 }
 
-// Binds the key `a` to a text where it holds another.
-pub fn cas_a<R: Abort>(rt: &R, alloc: Global, number: u32, expected: &str, text: &str) -> Command {
-    let key = Key::new(String::from_str(alloc, "a").expect(rt, "memory"));
-    let expected = Text::new(String::from_str(alloc, expected).expect(rt, "memory"));
-    let text = Text::new(String::from_str(alloc, text).expect(rt, "memory"));
-    let id = CommandId { client: 1, number };
-    Command::new(
-        id,
-        Op::Cas {
-            key,
-            expected,
-            text,
-        },
-    )
-    .expect(rt, "a command")
-}
-
 pub fn new_cluster<R: Abort>(rt: &R, alloc: Global, servers: u8) -> Cluster {
     let members = Members::new(servers).expect(rt, "members");
     Cluster::new(alloc, members).expect(rt, "memory")

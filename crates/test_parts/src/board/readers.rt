@@ -1,7 +1,7 @@
 //! Readers find what was shown, told or not, also beside a thread that steps.
 ghost use Rattle.std.specs.Prelude.{◌≡◌};
 
-use super::fixtures::{cas_a, decide, new_board, set_number, set_x};
+use super::fixtures::{decide, new_board, set_number, set_x};
 use core::mem::replace_with;
 use mencius_board::{Board, BoardFault, News, Reader};
 use std::alloc::Global;
@@ -100,26 +100,6 @@ fn two_readers_find_what_is_shown(rt: HostRuntime) -> Result<(), Fail> {
     Ok(())
 }
 
-// After commands that compare and set: one finds no key, the next another text, and the last one empties the text.
-fn told_of_the_last_change<R: Wait + Abort>(
-    rt: &R,
-    alloc: Global,
-    board: &mut Board,
-) -> Result<(), BoardFault> {
-    let mut reader = board.reader()?;
-    decide(rt, board, cas_a(rt, alloc, 1, "", "x"));
-    tell(rt, alloc, board, &mut reader)?;
-    assert_lacks(rt, alloc, &mut reader, "a");
-    decide(rt, board, set_x(rt, alloc));
-    decide(rt, board, cas_a(rt, alloc, 2, "y", "z"));
-    decide(rt, board, cas_a(rt, alloc, 3, "x", ""));
-    tell(rt, alloc, board, &mut reader)?;
-    assert_eq!(rt; reader.count(), 4);
-    let found = reader.lookup(alloc, "a")?;
-    assert!(rt; is_text(&found, ""));
-    Ok(())
-}
-
 // Shows the longest history, and tells a reader of it.
 fn tell<R: Wait>(
     rt: &R,
@@ -132,17 +112,6 @@ fn tell<R: Wait>(
     ensures board { board.new.book ≡ board.old.book }
 {
     reader.learn(board.show(rt, alloc)?);
-    Ok(())
-}
-
-#[test]
-fn a_reader_finds_what_was_compared_and_set(rt: HostRuntime) -> Result<(), Fail> {
-    let alloc = rt.alloc();
-    let mut board = new_board(&rt, alloc, 1, 1);
-    let answer = told_of_the_last_change(&rt, alloc, &mut board);
-    let cluster = board.end(&rt);
-    answer?;
-    assert_eq!(rt; (cluster.commands(), cluster.events()), (4, 16));
     Ok(())
 }
 

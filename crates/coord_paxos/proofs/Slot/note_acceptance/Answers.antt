@@ -7,4 +7,4 @@ pub returns : goal.returns
 returns c =
     let member : c.args.from < c.self.inside.members.count =
     omega (arith, c.requires, ap (λ (s : SlotState). s.members.count) c.self.view_is) in
-    rw (take-set-lt c.self.inside.members.count c.self.inside.accepters c.args.from true member, ← c.self.view_is)
+    rw (take-set-lt c.self.inside.members.count c.self.inside.accepts c.args.from true member, ← c.self.view_is)

@@ -8,7 +8,7 @@ returns c =
     let member : c.args.from < c.self.inside.members.count =
     omega (arith, c.requires, ap (λ (s : SlotState). s.members.count) c.self.view_is) in
     rw (
-      take-set-lt c.self.inside.members.count c.self.inside.promisers c.args.from true member,
+      take-set-lt c.self.inside.members.count c.self.inside.promises c.args.from true member,
       c.higher-self-inside.ensures,
       ← c.self.view_is,
     )

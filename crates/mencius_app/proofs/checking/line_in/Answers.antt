@@ -1,5 +1,5 @@
 use Rattle.std.proofs.Common.{◌≡◌, ◌≢◌, ◌⊎◌, Err, inl, inr, rules, subst, sym}
-use Rattle.mencius_ends.specs.declared.fault.AppFault.TheVariants.{BadShape, NoMemory}
+use Rattle.mencius_ends.specs.declared.fault.IoFault.TheVariants.{BadShape, NoMemory}
 use Rattle.mencius_input.specs.declared.kind.Kind.TheVariants.{Replay}
 use Rattle.mencius_app.specs.Check.{either_scenario, replay_scenario}
 use Rattle.mencius_app.proofs.inputs.CheckedInputs.{AreWordsByFields, other_fault, replay_checked, words_as, words_of_memory}

@@ -25,3 +25,7 @@ returns-in-WriteFailed c = rw c.in-WriteFailed.is refl
 pub returns-in-NoMemory : goal.returns-in-NoMemory
 unfolding digits
 returns-in-NoMemory c = rw c.in-NoMemory.is refl
+
+pub returns-in-BoardFailed : goal.returns-in-BoardFailed
+unfolding digits
+returns-in-BoardFailed c = rw c.in-BoardFailed.is refl

@@ -1,7 +1,7 @@
 use Rattle.std.proofs.Common.{◌∙◌, ℕ, Result, ap, inl, inr, subst, sym}
 use Rattle.clap.specs.Words.{HasKind, found_of}
 use Rattle.clap.proofs.WalkLemmas.{first_value-rows}
-use Rattle.mencius_ends.specs.declared.fault.AppFault.{AppFault}
+use Rattle.mencius_ends.specs.declared.fault.IoFault.{IoFault}
 use Rattle.mencius_command_line.specs.Drawing.{place_faults, place_in}
 use Rattle.mencius_command_line.proofs.drawing.place_in.Goals as goal
 
@@ -19,7 +19,7 @@ pub returns-in_ok-place_error-in-Err-clause-faults : goal.returns-in_ok-place_er
 returns-in_ok-place_error-in-Err-clause-faults c =
     let there = ap (place_in c.args.other) (c.in-Some.ensures
     ∙ first_value-rows (found_of c.args.matches.now) c.args.name.now) in
-    subst (λ (r : Result ℕ AppFault). HasKind (place_faults r) c.in_ok-place_error-in-Err.field-0)
+    subst (λ (r : Result ℕ IoFault). HasKind (place_faults r) c.in_ok-place_error-in-Err.field-0)
     (c.in-Err.ensures ∙ there) (inr (inl c.in_ok-place_error-in-Err.ensures))
 
 pub returns-in-None-clause-place : goal.returns-in-None-clause-place

@@ -1,6 +1,6 @@
 use Rattle.std.proofs.Common.{◌∙◌}
 use Rattle.mencius_server.proofs.stored.StoredInstances.{stored_count}
-use Rattle.mencius_server.proofs.instances.Instances.stored_counts.Goals as goal
+use Rattle.mencius_server.proofs.instances.Instances.kept.Goals as goal
 
 pub returns : goal.returns
 returns c =

@@ -4,7 +4,7 @@ use Rattle.std.specs.Option.{option_map}
 use Rattle.std.specs.String.{string_bytes}
 use Rattle.mencius_base.specs.declared.command.Command.{Command}
 use Rattle.mencius_model.specs.KeyMap.{value_at}
-use Rattle.mencius_conclusions.specs.declared.readings.Reading.{Reading}
+use Rattle.mencius_board.specs.declared.readings.Reading.{Reading}
 
 -- it is what the commands of a list leave at a key, and their number
 pub record IsReading (key : List ℕ) (commands : List Command) (reading : Reading) : Type 0 where

@@ -1,13 +1,15 @@
-//! What a caller can conclude of lookups from the public clauses of a board, its News and its readers
-//! alone.
+//! Lookups by a reader that is told of News, or asked together with its board.
 
 ghost use Rattle.std.specs.Prelude.{◌≡◌, ◌⊎◌, IfErr, IfOk, OnOk};
 ghost use mathlib.Core.List.{IsPrefix};
 ghost use Rattle.mencius_board.specs.Boards.{longest_of};
 ghost use Rattle.mencius_board.specs.Faults.{IsLookupFault, IsShowFault};
-ghost use Rattle.mencius_conclusions.specs.Readings.{IsReading};
+ghost use Rattle.mencius_board.specs.Readings.{IsReading};
 
-use mencius_board::{Board, BoardFault, News, Reader};
+use crate::board::Board;
+use crate::fault::BoardFault;
+use crate::news::News;
+use crate::reader::Reader;
 use std::alloc::Global;
 use std::sync::Wait;
 
@@ -18,8 +20,8 @@ pub struct Reading {
     pub count: u32,
 }
 
-/// Tells a reader News of its own board, and looks a key up. The answer is from a list of which
-/// the News's list is a prefix. Whoever calls it needs no lock, and it never waits.
+/// Tells a reader News of its own board, and looks a key up. The answer comes from a list that begins
+/// with the News's list. It takes no lock and never waits.
 pub fn look_up_told(
     alloc: Global,
     reader: &mut Reader,

@@ -1,0 +1,45 @@
+-- The number and the name of each fault, and which fault is told of what ends a task.
+use Rattle.std.specs.Prelude.{◌≡◌, ℕ, List, codes}
+use Rattle.mencius_app.specs.declared.fault.AppFault.{AppFault}
+use Rattle.mencius_app.specs.declared.fault.AppFault.TheVariants.{NotJson, BadShape, BadLimit, ReadFailed, WriteFailed, NoMemory, BoardFailed}
+use Rattle.mencius_app.specs.declared.finding.Finding.{Finding}
+use Rattle.mencius_app.specs.declared.run_finding.RunFinding.{RunFinding}
+use Rattle.mencius_app.specs.declared.run_finding.RunFinding.TheVariants as at
+use Rattle.mencius_ends.specs.declared.fault.IoFault.{IoFault}
+use Rattle.mencius_ends.specs.declared.fault.IoFault.TheVariants as io
+
+abbrev pub fault_number : AppFault → ℕ
+fault_number NotJson = 21
+fault_number BadShape = 22
+fault_number BadLimit = 23
+fault_number ReadFailed = 24
+fault_number WriteFailed = 25
+fault_number NoMemory = 26
+fault_number BoardFailed = 27
+
+abbrev pub fault_name : AppFault → List ℕ
+fault_name NotJson = codes "NotJson"
+fault_name BadShape = codes "BadShape"
+fault_name BadLimit = codes "BadLimit"
+fault_name ReadFailed = codes "ReadFailed"
+fault_name WriteFailed = codes "WriteFailed"
+fault_name NoMemory = codes "NoMemory"
+fault_name BoardFailed = codes "BoardFailed"
+
+-- the fault of an input, a reader, a writer or memory
+abbrev pub app_fault : IoFault → AppFault
+app_fault io.NotJson = NotJson
+app_fault io.BadShape = BadShape
+app_fault io.BadLimit = BadLimit
+app_fault io.ReadFailed = ReadFailed
+app_fault io.WriteFailed = WriteFailed
+app_fault io.NoMemory = NoMemory
+
+-- the fault at which a run ended
+abbrev pub fault_of_run : RunFinding → AppFault
+fault_of_run (at.Found found) = app_fault found.fault
+fault_of_run at.BoardFailed = BoardFailed
+
+-- a fault of an input, a reader, a writer or memory, of which this holds
+abbrev pub IsFaultWith : (IoFault → Type 0) → AppFault → Type 0
+IsFaultWith P fault = (cause : IoFault) × (fault ≡ app_fault cause) × P cause

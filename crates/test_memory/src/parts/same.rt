@@ -1,0 +1,88 @@
+//! What single servers and executors answer, compared.
+
+use super::Parts;
+use map_exec::Executor;
+use mencius_base::{Command, INSTANCES, Op, Outbox};
+use mencius_server::Server;
+
+/// The first of the answers of two parts that are not the same, by the name of the call, or `None` where they answer
+/// the same to each question.
+pub fn first_difference(first: &Parts, second: &Parts) -> Option<&'static str> {
+    for (one, other) in first.servers.iter().zip(second.servers.iter()) {
+        let found = of_server(one, other);
+        if found.is_some() {
+            return found;
+        }
+    }
+    for (one, other) in first.executors.iter().zip(second.executors.iter()) {
+        let found = of_executor(one, other, first.commands.as_slice());
+        if found.is_some() {
+            return found;
+        }
+    }
+    of_messages(&first.out, &second.out)
+}
+
+fn of_server(first: &Server, second: &Server) -> Option<&'static str> {
+    if first.front() != second.front() {
+        return Some("front");
+    }
+    if first.waiting() != second.waiting() {
+        return Some("waiting");
+    }
+    if first.kept() != second.kept() {
+        return Some("kept");
+    }
+    for inst in 0..INSTANCES {
+        let found = of_instance(first, second, inst);
+        if found.is_some() {
+            return found;
+        }
+    }
+    None
+}
+
+fn of_instance(first: &Server, second: &Server, inst: u32) -> Option<&'static str> {
+    if first.learned(inst) != second.learned(inst) {
+        return Some("learned");
+    }
+    if first.glance(inst) != second.glance(inst) {
+        return Some("glance");
+    }
+    if first.waiting_at(inst) != second.waiting_at(inst) {
+        return Some("waiting at");
+    }
+    None
+}
+
+// At the keys of these commands.
+fn of_executor(first: &Executor, second: &Executor, commands: &[Command]) -> Option<&'static str> {
+    if first.history() != second.history() {
+        return Some("history");
+    }
+    for command in commands {
+        let key = key_of(command.op());
+        if first.get(key) != second.get(key) {
+            return Some("get");
+        }
+    }
+    None
+}
+
+fn key_of(op: &Op) -> &str {
+    match op {
+        Op::Set { key, .. } | Op::Get { key } | Op::Del { key } | Op::Cas { key, .. } => {
+            key.as_str()
+        }
+    }
+}
+
+fn of_messages(first: &Outbox, second: &Outbox) -> Option<&'static str> {
+    if first.messages() != second.messages() {
+        return Some("messages");
+    }
+    if first.limit() != second.limit() {
+        return Some("limit");
+    }
+    None
+}
