@@ -64,7 +64,7 @@ below_all : (n : ℕ) (f : ℕ → Option ℕ) (xs : List ℕ) → ((i t : ℕ) 
 below_all n f [] h = tt
 below_all n f (x ∷ xs) h = below_put n (f x) (filter_map f xs) (h x) (below_all n f xs h)
 
-below_take : (n m : ℕ) (ts : List ℕ) → AreBelow n ts → AreBelow n (take m ts)
+pub below_take : (n m : ℕ) (ts : List ℕ) → AreBelow n ts → AreBelow n (take m ts)
 below_take n zero ts h = tt
 below_take n (suc m) [] h = tt
 below_take n (suc m) (t ∷ ts) h = (h.0, below_take n m ts h.1)

@@ -160,11 +160,11 @@ report-stale_promises = refl
 -- ---- replies
 
 -- the empty map holds nothing at the key `a`
-nothing : finite.get (map_after []) (97 ∷ []) ≡ None
+pub nothing : finite.get (map_after []) (97 ∷ []) ≡ None
 nothing = get-empty {X = List ℕ} (slice_cmp nat_cmp) (97 ∷ [])
 
 -- and after the first command it holds `x` there
-text_x : finite.get (map_after (set_a ∷ [])) (97 ∷ []) ≡ Some (120 ∷ [])
+pub text_x : finite.get (map_after (set_a ∷ [])) (97 ∷ []) ≡ Some (120 ∷ [])
 text_x = get-insert nat_list_cmp_total (map_after []) (97 ∷ []) (120 ∷ []) (97 ∷ [])
 
 -- the reply of client 1's first command
@@ -195,10 +195,10 @@ unfolding numbers_below instances most_messages most_events
 reply-duelling_revokers = refl
 
 -- a command that reads what another server's command wrote, and is answered at its own home
-abbrev get_a : Command
+abbrev pub get_a : Command
 get_a = record { id = record { client = 2; number = 0 }; op = Get (97 ∷ []) }
 
-abbrev get_at_another_server : List Event
+abbrev pub get_at_another_server : List Event
 get_at_another_server =
     Submit 0 set_a ∷ Deliver 0 0 ∷ Deliver 0 1 ∷ Deliver 1 0 ∷ Deliver 2 0 ∷ Execute 0 ∷ Submit 1 get_a ∷ Deliver 4 0
     ∷ Deliver 4 1 ∷ Deliver 5 1 ∷ Deliver 6 1 ∷ Deliver 3 1 ∷ Execute 1 ∷ Execute 1 ∷ []
