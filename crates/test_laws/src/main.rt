@@ -30,8 +30,8 @@ use crate::dice::Dice;
 use crate::drawing::{Mix, draw_event};
 use crate::given::{follow, send_again};
 use crate::mail::Mail;
-use mencius_app::report;
-use mencius_base::{Event, GREATEST_BETA, INSTANCES, Members};
+use mencius_app::{AppFault, report};
+use mencius_base::{Event, GREATEST_BETA, INSTANCES, Members, NoMemory};
 use mencius_cluster::Cluster;
 use mencius_input::{Events, IoFault, Scenario, Std, read_all, read_scenario, write_all};
 use std::alloc::{AllocError, Global};
@@ -154,10 +154,8 @@ fn report_of(alloc: Global, cluster: &Cluster) -> Result<Vec<u8>, Stop> {
     let mut sink = Std::new(&mut text);
     match report(alloc, cluster, &mut sink) {
         Ok(()) => Ok(text),
-        Err(fault) => {
-            fault.memory_apart()?;
-            Err(Stop::Broken("a report is not written"))
-        }
+        Err(AppFault::NoMemory) => Err(Stop::from(NoMemory)),
+        Err(_) => Err(Stop::Broken("a report is not written")),
     }
 }
 
