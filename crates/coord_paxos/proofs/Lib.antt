@@ -1,3 +1,4 @@
 pub mod SlotTrace
 pub mod Repeats
 pub mod SlotLaws
+pub mod ReachedTraces

@@ -4,3 +4,4 @@ pub mod Slot
 pub mod Reached
 pub mod Laws
 pub mod CallLaws
+pub mod Premises

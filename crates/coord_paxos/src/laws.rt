@@ -7,6 +7,7 @@
 
 ghost use Rattle.coord_paxos.specs.CallLaws.{RepeatedAcceptanceIgnored, BeginEmpties, FirstVoteStands, GreaterVoteReplaces, LearnedStays, LearnsOwnProposal, PromiseBinds, PromiseGrows, RepeatedPromiseIgnored, PromisesAbove, ProposalStays, ProposesOnce};
 ghost use Rattle.coord_paxos.specs.Laws.{SlotAfterAccept, AcceptanceAnswered, PrepareAnswered, PromiseAnswered, SlotAfterBegin, SlotAfterAcceptance, SlotAfterPromise, IgnoresAcceptances, IgnoresPromises, LeavesProposals, LeavesRepeats, LeavesSuggestions, LeavesUncounted, LeavesUntouched, SlotAfterLearn, SlotAfterPrepare, SlotAtTheStart, SlotAfterSuggest};
+ghost use Rattle.coord_paxos.specs.Premises.{AcceptedGoesToOwner, AcceptedWasProposed, FreeIsUnsaid, NextIsUntried, PromiseIsPositive, ProposeIsProposal, SuggestIsProposal};
 ghost use Rattle.mencius_model.specs.Laws.{ReportedIsGreatest, ReportedWasHeard, ReportedWhereHeard};
 
 /// Where nothing happened, the slot is [`Slot::new`](crate::Slot::new)'s, and the owner's first
@@ -14,6 +15,25 @@ ghost use Rattle.mencius_model.specs.Laws.{ReportedIsGreatest, ReportedWasHeard,
 pub fn owner_proposes()
     ensures start { SlotAtTheStart }
     ensures suggested { SlotAfterSuggest }
+{}
+
+/// Every trace that some journal makes (`IsReached`) meets what the other laws ask of a trace.
+///
+/// - Each value that a server accepted had been proposed (`IsVoted`).
+/// - At the free instance that takes a server's next ticket, the server is the owner and tries no ballot, and no
+///   ticket has been suggested.
+/// - The ballot that a suspicion prepares is greater than each ballot that the server tried at the instance. Nothing is
+///   proposed at it, and the server heard no promise of it and no acceptance at it (`IsUntried`).
+/// - A sent Suggest or Propose carries the proposal at its instance and ballot.
+/// - A sent Promise is of a ballot above 0, and a sent Accepted at ballot 0 goes to the owner of the instance.
+pub fn premises()
+    ensures voted { AcceptedWasProposed }
+    ensures free { FreeIsUnsaid }
+    ensures untried { NextIsUntried }
+    ensures suggested { SuggestIsProposal }
+    ensures proposed { ProposeIsProposal }
+    ensures promised { PromiseIsPositive }
+    ensures accepted { AcceptedGoesToOwner }
 {}
 
 /// What [`prepare`](crate::Slot::prepare) answers is the acceptor's rule over the trace, and the slot
@@ -57,8 +77,8 @@ pub fn learns()
 /// Which other lines leave the slot of server p at instance i: each line but a Suggest or a Propose
 /// of i, a Promise, an Accepted or a Prepare of i that p sent, what p learned at i, and what p heard;
 /// and a message that p heard and that is no Promise and no Accepted of the ballot that p tries at i.
-/// Where what p accepted at i had been proposed, as in every trace that comes about, so do a Propose
-/// at a ballot that p does not try, and a Suggest where p is not the owner.
+/// Where what p accepted at i had been proposed, as in every trace that some journal makes ([`premises`]),
+/// so do a Propose at a ballot that p does not try, and a Suggest where p is not the owner.
 pub fn leaves_the_rest()
     ensures untouched { LeavesUntouched }
     ensures uncounted { LeavesUncounted }

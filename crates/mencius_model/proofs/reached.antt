@@ -8,5 +8,6 @@ pub mod LearnedLimits
 pub mod Rounds
 pub mod WithinLimits
 pub mod HeardWasSent
+pub mod OwnBallots
 pub mod ServerFacts
 pub mod ClusterFacts

@@ -46,7 +46,7 @@ pub record IsAhead (m : Membership) (w : Trace) (p : ServerId) (i : Inst) : Type
   pub past : front m w p ≤ i
   pub small : i < instance_count
 
-free_ahead : (m : Membership) (w : Trace) (p i : ℕ) → free_instance m w p ≡ Some i → IsAhead m w p i
+pub free_ahead : (m : Membership) (w : Trace) (p i : ℕ) → free_instance m w p ≡ Some i → IsAhead m w p i
 free_ahead m w p i h =
     let place = find-instances_found (is_free m w p) i h in
     let e = place.passes in

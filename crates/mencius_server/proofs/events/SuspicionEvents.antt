@@ -1,29 +1,23 @@
 -- What a server does on a suspicion is what the model says.
-use Rattle.std.proofs.Common.{◌≡◌, ℕ, ◌+◌, ◌<◌, ◌≤◌, Bool, true, false, List, [], ◌∷◌, Option, Some, None, cond, eqb, filter, length, ltb, map, max, refl, sym, ◌∙◌, ap, subst, inl, inr, arith, ◌&&◌, ◌||◌}
+use Rattle.std.proofs.Common.{◌≡◌, ℕ, ◌+◌, ◌<◌, Bool, true, false, List, [], ◌∷◌, None, cond, eqb, filter, length, ltb, map, max, refl, sym, ◌∙◌, ap, arith, ◌&&◌, ◌||◌}
 use Rattle.std.specs.Prelude.{is_none}
 use Rattle.std.specs.List.{list_any}
-use Rattle.std.proofs.lemmas.Bool.{cases_Bool, eqb-true}
-use Rattle.std.proofs.lemmas.Nat.{mod-mul-add}
+use Rattle.std.proofs.lemmas.Bool.{eqb-true}
 use Rattle.mencius_base.specs.declared.event.Event.TheVariants.{Suspect}
 use Rattle.mencius_base.specs.declared.refusal.Refusal.TheVariants.{MessagesFull, NothingToRevoke, RoundsFull, SelfSuspect}
 use Rattle.mencius_base.specs.declared.message.Message.{Message}
-use Rattle.mencius_base.specs.declared.message.Message.TheVariants.{Prepare, Propose}
-use Rattle.mencius_base.specs.declared.message.Value.{Value}
-use Rattle.mencius_base.specs.Members.{Membership, ballot_of, numbers_below, instances, owner, first_item}
+use Rattle.mencius_base.specs.declared.message.Message.TheVariants.{Prepare}
+use Rattle.mencius_base.specs.Members.{Membership, ballot_of, numbers_below, instances, first_item}
 use Rattle.mencius_base.specs.Outbox.{OutboxState}
-use Rattle.mencius_model.specs.Trace.{Line, Sent, Suspected, Trace, followed_by, heard_messages, messages_of}
-use Rattle.mencius_model.specs.Instance.{accepted_ballot, accepted_by, accepters, highest_vote, is_acceptance, is_promise, learned_by, promised_by, promisers, proposal, proposal_by, tried_by, tried_ballot, vote_of, vote_reported, IsUntried}
+use Rattle.mencius_model.specs.Trace.{Line, Suspected, Trace, followed_by, heard_messages, messages_of}
+use Rattle.mencius_model.specs.Instance.{accepted_ballot, accepted_by, highest_vote, is_acceptance, is_promise, learned_by, promised_by, proposal, proposal_by, tried_by, tried_ballot, vote_of, vote_reported}
 use Rattle.mencius_model.specs.Server.{front, front_by, is_covered, is_open, covered_instances, reach}
 use Rattle.mencius_model.specs.Next.{IsReached, first_cause, next_round, preparation, server_causes}
 use Rattle.mencius_model.specs.Rules.{is_open_from, reach_from}
 use Rattle.mencius_model.proofs.trace.NumberLists.{any-map, filter-instances_same, find-instances_same, map-filter-instances_same, map-instances_same}
 use Rattle.mencius_model.proofs.trace.OneMoreLine.{greater_ballot-none, greatest_quiet, oldest_quiet, vote_of_same}
-use Rattle.mencius_model.proofs.trace.Lists.{IsIn}
-use Rattle.mencius_model.proofs.rights.LineRights.{IsGrown}
-use Rattle.mencius_model.proofs.trace.AnswersLast.{acceptance_in, proposal_in, same}
-use Rattle.mencius_model.proofs.reached.HeardWasSent.{accepters_accepted, promiser}
-use Rattle.mencius_model.proofs.rights.Journals.{reached_grown}
-use Rattle.mencius_model.proofs.reached.Senders.{acceptance_asked, prepare_right, prepare_within, promise_asked, propose_ballot, propose_within}
+use Rattle.mencius_model.proofs.trace.AnswersLast.{same}
+use Rattle.mencius_model.proofs.reached.OwnBallots.{next_untried}
 use Rattle.coord_paxos.specs.SlotState.{SlotState}
 use Rattle.coord_paxos.specs.Fresh.{new_slot}
 use Rattle.coord_paxos.specs.Slot.{after_begin}
@@ -34,7 +28,6 @@ use Rattle.mencius_server.specs.State.{ServerState, slot}
 use Rattle.mencius_server.specs.Machine.{after_suspect, is_covered_in, is_spent_at, is_covered_at, is_open_at, next_prepare, prepare_for, reach_at, next_round_of, slot_after_suspect, suspect_cause, suspect_sent}
 use Rattle.mencius_server.specs.Laws.{SuspectIsEvent}
 use Rattle.mencius_server.specs.Reached.{server_at}
-use Rattle.mencius_server.proofs.suspicions.FirstPhases.{tried_below}
 use Rattle.mencius_server.proofs.events.HeardSkip.{among, is_instance}
 use Rattle.mencius_server.proofs.events.ServerTrace.{slot-server_at}
 use Rattle.mencius_base.specs.Limits.{greatest_round, instance_count}
@@ -113,50 +106,6 @@ sends_prepared m w p [] = refl
 sends_prepared m w p (j ∷ js) =
     ap (λ (ms : List Message). Prepare p j (ballot_for m w p j) ∷ ms) (sends_prepared m w p js)
 
--- a ballot of p's own, above all that it tried, is in nobody's message
-module _ (m : Membership) (w : Trace) (p j b : ℕ) (g : IsGrown m w) (mine : owner m b ≡ p)
-    (above : tried_ballot w p j < b) where
-  unprepared : (to : ℕ) → IsIn (Sent (Prepare to j b)) w → ⊥
-  unprepared to h =
-      let home : to ≡ p = sym (prepare_right m w g to j b h).own ∙ mine in
-      let h' : IsIn (Sent (Prepare p j b)) w = subst (λ (q : ℕ). IsIn (Sent (Prepare q j b)) w) home h in
-      let within : b ≤ tried_ballot w p j = prepare_within w p j b h' in
-      omega arith
-
-  unproposed : (q : ℕ) (z : Value) → IsIn (Sent (Propose q j b z)) w → ⊥
-  unproposed q z h =
-      let home : q ≡ p = sym (propose_ballot m w g q j b z h).1 ∙ mine in
-      let h' : IsIn (Sent (Propose p j b z)) w = subst (λ (x : ℕ). IsIn (Sent (Propose x j b z)) w) home h in
-      let within : b ≤ tried_ballot w p j = propose_within m w g p j b z h' in
-      omega arith
-
-  no_promiser : (q : ℕ) → promisers w p j b q ≡ false
-  no_promiser q =
-      elim (cases_Bool (promisers w p j b q)) [
-        | inl e ↦ let h =
-            promiser w p j b q e in absurd (unprepared h.to (promise_asked m w g q h.to j b h.vote h.promise))
-        | inr e ↦ e
-      ]
-
-  no_accepter : (q : ℕ) → accepters w p j b q ≡ false
-  no_accepter q =
-      elim (cases_Bool (accepters w p j b q)) [
-        | inl e ↦
-            let h = acceptance_in w j b q (accepters_accepted w p j b q e) in
-            elim (acceptance_asked m w g q h.0 j b h.1) [
-              | inl s ↦ let zero : b ≡ 0 = s.0 in absurd (omega arith)
-              | inr s ↦ absurd (unproposed h.0 s.0 s.1)
-            ]
-        | inr e ↦ e
-      ]
-
-  no_proposal : (o : Option Value) → proposal w j b ≡ o → o ≡ None
-  no_proposal None e = refl
-  no_proposal (Some z) e = let h = proposal_in w j b z (omega arith) e in absurd (unproposed h.0 z h.1)
-
-  untried : IsUntried w p j b
-  untried = record { unpromised = no_promiser; unaccepted = no_accepter; unsaid = no_proposal (proposal w j b) refl }
-
 module _ (m : Membership) (w : Trace) (p q : ℕ) (r : IsReached m w) (member : p < m.count) where
   abbrev covered : List ℕ
   covered = covered_instances m w p q
@@ -165,10 +114,7 @@ module _ (m : Membership) (w : Trace) (p q : ℕ) (r : IsReached m w) (member : 
   later = followed_by (Suspected p q ∷ w) (map (preparation m w p) covered)
 
   above : (j : ℕ) → tried_ballot w p j < ballot_for m w p j
-  above j = tried_below m p (slot_at m w p j) (omega arith)
-
-  mine : (j : ℕ) → owner m (ballot_for m w p j) ≡ p
-  mine j = mod-mul-add (next_round m w p j) m.count p member
+  above j = (next_untried m w r p j member).0
 
   tried_here : (j : ℕ) → j < instance_count → (a : Bool) → is_covered m w p q j ≡ a
       → tried_ballot later p j ≡ cond a (ballot_for m w p j) (tried_ballot w p j)
@@ -200,7 +146,7 @@ module _ (m : Membership) (w : Trace) (p q : ℕ) (r : IsReached m w) (member : 
   slot_after j small true e =
       slot_same j (tried_ballot later p j) ∙ ap (slot_trying m w p j) (tried_here j small true e)
       ∙ slot_untried m w p j (ballot_for m w p j)
-      (untried m w p j (ballot_for m w p j) (reached_grown m w r) (mine j) (above j))
+      (next_untried m w r p j member).1
   slot_after j small false e =
       slot_same j (tried_ballot later p j) ∙ ap (slot_trying m w p j) (tried_here j small false e)
 

@@ -2,7 +2,7 @@
 use Rattle.std.proofs.Common.{◌≡◌, ℕ, zero, suc, ◌+◌, ◌*◌, ◌/◌, ◌<◌, ◌≤◌, Option, Some, Bool, true, false, cond, eqb, List, [], ◌∷◌, ◌++◌, filter, length, map, max, refl, sym, ◌∙◌, ap, subst, arith, append-nil, append_assoc, ⊎_elim}
 use Rattle.std.specs.List.{count_by, list_any}
 use Rattle.std.specs.Prelude.{is_none, ◌&&◌}
-use Rattle.std.proofs.Math.Nat.{div-mul-le_self, div-zero, le-div_iff_mul-le, mul-le-mul_right}
+use Rattle.std.proofs.Math.Nat.{div-mul-le_self, div-zero, le-div_iff_mul-le}
 use Rattle.std.proofs.lemmas.Nat.{div-mul-add}
 use Rattle.std.proofs.lemmas.List.{get_or_past, length-map, map-append}
 use Rattle.std.proofs.lemmas.List.Sums.{length-filter}
@@ -15,7 +15,7 @@ use Rattle.mencius_model.proofs.trace.NumberLists.{any-filter, any-instances, co
 use Rattle.coord_paxos.specs.SlotState.{SlotState}
 use Rattle.coord_paxos.specs.Fresh.{new_slot}
 use Rattle.mencius_server.specs.State.{FitsAt, IsServer, ServerState, slot}
-use Rattle.mencius_server.specs.Machine.{after_suspect, next_ballot, is_covered_in, is_spent_at, is_covered_at, prepare_for, reach_at, next_round_of, slot_after_suspect, suspect_cause, suspect_sent, with_next_phase}
+use Rattle.mencius_server.specs.Machine.{after_suspect, is_covered_in, is_spent_at, is_covered_at, prepare_for, reach_at, next_round_of, slot_after_suspect, suspect_cause, suspect_sent, with_next_phase}
 use Rattle.mencius_server.proofs.invariant.ServerInvariant.{FitsAt-slot, KeepsAt, KeepsAt-fits, KeepsAt-new}
 use Rattle.mencius_server.proofs.invariant.SlotFits.{FitsAt-cond}
 use Rattle.mencius_base.specs.Limits.{greatest_round, instance_count}
@@ -63,16 +63,6 @@ room_here test n room i within here has =
 pub room_more : (test : ℕ → Bool) (n room new i : ℕ) → new + cond (test i) 1 0 ≡ room → HasRoomFrom test n room i
     → HasRoomFrom test n new (i + 1)
 room_more test n room new i used has = record { enough = omega (arith, count_by-below_more test i, used, has.enough) }
-
--- the new ballot is above the one that was tried
-pub tried_below : (m : Membership) (p : ℕ) (s : SlotState) → 1 ≤ m.count → s.trying < next_ballot m p s
-tried_below m p s some = above s.trying (s.promised / m.count) m.count p some where
-  above : (b promised n p : ℕ) → 1 ≤ n → b < (max (b / n) promised + 1) * n + p
-  above b promised n p some =
-      let d : ℕ = b / n in
-      let grows : (b / n + 1) * n ≤ (max (b / n) promised + 1) * n = mul-le-mul_right n (omega arith) in
-      let whole : b < (b / n + 1) * n = omega arith in
-      omega arith
 
 -- rounds are ordered as ballots are
 pub rounds_ordered : (k a b : ℕ) → a ≤ b → a / k ≤ b / k
