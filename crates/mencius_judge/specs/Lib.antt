@@ -8,6 +8,7 @@ pub mod Laws
 pub mod Observed
 pub mod Lines
 pub mod Counts
+pub mod Linearization
 pub mod VerdictLines
 pub mod Reading
 pub mod Written
