@@ -185,7 +185,7 @@ due_decision-slot_at m w p i b mine same =
     (if_own m p i c (proposal w i c)) None) (sym same)
     ∙ rw (owned m p i b (proposal w i b) mine, count_by-map (accepters w p i b) (numbers_below m.count))
 
-voted_later : (w : Trace) (l : Line) (p i : ℕ) → IsQuiet p i l → IsVoted w p i → IsVoted (l ∷ w) p i
+pub voted_later : (w : Trace) (l : Line) (p i : ℕ) → IsQuiet p i l → IsVoted w p i → IsVoted (l ∷ w) p i
 voted_later w l p i quiet voted = record {
   proposal = λ b e.
       let before = voted.proposal b
@@ -343,7 +343,7 @@ module _ (m : Membership) (w : Trace) (k p i from b : ℕ)
 
 -- ---- every other line
 
-untouched_quiet : (p i : ℕ) (l : Line) → is_touched_by p i l ≡ false → IsQuiet p i l
+pub untouched_quiet : (p i : ℕ) (l : Line) → is_touched_by p i l ≡ false → IsQuiet p i l
 untouched_quiet p i (Sent (Suggest from inst ticket)) e =
     record { promised = refl; proposed = λ b. rw e; accepted = refl; learned = refl; tried = refl }
 untouched_quiet p i (Sent (Accepted from to inst ballot)) e =
@@ -359,7 +359,7 @@ untouched_quiet p i (Learned server inst value) e =
 untouched_quiet p i l e =
     record { promised = refl; proposed = λ b. refl; accepted = refl; learned = refl; tried = refl }
 
-untouched_heard : (w : Trace) (p i : ℕ) (l : Line) → is_touched_by p i l ≡ false → heard_messages (l ∷ w) p
+pub untouched_heard : (w : Trace) (p i : ℕ) (l : Line) → is_touched_by p i l ≡ false → heard_messages (l ∷ w) p
     ≡ heard_messages w p
 untouched_heard w p i (Heard message server) e = rw e
 untouched_heard w p i l e = refl

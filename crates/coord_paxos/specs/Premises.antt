@@ -1,15 +1,16 @@
 -- What the laws of a slot ask of the trace holds in every trace that some journal makes.
-use Rattle.std.specs.Prelude.{◌≡◌, ◌<◌, Option, Some, None, slice_get}
+use Rattle.std.specs.Prelude.{◌≡◌, ◌<◌, false, ◌∷◌, Option, Some, None, slice_get}
 use Rattle.mencius_base.specs.Numbers.{ServerId, Inst, BallotNo, TicketNo, MessageNo}
 use Rattle.mencius_base.specs.declared.message.Message.TheVariants.{Suggest, Accepted, Promise, Propose}
 use Rattle.mencius_base.specs.declared.message.Value.{Value}
 use Rattle.mencius_base.specs.declared.message.Value.TheVariants.{Ticket}
 use Rattle.mencius_base.specs.declared.message.Vote.{Vote}
 use Rattle.mencius_base.specs.Members.{Membership, ballot_of, owner}
-use Rattle.mencius_model.specs.Trace.{Trace, sent_messages}
+use Rattle.mencius_model.specs.Trace.{Line, Trace, sent_messages}
 use Rattle.mencius_model.specs.Instance.{proposal, tried_ballot, IsUntried, IsVoted}
 use Rattle.mencius_model.specs.Server.{free_instance}
 use Rattle.mencius_model.specs.Next.{IsReached, next_round}
+use Rattle.coord_paxos.specs.Laws.{is_touched_by}
 
 -- each value that a server accepted had been proposed
 abbrev pub AcceptedWasProposed : Type 0
@@ -53,3 +54,12 @@ abbrev pub AcceptedGoesToOwner : Type 0
 AcceptedGoesToOwner =
     (m : Membership) (w : Trace) → IsReached m w → (k : MessageNo) (q p : ServerId) (i : Inst)
     → slice_get (sent_messages w) k ≡ Some (Accepted q p i 0) → owner m i ≡ p
+
+-- a line that does not touch p's slot for i leaves all of this as it is: so it also holds between the lines of an event
+abbrev pub UntouchedLeavesPremises : Type 0
+UntouchedLeavesPremises =
+    (w : Trace) (p : ServerId) (i : Inst) (l : Line) → is_touched_by p i l ≡ false
+    → (IsVoted w p i → IsVoted (l ∷ w) p i)
+    × (tried_ballot (l ∷ w) p i ≡ tried_ballot w p i)
+    × ((b : BallotNo) → proposal (l ∷ w) i b ≡ proposal w i b)
+    × ((b : BallotNo) → IsUntried w p i b → IsUntried (l ∷ w) p i b)

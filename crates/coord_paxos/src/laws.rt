@@ -7,7 +7,7 @@
 
 ghost use Rattle.coord_paxos.specs.CallLaws.{RepeatedAcceptanceIgnored, BeginEmpties, FirstVoteStands, GreaterVoteReplaces, LearnedStays, LearnsOwnProposal, PromiseBinds, PromiseGrows, RepeatedPromiseIgnored, PromisesAbove, ProposalStays, ProposesOnce};
 ghost use Rattle.coord_paxos.specs.Laws.{SlotAfterAccept, AcceptanceAnswered, PrepareAnswered, PromiseAnswered, SlotAfterBegin, SlotAfterAcceptance, SlotAfterPromise, IgnoresAcceptances, IgnoresPromises, LeavesProposals, LeavesRepeats, LeavesSuggestions, LeavesUncounted, LeavesUntouched, SlotAfterLearn, SlotAfterPrepare, SlotAtTheStart, SlotAfterSuggest};
-ghost use Rattle.coord_paxos.specs.Premises.{AcceptedGoesToOwner, AcceptedWasProposed, FreeIsUnsaid, NextIsUntried, PromiseIsPositive, ProposeIsProposal, SuggestIsProposal};
+ghost use Rattle.coord_paxos.specs.Premises.{AcceptedGoesToOwner, AcceptedWasProposed, FreeIsUnsaid, NextIsUntried, PromiseIsPositive, ProposeIsProposal, SuggestIsProposal, UntouchedLeavesPremises};
 ghost use Rattle.mencius_model.specs.Laws.{ReportedIsGreatest, ReportedWasHeard, ReportedWhereHeard};
 
 /// Where nothing happened, the slot is [`Slot::new`](crate::Slot::new)'s, and the owner's first
@@ -26,6 +26,9 @@ pub fn owner_proposes()
 ///   proposed at it, and the server heard no promise of it and no acceptance at it (`IsUntried`).
 /// - A sent Suggest or Propose carries the proposal at its instance and ballot.
 /// - A sent Promise is of a ballot above 0, and a sent Accepted at ballot 0 goes to the owner of the instance.
+///
+/// A line that does not touch the slot leaves what was voted, tried and proposed as it is (`between`). So this also holds
+/// within an event, after its own line and after its lines about other instances.
 pub fn premises()
     ensures voted { AcceptedWasProposed }
     ensures free { FreeIsUnsaid }
@@ -34,6 +37,7 @@ pub fn premises()
     ensures proposed { ProposeIsProposal }
     ensures promised { PromiseIsPositive }
     ensures accepted { AcceptedGoesToOwner }
+    ensures between { UntouchedLeavesPremises }
 {}
 
 /// What [`prepare`](crate::Slot::prepare) answers is the acceptor's rule over the trace, and the slot

@@ -1,4 +1,4 @@
-use Rattle.coord_paxos.proofs.ReachedTraces.{accepted_goes_to_owner, accepted_was_proposed, free_is_unsaid, next_is_untried, promise_is_positive, propose_is_proposal, suggest_is_proposal}
+use Rattle.coord_paxos.proofs.ReachedTraces.{accepted_goes_to_owner, accepted_was_proposed, free_is_unsaid, next_is_untried, promise_is_positive, propose_is_proposal, suggest_is_proposal, untouched_leaves_premises}
 use Rattle.coord_paxos.proofs.laws.premises.Goals as goal
 
 pub returns-clause-voted : goal.returns-clause-voted
@@ -21,3 +21,6 @@ returns-clause-promised c = promise_is_positive
 
 pub returns-clause-accepted : goal.returns-clause-accepted
 returns-clause-accepted c = accepted_goes_to_owner
+
+pub returns-clause-between : goal.returns-clause-between
+returns-clause-between c = untouched_leaves_premises
