@@ -1,5 +1,7 @@
 -- The slot after the lines of each call is what the call leaves.
 use Rattle.std.proofs.Common.{◌≡◌, ◌≢◌, ℕ, ◌<◌, ◌≤◌, Bool, true, false, List, [], ◌∷◌, Option, Some, None, map, refl, sym, ◌∙◌, ap, arith, cond, leb, ltb, eqb, ◌&&◌, ◌||◌, ⊎_elim}
+use Rattle.mencius_base.specs.declared.message.Value.TheVariants.{Noop}
+use Rattle.std.specs.Option.{option_or, option_map_or}
 use Rattle.std.specs.Prelude.{Contains, is_none, slice_get}
 use Rattle.std.specs.List.{fold, list_any}
 use Rattle.std.proofs.lemmas.Bool.{cases_lt, eq-eqb, eqb-true, leb-true, lt-ltb, le-ltb, ltb-true, ne_eqb}
@@ -9,10 +11,10 @@ use Rattle.mencius_base.specs.declared.message.Message.TheVariants.{Suggest, Ski
 use Rattle.mencius_base.specs.declared.message.Value.{Value}
 use Rattle.mencius_base.specs.declared.message.Vote.{Vote}
 use Rattle.mencius_base.specs.Members.{Membership, numbers_below, owner}
-use Rattle.mencius_model.specs.Trace.{Line, Heard, Sent, Learned, Trace, first_some, followed_by, heard_messages, sent_messages}
-use Rattle.mencius_model.specs.Instance.{accepted_ballot, accepters, are_majority, greater_ballot, higher_vote, highest_vote, is_acceptance, is_promise, learned_value, promised_ballot, promisers, proposal, proposal_by, reported_vote, tried_by, tried_ballot, value_or_noop, vote, vote_of, vote_reported, IsUntried, IsVoted}
-use Rattle.mencius_model.specs.Rules.{answer_lines, decision_lines, due_decision_from, due_proposal_from, prepare_answer_from, proposal_lines}
-use Rattle.mencius_model.specs.Next.{due_decision_at, due_proposal_at, on_prepare, on_propose}
+use Rattle.mencius_model.specs.Trace.{Line, Heard, Sent, Learned, Trace, followed_by, heard_messages, sent_messages}
+use Rattle.mencius_model.specs.Instance.{accepted_ballot, accepters, are_majority, greater_ballot, higher_vote, is_acceptance, is_promise, learned_value, promised_ballot, promisers, proposal, proposal_by, reported_vote, tried_by, tried_ballot, vote, vote_reported, IsUntried, IsVoted}
+use Rattle.mencius_model.specs.Rules.{answer_lines, decision_lines, due_decision_from, due_proposal_from, prepare_answer_from, proposal_lines, acceptance_lines}
+use Rattle.mencius_model.specs.Next.{due_decision_at, due_proposal_at}
 use Rattle.coord_paxos.specs.SlotState.{SlotState}
 use Rattle.coord_paxos.specs.Fresh.{new_slot}
 use Rattle.coord_paxos.specs.Slot.{acceptance_answer, after_accept, after_acceptance, after_answer, after_begin, after_learn, after_prepare, after_promise, due_decision, due_proposal, has_majority, promise_answer, with_acceptance, with_learned, with_promise, with_proposal}
@@ -20,11 +22,12 @@ use Rattle.coord_paxos.specs.Reached.{if_own, slot_at}
 use Rattle.coord_paxos.specs.Laws.{is_counted_at, is_touched_by}
 use Rattle.mencius_base.specs.declared.message.Answer.TheVariants.{Promise as Promised, Silent}
 use Rattle.mencius_model.proofs.trace.NumberLists.{count_by-map, map-below_constant, map-below_same}
-use Rattle.mencius_model.proofs.trace.OneMoreLine.{first_some-none, greater_ballot-none, max-zero, greatest_quiet, oldest_quiet, vote_of_same}
+use Rattle.mencius_model.proofs.trace.OneMoreLine.{option_or-none, greater_ballot-none, max-zero, greatest_quiet, oldest_quiet, vote_of_same}
 use Rattle.mencius_model.proofs.trace.Reports.{Stands-heard, any_again, higher_vote-stands}
 use Rattle.mencius_model.proofs.trace.QuietLines.{IsQuiet, IsUncounted, quiet_heard, quiet_learn}
 use Rattle.coord_paxos.proofs.SlotTrace.{same_slot, slot_at-accepted, slot_at-heard, slot_at-heard_acceptance, slot_at-heard_promise, slot_at-learned, slot_at-learning, slot_at-promised, slot_at-proposed, slot_at-proposing, slot_at-quiet, slot_at-unsaid, slot_hearing}
 use Rattle.mencius_model.proofs.trace.ServerSets.{heard_more, or-true, votes_more}
+use Rattle.mencius_model.proofs.trace.Parts.{vote_of}
 
 -- ---- nothing
 
@@ -54,7 +57,7 @@ module _ (m : Membership) (w : Trace) (p q i b : ℕ) where
   prepared_knowing None = prepared_unlearned (ltb (promised_ballot w p i) b) refl
   prepared_knowing (Some x) = slot_at-quiet m w (Sent (Learn p i x)) p i (quiet_learn p p i i x) refl
 
-  pub prepared : slot_at m (followed_by w (on_prepare w p q i b)) p i ≡ after_prepare (slot_at m w p i) b
+  pub prepared : slot_at m (followed_by w (answer_lines p q i b (prepare_answer_from (promised_ballot w p i) (vote w p i) b (learned_value w p i)))) p i ≡ after_prepare (slot_at m w p i) b
   prepared = prepared_knowing (learned_value w p i)
 
 -- ---- accept
@@ -69,13 +72,13 @@ module _ (m : Membership) (w : Trace) (p q i b : ℕ) (z : Value) (said : propos
   accepted_or_not true high = slot_at-accepted m w p q i b z (leb-true _ _ high) said
   accepted_or_not false low = refl
 
-  pub accepts : slot_at m (followed_by w (on_propose w p q i b)) p i ≡ after_accept (slot_at m w p i) b z
+  pub accepts : slot_at m (followed_by w (acceptance_lines p q i b (promised_ballot w p i))) p i ≡ after_accept (slot_at m w p i) b z
   accepts = accepted_or_not (leb (promised_ballot w p i) b) refl
 
 -- ---- learn
 
 learning_once : (s : SlotState) (z : Value) (o : Option Value) → s.learned ≡ o
-    → record s { learned = first_some o (Some z) } ≡ cond (is_none o) (record s { learned = Some z }) s
+    → record s { learned = option_or o (Some z) } ≡ cond (is_none o) (record s { learned = Some z }) s
 learning_once s z None e = refl
 learning_once s z (Some x) e = ap (λ (o : Option Value). record s { learned = o }) (sym e)
 
@@ -106,7 +109,7 @@ slot_at-tried m w p i b above =
     (max-zero (promised_ballot w p i))
     (ap (vote_of (l ∷ w) i) (greater_ballot-none (accepted_ballot w p i))
     ∙ vote_of_same (l ∷ w) w i (accepted_ballot w p i) proposals)
-    (first_some-none (learned_value w p i))
+    (option_or-none (learned_value w p i))
     tried
     (ap (reported_vote (l ∷ w) p i) tried)
     (ap (λ (c : ℕ). if_own m p i c (proposal (l ∷ w) i c)) tried ∙ ap (if_own m p i b) (proposals b))
@@ -132,7 +135,7 @@ neither false d e = (refl, e)
 neither true d e = absurd (cc)
 
 unreported : (i b : ℕ) (hs : List Message) → ((q : ℕ) → list_any (is_promise i b q) hs ≡ false)
-    → highest_vote (map (vote_reported i b) hs) ≡ None
+    → fold higher_vote None (map (vote_reported i b) hs) ≡ None
 unreported i b [] none = refl
 unreported i b (x ∷ hs) none =
     ap (λ (o : Option Vote). fold higher_vote o (map (vote_reported i b) hs))
@@ -170,7 +173,7 @@ due_proposal-slot_at m w p i b tried same =
     ap (λ (c : ℕ). cond
     ((is_none (learned_value w p i) && is_none (if_own m p i c (proposal w i c)))
     && has_majority m (map (promisers w p i c) (numbers_below m.count)))
-    (Some (value_or_noop (reported_vote w p i c))) None) (sym same)
+    (Some (option_map_or (λ x. x.value) (reported_vote w p i c) Noop)) None) (sym same)
     ∙ rw (
       owned m p i b (proposal w i b) (λ zero. absurd (omega arith)),
       count_by-map (promisers w p i b) (numbers_below m.count),
@@ -232,10 +235,10 @@ module _ (m : Membership) (w : Trace) (k p i from b : ℕ) (r : Option Vote)
       ∙ due_proposal-slot_at m (Heard k p ∷ w) p i b tried (same ∙ sym tried_still)
       ∙ ap (λ (o : Option Value). due_proposal_from o (proposal (Heard k p ∷ w) i b)
       (are_majority m (promisers (Heard k p ∷ w) p i b)) (reported_vote (Heard k p ∷ w) p i b))
-      (first_some-none (learned_value w p i))
+      (option_or-none (learned_value w p i))
       ∙ ap (λ (o : Option Value). due_proposal_from (learned_value w p i) o
       (are_majority m (promisers (Heard k p ∷ w) p i b)) (reported_vote (Heard k p ∷ w) p i b))
-      (first_some-none (proposal w i b))
+      (option_or-none (proposal w i b))
 
   pub promise_answered : 0 < b → promise_answer (slot_at m w p i) from b r ≡ due_proposal_at m w (Heard k p ∷ w) p i b
   promise_answered tried = either (eqb b (tried_ballot w p i)) refl
@@ -298,9 +301,9 @@ module _ (m : Membership) (w : Trace) (k p i from b : ℕ)
       ∙ due_decision-slot_at m (Heard k p ∷ w) p i b mine
       (same ∙ sym (greatest_quiet (tried_by p i) (Heard k p) w refl))
       ∙ ap (λ (o : Option Value). due_decision_from o (proposal (Heard k p ∷ w) i b)
-      (are_majority m (accepters (Heard k p ∷ w) p i b))) (first_some-none (learned_value w p i))
+      (are_majority m (accepters (Heard k p ∷ w) p i b))) (option_or-none (learned_value w p i))
       ∙ ap (λ (o : Option Value). due_decision_from (learned_value w p i) o
-      (are_majority m (accepters (Heard k p ∷ w) p i b))) (first_some-none (proposal w i b))
+      (are_majority m (accepters (Heard k p ∷ w) p i b))) (option_or-none (proposal w i b))
 
   pub acceptance_answered : (b ≡ 0 → owner m i ≡ p)
       → acceptance_answer (slot_at m w p i) from b ≡ due_decision_at m w (Heard k p ∷ w) p i b
@@ -322,7 +325,7 @@ module _ (m : Membership) (w : Trace) (k p i from b : ℕ)
   acceptance_decided same (Some x) due =
       let unlearned : learned_value w p i ≡ None = decided_unlearned _ _ _ x due in
       slot_at-quiet m (Learned p i x ∷ Heard k p ∷ w) (Sent (Learn p i x)) p i (quiet_learn p p i i x) refl
-      ∙ slot_at-learned m (Heard k p ∷ w) p i x (ap (λ (o : Option Value). first_some o None) unlearned)
+      ∙ slot_at-learned m (Heard k p ∷ w) p i x (ap (λ (o : Option Value). option_or o None) unlearned)
       ∙ ap (λ (s : SlotState). record s { learned = Some x }) (acceptance_heard same)
 
   pub acceptance_counted :

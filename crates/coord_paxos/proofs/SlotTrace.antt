@@ -1,6 +1,7 @@
 -- How each line of a trace changes a slot.
 use Rattle.std.proofs.Common.{◌≡◌, ℕ, ◌<◌, ◌≤◌, Bool, List, ◌∷◌, Option, Some, None, max, map, refl, sym, ◌∙◌, ap, arith, eqb}
-use Rattle.std.specs.List.{list_any}
+use Rattle.std.specs.Option.{option_map, option_or}
+use Rattle.std.specs.List.{list_any, fold}
 use Rattle.mencius_base.specs.Numbers.{ServerId, Inst}
 use Rattle.mencius_base.specs.declared.message.Message.{Message}
 use Rattle.mencius_base.specs.declared.message.Message.TheVariants.{Suggest, Accepted, Promise, Propose}
@@ -8,9 +9,9 @@ use Rattle.mencius_base.specs.declared.message.Value.{Value}
 use Rattle.mencius_base.specs.declared.message.Value.TheVariants.{Ticket}
 use Rattle.mencius_base.specs.declared.message.Vote.{Vote}
 use Rattle.mencius_base.specs.Members.{Membership, numbers_below, owner}
-use Rattle.mencius_model.specs.Trace.{Line, Heard, Sent, Learned, Trace, first_some, heard_messages, sent_messages}
-use Rattle.mencius_model.specs.Instance.{promised_by, promised_ballot, proposal_by, proposal, accepted_by, accepted_ballot, greater_ballot, vote_at, vote_of, learned_by, learned_value, tried_by, tried_ballot, reported_vote, promisers, accepters, is_promise, is_acceptance, highest_vote, vote_reported, IsVoted}
-use Rattle.mencius_model.proofs.trace.OneMoreLine.{max-zero, first_some-none, greater_ballot-none, greatest_quiet, oldest_quiet, oldest_stays, vote_of_same, accepted_small, greater_above}
+use Rattle.mencius_model.specs.Trace.{Line, Heard, Sent, Learned, Trace, heard_messages, sent_messages}
+use Rattle.mencius_model.specs.Instance.{promised_by, promised_ballot, proposal_by, proposal, accepted_by, accepted_ballot, greater_ballot, learned_by, learned_value, tried_by, tried_ballot, reported_vote, promisers, accepters, is_promise, is_acceptance, vote_reported, IsVoted, higher_vote}
+use Rattle.mencius_model.proofs.trace.OneMoreLine.{max-zero, option_or-none, greater_ballot-none, greatest_quiet, oldest_quiet, oldest_stays, vote_of_same, accepted_small, greater_above}
 use Rattle.std.proofs.lemmas.Bool.{eq-eqb, lt-ltb}
 use Rattle.std.specs.Prelude.{slice_get}
 use Rattle.coord_paxos.specs.Slot.{with_acceptance, with_promise}
@@ -18,6 +19,7 @@ use Rattle.mencius_model.proofs.trace.ServerSets.{heard_more, or-true, set_quiet
 use Rattle.coord_paxos.specs.SlotState.{SlotState}
 use Rattle.coord_paxos.specs.Reached.{if_own, slot_at}
 use Rattle.mencius_model.proofs.trace.QuietLines.{IsQuiet, quiet_heard, IsUncounted}
+use Rattle.mencius_model.proofs.trace.Parts.{vote_of}
 
 -- two slots with the same parts
 same_parts : (m n : Membership) (a b : ℕ) (o d : Option Vote) (e f : Option Value) (g h : ℕ) (x y : Option Vote)
@@ -57,7 +59,7 @@ same_slot s r = same_parts _ _ _ _ _ _ _ _ _ _ _ _ _ _ _ _ _ _
 -- p's slot for i, with the sets of other messages heard
 abbrev pub slot_hearing : Membership → Trace → ServerId → Inst → List Message → SlotState
 slot_hearing m w p i hs = record (slot_at m w p i) {
-  reported = highest_vote (map (vote_reported i (tried_ballot w p i)) hs);
+  reported = fold higher_vote None (map (vote_reported i (tried_ballot w p i)) hs);
   promises = map (λ (q : ℕ). list_any (is_promise i (tried_ballot w p i) q) hs) (numbers_below m.count);
   accepts = map (λ (q : ℕ). list_any (is_acceptance i (tried_ballot w p i) q) hs) (numbers_below m.count);
 }
@@ -68,7 +70,7 @@ slot_at-saying : (m : Membership) (w : Trace) (l : Line) (p i : ℕ) → ((b : �
     → slot_at m (l ∷ w) p i ≡ record (slot_hearing m w p i (heard_messages (l ∷ w) p)) {
       promised = max (promised_ballot w p i) (promised_by p i l);
       vote = vote_of w i (greater_ballot (accepted_ballot w p i) (accepted_by p i l));
-      learned = first_some (learned_value w p i) (learned_by p i l);
+      learned = option_or (learned_value w p i) (learned_by p i l);
     }
 slot_at-saying m w l p i unproposed untried =
     let tried : tried_ballot (l ∷ w) p i ≡ tried_ballot w p i = greatest_quiet (tried_by p i) l w untried in
@@ -93,7 +95,7 @@ slot_at-unsaid m w l p i quiet =
     (ap (max (promised_ballot w p i)) quiet.promised ∙ max-zero (promised_ballot w p i))
     (ap (λ (o : Option ℕ). vote_of w i (greater_ballot (accepted_ballot w p i) o)) quiet.accepted
     ∙ ap (vote_of w i) (greater_ballot-none (accepted_ballot w p i)))
-    (ap (first_some (learned_value w p i)) quiet.learned ∙ first_some-none (learned_value w p i))
+    (ap (option_or (learned_value w p i)) quiet.learned ∙ option_or-none (learned_value w p i))
     refl refl refl refl refl
 
 pub slot_at-quiet : (m : Membership) (w : Trace) (l : Line) (p i : ℕ) → IsQuiet p i l → heard_messages (l ∷ w) p
@@ -152,15 +154,15 @@ slot_at-accepted m w p q i b z high said =
     slot_at-saying m w l p i (λ c. refl) refl
     ∙ same_slot _ _ refl
     (rw promise (omega arith))
-    (ap (vote_of w i) acceptance ∙ ap (vote_at b) said)
-    (first_some-none (learned_value w p i))
+    (ap (vote_of w i) acceptance ∙ ap (option_map (λ x. record { ballot = b; value = x })) said)
+    (option_or-none (learned_value w p i))
     refl refl refl refl refl
 
 vote_stays : (w : Trace) (l : Line) (i : ℕ) (o : Option ℕ)
     → ((b : ℕ) → o ≡ Some b → (z : Value) × (proposal w i b ≡ Some z)) → vote_of (l ∷ w) i o ≡ vote_of w i o
 vote_stays w l i None said = refl
 vote_stays w l i (Some b) said =
-    ap (vote_at b) (oldest_stays (proposal_by i b) l w _ (said b refl).1 ∙ sym (said b refl).1)
+    ap (option_map (λ x. record { ballot = b; value = x })) (oldest_stays (proposal_by i b) l w _ (said b refl).1 ∙ sym (said b refl).1)
 
 -- a line that may propose something at i, and else is quiet
 pub slot_at-proposing : (m : Membership) (w : Trace) (l : Line) (p i : ℕ) (o : Option Value) → IsVoted w p i
@@ -178,7 +180,7 @@ slot_at-proposing m w l p i o voted unpromised unaccepted unlearned untried deaf
     (oldest_quiet (learned_by p i) l w unlearned)
     tried
     (ap (reported_vote (l ∷ w) p i) tried
-    ∙ ap (λ (hs : List Message). highest_vote (map (vote_reported i (tried_ballot w p i)) hs)) deaf)
+    ∙ ap (λ (hs : List Message). fold higher_vote None (map (vote_reported i (tried_ballot w p i)) hs)) deaf)
     (ap (λ (b : ℕ). if_own m p i b (proposal (l ∷ w) i b)) tried ∙ said)
     (ap (λ (b : ℕ). map (promisers (l ∷ w) p i b) (numbers_below m.count)) tried
     ∙ ap (λ (hs : List Message). map (λ (q : ℕ). list_any (is_promise i (tried_ballot w p i) q) hs) (numbers_below m.count)) deaf)
@@ -214,13 +216,13 @@ slot_at-promised m w p q i b o high =
     ∙ same_slot _ _ refl
     (rw promise (omega arith))
     (ap (vote_of w i) (greater_ballot-none (accepted_ballot w p i)))
-    (first_some-none (learned_value w p i))
+    (option_or-none (learned_value w p i))
     refl refl refl refl refl
 
 -- p says that it learned a value, whatever it had learned
 pub slot_at-learning : (m : Membership) (w : Trace) (p i : ℕ) (z : Value)
     → slot_at m (Learned p i z ∷ w) p i
-    ≡ record (slot_at m w p i) { learned = first_some (learned_value w p i) (Some z) }
+    ≡ record (slot_at m w p i) { learned = option_or (learned_value w p i) (Some z) }
 slot_at-learning m w p i z =
     let l : Line = Learned p i z in
     let by : learned_by p i l ≡ Some z = rw (eq-eqb p p refl, eq-eqb i i refl) in
@@ -228,7 +230,7 @@ slot_at-learning m w p i z =
     ∙ same_slot _ _ refl
     (max-zero (promised_ballot w p i))
     (ap (vote_of w i) (greater_ballot-none (accepted_ballot w p i)))
-    (ap (first_some (learned_value w p i)) by)
+    (ap (option_or (learned_value w p i)) by)
     refl refl refl refl refl
 
 -- p learns a value
@@ -236,4 +238,4 @@ pub slot_at-learned : (m : Membership) (w : Trace) (p i : ℕ) (z : Value) → l
     → slot_at m (Learned p i z ∷ w) p i ≡ record (slot_at m w p i) { learned = Some z }
 slot_at-learned m w p i z unlearned =
     slot_at-learning m w p i z
-    ∙ ap (λ (o : Option Value). record (slot_at m w p i) { learned = first_some o (Some z) }) unlearned
+    ∙ ap (λ (o : Option Value). record (slot_at m w p i) { learned = option_or o (Some z) }) unlearned

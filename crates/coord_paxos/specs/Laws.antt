@@ -10,8 +10,8 @@ use Rattle.mencius_base.specs.declared.message.Vote.{Vote}
 use Rattle.mencius_base.specs.Members.{Membership, owner}
 use Rattle.mencius_model.specs.Trace.{Line, Heard, Sent, Learned, Trace, followed_by, heard_messages, sent_messages}
 use Rattle.mencius_model.specs.Instance.{learned_value, promised_ballot, proposal, tried_ballot, vote, IsUntried, IsVoted}
-use Rattle.mencius_model.specs.Rules.{decision_lines, prepare_answer_from, proposal_lines}
-use Rattle.mencius_model.specs.Next.{due_decision_at, due_proposal_at, on_prepare, on_propose}
+use Rattle.mencius_model.specs.Rules.{decision_lines, prepare_answer_from, proposal_lines, answer_lines, acceptance_lines}
+use Rattle.mencius_model.specs.Next.{due_decision_at, due_proposal_at}
 use Rattle.coord_paxos.specs.Fresh.{new_slot}
 use Rattle.coord_paxos.specs.Slot.{acceptance_answer, after_accept, after_acceptance, after_begin, after_learn, after_prepare, after_promise, prepare_answer, promise_answer}
 use Rattle.coord_paxos.specs.Reached.{slot_at}
@@ -42,7 +42,9 @@ PrepareAnswered =
 abbrev pub SlotAfterPrepare : Type 0
 SlotAfterPrepare =
     (m : Membership) (w : Trace) (p q : ServerId) (i : Inst) (b : BallotNo)
-    → slot_at m (followed_by w (on_prepare w p q i b)) p i
+    → slot_at m
+    (followed_by w
+    (answer_lines p q i b (prepare_answer_from (promised_ballot w p i) (vote w p i) b (learned_value w p i)))) p i
     ≡ after_prepare (slot_at m w p i) b
 
 -- ---- accept
@@ -50,7 +52,7 @@ SlotAfterPrepare =
 abbrev pub SlotAfterAccept : Type 0
 SlotAfterAccept =
     (m : Membership) (w : Trace) (p q : ServerId) (i : Inst) (b : BallotNo) (z : Value) → proposal w i b ≡ Some z
-    → slot_at m (followed_by w (on_propose w p q i b)) p i
+    → slot_at m (followed_by w (acceptance_lines p q i b (promised_ballot w p i))) p i
     ≡ after_accept (slot_at m w p i) b z
 
 -- ---- begin

@@ -16,8 +16,8 @@ use Rattle.coord_paxos.specs.Laws.{is_touched_by}
 abbrev pub AcceptedWasProposed : Type 0
 AcceptedWasProposed = (m : Membership) (w : Trace) → IsReached m w → (p : ServerId) (i : Inst) → IsVoted w p i
 
--- the free instance that takes a server's next ticket is its own; it tries no ballot there, and nobody has suggested
--- a ticket there
+-- the free instance that takes a server's next ticket is the server's own; the server tries no ballot there, and nobody
+-- has suggested a ticket there
 abbrev pub FreeIsUnsaid : Type 0
 FreeIsUnsaid =
     (m : Membership) (w : Trace) → IsReached m w → (p : ServerId) (i : Inst) → free_instance m w p ≡ Some i
@@ -55,7 +55,8 @@ AcceptedGoesToOwner =
     (m : Membership) (w : Trace) → IsReached m w → (k : MessageNo) (q p : ServerId) (i : Inst)
     → slice_get (sent_messages w) k ≡ Some (Accepted q p i 0) → owner m i ≡ p
 
--- a line that does not touch p's slot for i leaves all of this as it is: so it also holds between the lines of an event
+-- a line that does not touch p's slot for i leaves the ballot that p tries there and the proposals there as they are, and
+-- keeps IsVoted and IsUntried; so these also hold between the lines of an event
 abbrev pub UntouchedLeavesPremises : Type 0
 UntouchedLeavesPremises =
     (w : Trace) (p : ServerId) (i : Inst) (l : Line) → is_touched_by p i l ≡ false

@@ -1,20 +1,20 @@
 -- What each call answers and makes of a slot, where q is a server, b a ballot and x a value or a vote.
-use Rattle.std.specs.Prelude.{Bool, true, List, Option, Some, None, if◌then◌else◌, slice_set}
+use Rattle.std.specs.Prelude.{Bool, true, List, Option, Some, None, if◌then◌else◌, slice_set, nat_le, is_none, ◌==◌}
 use Rattle.std.specs.List.{count_by}
 use Rattle.mencius_base.specs.Numbers.{ServerId, BallotNo}
 use Rattle.mencius_base.specs.declared.message.Answer.{Answer}
 use Rattle.mencius_base.specs.declared.message.Answer.TheVariants.{Promise}
 use Rattle.mencius_base.specs.declared.message.Value.{Value}
 use Rattle.mencius_base.specs.declared.message.Vote.{Vote}
-use Rattle.mencius_base.specs.Members.{Membership, is_majority}
+use Rattle.mencius_base.specs.Members.{Membership, majority}
 use Rattle.mencius_model.specs.Instance.{higher_vote}
-use Rattle.mencius_model.specs.Rules.{due_decision_from, due_proposal_from, is_acceptable, is_tried, may_learn, prepare_answer_from}
+use Rattle.mencius_model.specs.Rules.{due_decision_from, due_proposal_from, prepare_answer_from}
 use Rattle.coord_paxos.specs.SlotState.{SlotState}
 use Rattle.coord_paxos.specs.Fresh.{no_servers}
 
 -- whether a majority of the servers is in the set, which has one truth value a server
 abbrev pub has_majority : Membership → List Bool → Bool
-has_majority m among = is_majority m (count_by (λ bit. bit) among)
+has_majority m among = nat_le (majority m) (count_by (λ bit. bit) among)
 
 -- what is answered to a Prepare
 abbrev pub prepare_answer : SlotState → BallotNo → Answer
@@ -31,7 +31,7 @@ after_prepare s b = after_answer s b (prepare_answer s b)
 -- promise and vote of a ballot that is accepted are its own
 abbrev pub after_accept : SlotState → BallotNo → Value → SlotState
 after_accept s b x =
-    if is_acceptable s.promised b then record s { promised = b; vote = Some (record { ballot = b; value = x }) } else s
+    if nat_le s.promised b then record s { promised = b; vote = Some (record { ballot = b; value = x }) } else s
 
 -- a first phase starts with nothing reported, proposed or counted
 abbrev pub after_begin : SlotState → BallotNo → SlotState
@@ -61,11 +61,11 @@ with_proposal s (Some x) = record s { proposal = Some x }
 
 -- only a promise of the ballot that is tried counts
 abbrev pub promise_answer : SlotState → ServerId → BallotNo → Option Vote → Option Value
-promise_answer s q b x = if is_tried s.trying b then due_proposal (with_promise s q x) else None
+promise_answer s q b x = if (b == s.trying) then due_proposal (with_promise s q x) else None
 
 abbrev pub after_promise : SlotState → ServerId → BallotNo → Option Vote → SlotState
 after_promise s q b x =
-    if is_tried s.trying b then with_proposal (with_promise s q x) (due_proposal (with_promise s q x)) else s
+    if (b == s.trying) then with_proposal (with_promise s q x) (due_proposal (with_promise s q x)) else s
 
 -- one more acceptance at the ballot that is tried
 abbrev pub with_acceptance : SlotState → ServerId → SlotState
@@ -82,12 +82,12 @@ with_learned s (Some x) = record s { learned = Some x }
 
 -- only an acceptance at the ballot that is tried counts
 abbrev pub acceptance_answer : SlotState → ServerId → BallotNo → Option Value
-acceptance_answer s q b = if is_tried s.trying b then due_decision (with_acceptance s q) else None
+acceptance_answer s q b = if (b == s.trying) then due_decision (with_acceptance s q) else None
 
 abbrev pub after_acceptance : SlotState → ServerId → BallotNo → SlotState
 after_acceptance s q b =
-    if is_tried s.trying b then with_learned (with_acceptance s q) (due_decision (with_acceptance s q)) else s
+    if (b == s.trying) then with_learned (with_acceptance s q) (due_decision (with_acceptance s q)) else s
 
 -- a value is noted where one may be learned
 abbrev pub after_learn : SlotState → Value → SlotState
-after_learn s x = if may_learn s.learned then record s { learned = Some x } else s
+after_learn s x = if is_none s.learned then record s { learned = Some x } else s

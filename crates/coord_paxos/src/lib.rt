@@ -8,11 +8,12 @@
 #![tactic(auto)]
 
 ghost use Rattle.std.specs.Prelude.{◌≡◌, ◌<◌, ◌≤◌, ◌==◌, Some, None, is_none, length, nat_le, slice_set, take, true};
+ghost use Rattle.std.specs.Option.{option_map_or};
 ghost use Rattle.coord_paxos.specs.Fresh.{new_slot};
 ghost use Rattle.coord_paxos.specs.Slot.{acceptance_answer, after_accept, after_acceptance, after_begin, after_learn, after_prepare, after_promise, has_majority, prepare_answer, promise_answer, with_acceptance, with_promise};
-ghost use Rattle.mencius_model.specs.Instance.{higher_vote, value_or_noop};
+ghost use Rattle.mencius_model.specs.Instance.{higher_vote};
 ghost use Rattle.mencius_model.specs.Rules.{due_proposal_from};
-ghost use Rattle.mencius_base.specs.declared.message.Value.TheVariants.{Ticket};
+ghost use Rattle.mencius_base.specs.declared.message.Value.TheVariants.{Noop, Ticket};
 
 pub use mencius_base::Answer;
 use mencius_base::{Ballot, MOST_SERVERS, Members, Value, Vote};
@@ -339,7 +340,7 @@ fn higher(first: Option<Vote>, second: Option<Vote>) -> Option<Vote>
 
 // The value of a vote, or no-op.
 fn value_or_noop(vote: Option<Vote>) -> Value
-    ensures { result ≡ value_or_noop vote }
+    ensures { result ≡ option_map_or (λ x. x.value) vote Noop }
 {
     match vote {
         Some(vote) => vote.value,

@@ -5,7 +5,7 @@ use Rattle.clap.specs.Words.{Text}
 use Rattle.mencius_ends.specs.Ends.{HasFailed, WritesFront}
 use Rattle.mencius_ends.specs.declared.fault.IoFault.TheVariants.{NoMemory}
 use Rattle.mencius_command_line.specs.CommandLine.{TaskState, are_texts, asked_draw, faults, line_of, task_in}
-use Rattle.mencius_app.specs.Calls.{IsCause}
+use Rattle.mencius_app.specs.Calls.{IsCause, StreamChanges}
 use Rattle.mencius_app.specs.Ending.{IsAskedFor, IsComplaint, IsFaultFor, IsMistaken, TellsOf, fault_in, is_explained, task_with}
 use Rattle.mencius_app.specs.declared.alone_calling.LeftTask.{LeftTask}
 use Rattle.mencius_app.specs.declared.alone_calling.LeftTask.TheVariants.{Draw, Run}
@@ -43,10 +43,9 @@ pub record RefusesArguments (arguments : List Text) (IsUnread IsUnwritten : Type
 -- ---- a fault
 
 -- why the call ended at a fault, and which words there are for it
-pub record EndsForCause (arguments : List Text) (known : Option (List ℕ)) (reads reads_now writes writes_now : ℕ)
-    (old new : Option (List ℕ)) (ending : Ending) : Type 0 where
-  pub fault : IfSome (fault_in ending)
-      (IsCause (IsFaultFor arguments known) (IsAskedFor arguments known) reads reads_now writes writes_now old new)
+pub record EndsForCause (arguments : List Text) (known : Option (List ℕ)) (x : StreamChanges) (ending : Ending)
+    : Type 0 where
+  pub fault : IfSome (fault_in ending) (IsCause (IsFaultFor arguments known) (IsAskedFor arguments known) x)
   pub explained : is_explained ending ≡ true → faults (line_of arguments) ≡ []
   pub words : TellsOf (task_in (line_of arguments)) known ending
 

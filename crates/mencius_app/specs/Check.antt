@@ -9,7 +9,6 @@ use Rattle.mencius_input.specs.Kinds.{kind_in}
 use Rattle.mencius_input.specs.Plan.{plan}
 use Rattle.mencius_input.specs.Scenario.{scenario}
 use Rattle.mencius_app.specs.Input.{HasFault, Says, unless_long}
-use Rattle.mencius_trace.specs.Words.{line_feed}
 use Rattle.mencius_input.specs.declared.scenario.Scenario.{Scenario}
 use Rattle.mencius_base.specs.declared.event.Event.{Event}
 use Rattle.mencius_base.specs.Plan.{PlanState}
@@ -40,7 +39,7 @@ either_scenario bytes = scenario_of_kind (kind_in bytes) bytes
 
 -- how many servers and how many events
 abbrev pub replay_line : Scenario (List Event) → List ℕ
-replay_line x = codes "ok servers " ++ decimal x.members.count ++ codes " events " ++ decimal (length x.course) ++ line_feed
+replay_line x = codes "ok servers " ++ decimal x.members.count ++ codes " events " ++ decimal (length x.course) ++ codes "\n"
 
 abbrev pub count_text : List CommandState → List ℕ
 count_text commands = 32 ∷ decimal (length commands)
@@ -49,7 +48,7 @@ count_text commands = 32 ∷ decimal (length commands)
 abbrev pub run_line : Scenario PlanState → List ℕ
 run_line x =
     codes "ok servers " ++ decimal x.members.count ++ codes " workers " ++ decimal x.course.workers
-    ++ codes " turns " ++ decimal x.course.turns ++ codes " commands" ++ flat_map count_text x.course.commands ++ line_feed
+    ++ codes " turns " ++ decimal x.course.turns ++ codes " commands" ++ flat_map count_text x.course.commands ++ codes "\n"
 
 abbrev pub ok_line : EitherScenario → List ℕ
 ok_line (replay_scenario written) = replay_line written
@@ -57,14 +56,11 @@ ok_line (run_scenario written) = run_line written
 
 -- ---- the whole
 
-abbrev pub check_input_of : List ℕ → Result EitherScenario IoFault
-check_input_of bytes = unless_long either_scenario bytes
-
 -- the line of a scenario that is all that a reader has, so far as that is known
 pub record IsCheckOf (known : Option (List ℕ)) (text : List ℕ) : Type 0 where
   pub written : EitherScenario
-  pub says : Says check_input_of known written
+  pub says : Says (unless_long either_scenario) known written
   pub is : text ≡ ok_line written
 
 abbrev pub IsCheckFaultOf : Option (List ℕ) → IoFault → Type 0
-IsCheckFaultOf known fault = HasFault check_input_of known fault
+IsCheckFaultOf known fault = HasFault (unless_long either_scenario) known fault

@@ -7,10 +7,10 @@ use Rattle.mencius_draw.specs.Layout.{lines_of}
 use Rattle.mencius_draw.specs.Picture.{levels_of, picture_of}
 use Rattle.mencius_draw.specs.Places.{most_levels}
 use Rattle.mencius_input.specs.declared.kind.Kind.TheVariants.{Replay}
-use Rattle.mencius_trace.specs.Words.{line_feed}
 use Rattle.mencius_app.specs.declared.finding.Finding.{Finding}
 use Rattle.mencius_app.specs.Findings.{ExplainsAs}
-use Rattle.mencius_app.specs.Input.{IsFaultOf}
+use Rattle.mencius_input.specs.Scenario.{scenario}
+use Rattle.mencius_app.specs.Input.{HasFault, unless_long}
 use Rattle.mencius_app.specs.Trace.{IsTraceOf}
 
 -- the levels that a part of a trace takes
@@ -30,7 +30,7 @@ IsTooLarge options known levels =
 -- an input that no trace is of, or whose picture is too large
 abbrev pub IsDrawingFaultOf : Options → Option (List ℕ) → IoFault → Type 0
 IsDrawingFaultOf options known fault =
-    IsFaultOf known fault ⊎ ((fault ≡ BadLimit) × (levels : ℕ) × IsTooLarge options known levels)
+    HasFault (unless_long scenario) known fault ⊎ ((fault ≡ BadLimit) × (levels : ℕ) × IsTooLarge options known levels)
 
 abbrev pub too_large_words : ℕ → List ℕ
 too_large_words levels =
@@ -49,4 +49,4 @@ abbrev pub IsRefusedAs : Options → List ℕ → Finding → Type 0
 IsRefusedAs options trace found =
     ((found.fault ≡ NoMemory) × (found.words ≡ None))
     ⊎ ((found.fault ≡ BadLimit) × (most_levels < levels_in options trace)
-    × IfSome found.words (λ line. string_bytes line ≡ too_large_words (levels_in options trace) ++ line_feed))
+    × IfSome found.words (λ line. string_bytes line ≡ too_large_words (levels_in options trace) ++ codes "\n"))

@@ -11,10 +11,11 @@ use Rattle.mencius_command_line.specs.CommandLine.{TaskState, are_texts, asked_c
 use Rattle.mencius_command_line.specs.Help.{shown_for}
 use Rattle.mencius_input.specs.declared.kind.Kind.TheVariants as input
 use Rattle.mencius_app.specs.Fault.{app_fault, fault_name, fault_number}
-use Rattle.mencius_app.specs.Input.{IsFaultOf, IsPlanFaultOf}
+use Rattle.mencius_input.specs.Scenario.{scenario}
+use Rattle.mencius_input.specs.Plan.{plan}
+use Rattle.mencius_app.specs.Input.{HasFault, unless_long}
 use Rattle.mencius_app.specs.Judging.{ExplainsByLine, IsJudgementOf, IsLogFaultOf}
 use Rattle.mencius_app.specs.Replay.{IsJudgedReplayOf}
-use Rattle.mencius_trace.specs.Words.{line_feed}
 use Rattle.mencius_app.specs.Check.{IsCheckFaultOf, IsCheckOf}
 use Rattle.mencius_app.specs.Findings.{AreWordsOfInput, ExplainsAs, ExplainsByFields, Explanation}
 use Rattle.mencius_app.specs.Trace.{IsTraceOf}
@@ -56,7 +57,7 @@ fault_in _ = None
 
 -- a fault's number and name
 abbrev pub fault_line : AppFault → List ℕ
-fault_line fault = codes "mencius: fault " ++ decimal (fault_number fault) ++ 32 ∷ fault_name fault ++ line_feed
+fault_line fault = codes "mencius: fault " ++ decimal (fault_number fault) ++ 32 ∷ fault_name fault ++ codes "\n"
 
 -- there are words for the fault
 abbrev pub is_explained : Ending → Bool
@@ -180,11 +181,11 @@ AsksToRun arguments = (faults (line_of arguments) ≡ []) × (is_run (task_in (l
 
 -- the input of a task is bad in this way, where it is known
 abbrev pub IsInputFaultOf : TaskState → Option (List ℕ) → IoFault → Type 0
-IsInputFaultOf (asked_run with_journal with_observations key) known fault = IsPlanFaultOf known fault
+IsInputFaultOf (asked_run with_journal with_observations key) known fault = HasFault (unless_long plan) known fault
 IsInputFaultOf asked_check known fault = IsCheckFaultOf known fault
 IsInputFaultOf (asked_draw (Some part)) known fault = IsDrawingFaultOf part known fault
 IsInputFaultOf asked_judge known fault = IsLogFaultOf known fault
-IsInputFaultOf _ known fault = IsFaultOf known fault
+IsInputFaultOf _ known fault = HasFault (unless_long scenario) known fault
 
 -- the arguments ask for a task, whose input is bad in this way
 abbrev pub IsFaultFor : List Text → Option (List ℕ) → IoFault → Type 0

@@ -1,5 +1,5 @@
 -- The number and the name of each fault, and which fault is told of what ends a task.
-use Rattle.std.specs.Prelude.{◌≡◌, ℕ, List, codes}
+use Rattle.std.specs.Prelude.{ℕ, List, codes}
 use Rattle.mencius_app.specs.declared.fault.AppFault.{AppFault}
 use Rattle.mencius_app.specs.declared.fault.AppFault.TheVariants.{NotJson, BadShape, BadLimit, ReadFailed, WriteFailed, NoMemory, BoardFailed}
 use Rattle.mencius_app.specs.declared.finding.Finding.{Finding}
@@ -39,7 +39,3 @@ app_fault io.NoMemory = NoMemory
 abbrev pub fault_of_run : RunFinding → AppFault
 fault_of_run (at.Found found) = app_fault found.fault
 fault_of_run at.BoardFailed = BoardFailed
-
--- a fault of an input, a reader, a writer or memory, of which this holds
-abbrev pub IsFaultWith : (IoFault → Type 0) → AppFault → Type 0
-IsFaultWith P fault = (cause : IoFault) × (fault ≡ app_fault cause) × P cause

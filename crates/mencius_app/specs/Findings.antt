@@ -9,7 +9,6 @@ use Rattle.mencius_input.specs.Kinds.{kind_in}
 use Rattle.mencius_input.specs.Explanations.{Explains, too_long_words}
 use Rattle.mencius_input.specs.Plan.{plan}
 use Rattle.mencius_input.specs.Scenario.{scenario}
-use Rattle.mencius_trace.specs.Words.{line_feed}
 use Rattle.mencius_app.specs.declared.finding.Finding.{Finding}
 use Rattle.mencius_input.specs.declared.scenario.Scenario.{Scenario}
 use Rattle.mencius_base.specs.declared.event.Event.{Event}
@@ -48,7 +47,7 @@ IsTooLong fault bytes words = (fault ≡ BadLimit) × (most_bytes < length bytes
 -- the line says where these bytes have the fault
 abbrev pub AreWordsOf : Explanation → IoFault → List ℕ → List ℕ → Type 0
 AreWordsOf Tells fault bytes line =
-    (words : List ℕ) × (Tells fault bytes words ⊎ IsTooLong fault bytes words) × (line ≡ words ++ line_feed)
+    (words : List ℕ) × (Tells fault bytes words ⊎ IsTooLong fault bytes words) × (line ≡ words ++ codes "\n")
 
 -- the line says where all that a reader has, so far as that is known, has the fault
 abbrev pub AreWordsOfInput : Explanation → Option (List ℕ) → IoFault → List ℕ → Type 0

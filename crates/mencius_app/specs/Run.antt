@@ -4,13 +4,14 @@ use Rattle.mencius_model.specs.KeyMap.{value_at}
 use Rattle.mencius_model.specs.Next.{replay}
 use Rattle.mencius_model.specs.Replying.{longest_commands}
 use Rattle.mencius_cluster.specs.State.{ClusterState, trace_of}
-use Rattle.mencius_app.specs.Input.{Says, plan_input_of}
+use Rattle.mencius_input.specs.Plan.{plan}
+use Rattle.mencius_app.specs.Input.{Says, unless_long}
 use Rattle.mencius_app.specs.Journal.{ReadsBack, journal_text}
 use Rattle.mencius_app.specs.Plan.{IsOutcome}
 use Rattle.mencius_app.specs.Report.{report_text}
 use Rattle.mencius_judge.specs.Observed.{log_of}
 use Rattle.mencius_judge.specs.Written.{log_text}
-use Rattle.mencius_trace.specs.Words.{former_text, line_feed}
+use Rattle.mencius_trace.specs.Words.{former_text}
 use Rattle.mencius_input.specs.declared.scenario.Scenario.{Scenario}
 use Rattle.mencius_base.specs.Plan.{PlanState}
 
@@ -18,14 +19,14 @@ use Rattle.mencius_base.specs.Plan.{PlanState}
 
 -- the journal, as one line, where it is asked for
 abbrev pub journal_line : Bool → ClusterState → List ℕ
-journal_line is_asked x = if is_asked then journal_text x.members x.journal ++ line_feed else []
+journal_line is_asked x = if is_asked then journal_text x.members x.journal ++ codes "\n" else []
 
 -- what the commands of the longest history leave at a key
 abbrev pub text_at : ClusterState → List ℕ → Option (List ℕ)
 text_at x key = value_at key (longest_commands x.members (trace_of x))
 
 abbrev pub held_line : List ℕ → Option (List ℕ) → List ℕ
-held_line key held = codes "lookup " ++ (key ++ 32 ∷ (former_text held ++ line_feed))
+held_line key held = codes "lookup " ++ (key ++ 32 ∷ (former_text held ++ codes "\n"))
 
 -- what was found at the key, where one was looked up
 abbrev pub found_line : Option (List ℕ) → Option (List ℕ) → List ℕ
@@ -54,12 +55,12 @@ IsFound (Some key) x found = found ≡ text_at x key
 
 -- ---- the whole
 
--- a text of a run by all that a reader has, so far as that is known: that of the cluster to which all turns of the plan
+-- a text of a run of the scenario that a reader has: that of the cluster to which all turns of the plan
 -- came, whose journal replays, and whose journal's line says it again
 pub record IsRunOf (known : Option (List ℕ)) (with_journal with_observations : Bool) (key : Option (List ℕ))
     (text : List ℕ) : Type 0 where
   pub written : Scenario PlanState
-  pub says : Says plan_input_of known written
+  pub says : Says (unless_long plan) known written
   pub cluster : ClusterState
   pub outcome : IsOutcome written cluster
   pub replays : replay cluster.members cluster.journal ≡ Ok (trace_of cluster)

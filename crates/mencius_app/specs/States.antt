@@ -1,21 +1,19 @@
 -- The text of a state: what each server of a cluster knows of each instance that it heard of.
 use Rattle.std.specs.Prelude.{◌≡◌, ◌<◌, ℕ, Bool, List, [], ◌++◌, ◌||◌, codes, decimal, if◌then◌else◌, is_some, nat_lt, Option, Some, None, slice_index_or}
-use Rattle.std.specs.List.{flat_map, range_with_len}
+use Rattle.std.specs.List.{enumerate_from, flat_map, range_with_len}
 use Rattle.mencius_base.specs.Limits.{instance_count}
-use Rattle.mencius_base.specs.Members.{Membership, servers_of}
+use Rattle.mencius_base.specs.Members.{Membership, numbers_below}
 use Rattle.mencius_base.specs.Numbers.{ServerId, Inst, BallotNo}
 use Rattle.mencius_base.specs.declared.event.Event.{Event}
 use Rattle.mencius_base.specs.declared.message.Value.{Value}
 use Rattle.mencius_base.specs.declared.message.Vote.{Vote}
 use Rattle.mencius_server.specs.declared.glance.Glance.{Glance}
-use Rattle.mencius_cluster.specs.State.{trace_of}
 use Rattle.mencius_model.specs.Trace.{Trace}
 use Rattle.mencius_model.specs.Instance.{accepted_ballot, vote}
-use Rattle.mencius_model.specs.Outcomes.{outcomes_from}
+use Rattle.mencius_model.specs.Outcomes.{outcomes_from, trace_from}
 use Rattle.mencius_trace.specs.Facts.{at_instance, value_text, vote_text}
 use Rattle.mencius_trace.specs.Effects.{glance}
-use Rattle.mencius_trace.specs.Words.{line_feed}
-use Rattle.mencius_app.specs.Replay.{IsMadeOf, cluster_of_replay, refused_lines}
+use Rattle.mencius_app.specs.Replay.{IsMadeOf, refused_line}
 use Rattle.mencius_app.specs.Report.{server_line}
 
 -- for each instance the greatest ballot that p accepted there
@@ -49,7 +47,7 @@ slot_text w g x = acceptor_text w g.promised x ++ proposer_text w g ++ learner_t
 
 abbrev pub slot_line : Trace → ServerId → Inst → Glance → Option Vote → List ℕ
 slot_line w p i g x =
-    if is_heard_of g x then codes "slot " ++ decimal p ++ at_instance i ++ slot_text w g x ++ line_feed else []
+    if is_heard_of g x then codes "slot " ++ decimal p ++ at_instance i ++ slot_text w g x ++ codes "\n" else []
 
 -- what p knows of instance i, if it heard of it
 abbrev pub slot_line_at : Membership → Trace → ServerId → Inst → List ℕ
@@ -64,14 +62,13 @@ abbrev pub server_state : Membership → Trace → ServerId → List ℕ
 server_state m w p = server_line m w p ++ slot_lines m w p instance_count
 
 abbrev pub server_states : Membership → Trace → List ℕ
-server_states m w = flat_map (server_state m w) (servers_of m)
+server_states m w = flat_map (server_state m w) (numbers_below m.count)
 
--- the refused events, and then each server of the cluster after all events
+-- a line for each refused event, and then the state of each server after all events
 abbrev pub state_text : Membership → List Event → List ℕ
 state_text m es =
-    refused_lines (outcomes_from m [] es)
-    ++ server_states (cluster_of_replay m es).members (trace_of (cluster_of_replay m es))
+    flat_map refused_line (enumerate_from 0 (outcomes_from m [] es)) ++ server_states m (trace_from m [] es)
 
--- a text of the state of that
+-- a reader has a scenario, and this text is the one of the state after it
 abbrev pub IsStateOf : Option (List ℕ) → List ℕ → Type 0
 IsStateOf known text = IsMadeOf state_text known text

@@ -62,8 +62,14 @@ pub(crate) fn perform_alone<R: Source, W: Sink, E: Sink>(
         (WritesOrFails (E.contents errors.old) (E.contents errors.new)
         (E.failed errors.old) (E.failed errors.new)) (errors.new ≡ errors.old)) }
     ensures fault { IfOk result (EndsForCause (bytes_of arguments.now) (R.remaining source.old)
-        (R.failed source.old) (R.failed source.new) (W.failed sink.old) (W.failed sink.new)
-        (W.contents sink.old) (W.contents sink.new)) }
+        (record {
+          failed_reads = R.failed source.old;
+          failed_reads_now = R.failed source.new;
+          failed_writes = W.failed sink.old;
+          failed_writes_now = W.failed sink.new;
+          written = W.contents sink.old;
+          written_now = W.contents sink.new;
+        })) }
     ensures asked { AsksAs (task_in (line_of (bytes_of arguments.now)))
         (R.remaining source.old) (R.remaining source.new)
         (R.failed source.old) (R.failed source.new) (W.failed sink.old) (W.failed sink.new) }
@@ -95,8 +101,14 @@ fn perform_task<R: Source, W: Sink>(
     ensures fault { IfOk result (λ ending. IfSome (fault_in ending)
         (IsCause (IsInputFaultOf (task_state task) (R.remaining source.old))
         (IsTextOf (task_state task) (R.remaining source.old))
-        (R.failed source.old) (R.failed source.new) (W.failed sink.old) (W.failed sink.new)
-        (W.contents sink.old) (W.contents sink.new))) }
+        (record {
+          failed_reads = R.failed source.old;
+          failed_reads_now = R.failed source.new;
+          failed_writes = W.failed sink.old;
+          failed_writes_now = W.failed sink.new;
+          written = W.contents sink.old;
+          written_now = W.contents sink.new;
+        }))) }
     ensures words { IfOk result (TellsOf (task_state task) (R.remaining source.old)) }
     ensures asked { AsksAs (task_state task) (R.remaining source.old) (R.remaining source.new)
         (R.failed source.old) (R.failed source.new) (W.failed sink.old) (W.failed sink.new) }

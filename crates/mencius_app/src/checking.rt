@@ -1,6 +1,6 @@
 //! What a check of a scenario prints.
 
-ghost use Rattle.std.specs.Prelude.{ℕ, List, ◌≡◌, ◌⊎◌, ◌++◌, map, string_bytes, IfErr, IfOk, IfSome, OnOk, Err, Ok};
+ghost use Rattle.std.specs.Prelude.{ℕ, List, ◌≡◌, ◌⊎◌, ◌++◌, map, string_bytes, IfErr, IfOk, IfSome, OnOk, Err, Ok, codes};
 ghost use Rattle.std.specs.List.{flat_map};
 ghost use Rattle.std.specs.Io.KnownBytes.{Appends, IsAtEnd};
 ghost use Rattle.mencius_input.specs.Kinds.{kind_in};
@@ -9,7 +9,6 @@ ghost use Rattle.mencius_input.specs.Scenario.{scenario};
 ghost use Rattle.mencius_app.specs.Calls.{AsksLittle, AsksReader, IsCause, IsReadingCause};
 ghost use Rattle.mencius_app.specs.Check.{IsCheckFaultOf, IsCheckOf, EitherScenario, either_scenario, count_text, ok_line, replay_line, run_line};
 ghost use Rattle.mencius_app.specs.Findings.{ExplainsByFields, IsFoundIn};
-ghost use Rattle.mencius_trace.specs.Words.{line_feed};
 
 use crate::finding::{Finding, misread, unread};
 use mencius_base::{Command, Plan};
@@ -36,9 +35,15 @@ pub fn check<R: Source, W: Sink>(alloc: Global, source: &mut R, sink: &mut W) ->
 
     // Which fault, and when; and how much was asked of reader and writer, whatever the answer.
     ensures fault { IfErr result (λ found. IsCause (IsCheckFaultOf (R.remaining source.old))
-        (IsCheckOf (R.remaining source.old)) (R.failed source.old) (R.failed source.new)
-        (W.failed sink.old) (W.failed sink.new) (W.contents sink.old) (W.contents sink.new)
-        found.fault) }
+        (IsCheckOf (R.remaining source.old))
+        (record {
+          failed_reads = R.failed source.old;
+          failed_reads_now = R.failed source.new;
+          failed_writes = W.failed sink.old;
+          failed_writes_now = W.failed sink.new;
+          written = W.contents sink.old;
+          written_now = W.contents sink.new;
+        }) found.fault) }
 
     // The words, where there are any, are of the fault in these bytes.
     ensures words { IfErr result (IsFoundIn ExplainsByFields (R.remaining source.old)) }
@@ -75,7 +80,7 @@ fn line_in(alloc: Global, bytes: &[u8]) -> Result<String, Finding>
         ⊎ (either_scenario bytes.now ≡ Err found.fault)) }
     ensures words { IfErr result (λ found. IfSome found.words (λ line. (words : List ℕ)
         × ExplainsByFields found.fault bytes.now words
-        × (string_bytes line ≡ words ++ line_feed))) }
+        × (string_bytes line ≡ words ++ codes "\n"))) }
 {
     match read_scenario(alloc, bytes) {
         Ok(scenario) => Ok(replay_line(alloc, &scenario)?),
@@ -98,7 +103,7 @@ fn line_of_other_shape(alloc: Global, bytes: &[u8]) -> Result<String, Finding>
         ⊎ (either_scenario bytes.now ≡ Err found.fault)) }
     ensures words { IfErr result (λ found. IfSome found.words (λ line. (words : List ℕ)
         × ExplainsByFields found.fault bytes.now words
-        × (string_bytes line ≡ words ++ line_feed))) }
+        × (string_bytes line ≡ words ++ codes "\n"))) }
 {
     match kind_of(alloc, bytes)? {
         Kind::Replay => Err(misread(alloc, Kind::Replay, bytes, IoFault::BadShape)),
@@ -115,7 +120,7 @@ fn line_of_run(alloc: Global, bytes: &[u8]) -> Result<String, Finding>
         ⊎ (either_scenario bytes.now ≡ Err found.fault)) }
     ensures words { IfErr result (λ found. IfSome found.words (λ line. (words : List ℕ)
         × ExplainsByFields found.fault bytes.now words
-        × (string_bytes line ≡ words ++ line_feed))) }
+        × (string_bytes line ≡ words ++ codes "\n"))) }
 {
     match read_plan(alloc, bytes) {
         Ok(scenario) => Ok(run_line(alloc, &scenario)?),

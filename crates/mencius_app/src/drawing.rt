@@ -1,9 +1,8 @@
 //! What a picture of a scenario prints.
 
-ghost use Rattle.std.specs.Prelude.{ℕ, List, ◌≡◌, ◌⊎◌, ◌++◌, IfErr, IfOk, IfSome, Ok, OnOk, string_bytes};
+ghost use Rattle.std.specs.Prelude.{ℕ, List, ◌≡◌, ◌⊎◌, ◌++◌, IfErr, IfOk, IfSome, Ok, OnOk, string_bytes, codes};
 ghost use Rattle.std.specs.Io.KnownBytes.{Appends, IsAtEnd};
 ghost use Rattle.mencius_draw.specs.Picture.{IsPicture};
-ghost use Rattle.mencius_trace.specs.Words.{line_feed};
 ghost use Rattle.mencius_app.specs.Calls.{AsksLittle, IsCause};
 ghost use Rattle.mencius_app.specs.Drawing.{ExplainsPicture, IsDrawingFaultOf, IsPictureOf, IsRefusedAs, too_large_words};
 ghost use Rattle.mencius_app.specs.Findings.{IsFoundIn};
@@ -34,9 +33,15 @@ pub fn draw<R: Source, W: Sink>(
     // Which fault, and when; and how much was asked of reader and writer, whatever the answer.
     ensures fault { IfErr result (λ found.
         IsCause (IsDrawingFaultOf options.now (R.remaining source.old))
-        (IsPictureOf options.now (R.remaining source.old)) (R.failed source.old)
-        (R.failed source.new) (W.failed sink.old) (W.failed sink.new) (W.contents sink.old)
-        (W.contents sink.new) found.fault) }
+        (IsPictureOf options.now (R.remaining source.old))
+        (record {
+          failed_reads = R.failed source.old;
+          failed_reads_now = R.failed source.new;
+          failed_writes = W.failed sink.old;
+          failed_writes_now = W.failed sink.new;
+          written = W.contents sink.old;
+          written_now = W.contents sink.new;
+        }) found.fault) }
     ensures words { IfErr result
         (IsFoundIn (ExplainsPicture options.now) (R.remaining source.old)) }
     ensures asked { AsksLittle (R.remaining source.old) (R.remaining source.new)
@@ -64,7 +69,7 @@ fn drawn(alloc: Global, trace: &str, options: &Options) -> Result<String, Findin
 fn too_large(alloc: Global, large: TooLarge) -> Finding
     ensures fault { result.fault ≡ IoFault.BadLimit }
     ensures words { IfSome result.words (λ line.
-        string_bytes line ≡ too_large_words large.levels ++ line_feed) }
+        string_bytes line ≡ too_large_words large.levels ++ codes "\n") }
 {
     Finding {
         fault: IoFault::BadLimit,
@@ -73,7 +78,7 @@ fn too_large(alloc: Global, large: TooLarge) -> Finding
 }
 
 fn words_of_levels(alloc: Global, levels: usize) -> Option<String>
-    ensures { IfSome result (λ line. string_bytes line ≡ too_large_words levels ++ line_feed) }
+    ensures { IfSome result (λ line. string_bytes line ≡ too_large_words levels ++ codes "\n") }
 {
     let words = format!(in alloc;
         "the picture takes {levels} levels and has at most {MOST_LEVELS}: ask for fewer events by `--from` and `--to`"

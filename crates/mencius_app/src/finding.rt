@@ -1,9 +1,8 @@
 //! Why a task ended without doing its work.
 
-ghost use Rattle.std.specs.Prelude.{◌≡◌, ◌++◌, ℕ, List, IfSome, string_bytes, true};
+ghost use Rattle.std.specs.Prelude.{◌≡◌, ◌++◌, ℕ, List, IfSome, string_bytes, true, codes};
 ghost use Rattle.mencius_input.specs.Explanations.{Explains, ExplainsUnread};
 ghost use Rattle.mencius_app.specs.Findings.{ExplainsAs, IsOtherKind, other_kind_words};
-ghost use Rattle.mencius_trace.specs.Words.{line_feed};
 
 use mencius_base::NoMemory;
 use mencius_input::{IoFault, Kind, explain, explain_unread, read_plan, read_scenario};
@@ -55,7 +54,7 @@ impl From<NoMemory> for Finding {
 pub(crate) fn unread(alloc: Global, fault: IoFault) -> Finding
     ensures fault { result.fault ≡ fault }
     ensures words { IfSome result.words (λ line. (words : List ℕ)
-        × ExplainsUnread fault words × (string_bytes line ≡ words ++ line_feed)) }
+        × ExplainsUnread fault words × (string_bytes line ≡ words ++ codes "\n")) }
 {
     let words = if fault == IoFault::NoMemory {
         None
@@ -69,7 +68,7 @@ pub(crate) fn unread(alloc: Global, fault: IoFault) -> Finding
 pub(crate) fn misread(alloc: Global, kind: Kind, bytes: &[u8], fault: IoFault) -> Finding
     ensures fault { result.fault ≡ fault }
     ensures words { IfSome result.words (λ line. (words : List ℕ)
-        × Explains kind fault bytes.now words × (string_bytes line ≡ words ++ line_feed)) }
+        × Explains kind fault bytes.now words × (string_bytes line ≡ words ++ codes "\n")) }
 {
     let words = if fault == IoFault::NoMemory {
         None
@@ -83,7 +82,7 @@ pub(crate) fn misread(alloc: Global, kind: Kind, bytes: &[u8], fault: IoFault) -
 pub(crate) fn misread_as(alloc: Global, kind: Kind, bytes: &[u8], fault: IoFault) -> Finding
     ensures fault { result.fault ≡ fault }
     ensures words { IfSome result.words (λ line. (words : List ℕ)
-        × ExplainsAs kind fault bytes.now words × (string_bytes line ≡ words ++ line_feed)) }
+        × ExplainsAs kind fault bytes.now words × (string_bytes line ≡ words ++ codes "\n")) }
 {
     if fault == IoFault::BadShape && is_other_kind(alloc, kind, bytes) {
         let words = words_of_other(alloc, kind);
@@ -103,7 +102,7 @@ fn is_other_kind(alloc: Global, kind: Kind, bytes: &[u8]) -> bool
 }
 
 fn words_of_other(alloc: Global, kind: Kind) -> Option<String>
-    ensures { IfSome result (λ line. string_bytes line ≡ other_kind_words kind ++ line_feed) }
+    ensures { IfSome result (λ line. string_bytes line ≡ other_kind_words kind ++ codes "\n") }
 {
     let words = match kind {
         Kind::Replay => "this is a scenario of a run: `mencius run` takes it",
@@ -114,21 +113,21 @@ fn words_of_other(alloc: Global, kind: Kind) -> Option<String>
 
 fn words_unread(alloc: Global, fault: IoFault) -> Option<String>
     ensures { IfSome result (λ line. (words : List ℕ)
-        × ExplainsUnread fault words × (string_bytes line ≡ words ++ line_feed)) }
+        × ExplainsUnread fault words × (string_bytes line ≡ words ++ codes "\n")) }
 {
     as_line(explain_unread(alloc, fault).ok()?)
 }
 
 fn words_at(alloc: Global, kind: Kind, bytes: &[u8], fault: IoFault) -> Option<String>
     ensures { IfSome result (λ line. (words : List ℕ)
-        × Explains kind fault bytes.now words × (string_bytes line ≡ words ++ line_feed)) }
+        × Explains kind fault bytes.now words × (string_bytes line ≡ words ++ codes "\n")) }
 {
     as_line(explain(alloc, kind, bytes, fault).ok()?)
 }
 
 /// Words as a line, if there is memory for its line feed.
 pub(crate) fn as_line(words: String) -> Option<String>
-    ensures { IfSome result (λ line. string_bytes line ≡ string_bytes words ++ line_feed) }
+    ensures { IfSome result (λ line. string_bytes line ≡ string_bytes words ++ codes "\n") }
 {
     let mut line = words;
     line.push('\n').ok()?;

@@ -1,11 +1,10 @@
 //! What a judgement of a log prints.
 
-ghost use Rattle.std.specs.Prelude.{ℕ, List, ◌≡◌, ◌≤◌, ◌+◌, ◌++◌, Some, string_bytes, IfErr, IfOk, IfSome};
+ghost use Rattle.std.specs.Prelude.{ℕ, List, ◌≡◌, ◌≤◌, ◌+◌, ◌++◌, Some, string_bytes, IfErr, IfOk, IfSome, codes};
 ghost use Rattle.std.specs.Prelude.{String};
 ghost use Rattle.std.specs.Global.{Global};
 ghost use Rattle.std.specs.Io.KnownBytes.{Appends};
 ghost use Rattle.mencius_ends.specs.Ends.{most_failed_calls};
-ghost use Rattle.mencius_trace.specs.Words.{line_feed};
 ghost use Rattle.mencius_app.specs.Calls.{IsCause, IsReadingCause};
 ghost use Rattle.mencius_app.specs.Findings.{IsFoundIn};
 ghost use Rattle.mencius_app.specs.Judging.{ExplainsByLine, IsJudgement, IsJudgementOf, IsLogFaultOf, is_kept, verdict_line};
@@ -34,9 +33,15 @@ pub fn judge<R: Source, W: Sink>(
 
     // Which fault, and when; and how many calls failed, whatever the answer.
     ensures fault { IfErr result (λ found. IsCause (IsLogFaultOf (R.remaining source.old))
-        (IsJudgement (R.remaining source.old)) (R.failed source.old) (R.failed source.new)
-        (W.failed sink.old) (W.failed sink.new) (W.contents sink.old) (W.contents sink.new)
-        found.fault) }
+        (IsJudgement (R.remaining source.old))
+        (record {
+          failed_reads = R.failed source.old;
+          failed_reads_now = R.failed source.new;
+          failed_writes = W.failed sink.old;
+          failed_writes_now = W.failed sink.new;
+          written = W.contents sink.old;
+          written_now = W.contents sink.new;
+        }) found.fault) }
     ensures words { IfErr result (IsFoundIn ExplainsByLine (R.remaining source.old)) }
     ensures few_reads { R.failed source.new ≤ R.failed source.old + most_failed_calls }
     ensures few_writes { W.failed sink.new ≤ W.failed sink.old + most_failed_calls }
@@ -67,7 +72,7 @@ fn read_judgement<R: Source>(alloc: Global, source: &mut R) -> Result<(String, b
 fn finding_of(unjudged: Unjudged) -> Finding
     ensures fault { result.fault ≡ unjudged.fault }
     ensures words { IfSome result.words (λ line. (words : String Global)
-        × (unjudged.words ≡ Some words) × (string_bytes line ≡ string_bytes words ++ line_feed)) }
+        × (unjudged.words ≡ Some words) × (string_bytes line ≡ string_bytes words ++ codes "\n")) }
 {
     let Unjudged { fault, words } = unjudged;
     match words {

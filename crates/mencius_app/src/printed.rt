@@ -1,13 +1,16 @@
 //! The report of a cluster.
 
-ghost use Rattle.std.specs.Prelude.{ℕ, ◌≡◌, ◌<◌, ◌≤◌, ◌+◌, ◌⊎◌, ◌++◌, length, string_bytes, Some, IfErr, IsErrOf, OnOk, slice_get};
+ghost use Rattle.std.specs.Prelude.{ℕ, ◌≡◌, ◌<◌, ◌≤◌, ◌+◌, ◌⊎◌, ◌++◌, length, string_bytes, Some, [], IfErr, IsErrOf, OnOk, slice_get};
 ghost use Rattle.std.specs.Io.KnownBytes.{Appends};
-ghost use Rattle.mencius_base.specs.Members.{IsMember};
+ghost use Rattle.std.specs.List.{flat_map};
+ghost use Rattle.std.specs.Option.{option_map_or};
+ghost use Rattle.mencius_base.specs.Members.{IsMember, numbers_below};
 ghost use Rattle.mencius_ends.specs.Ends.{HasFailed, WritesFront, most_failed_calls};
-ghost use Rattle.mencius_app.specs.Report.{counts_line, reply_line, reply_lines, reply_of_command, report_text, server_line, server_lines};
+ghost use Rattle.mencius_app.specs.Report.{report_text, server_line};
 ghost use Rattle.mencius_model.specs.Trace.{submitted_commands};
 ghost use Rattle.mencius_cluster.specs.State.{trace_of};
-ghost use Rattle.mencius_trace.specs.Words.{spaced_ticket, tickets_text};
+ghost use Rattle.mencius_model.specs.Replying.{reply_of};
+ghost use Rattle.mencius_trace.specs.Words.{answer_line, tickets_text};
 
 use crate::fault::AppFault;
 use mencius_cluster::{Cluster, laws};
@@ -41,27 +44,21 @@ pub(crate) fn push_report(text: &mut String, cluster: &Cluster) -> Result<(), Al
     ensures { OnOk result (string_bytes text.new
         ≡ string_bytes text.old ++ report_text cluster.now.members (trace_of cluster.now)) }
 {
-    push_cluster_counts(text, cluster)?;
-    push_servers(text, cluster)?;
-    push_replies(text, cluster)
-}
-
-fn push_cluster_counts(text: &mut String, cluster: &Cluster) -> Result<(), AllocError>
-    ensures { OnOk result (string_bytes text.new
-        ≡ string_bytes text.old ++ counts_line cluster.now.members (trace_of cluster.now)) }
-{
     let servers = cluster.servers();
     let messages = cluster.messages();
     let events = cluster.events();
     writeln!(
         text,
         "servers {servers} messages {messages} events {events}"
-    )
+    )?;
+    push_servers(text, cluster)?;
+    push_replies(text, cluster)
 }
 
 fn push_servers(text: &mut String, cluster: &Cluster) -> Result<(), AllocError>
     ensures { OnOk result (string_bytes text.new ≡ string_bytes text.old
-        ++ server_lines cluster.now.members (trace_of cluster.now)) }
+        ++ flat_map (server_line cluster.now.members (trace_of cluster.now))
+        (numbers_below cluster.now.members.count)) }
 {
     for server in 0..cluster.servers() {
         push_server(text, cluster, server)?;
@@ -116,7 +113,8 @@ fn push_history(text: &mut String, cluster: &Cluster, tickets: &[u32]) -> Result
 
 fn push_replies(text: &mut String, cluster: &Cluster) -> Result<(), AllocError>
     ensures { OnOk result (string_bytes text.new ≡ string_bytes text.old
-        ++ reply_lines (trace_of cluster.now) (length (submitted_commands (trace_of cluster.now)))) }
+        ++ flat_map (λ x. answer_line x.0.id (reply_of (trace_of cluster.now) x.0.id))
+        (submitted_commands (trace_of cluster.now))) }
 {
     for ticket in 0..cluster.commands() {
         push_reply(text, cluster, ticket)?;
@@ -126,8 +124,9 @@ fn push_replies(text: &mut String, cluster: &Cluster) -> Result<(), AllocError>
 
 fn push_reply(text: &mut String, cluster: &Cluster, ticket: u32) -> Result<(), AllocError>
     requires { ticket < length (submitted_commands (trace_of cluster.now)) }
-    ensures { OnOk result (string_bytes text.new
-        ≡ string_bytes text.old ++ reply_line (trace_of cluster.now) ticket) }
+    ensures { OnOk result (string_bytes text.new ≡ string_bytes text.old
+        ++ option_map_or (λ x. answer_line x.0.id (reply_of (trace_of cluster.now) x.0.id))
+        (slice_get (submitted_commands (trace_of cluster.now)) ticket) []) }
 {
     let Some(submission) = cluster.submission(ticket) else {
         unreachable!();

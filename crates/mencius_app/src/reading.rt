@@ -4,7 +4,8 @@ ghost use Rattle.std.specs.Prelude.{◌≡◌, IfErr, IfOk, OnOk};
 ghost use Rattle.std.specs.Io.KnownBytes.{IsAtEnd};
 ghost use Rattle.mencius_app.specs.Calls.{AsksReader, IsReadingCause};
 ghost use Rattle.mencius_app.specs.Findings.{ExplainsAs, IsFoundIn};
-ghost use Rattle.mencius_app.specs.Input.{IsFaultOf, Says, input_of};
+ghost use Rattle.mencius_input.specs.Scenario.{scenario};
+ghost use Rattle.mencius_app.specs.Input.{HasFault, Says, unless_long};
 
 use crate::finding::{Finding, misread_as, unread};
 use mencius_input::{Events, Kind, Scenario, Source, read_all, read_scenario};
@@ -16,8 +17,8 @@ pub(crate) fn read_input<R: Source>(
     source: &mut R,
 ) -> Result<Scenario<Events>, Finding>
     ensures end { OnOk result (IsAtEnd (R.remaining source.new)) }
-    ensures said { IfOk result (λ s. Says input_of (R.remaining source.old) s) }
-    ensures fault { IfErr result (λ found. IsReadingCause (IsFaultOf (R.remaining source.old))
+    ensures said { IfOk result (λ s. Says (unless_long scenario) (R.remaining source.old) s) }
+    ensures fault { IfErr result (λ found. IsReadingCause (HasFault (unless_long scenario) (R.remaining source.old))
         (R.failed source.old) (R.failed source.new) found.fault) }
     ensures words { IfErr result (IsFoundIn (ExplainsAs Kind.Replay) (R.remaining source.old)) }
     ensures asked { AsksReader (R.remaining source.old) (R.remaining source.new)

@@ -4,7 +4,8 @@ ghost use Rattle.std.specs.Prelude.{ℕ, List, ◌≡◌, ◌++◌, [], string_b
 ghost use Rattle.std.specs.Io.KnownBytes.{Appends, IsAtEnd};
 ghost use Rattle.mencius_app.specs.Calls.{AsksLittle, IsCause};
 ghost use Rattle.mencius_app.specs.Findings.{ExplainsAs, IsFoundIn};
-ghost use Rattle.mencius_app.specs.Input.{IsFaultOf};
+ghost use Rattle.mencius_input.specs.Scenario.{scenario};
+ghost use Rattle.mencius_app.specs.Input.{HasFault, unless_long};
 ghost use Rattle.mencius_app.specs.Replay.{salt_of_events};
 ghost use Rattle.mencius_app.specs.Trace.{IsTraceOf};
 ghost use Rattle.mencius_cluster.specs.Salt.{hasher_with};
@@ -30,10 +31,16 @@ pub fn trace<R: Source, W: Sink>(alloc: Global, source: &mut R, sink: &mut W) ->
         × Appends (W.contents sink.old) (W.contents sink.new) text) }
 
     // Which fault, and when; and how much was asked of reader and writer, whatever the answer.
-    ensures fault { IfErr result (λ found. IsCause (IsFaultOf (R.remaining source.old))
-        (IsTraceOf (R.remaining source.old)) (R.failed source.old) (R.failed source.new)
-        (W.failed sink.old) (W.failed sink.new) (W.contents sink.old) (W.contents sink.new)
-        found.fault) }
+    ensures fault { IfErr result (λ found. IsCause (HasFault (unless_long scenario) (R.remaining source.old))
+        (IsTraceOf (R.remaining source.old))
+        (record {
+          failed_reads = R.failed source.old;
+          failed_reads_now = R.failed source.new;
+          failed_writes = W.failed sink.old;
+          failed_writes_now = W.failed sink.new;
+          written = W.contents sink.old;
+          written_now = W.contents sink.new;
+        }) found.fault) }
     ensures words { IfErr result (IsFoundIn (ExplainsAs Kind.Replay) (R.remaining source.old)) }
     ensures asked { AsksLittle (R.remaining source.old) (R.remaining source.new)
         (R.failed source.old) (R.failed source.new) (W.failed sink.old) (W.failed sink.new) }

@@ -37,8 +37,14 @@ pub fn perform_in_turns<R: Source, W: Sink, E: Sink>(
 
     // Which fault, and when; and how much was asked of reader and writer, whatever the answer.
     ensures fault { EndsForCause (bytes_of arguments.now) (R.remaining source.old)
-        (R.failed source.old) (R.failed source.new) (W.failed sink.old) (W.failed sink.new)
-        (W.contents sink.old) (W.contents sink.new) result }
+        (record {
+          failed_reads = R.failed source.old;
+          failed_reads_now = R.failed source.new;
+          failed_writes = W.failed sink.old;
+          failed_writes_now = W.failed sink.new;
+          written = W.contents sink.old;
+          written_now = W.contents sink.new;
+        }) result }
     ensures board { result ≢ Ending.BoardFailed }
     ensures asked { AsksAs (task_in (line_of (bytes_of arguments.now)))
         (R.remaining source.old) (R.remaining source.new)
@@ -74,8 +80,14 @@ pub fn perform_without_pictures<R: Source, W: Sink, E: Sink>(
     ensures written { WritesWhole (Did (bytes_of arguments.now) (R.remaining source.old)
         (W.contents sink.old) (W.contents sink.new)) result }
     ensures fault { EndsForCause (bytes_of arguments.now) (R.remaining source.old)
-        (R.failed source.old) (R.failed source.new) (W.failed sink.old) (W.failed sink.new)
-        (W.contents sink.old) (W.contents sink.new) result }
+        (record {
+          failed_reads = R.failed source.old;
+          failed_reads_now = R.failed source.new;
+          failed_writes = W.failed sink.old;
+          failed_writes_now = W.failed sink.new;
+          written = W.contents sink.old;
+          written_now = W.contents sink.new;
+        }) result }
     ensures board { result ≢ Ending.BoardFailed }
     ensures asked { AsksAs (task_in (line_of (bytes_of arguments.now)))
         (R.remaining source.old) (R.remaining source.new)
@@ -101,8 +113,14 @@ fn perform_run_in_turns<R: Source, W: Sink>(
     ensures fault { IfSome (fault_in result)
         (IsCause (IsInputFaultOf (task_with options.now) (R.remaining source.old))
         (IsTextOf (task_with options.now) (R.remaining source.old))
-        (R.failed source.old) (R.failed source.new) (W.failed sink.old) (W.failed sink.new)
-        (W.contents sink.old) (W.contents sink.new)) }
+        (record {
+          failed_reads = R.failed source.old;
+          failed_reads_now = R.failed source.new;
+          failed_writes = W.failed sink.old;
+          failed_writes_now = W.failed sink.new;
+          written = W.contents sink.old;
+          written_now = W.contents sink.new;
+        })) }
     ensures words { TellsOf (task_with options.now) (R.remaining source.old) result }
     ensures asked { AsksLittle (R.remaining source.old) (R.remaining source.new)
         (R.failed source.old) (R.failed source.new) (W.failed sink.old) (W.failed sink.new) }

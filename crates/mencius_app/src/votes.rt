@@ -1,9 +1,9 @@
 //! What a server accepted, asked of the messages that were sent.
 
-ghost use Rattle.std.specs.Prelude.{ℕ, ◌≡◌, ◌<◌, IfOk, None, Some, slice_index_or, vec_len};
+ghost use Rattle.std.specs.Prelude.{ℕ, ◌≡◌, ◌<◌, IfOk, None, Some, option_and_then, option_map, slice_index_or, vec_len};
 ghost use Rattle.mencius_base.specs.Limits.{instance_count};
 ghost use Rattle.mencius_cluster.specs.State.{trace_of};
-ghost use Rattle.mencius_model.specs.Instance.{accepted_by, greater_ballot, proposal, proposal_by, vote_of};
+ghost use Rattle.mencius_model.specs.Instance.{accepted_by, greater_ballot, proposal, proposal_by};
 ghost use Rattle.mencius_model.specs.Trace.{Sent};
 ghost use Rattle.mencius_app.specs.States.{AreAccepted};
 
@@ -75,7 +75,8 @@ fn greater_ballot(former: Option<Ballot>, ballot: Ballot) -> Ballot
 
 /// What a server accepted last at an instance, which was at this ballot, if it accepted anything.
 pub(crate) fn vote_of(cluster: &Cluster, inst: u32, ballot: Option<Ballot>) -> Option<Vote>
-    ensures { result ≡ vote_of (trace_of cluster.now) inst ballot }
+    ensures { result ≡ option_and_then
+        (λ b. option_map (λ x. record { ballot = b; value = x }) (proposal (trace_of cluster.now) inst b)) ballot }
 {
     let ballot = ballot?;
     let value = proposal(cluster, inst, ballot)?;

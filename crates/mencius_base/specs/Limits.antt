@@ -1,15 +1,16 @@
--- The limits of a cluster and of a run, by number. The code has the same numbers in `src/limits.rt`.
+-- The limits of a cluster and of a run, by number. The code has the same numbers in `src/limits.rt`. The greatest
+-- numbers of messages and of events are in `Members.antt`, next to the list of all instances.
 use Rattle.std.specs.Prelude.{ℕ}
 
 -- the greatest number of servers
 abbrev pub most_servers : ℕ
 most_servers = 7
 
--- how many instances there are
+-- the number of instances
 abbrev pub instance_count : ℕ
 instance_count = 4096
 
--- the greatest front and the greatest stop of a Skip: a server's next instance past its last one, of seven servers
+-- the greatest front, and the greatest stop of a Skip: seven past the last instance, with seven servers
 abbrev pub greatest_front : ℕ
 greatest_front = 4102
 
@@ -17,21 +18,13 @@ greatest_front = 4102
 abbrev pub greatest_round : ℕ
 greatest_round = 65535
 
--- the greatest number of a ballot: the greatest round, and the last of seven servers
+-- the greatest number of a ballot: the one of server 6 in the greatest round, with seven servers
 abbrev pub greatest_ballot : ℕ
 greatest_ballot = 458751
 
 -- the greatest beta of a membership
 abbrev pub greatest_beta : ℕ
 greatest_beta = 4095
-
--- how many messages may be sent
-abbrev pub message_limit : ℕ
-message_limit = 262144
-
--- how many events may be accepted
-abbrev pub event_limit : ℕ
-event_limit = 262144
 
 -- the greatest numbers of workers of a run and of turns of a worker, and how many of 64 choices may lose a message
 abbrev pub most_workers : ℕ
@@ -47,9 +40,10 @@ greatest_loss = 32
 abbrev pub most_readers : ℕ
 most_readers = 16
 
--- the greatest numbers of bytes of a key and of a text
+-- the greatest number of bytes of a key
 abbrev pub most_key_bytes : ℕ
 most_key_bytes = 64
 
+-- the greatest number of bytes of a text
 abbrev pub most_text_bytes : ℕ
 most_text_bytes = 256

@@ -1,8 +1,8 @@
 -- Who there is, who owns which instance, and who leads which ballot.
-use Rattle.std.specs.Prelude.{ℕ, Bool, nat_le, ◌<◌, ◌+◌, ◌-◌, ◌*◌, ◌/◌, ◌%◌, List, [], ◌∷◌, Option, Some, None, if◌then◌else◌, ◌==◌}
+use Rattle.std.specs.Prelude.{ℕ, ◌<◌, ◌+◌, ◌-◌, ◌*◌, ◌/◌, ◌%◌, List, if◌then◌else◌, ◌==◌}
 use Rattle.std.specs.List.{range_with_len}
 use Rattle.mencius_base.specs.Numbers.{ServerId, Inst, BallotNo}
-use Rattle.mencius_base.specs.Limits.{event_limit, instance_count, message_limit}
+use Rattle.mencius_base.specs.Limits.{instance_count}
 
 -- the servers of a cluster, and what sets how far past the own front a suspicion looks
 pub record Membership : Type 0 where
@@ -17,17 +17,9 @@ new_members count = record { count = count; beta = 0 }
 abbrev pub IsMember : Membership → ServerId → Type 0
 IsMember m p = p < m.count
 
--- each of them, by number
-abbrev pub servers_of : Membership → List ServerId
-servers_of m = range_with_len 0 m.count
-
 -- more than half of them
 abbrev pub majority : Membership → ℕ
 majority m = m.count / 2 + 1
-
--- whether so many of them are a majority
-abbrev pub is_majority : Membership → ℕ → Bool
-is_majority m n = nat_le (majority m) n
 
 -- the instances are owned in turn
 abbrev pub owner : Membership → Inst → ServerId
@@ -51,17 +43,14 @@ leader m b i = if b == 0 then owner m i else b % m.count
 unfoldable pub numbers_below : ℕ → List ℕ
 numbers_below n = range_with_len 0 n
 
--- the first of a list, if there is one
-abbrev pub first_item : List ℕ → Option ℕ
-first_item [] = None
-first_item (t ∷ ts) = Some t
-
--- every instance there is, and the greatest number of messages and of events
+-- every instance there is, rising
 unfoldable pub instances : List Inst
 instances = numbers_below instance_count
 
+-- the greatest number of messages that may be sent
 unfoldable pub most_messages : ℕ
-most_messages = message_limit
+most_messages = 262144
 
+-- the greatest number of events that may be accepted
 unfoldable pub most_events : ℕ
-most_events = event_limit
+most_events = 262144

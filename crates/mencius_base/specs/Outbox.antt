@@ -16,7 +16,7 @@ pub record IsPushed (sent : List Message) (count : ℕ) (before after : OutboxSt
   pub room : after.room + count ≡ before.room
   pub limit : after.limit ≡ before.limit
 
--- where there are so many already, that many more would pass the limit
+-- whether `extra` messages after `count` exceed the limit
 abbrev pub is_too_many : ℕ → ℕ → ℕ → Bool
 is_too_many limit count extra = nat_lt limit (count + extra)
 

@@ -3,7 +3,7 @@ use Rattle.std.specs.Prelude.{ℕ, ◌≡◌, ◌≤◌, List, [], Option, Some,
 use mathlib.Core.List.{IsPrefix}
 use Rattle.mencius_base.specs.declared.command.Command.{Command}
 use Rattle.mencius_model.specs.Next.{replay}
-use Rattle.mencius_model.specs.Laws.{LongestCommandsGrow}
+use Rattle.mencius_model.specs.Laws.{Grows}
 use Rattle.mencius_model.specs.Replying.{longest_commands}
 use Rattle.mencius_cluster.specs.State.{ClusterState, trace_of}
 use Rattle.mencius_board.specs.Marks.{MarkState, Origin, VersionState, mark_of}
@@ -32,7 +32,7 @@ longest_of x = longest_commands x.members (trace_of x)
 pub record IsSteady (x : ClusterState) : Type 0 where
   pub some_server : 1 ≤ x.members.count
   pub replays : replay x.members x.journal ≡ Ok (trace_of x)
-  pub grows : LongestCommandsGrow
+  pub grows : Grows longest_commands
 
 -- what every board keeps: what is shown and then what is pending is a prefix of the longest history. The log has the
 -- commands that were ever to be shown, the opening is its mark when it was empty, and n commands were handed to the

@@ -3,12 +3,24 @@ use Rattle.std.specs.Prelude.{IfOk}
 use Rattle.std.proofs.Common.{◌≡◌, ◌≢◌, ◌⊎◌, ◌≤◌, ◌++◌, ◌∙◌, ℕ, Bool, false, List, [], Some, Result, Ok, Err, ap, subst, sym, arith, append-nil, inl, inr}
 use Rattle.clap.specs.Words.{Text}
 use Rattle.mencius_ends.specs.Ends.{HasFailed}
+use Rattle.mencius_app.specs.Calls.{StreamChanges}
 use Rattle.mencius_app.specs.CallEndings.{EndsForCause, RefusesArguments, RefusesPicture, WritesOrFails, WritesWhole}
 use Rattle.mencius_app.specs.Ending.{Did, lines_of_ending}
 use Rattle.mencius_app.specs.declared.ending.Ending.{Ending}
 use Rattle.mencius_app.specs.declared.ending.Ending.TheVariants.{BadCommandLine, BoardFailed}
 use Rattle.mencius_calls.specs.declared.call.Called.{Called}
 use Rattle.mencius_calls.specs.Calls.{IsEndOf}
+
+-- no call of the reader fails, and so many writes had failed and have failed now
+abbrev pub changes : ℕ → ℕ → List ℕ → List ℕ → StreamChanges
+changes failed failed_now before out = record {
+  failed_reads = 0;
+  failed_reads_now = 0;
+  failed_writes = failed;
+  failed_writes_now = failed_now;
+  written = Some before;
+  written_now = Some out;
+}
 
 none_failed : (old new : ℕ) → new ≤ 0 → HasFailed old new → ⊥
 none_failed old new none (inl more) = omega (arith, more, none)
@@ -37,7 +49,7 @@ module _ {IsUnread IsUnwritten IsQuiet : Type 0} (arguments : List Text) (input 
 
     pub call_ended : WritesWhole (Did arguments (Some input) (Some before) (Some out)) ending
         → RefusesArguments arguments IsUnread IsUnwritten (WritesOrFails (Some err_0) (Some err_1) e_0 e_1) IsQuiet ending
-        → EndsForCause arguments (Some input) 0 0 w_0 w_1 (Some before) (Some out) ending → ending ≢ BoardFailed
+        → EndsForCause arguments (Some input) (changes w_0 w_1 before out) ending → ending ≢ BoardFailed
         → IsEndOf arguments input ending out err is_asked
     call_ended whole refused cause no_board = record {
       written = subst (λ o. WritesWhole (Did arguments (Some input) (Some o) (Some out)) ending) before_is whole;
@@ -50,9 +62,9 @@ module _ {IsUnread IsUnwritten IsQuiet : Type 0} (arguments : List Text) (input 
         );
         unread = λ some. unread (refused.unread some);
       };
-      fault = subst (λ o. EndsForCause arguments (Some input) 0 0 0 0 (Some o) (Some out) ending) before_is
-          (subst (λ n. EndsForCause arguments (Some input) 0 0 0 n (Some before) (Some out) ending) w_still
-          (subst (λ n. EndsForCause arguments (Some input) 0 0 n w_1 (Some before) (Some out) ending) w_none cause));
+      fault = subst (λ o. EndsForCause arguments (Some input) (changes 0 0 o out) ending) before_is
+          (subst (λ n. EndsForCause arguments (Some input) (changes 0 n before out) ending) w_still
+          (subst (λ n. EndsForCause arguments (Some input) (changes n w_1 before out) ending) w_none cause));
       no_board = no_board;
     }
 

@@ -4,10 +4,11 @@ use Rattle.clap.specs.Words.{Text}
 use Rattle.mencius_command_line.specs.CommandLine.{asked_trace}
 use Rattle.mencius_app.specs.declared.ending.Ending.{Ending}
 use Rattle.mencius_app.specs.declared.ending.Ending.TheVariants.{Done, Refused, BadCommandLine, BoardFailed}
-use Rattle.mencius_app.specs.Calls.{IsCause}
+use Rattle.mencius_app.specs.Calls.{IsCause, StreamChanges}
 use Rattle.mencius_app.specs.CallEndings.{AsksToDraw, EndsForCause, RefusesArguments, RefusesPicture, WritesWhole}
 use Rattle.mencius_app.specs.Ending.{Did, TellsOf, fault_in, lines_of_ending, status_of, status_of_ending}
-use Rattle.mencius_app.specs.Input.{IsFaultOf}
+use Rattle.mencius_input.specs.Scenario.{scenario}
+use Rattle.mencius_app.specs.Input.{HasFault, unless_long}
 use Rattle.mencius_app.specs.States.{IsStateOf}
 use Rattle.mencius_app.specs.declared.fault.AppFault.TheVariants.{NoMemory}
 use Rattle.mencius_calls.specs.declared.answer.Answer.{Answer}
@@ -25,6 +26,17 @@ words_in bytes = words_from [] bytes
 
 -- ---- a call
 
+-- no call of the reader or of the writer fails, and the writer, which was empty, gets this text
+abbrev pub changes_to : List ℕ → StreamChanges
+changes_to printed = record {
+  failed_reads = 0;
+  failed_reads_now = 0;
+  failed_writes = 0;
+  failed_writes_now = 0;
+  written = Some [];
+  written_now = Some printed;
+}
+
 -- a call with these arguments and this input ended so. It printed and said these texts, each whole: what was asked for,
 -- or why the arguments are refused, or a fault. Neither reading nor writing fails, and there is no board
 pub record IsEndOf (arguments : List Text) (input : List ℕ) (ending : Ending) (printed said : List ℕ) (is_asked : Bool)
@@ -32,7 +44,7 @@ pub record IsEndOf (arguments : List Text) (input : List ℕ) (ending : Ending) 
   pub written : WritesWhole (Did arguments (Some input) (Some []) (Some printed)) ending
   pub refused : RefusesArguments arguments (is_asked ≡ false) (printed ≡ []) (λ text. said ≡ text)
       (said ≡ lines_of_ending ending) ending
-  pub fault : EndsForCause arguments (Some input) 0 0 0 0 (Some []) (Some printed) ending
+  pub fault : EndsForCause arguments (Some input) (changes_to printed) ending
   pub no_board : ending ≢ BoardFailed
 
 -- and this is its status
@@ -56,7 +68,7 @@ pub record IsEndOfState (input : List ℕ) (ending : Ending) (printed said : Lis
   -- it ends at a fault else: which, and when, where neither reading nor writing fails
   pub no_other : (ending ≢ Refused) × (ending ≢ BadCommandLine) × (ending ≢ BoardFailed)
   pub fault : IfSome (fault_in ending)
-      (IsCause (IsFaultOf (Some input)) (IsStateOf (Some input)) 0 0 0 0 (Some []) (Some printed))
+      (IsCause (HasFault (unless_long scenario) (Some input)) (IsStateOf (Some input)) (changes_to printed))
   pub words : TellsOf asked_trace (Some input) ending
   pub told : said ≡ lines_of_ending ending
 

@@ -1,5 +1,6 @@
 -- What the tables of a cluster hold.
-use Rattle.std.specs.Prelude.{◌≡◌, ℕ, ◌≤◌, Bool, List, Option, Some, Ok, length, map, slice_get}
+use Rattle.std.specs.Prelude.{◌≡◌, ℕ, ◌≤◌, Bool, List, Option, Some, Ok, length, map, slice_get, []}
+use Rattle.std.specs.Result.{result_unwrap_or}
 use Rattle.std.specs.List.{filter_map, list_any}
 use Rattle.mencius_base.specs.declared.command.Command.{Command}
 use Rattle.mencius_base.specs.declared.event.Entry.{Entry}
@@ -10,7 +11,7 @@ use Rattle.mencius_base.specs.Numbers.{ServerId, TicketNo, MessageNo}
 use Rattle.mencius_base.specs.Outbox.{OutboxState}
 use Rattle.mencius_model.specs.Trace.{Trace, events, sent_messages, submitted_commands}
 use Rattle.mencius_model.specs.Server.{done}
-use Rattle.mencius_model.specs.Next.{is_loss, replay, trace_or_none}
+use Rattle.mencius_model.specs.Next.{is_loss, replay}
 use Rattle.mencius_server.specs.State.{ServerState}
 use Rattle.mencius_server.specs.Reached.{server_at}
 use Rattle.map_exec.specs.State.{ExecutorState}
@@ -64,6 +65,6 @@ pub record IsCluster (m : Membership) (journal : List Event) (x : Tables) : Type
   pub some : 1 ≤ m.count
   pub few : m.count ≤ most_servers
   pub room : length x.entries ≤ most_events
-  pub replays : replay m journal ≡ Ok (trace_or_none (replay m journal))
+  pub replays : replay m journal ≡ Ok (result_unwrap_or (replay m journal) [])
   pub stored : x.entries ≡ entries_of journal
-  pub tables : AreTables m (trace_or_none (replay m journal)) x
+  pub tables : AreTables m (result_unwrap_or (replay m journal) []) x

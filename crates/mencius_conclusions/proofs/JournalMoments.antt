@@ -2,10 +2,11 @@
 use Rattle.std.proofs.Common.{◌≡◌, ℕ, ◌≤◌, List, [], ◌++◌, Ok, sym, append-nil}
 use Rattle.mencius_base.specs.declared.event.Event.{Event}
 use Rattle.mencius_base.specs.Members.{Membership}
+use Rattle.mencius_base.specs.Numbers.{ServerId}
 use Rattle.mencius_model.specs.Trace.{Trace}
 use Rattle.mencius_model.specs.Next.{replay}
 use Rattle.mencius_model.specs.Executed.{history, IsPrefix, IsComparable}
-use Rattle.mencius_model.specs.Laws.{HistoriesComparable, HistoriesGrow, IsMoment}
+use Rattle.mencius_model.specs.Laws.{Grows, HistoriesComparable, IsMoment}
 
 -- the end of a journal is one of its moments
 whole : (m : Membership) (journal : List Event) (w : Trace) → replay m journal ≡ Ok w → IsMoment m journal w
@@ -20,8 +21,8 @@ comparable law m old new since w v p q some grown before after =
     (record { before = old; after = since; splits = grown; replays = before }) (whole m new v after) p q
 
 -- the former is a prefix of the latter where both are one server's
-pub grows : HistoriesGrow → (m : Membership) (old new since : List Event) (w v : Trace) (p : ℕ) → 1 ≤ m.count
+pub grows : ((p : ServerId) → Grows (λ m w. history w p)) → (m : Membership) (old new since : List Event) (w v : Trace) (p : ℕ) → 1 ≤ m.count
     → new ≡ old ++ since → replay m old ≡ Ok w → replay m new ≡ Ok v → IsPrefix (history w p) (history v p)
 grows law m old new since w v p some grown before after =
-    law m new v w (record { some_server = some; replays = after })
-    (record { before = old; after = since; splits = grown; replays = before }) p
+    law p m new v w (record { some_server = some; replays = after })
+    (record { before = old; after = since; splits = grown; replays = before })

@@ -1,5 +1,6 @@
 -- One worker's turns are in one order, and each is what the words drawn pick: so they come to one cluster.
 use Rattle.std.specs.Prelude.{slice_get, if◌then◌else◌}
+use Rattle.std.specs.Option.{option_map_or}
 use Rattle.std.proofs.Common.{◌≡◌, ℕ, zero, suc, ◌+◌, ◌==◌, ◌⊎◌, Bool, true, false, List, [], ◌∷◌, ◌++◌, Option, Some, None, Result, Ok, Err, map, set, refl, sym, ◌∙◌, ap, subst, arith, inl, inr}
 use Rattle.std.proofs.lemmas.Bool.Decides.{nat_tests}
 use Rattle.mencius_base.specs.Members.{numbers_below}
@@ -9,7 +10,7 @@ use Rattle.mencius_base.specs.declared.command.Command.{Command}
 use Rattle.mencius_base.specs.declared.event.Event.{Event}
 use Rattle.mencius_base.specs.declared.refusal.Refusal.{Refusal}
 use Rattle.mencius_model.specs.Trace.{Trace}
-use Rattle.mencius_model.specs.Next.{refusal_cause, step_or, with_event}
+use Rattle.mencius_model.specs.Next.{refusal_cause, with_event}
 use Rattle.mencius_cluster.specs.State.{ClusterState, trace_of}
 use Rattle.mencius_choices.specs.Choices.{ChooserState, IsChoice, IsTaken, first_chooser, pick_at}
 use Rattle.mencius_choices.specs.declared.choice.Pick.{Pick}
@@ -20,7 +21,8 @@ use Rattle.mencius_board.specs.Runs.{Befalls, ComesTo, RunState, TurnOf, Way, fi
 use Rattle.mencius_board.specs.Turns.{EndsTurn, IsAccepted, IsAfterTurn, IsRefusedBy, IsTurn}
 use Rattle.mencius_board.proofs.runs.RunSteps.{no_seat, one_seat}
 use Rattle.mencius_input.specs.declared.scenario.Scenario.{Scenario}
-use Rattle.mencius_app.specs.Input.{Says, plan_input_of}
+use Rattle.mencius_input.specs.Plan.{plan}
+use Rattle.mencius_app.specs.Input.{Says, unless_long}
 use Rattle.mencius_app.specs.Plan.{IsOutcome}
 use Rattle.mencius_app.specs.Run.{run_text}
 use Rattle.mencius_conclusions.specs.OneWorker.{OneCluster, OneText}
@@ -35,7 +37,7 @@ after_cause x e (Some r) = x
 abbrev after_event : ClusterState → Event → ClusterState
 after_event x e = after_cause x e (refusal_cause x.members (trace_of x) e)
 
-no_cause : (w v : Trace) (o : Option Refusal) → step_or w o ≡ Ok v → o ≡ None
+no_cause : (w v : Trace) (o : Option Refusal) → option_map_or Err o (Ok w) ≡ Ok v → o ≡ None
 no_cause w v None e = refl
 no_cause w v (Some r) e = absurd (cc)
 
@@ -216,10 +218,10 @@ one_cluster plan old other new other_new one same ran also =
 
 -- ---- a text
 
-said_once : (bytes : List ℕ) (written said : Scenario PlanState) → plan_input_of bytes ≡ Ok written
-    → Says plan_input_of (Some bytes) said → said ≡ written
+said_once : (bytes : List ℕ) (written said : Scenario PlanState) → unless_long plan bytes ≡ Ok written
+    → Says (unless_long plan) (Some bytes) said → said ≡ written
 said_once bytes written said is says =
-    let read : plan_input_of bytes ≡ Ok said = subst (λ b. plan_input_of b ≡ Ok said) (sym says.1) says.2 in
+    let read : unless_long plan bytes ≡ Ok said = subst (λ b. unless_long plan b ≡ Ok said) (sym says.1) says.2 in
     let same : Ok said ≡ Ok written = sym read ∙ is in
     cc
 

@@ -41,6 +41,6 @@ most_bytes = 16777216
 abbrev pub TakesAtMost : ℕ → Option (List ℕ) → Option (List ℕ) → Type 0
 TakesAtMost most old new = (bytes : List ℕ) × (length bytes ≤ most) × Consumes old new bytes
 
--- a front of the text was written, and nothing else
+-- a prefix of the text was written, and nothing else
 abbrev pub WritesFront : Option (List ℕ) → Option (List ℕ) → List ℕ → Type 0
 WritesFront old new text = (n : ℕ) × (n ≤ length text) × Appends old new (take n text)

@@ -11,8 +11,8 @@ use Rattle.std.proofs.lemmas.Slice.Eq.{bytes_eq-Decides}
 use Rattle.std.proofs.lemmas.List.Quantifiers.{position-Some}
 use Rattle.std.proofs.lemmas.List.Sums.{fails_before_first}
 use Rattle.std.proofs.lemmas.List.Splits.{slice_split_first, slice_split-cons_no}
-use Rattle.mencius_base.specs.Command.{is_name, is_name_byte}
-use Rattle.mencius_format.specs.Words.{parts, is_number, number_of, name_of, single_word}
+use Rattle.mencius_base.specs.Command.{is_name_byte}
+use Rattle.mencius_format.specs.Words.{parts, is_number, number_of, single_word}
 use Rattle.mencius_format.proofs.NumberWords.{number_digits}
 
 -- ---- a cut
@@ -75,7 +75,7 @@ first_part mark (byte ∷ bytes) = by_test (byte == mark) (first_part mark bytes
     by_test false same = (byte ∷ same.0, same.1, ap (onto_first byte) same.2)
 
 -- there are two parts at least, and a byte that fails the test
-abbrev HasMore : (ℕ → Bool) → List ℕ → List (List ℕ) → Type 0
+abbrev pub HasMore : (ℕ → Bool) → List ℕ → List (List ℕ) → Type 0
 HasMore test text ps =
     (x : List ℕ) × (y : List ℕ) × (ys : List (List ℕ)) × (ps ≡ x ∷ y ∷ ys) × (list_all test text ≡ false)
 
@@ -124,16 +124,13 @@ number_none word lacks = elim (cases_Bool (is_number word)) [
   | inr e ↦ rw e refl
 ]
 
-name_none : (word : List ℕ) → list_all is_name_byte word ≡ false → name_of word ≡ None
-unfolding name_of is_name
-name_none word lacks = rw lacks refl
-
 pub single_number : (mark : ℕ) → is_ascii_digit mark ≡ false → (text : List ℕ)
     → single_word number_of (parts mark text) ≡ number_of text
 single_number = single_rest is_ascii_digit number_of number_none
 
-pub single_name : (text : List ℕ) → single_word name_of (parts 32 text) ≡ name_of text
-single_name = single_rest is_name_byte name_of name_none 32 refl
+-- a text is one word, or there are two words at least and it is not a name
+pub one_name_or_more : (text : List ℕ) → (parts 32 text ≡ text ∷ []) ⊎ HasMore is_name_byte text (parts 32 text)
+one_name_or_more = one_or_more is_name_byte 32 refl
 
 -- ---- a word at the start
 

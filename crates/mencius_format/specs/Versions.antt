@@ -10,10 +10,7 @@ newest_version = 2
 abbrev pub is_version : ℕ → Bool
 is_version number = nat_le first_version number && nat_le number newest_version
 
--- a number that is no version has what the first one has
-abbrev pub version_or_first : ℕ → ℕ
-version_or_first number = if is_version number then number else first_version
-
--- what came with the version `needed` stands in a scenario of this number, too
+-- what came with the version `needed` may be in a scenario of this number. A number that is not a version has what the
+-- first version has
 abbrev pub may_stand_in : ℕ → ℕ → Bool
-may_stand_in needed number = nat_le needed (version_or_first number)
+may_stand_in needed number = nat_le needed (if is_version number then number else first_version)

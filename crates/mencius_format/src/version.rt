@@ -1,7 +1,7 @@
 //! The versions of a scenario, by number. Definitions have the same numbers in `specs/Versions.antt`.
 
-ghost use Rattle.std.specs.Prelude.{◌≡◌};
-ghost use Rattle.mencius_format.specs.Versions.{may_stand_in, version_or_first};
+ghost use Rattle.std.specs.Prelude.{◌≡◌, if◌then◌else◌};
+ghost use Rattle.mencius_format.specs.Versions.{first_version, is_version, may_stand_in};
 
 /// The first version of a scenario.
 pub const FIRST_VERSION: u64 = 1;
@@ -11,7 +11,7 @@ pub const NEWEST_VERSION: u64 = 2;
 
 // The version that a number is, or the first.
 fn version_or_first(number: u64) -> u64
-    ensures { result ≡ version_or_first number }
+    ensures { result ≡ (if is_version number then number else first_version) }
 {
     if FIRST_VERSION <= number && number <= NEWEST_VERSION {
         number

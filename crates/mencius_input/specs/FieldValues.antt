@@ -14,6 +14,7 @@ use Rattle.mencius_ends.specs.declared.fault.IoFault.TheVariants.{BadLimit, BadS
 use Rattle.mencius_format.specs.Grammar.{is_command_within, is_event_within, newest_version}
 use Rattle.mencius_format.specs.ValuesOrFaults.{map_ok, value_or_fault}
 use Rattle.mencius_input.specs.declared.field.Field.{Field}
+use Rattle.mencius_input.specs.declared.field.Field.TheVariants.{Version, Servers, Beta}
 use Rattle.mencius_input.specs.declared.fields.FieldValues as code
 use Rattle.mencius_input.specs.declared.fields.KeptList as code_list
 use Rattle.mencius_input.specs.declared.fields.KeptList.TheVariants as kept
@@ -22,11 +23,11 @@ use Rattle.mencius_input.specs.declared.kind.Kind.TheVariants.{Replay, Run}
 use Rattle.mencius_input.specs.declared.newest.Newest.{Newest}
 use Rattle.mencius_input.specs.declared.scenario.Scenario.{Scenario}
 use Rattle.mencius_input.specs.declared.scenario.Shared.{Shared}
-use Rattle.mencius_input.specs.FieldsOf.{field_name, list_field, names, whole_fields}
+use Rattle.mencius_input.specs.FieldsOf.{events_name, field_name, field_number, is_field_within, list_field, names, whole_fields}
 use Rattle.mencius_input.specs.Newest.{command_item_version, event_item_version, in_version, list_version}
 use Rattle.mencius_input.specs.ItemFaults.{list_in}
-use Rattle.mencius_input.specs.Plan.{commands_read, are_numbers_within}
-use Rattle.mencius_input.specs.Scenario.{◌>>=◌, all_in, is_cluster_within, has_only, number_of}
+use Rattle.mencius_input.specs.Plan.{commands_read, are_numbers_within, run_names}
+use Rattle.mencius_input.specs.Scenario.{◌>>=◌, all_in, has_only}
 
 -- ---- the lists
 
@@ -71,9 +72,14 @@ list_kept (kept.Commands x) = of_lists (lists_kept x)
 
 -- ---- all fields
 
+-- the names of the fields that only a scenario of the kind has
+abbrev pub own_names : Kind → List (List ℕ)
+own_names Replay = events_name ∷ []
+own_names Run = run_names
+
 -- what each field says that is a whole number
 abbrev pub wholes_of : List Field → Data → List (Option ℕ)
-wholes_of fields d = map (λ field. number_of field d) fields
+wholes_of fields d = map (λ field. field_number field d) fields
 
 -- what is known of a field is what its value says, as it was written last
 abbrev pub Says : {X : Type 0} → (Data → X) → List ℕ → Option X → Members → Type 0
@@ -121,9 +127,10 @@ with_course shared course = record {
   course = course;
 }
 
--- within the limits
+-- the numbers of both kinds are within their limits
 abbrev pub is_shared_within : Shared → Bool
-is_shared_within shared = is_cluster_within shared.version (record { count = shared.servers; beta = shared.beta })
+is_shared_within shared =
+    (is_field_within Version shared.version && is_field_within Servers shared.servers) && is_field_within Beta shared.beta
 
 abbrev pub scenario_or_fault : {X : Type 0} → Shared → Result X IoFault → Result (Scenario X) IoFault
 scenario_or_fault shared (Ok course) = if is_shared_within shared then Ok (with_course shared course) else Err BadLimit

@@ -1,7 +1,11 @@
--- The fields of the two kinds of scenario: one table of their names, their ranges and what a missing one is.
-use Rattle.std.specs.Prelude.{ℕ, ◌&&◌, ◌++◌, List, [], ◌∷◌, codes, map, not, Bool, false, Option, Some, None, is_some, nat_le}
+-- The fields of the two kinds of scenario: their names, their ranges and their defaults. The code has the same table in
+-- `src/field.rt`.
+use Rattle.std.specs.Prelude.{ℕ, ◌&&◌, ◌++◌, List, [], ◌∷◌, codes, map, not, Bool, false, Option, Some, None, is_some, option_and_then, nat_le}
 use Rattle.std.specs.List.{filter, list_any}
+use Rattle.std.specs.Option.{option_map_or}
 use Rattle.std.specs.Str.{bytes_eq}
+use Rattle.serde_json.specs.Data.{Data}
+use Rattle.serde_json.specs.Find.{as_number, as_u64, get}
 use Rattle.mencius_base.specs.Limits.{greatest_beta, greatest_loss, most_servers, most_turns, most_workers}
 use Rattle.mencius_format.specs.Grammar.{first_version, newest_version}
 use Rattle.mencius_input.specs.declared.field.Field.{Field}
@@ -11,44 +15,95 @@ use Rattle.mencius_input.specs.declared.field.Shape.TheVariants as shape
 use Rattle.mencius_input.specs.declared.kind.Kind.{Kind}
 use Rattle.mencius_input.specs.declared.kind.Kind.TheVariants.{Replay, Run}
 
--- ---- the table
+-- ---- the fields
+
+-- a field that is a whole number: its name, its least and its greatest number, and the number that it has if it is missing.
+-- A field without this default must not be missing
+pub record WholeField : Type 0 where
+  pub name : List ℕ
+  pub least : ℕ
+  pub greatest : ℕ
+  pub default : Option ℕ
+
+abbrev pub version_field : WholeField
+version_field = record { name = codes "version"; least = first_version; greatest = newest_version; default = None }
+
+abbrev pub servers_field : WholeField
+servers_field = record { name = codes "servers"; least = 1; greatest = most_servers; default = None }
+
+abbrev pub beta_field : WholeField
+beta_field = record { name = codes "beta"; least = 0; greatest = greatest_beta; default = Some 0 }
+
+abbrev pub workers_field : WholeField
+workers_field = record { name = codes "workers"; least = 1; greatest = most_workers; default = None }
+
+abbrev pub seed_field : WholeField
+seed_field = record { name = codes "seed"; least = 0; greatest = 18446744073709551615; default = None }
+
+abbrev pub turns_field : WholeField
+turns_field = record { name = codes "turns"; least = 0; greatest = most_turns; default = None }
+
+abbrev pub loss_field : WholeField
+loss_field = record { name = codes "loss"; least = 0; greatest = greatest_loss; default = None }
+
+-- the names of the fields that are lists
+abbrev pub events_name : List ℕ
+events_name = codes "events"
+
+abbrev pub commands_name : List ℕ
+commands_name = codes "commands"
+
+-- ---- what an object says by a field
+
+-- the whole number that a value is
+abbrev pub whole_in : Data → Option ℕ
+whole_in d = option_and_then as_u64 (as_number d)
+
+-- the whole number that a field says, or its default if the field is missing
+unfoldable pub number_of : WholeField → Data → Option ℕ
+number_of field d = option_map_or whole_in (get field.name d) field.default
+
+unfoldable pub is_number_within : WholeField → ℕ → Bool
+is_number_within field n = nat_le field.least n && nat_le n field.greatest
+
+-- ---- the table of the code
 
 -- a field: its name, and what its value is
 pub record Row : Type 0 where
   pub name : List ℕ
   pub shape : Shape
 
--- a whole number from the least to the greatest, and what it is where the field is missing, if it may be
-abbrev pub whole_row : List ℕ → ℕ → ℕ → Option ℕ → Row
-whole_row name least greatest default = record { name = name; shape = shape.Whole least greatest default }
+abbrev pub whole_row : WholeField → Row
+whole_row field = record { name = field.name; shape = shape.Whole field.least field.greatest field.default }
 
--- a list
 abbrev pub list_row : List ℕ → Row
 list_row name = record { name = name; shape = shape.List }
 
 abbrev pub row : Field → Row
-row Version = whole_row (codes "version") first_version newest_version None
-row Servers = whole_row (codes "servers") 1 most_servers None
-row Beta = whole_row (codes "beta") 0 greatest_beta (Some 0)
-row Workers = whole_row (codes "workers") 1 most_workers None
-row Seed = whole_row (codes "seed") 0 18446744073709551615 None
-row Turns = whole_row (codes "turns") 0 most_turns None
-row Loss = whole_row (codes "loss") 0 greatest_loss None
-row Events = list_row (codes "events")
-row Commands = list_row (codes "commands")
+row Version = whole_row version_field
+row Servers = whole_row servers_field
+row Beta = whole_row beta_field
+row Workers = whole_row workers_field
+row Seed = whole_row seed_field
+row Turns = whole_row turns_field
+row Loss = whole_row loss_field
+row Events = list_row events_name
+row Commands = list_row commands_name
 
--- the fields of both kinds that are whole numbers, and those of a run alone
+-- the fields of both kinds that are whole numbers
 abbrev pub shared_fields : List Field
 shared_fields = Version ∷ Servers ∷ Beta ∷ []
 
+-- the fields of a run alone that are whole numbers
 abbrev pub run_fields : List Field
 run_fields = Workers ∷ Seed ∷ Turns ∷ Loss ∷ []
 
--- the fields of a kind that are whole numbers, and the one that is a list
+-- the fields of a kind that are whole numbers
 abbrev pub whole_fields : Kind → List Field
 whole_fields Replay = shared_fields
 whole_fields Run = shared_fields ++ run_fields
 
+-- the field of a kind that is a list
 abbrev pub list_field : Kind → Field
 list_field Replay = Events
 list_field Run = Commands
@@ -58,7 +113,7 @@ list_field Run = Commands
 abbrev pub field_name : Field → List ℕ
 field_name field = (row field).name
 
--- what a field is that is not there, if it may be missing
+-- the number that a field has if it is missing
 abbrev pub shape_default : Shape → Option ℕ
 shape_default (shape.Whole least greatest default) = default
 shape_default shape.List = None
@@ -66,7 +121,14 @@ shape_default shape.List = None
 abbrev pub default_of : Field → Option ℕ
 default_of field = shape_default (row field).shape
 
--- a whole number is within the limits of the field
+-- `number_of` by the table: the whole number of a field whose value may be missing
+abbrev pub number_in : Field → Option Data → Option ℕ
+number_in field value = option_map_or whole_in value (default_of field)
+
+unfoldable pub field_number : Field → Data → Option ℕ
+field_number field d = number_in field (get (field_name field) d)
+
+-- `is_number_within` by the table: a whole number is within the limits of the field
 abbrev pub is_shape_within : Shape → ℕ → Bool
 is_shape_within (shape.Whole least greatest default) n = nat_le least n && nat_le n greatest
 is_shape_within shape.List n = false
@@ -78,7 +140,7 @@ is_field_within field n = is_shape_within (row field).shape n
 abbrev pub fields : Kind → List Field
 fields kind = whole_fields kind ++ list_field kind ∷ []
 
--- their names
+-- the names of all fields of a kind
 abbrev pub names : Kind → List (List ℕ)
 names kind = map field_name (fields kind)
 

@@ -21,10 +21,10 @@ use Rattle.mencius_input.specs.declared.kind.Kind.{Kind}
 use Rattle.mencius_input.specs.declared.kind.Kind.TheVariants.{Replay, Run}
 use Rattle.mencius_input.specs.declared.places.Place.{Place}
 use Rattle.mencius_input.specs.declared.places.Place.TheVariants as place
-use Rattle.mencius_input.specs.FieldsOf.{default_of, field_name, is_field_within, fields, list_field, whole_fields}
+use Rattle.mencius_input.specs.FieldsOf.{default_of, field_name, field_number, is_field_within, fields, list_field, whole_fields, whole_in}
 use Rattle.mencius_input.specs.Newest.{command_item_version, event_item_version}
 use Rattle.mencius_input.specs.Plan.{command_said}
-use Rattle.mencius_input.specs.Scenario.{item_said, json_of, number_of, whole_in}
+use Rattle.mencius_input.specs.Scenario.{item_said, json_of}
 
 -- ---- a place
 
@@ -74,7 +74,7 @@ is_fault fault (Some found) = false
 
 -- the version in which they are judged: that of the scenario, and where it says none, the newest
 abbrev pub version_in : Data → ℕ
-version_in d = unwrap_or (number_of Version d) newest_version
+version_in d = unwrap_or (field_number Version d) newest_version
 
 abbrev pub item_fault : Kind → ℕ → Data → Option IoFault
 item_fault Replay version d = result_err (item_said version d)
@@ -123,7 +123,7 @@ abbrev pub items_place : Kind → IoFault → Data → Items → Option PlaceSta
 items_place Replay fault d items = events_place fault (version_in d) items
 items_place Run fault d items =
     option_or (first_of (list_place fault (version_in d)) 0 items)
-    (count_place fault (items_len items) (number_of Servers d))
+    (count_place fault (items_len items) (field_number Servers d))
 
 abbrev pub course_place : Kind → IoFault → Data → Option Items → Option PlaceState
 course_place kind fault d None = if is_shape fault then Some (no_list (list_field kind)) else None

@@ -1,5 +1,5 @@
 -- What the bytes of a run's scenario say: a cluster, and the plan that workers follow on it.
-use Rattle.std.specs.Prelude.{ℕ, ◌==◌, ◌&&◌, List, length, Bool, Option, Some, option_and_then, Result}
+use Rattle.std.specs.Prelude.{ℕ, ◌==◌, ◌&&◌, List, [], ◌∷◌, length, Bool, Option, Some, option_and_then, Result}
 use Rattle.std.specs.List.{list_all}
 use Rattle.serde_json.specs.Data.{Data}
 use Rattle.serde_json.specs.Find.{as_array, get}
@@ -7,13 +7,11 @@ use Rattle.mencius_base.specs.Members.{Membership}
 use Rattle.mencius_base.specs.Plan.{PlanState}
 use Rattle.mencius_base.specs.CommandState.{CommandState}
 use Rattle.mencius_ends.specs.declared.fault.IoFault.{IoFault}
-use Rattle.mencius_input.specs.declared.field.Field.TheVariants.{Workers, Seed, Turns, Loss, Commands}
-use Rattle.mencius_input.specs.declared.kind.Kind.TheVariants.{Run}
 use Rattle.mencius_input.specs.declared.scenario.Scenario.{Scenario}
 use Rattle.mencius_format.specs.ValuesOrFaults.{value_or_fault}
 use Rattle.mencius_format.specs.Grammar.{command_of, is_command_within}
-use Rattle.mencius_input.specs.FieldsOf.{field_name, is_field_within}
-use Rattle.mencius_input.specs.Scenario.{◌>>=◌, all_in, all_of, number_of, said_by, scenario_in}
+use Rattle.mencius_input.specs.FieldsOf.{commands_name, is_number_within, loss_field, number_of, seed_field, turns_field, workers_field}
+use Rattle.mencius_input.specs.Scenario.{◌>>=◌, all_in, all_of, said_by, scenario_in}
 
 -- ---- the shape
 
@@ -24,23 +22,27 @@ commands_read version d = all_in (said_by (command_of version)) d
 -- the plan, by the fields of a run alone
 unfoldable pub plan_read : ℕ → Data → Option PlanState
 plan_read version d = do
-  workers ← number_of Workers d
-  seed ← number_of Seed d
-  turns ← number_of Turns d
-  loss ← number_of Loss d
-  lists ← option_and_then as_array (get (field_name Commands) d)
+  workers ← number_of workers_field d
+  seed ← number_of seed_field d
+  turns ← number_of turns_field d
+  loss ← number_of loss_field d
+  lists ← option_and_then as_array (get commands_name d)
   commands ← all_of (commands_read version) lists
   Some (record { workers = workers; seed = seed; turns = turns; loss = loss; commands = commands })
 
+-- the names of the fields that only a scenario of `run` has
+abbrev pub run_names : List (List ℕ)
+run_names = workers_field.name ∷ seed_field.name ∷ turns_field.name ∷ loss_field.name ∷ commands_name ∷ []
+
 -- ---- the limits
 
--- of its numbers
+-- the numbers of a plan are within their limits
 abbrev pub are_numbers_within : PlanState → Bool
 are_numbers_within plan =
-    is_field_within Workers plan.workers && is_field_within Seed plan.seed && is_field_within Turns plan.turns
-    && is_field_within Loss plan.loss
+    is_number_within workers_field plan.workers && is_number_within seed_field plan.seed && is_number_within turns_field plan.turns
+    && is_number_within loss_field plan.loss
 
--- and as many lists as there are servers
+-- the plan is within the limits, and has as many lists as there are servers
 abbrev pub is_plan_within : Membership → PlanState → Bool
 is_plan_within members plan =
     (are_numbers_within plan && (length plan.commands == members.count)) && list_all (list_all is_command_within) plan.commands
@@ -53,4 +55,4 @@ command_said version d = value_or_fault is_command_within (said_by (command_of v
 
 -- what the bytes say as a scenario of `run`, or the fault that they have
 abbrev pub plan : List ℕ → Result (Scenario PlanState) IoFault
-plan bytes = scenario_in Run plan_read is_plan_within bytes
+plan bytes = scenario_in run_names plan_read is_plan_within bytes

@@ -4,10 +4,9 @@ ghost use Rattle.std.specs.Prelude.{◌≡◌, ◌&&◌, IfOk, None, Ok, Some, f
 ghost use Rattle.serde_json.specs.Find.{as_number, as_object};
 ghost use Rattle.serde_json.specs.Read.{read};
 ghost use Rattle.serde_json.specs.View.{items_view, view};
-ghost use Rattle.mencius_input.specs.FieldsOf.{fields};
+ghost use Rattle.mencius_input.specs.FieldsOf.{field_number, fields};
 ghost use Rattle.mencius_input.specs.declared.field.Field.TheVariants.{Servers};
 ghost use Rattle.mencius_input.specs.Places.{count_place, field_named, field_place, first_in, first_item, first_of, first_place, is_great_number, is_lacking, is_limit, is_shape, items_place, lack_place, list_field_place, list_place, names_in, not_whole, number_place, place_in, place_state, version_in};
-ghost use Rattle.mencius_input.specs.Scenario.{number_of};
 
 use crate::faulty_items::{first_item, is_limit, is_shape};
 use crate::field::{Field, list_field, whole_fields};
@@ -70,9 +69,9 @@ pub enum Place {
 }
 
 // The whole number that a field says, and what it is where it is missing.
-#[tactic(auto, unfolding(crate::specs::Scenario::number_of))]
+#[tactic(auto, unfolding(crate::specs::FieldsOf::field_number))]
 fn said_number(scenario: &Value, field: Field) -> Option<u64>
-    ensures { result ≡ number_of field (view scenario.now) }
+    ensures { result ≡ field_number field (view scenario.now) }
 {
     match scenario.get(field.name()) {
         Some(value) => value.as_u64(),
@@ -138,7 +137,7 @@ fn first_in_lists(
 // The commands as a place, where they are not one list for each server.
 fn lists_amiss(scenario: &Value, count: usize, fault: IoFault) -> Option<Place>
     ensures { option_map place_state result
-        ≡ count_place fault count (number_of Servers (view scenario.now)) }
+        ≡ count_place fault count (field_number Servers (view scenario.now)) }
 {
     let servers = said_number(scenario, Field::Servers)?;
     if is_limit(fault) && Field::Servers.is_within(servers) && count as u64 != servers {

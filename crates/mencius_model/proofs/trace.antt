@@ -7,3 +7,4 @@ pub mod AnswersLast
 pub mod QuietLines
 pub mod ServerSets
 pub mod Reports
+pub mod Parts

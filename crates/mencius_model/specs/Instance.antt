@@ -1,14 +1,14 @@
 -- What a server p knows of an instance i, asked of the trace w. A question that ends in `_by` is
 -- asked of one line.
-use Rattle.std.specs.Prelude.{Bool, false, List, [], ◌∷◌, Option, Some, None, ◌==◌, nat_lt, if◌then◌else◌, ◌&&◌, map, ◌≡◌}
+use Rattle.std.specs.Prelude.{Bool, false, [], ◌∷◌, Option, Some, None, ◌==◌, nat_le, nat_lt, if◌then◌else◌, ◌&&◌, map, ◌≡◌, option_and_then, option_map}
 use Rattle.std.specs.List.{list_any, fold, count_by}
 use Rattle.mencius_base.specs.Numbers.{ServerId, Inst, BallotNo}
 use Rattle.mencius_base.specs.declared.message.Message.{Message}
 use Rattle.mencius_base.specs.declared.message.Message.TheVariants.{Suggest, Accepted, Prepare, Promise, Propose}
 use Rattle.mencius_base.specs.declared.message.Value.{Value}
-use Rattle.mencius_base.specs.declared.message.Value.TheVariants.{Noop, Ticket}
+use Rattle.mencius_base.specs.declared.message.Value.TheVariants.{Ticket}
 use Rattle.mencius_base.specs.declared.message.Vote.{Vote}
-use Rattle.mencius_base.specs.Members.{Membership, is_majority, numbers_below}
+use Rattle.mencius_base.specs.Members.{Membership, majority, numbers_below}
 use Rattle.mencius_model.specs.Trace.{Line, Sent, Learned, Trace, greatest_by, oldest_by, heard_messages, sent_messages}
 
 -- the ballot that a line commits p to at i: promised or accepted
@@ -48,18 +48,10 @@ abbrev pub accepted_ballot : Trace → ServerId → Inst → Option BallotNo
 accepted_ballot [] p i = None
 accepted_ballot (l ∷ w) p i = greater_ballot (accepted_ballot w p i) (accepted_by p i l)
 
--- a ballot with the value proposed at it
-abbrev pub vote_at : BallotNo → Option Value → Option Vote
-vote_at b None = None
-vote_at b (Some x) = Some (record { ballot = b; value = x })
-
-abbrev pub vote_of : Trace → Inst → Option BallotNo → Option Vote
-vote_of w i None = None
-vote_of w i (Some b) = vote_at b (proposal w i b)
-
 -- the greatest ballot that p accepted at i, with the value proposed at it
 abbrev pub vote : Trace → ServerId → Inst → Option Vote
-vote w p i = vote_of w i (accepted_ballot w p i)
+vote w p i =
+    option_and_then (λ b. option_map (λ x. record { ballot = b; value = x }) (proposal w i b)) (accepted_ballot w p i)
 
 -- the value that a line says that p learned at i
 abbrev pub learned_by : ServerId → Inst → Line → Option Value
@@ -75,7 +67,8 @@ abbrev pub tried_by : ServerId → Inst → Line → BallotNo
 tried_by p i (Sent (Prepare from inst ballot)) = if from == p && inst == i then ballot else 0
 tried_by p i _ = 0
 
--- the greatest ballot that p tried at i, 0 if there is none
+-- the greatest ballot for which p sent a Prepare at i, 0 if there is none. Ballot 0 is also the owner's own, at which it
+-- suggests without a Prepare
 abbrev pub tried_ballot : Trace → ServerId → Inst → BallotNo
 tried_ballot w p i = greatest_by (tried_by p i) w
 
@@ -108,13 +101,9 @@ abbrev pub vote_reported : Inst → BallotNo → Message → Option Vote
 vote_reported i b (Promise from to inst ballot vote) = if inst == i && ballot == b then vote else None
 vote_reported i b _ = None
 
--- the first of the votes of the greatest ballot, if there is a vote
-abbrev pub highest_vote : List (Option Vote) → Option Vote
-highest_vote votes = fold higher_vote None votes
-
--- the vote of the greatest ballot in the promises of ballot b of i that p heard
+-- of the votes that p heard in promises of ballot b of i, the first one with the greatest ballot
 abbrev pub reported_vote : Trace → ServerId → Inst → BallotNo → Option Vote
-reported_vote w p i b = highest_vote (map (vote_reported i b) (heard_messages w p))
+reported_vote w p i b = fold higher_vote None (map (vote_reported i b) (heard_messages w p))
 
 -- whether q sent an acceptance at ballot b of i, heard or not
 abbrev pub has_accepted : Trace → Inst → BallotNo → ServerId → Bool
@@ -122,12 +111,7 @@ has_accepted w i b q = list_any (is_acceptance i b q) (sent_messages w)
 
 -- whether a majority of the servers is in the set
 abbrev pub are_majority : Membership → (ServerId → Bool) → Bool
-are_majority m among = is_majority m (count_by among (numbers_below m.count))
-
--- the value of a vote, and no-op where there is none
-abbrev pub value_or_noop : Option Vote → Value
-value_or_noop None = Noop
-value_or_noop (Some x) = x.value
+are_majority m among = nat_le (majority m) (count_by among (numbers_below m.count))
 
 -- what p accepted at i had been proposed, as in every trace that comes about
 pub record IsVoted (w : Trace) (p : ServerId) (i : Inst) : Type 0 where

@@ -1,7 +1,7 @@
 -- Which reply a command has, and whose history is the longest: asked of the trace alone.
 use Rattle.std.specs.Prelude.{ℕ, suc, Bool, List, [], ◌∷◌, Option, Some, None, slice_get, ◌==◌, nat_lt, if◌then◌else◌, length, take, true, false}
 use Rattle.std.specs.List.{filter_map, fold}
-use Rattle.std.specs.Option.{option_map}
+use Rattle.std.specs.Option.{option_and_then, option_map, option_map_or}
 use Rattle.mencius_base.specs.Numbers.{ServerId, TicketNo}
 use Rattle.mencius_base.specs.declared.command.Command.{Command}
 use Rattle.mencius_base.specs.declared.command.CommandId.{CommandId}
@@ -28,30 +28,23 @@ abbrev pub index_of_first : {A : Type 0} → (A → Bool) → List A → Option 
 index_of_first test [] = None
 index_of_first test (x ∷ xs) = if test x then Some 0 else option_map suc (index_of_first test xs)
 
--- the reply of a command that stands at this place of its home's history: what the commands before it leave at its key
-abbrev pub reply_from : Trace → Command → ServerId → Option ℕ → Answered
-reply_from w command home None = Pending
-reply_from w command home (Some place) = Given (out (commands_of w (take place (history w home))) command)
-
--- what the home's map held when the home first executed the ticket
+-- the reply of a command: what the commands before it in its home's history leave at its key, once its home executed it
 abbrev pub reply_at : Trace → TicketNo → Command → ServerId → Answered
-reply_at w t command home = reply_from w command home (index_of_first (λ u. u == t) (history w home))
+reply_at w t command home =
+    option_map_or (λ place. Given (out (commands_of w (take place (history w home))) command))
+    (index_of_first (λ u. u == t) (history w home)) Pending
 
-abbrev pub reply_of_place : Trace → Option TicketNo → Option Answered
-reply_of_place w None = None
-reply_of_place w (Some t) = option_map (λ x. reply_at w t x.0 x.1) (slice_get (submitted_commands w) t)
-
--- the reply of an identity, where it was submitted
+-- the reply of an identity, if it was submitted
 abbrev pub reply_of : Trace → CommandId → Option Answered
-reply_of w id = reply_of_place w (index_of_first (λ x. is_same_id x.0.id id) (submitted_commands w))
-
--- of two servers the second, where its history is longer
-abbrev pub longest_below : Trace → ServerId → ServerId → ServerId
-longest_below w best p = if nat_lt (length (history w best)) (length (history w p)) then p else best
+reply_of w id =
+    option_and_then (λ t. option_map (λ x. reply_at w t x.0 x.1) (slice_get (submitted_commands w) t))
+    (index_of_first (λ x. is_same_id x.0.id id) (submitted_commands w))
 
 -- the least server whose history is the longest
 abbrev pub longest_at : Membership → Trace → ServerId
-longest_at m w = fold (longest_below w) 0 (numbers_below m.count)
+longest_at m w =
+    fold (λ best p. if nat_lt (length (history w best)) (length (history w p)) then p else best) 0
+    (numbers_below m.count)
 
 -- the commands of the longest history, in order
 abbrev pub longest_commands : Membership → Trace → List Command

@@ -1,5 +1,5 @@
 -- What a server knows beyond single instances, asked of the trace.
-use Rattle.std.specs.Prelude.{ℕ, ◌+◌, Bool, false, List, [], ◌∷◌, Option, Some, None, ◌==◌, max, nat_lt, if◌then◌else◌, ◌&&◌}
+use Rattle.std.specs.Prelude.{ℕ, ◌+◌, Bool, false, List, [], ◌∷◌, Option, Some, None, ◌==◌, max, nat_lt, if◌then◌else◌, ◌&&◌, not, option_and_then}
 use Rattle.std.specs.List.{list_any, filter, filter_map, find}
 use Rattle.mencius_base.specs.Numbers.{ServerId, Inst, TicketNo}
 use Rattle.mencius_base.specs.declared.message.Message.TheVariants.{Suggest, Skip}
@@ -8,7 +8,7 @@ use Rattle.mencius_base.specs.declared.message.Value.TheVariants.{Ticket}
 use Rattle.mencius_base.specs.Members.{Membership, instances}
 use Rattle.mencius_model.specs.Trace.{Line, Executed, Sent, Trace, greatest_by, oldest_by}
 use Rattle.mencius_model.specs.Instance.{learned_value}
-use Rattle.mencius_model.specs.Rules.{is_covered_from, is_free_from, is_open_from, reach_from, waiting_ticket}
+use Rattle.mencius_model.specs.Rules.{is_covered_from, is_free_from, is_noop, is_open_from, reach_from}
 
 -- how far a line takes p's front
 abbrev pub front_by : Membership → ServerId → Line → Inst
@@ -33,46 +33,29 @@ abbrev pub is_suggested_again_by : ServerId → TicketNo → Inst → Line → B
 is_suggested_again_by p t i (Sent (Suggest from inst ticket)) = (from == p && ticket == t) && nat_lt i inst
 is_suggested_again_by p t i _ = false
 
--- the ticket that p suggested at i waits where p learned no-op there and suggested it at no greater instance
-abbrev pub waiting_of : Trace → ServerId → Inst → Option TicketNo → Option TicketNo
-waiting_of w p i None = None
-waiting_of w p i (Some t) = waiting_ticket (learned_value w p i) (list_any (is_suggested_again_by p t i) w) t
-
--- the ticket that waits at p since it lost instance i
+-- the ticket that p suggested at i waits if p learned no-op there and suggested the ticket at no greater instance
 abbrev pub waiting_at : Trace → ServerId → Inst → Option TicketNo
-waiting_at w p i = waiting_of w p i (suggested_ticket w p i)
+waiting_at w p i =
+    option_and_then
+    (λ t.
+    if is_noop (learned_value w p i) && not (list_any (is_suggested_again_by p t i) w) then Some t else None)
+    (suggested_ticket w p i)
 
--- by rising instance, each ticket that p suggested where it learned no-op, and suggested nowhere further on
+-- the tickets that wait at p, by rising instance
 abbrev pub waiting_tickets : Trace → ServerId → List TicketNo
 waiting_tickets w p = filter_map (waiting_at w p) instances
 
--- an own instance from the front on that p has not learned
-abbrev pub is_free : Membership → Trace → ServerId → Inst → Bool
-is_free m w p i = is_free_from m p (front m w p) i (learned_value w p i)
-
--- the least of them
+-- p's least own instance from its front on that it has not learned
 abbrev pub free_instance : Membership → Trace → ServerId → Option Inst
-free_instance m w p = find (is_free m w p) instances
+free_instance m w p = find (λ i. is_free_from m p (front m w p) i (learned_value w p i)) instances
 
--- an instance of q that p has not learned
-abbrev pub is_open : Membership → Trace → ServerId → ServerId → Inst → Bool
-is_open m w p q i = is_open_from m q i (learned_value w p i)
+-- how far a suspicion of q by p reaches, by the least instance of q that p has not learned
+abbrev pub reach : Membership → Trace → ServerId → ServerId → Option Inst
+reach m w p q = reach_from m (front m w p) (find (λ i. is_open_from m q i (learned_value w p i)) instances)
 
--- the least of them
-abbrev pub first_open : Membership → Trace → ServerId → ServerId → Option Inst
-first_open m w p q = find (is_open m w p q) instances
-
--- how far a suspicion of q by p reaches
-abbrev pub reach : Membership → Trace → ServerId → ServerId → Inst
-reach m w p q = reach_from m (front m w p) (first_open m w p q)
-
--- an instance of q so far that p has not learned: a suspicion of q by p covers it
-abbrev pub is_covered : Membership → Trace → ServerId → ServerId → Inst → Bool
-is_covered m w p q i = is_covered_from m q (reach m w p q) i (learned_value w p i)
-
--- all that it covers
+-- the instances that a suspicion of q by p covers
 abbrev pub covered_instances : Membership → Trace → ServerId → ServerId → List Inst
-covered_instances m w p q = filter (is_covered m w p q) instances
+covered_instances m w p q = filter (λ i. is_covered_from m q (reach m w p q) i (learned_value w p i)) instances
 
 abbrev pub done_by : ServerId → Line → ℕ
 done_by p (Executed server) = if server == p then 1 else 0

@@ -8,7 +8,7 @@ use Rattle.coord_paxos.specs.SlotState.{SlotState}
 use Rattle.coord_paxos.specs.Slot.{after_learn}
 use Rattle.coord_paxos.specs.Fresh.{new_slot}
 use Rattle.mencius_model.specs.Rules.{is_open_from, reach_from}
-use Rattle.mencius_server.specs.Machine.{is_covered_in, is_newly_skipped_slot, is_spent, next_prepare, slot_after_skip, slot_after_suspect, with_next_phase}
+use Rattle.mencius_server.specs.Machine.{is_covered_in, is_newly_skipped_slot, is_spent, next_prepare, slot_after_skip, slot_after_suspect, stop_of, with_next_phase}
 use Rattle.mencius_server.specs.Intervals.{AreSkippedIntervals, is_in_any}
 use Rattle.mencius_server.specs.Slots.{is_in, is_learned, stored_at}
 use Rattle.mencius_server.specs.declared.skipped_intervals.Interval.{Interval}
@@ -108,9 +108,9 @@ newly_skipped_stored s q first stop =
 abbrev pub is_open_stored : InstancesState → ServerId → Inst → Bool
 is_open_stored s q j = is_open_from s.members q j (instance_slot s j).learned
 
--- how far a suspicion of q reaches from a front
+-- the place before which a suspicion of q from a front covers open instances
 abbrev pub reach_stored : InstancesState → ServerId → Inst → Inst
-reach_stored s q front = reach_from s.members front (find (is_open_stored s q) instances)
+reach_stored s q front = stop_of (reach_from s.members front (find (is_open_stored s q) instances))
 
 -- nothing was learned at an instance of q so far
 abbrev pub is_covered_stored : InstancesState → ServerId → Inst → Inst → Bool

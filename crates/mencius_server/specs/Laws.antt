@@ -2,7 +2,7 @@
 use Rattle.std.specs.Prelude.{◌≡◌, ◌<◌, ◌≤◌, IsTrue, List, Ok, Some, length, slice_get, true}
 use Rattle.std.specs.List.{All}
 use Rattle.mencius_base.specs.Limits.{instance_count, most_servers}
-use Rattle.mencius_base.specs.Members.{Membership, first_item}
+use Rattle.mencius_base.specs.Members.{Membership}
 use Rattle.mencius_base.specs.Message.{is_sent_to, is_for}
 use Rattle.mencius_base.specs.Numbers.{Inst, MessageNo, ServerId, TicketNo}
 use Rattle.mencius_base.specs.Outbox.{outbox_full}
@@ -30,7 +30,7 @@ LearnedAnswers =
 
 -- and its first waiting ticket is the one that waits first by that trace
 abbrev pub WaitingAnswers : Type 0
-WaitingAnswers = (w : Trace) (s : ServerState) → IsAt w s → first_waiting s ≡ first_item (waiting_tickets w s.id)
+WaitingAnswers = (w : Trace) (s : ServerState) → IsAt w s → first_waiting s ≡ slice_get (waiting_tickets w s.id) 0
 
 -- where a ticket is the next one of the trace, suggesting it is the server's part in the submission
 abbrev pub SubmitIsEvent : Type 0

@@ -1,14 +1,15 @@
 -- What a server sends on a call, how many instances it learns, and what becomes of it, said of its state alone.
 -- It holds whatever the server heard; that at a reached trace it is what the row of the event says is a law
 -- (`laws::events`).
-use Rattle.std.specs.Prelude.{◌≡◌, ℕ, ◌+◌, ◌<◌, ◌≤◌, Bool, true, false, List, [], ◌∷◌, ◌++◌, Option, Some, None, ◌==◌, nat_lt, if◌then◌else◌, ◌&&◌, is_none, length, map}
+use Rattle.std.specs.Prelude.{◌≡◌, ℕ, ◌+◌, ◌<◌, ◌≤◌, Bool, true, false, List, [], ◌∷◌, ◌++◌, Option, Some, None, ◌==◌, nat_lt, if◌then◌else◌, ◌&&◌, is_none, length, map, not, slice_get}
 use Rattle.std.specs.List.{count_by, filter, filter_map, find, list_any}
+use Rattle.std.specs.Option.{option_map_or}
 use Rattle.mencius_base.specs.declared.message.Message.{Message}
 use Rattle.mencius_base.specs.declared.message.Message.TheVariants.{Suggest, Skip, Accepted, Prepare, Promise, Propose, Learn}
 use Rattle.mencius_base.specs.declared.message.Value.{Value}
 use Rattle.mencius_base.specs.declared.message.Value.TheVariants.{Noop, Ticket}
 use Rattle.mencius_base.specs.declared.message.Vote.{Vote}
-use Rattle.mencius_base.specs.Members.{Membership, ballot_of, owner, instances, first_item}
+use Rattle.mencius_base.specs.Members.{Membership, ballot_of, owner, instances, first_owned}
 use Rattle.coord_paxos.specs.SlotState.{SlotState}
 use Rattle.coord_paxos.specs.Slot.{after_accept, after_begin, after_prepare, after_promise, after_acceptance, after_learn, prepare_answer, promise_answer, acceptance_answer}
 use Rattle.mencius_base.specs.declared.refusal.Refusal.{Refusal}
@@ -17,14 +18,14 @@ use Rattle.mencius_base.specs.Outbox.{OutboxState, is_too_many, outbox_full}
 use Rattle.mencius_model.specs.Server.{ticket_of}
 use Rattle.mencius_model.specs.Trace.{Line, messages_of}
 use Rattle.mencius_model.specs.Next.{first_cause, learned_count}
-use Rattle.mencius_model.specs.Rules.{acceptance_lines, answer_lines, decision_lines, front_past, is_covered_from, is_free_from, is_newly_skipped_from, is_open_from, is_past, is_skipped_by, learning_lines, next_round_from, own_skip_lines, proposal_lines, reach_from, suggestion, waiting_ticket}
+use Rattle.mencius_model.specs.Rules.{acceptance_lines, answer_lines, decision_lines, is_free_from, is_open_from, is_skipped_by, learning_lines, next_round_from, own_skip_lines, proposal_lines, reach_from, suggestion, is_noop}
 use Rattle.mencius_server.specs.State.{ServerState, slot, with_slot, with_slot_and_front}
 use Rattle.mencius_base.specs.Limits.{greatest_round, instance_count}
 use Rattle.mencius_base.specs.Numbers.{BallotNo, Inst, ServerId, TicketNo}
 
 -- a suggestion past the own front gives up the own instances before it
 abbrev pub next_front : ServerState → Inst → Inst
-next_front s i = if is_past s.front i then front_past s.members s.id i else s.front
+next_front s i = if nat_lt s.front i then first_owned s.members s.id (i + 1) else s.front
 
 -- the Skip that a suggestion at i brings about
 abbrev pub own_skip : ServerState → Inst → List Message
@@ -76,7 +77,7 @@ abbrev pub is_skipped : Membership → ServerId → Inst → Inst → Inst → B
 is_skipped m q first stop j = is_skipped_by m j (Skip q first stop)
 
 abbrev pub is_newly_skipped_slot : Membership → ServerId → Inst → Inst → Inst → SlotState → Bool
-is_newly_skipped_slot m q first stop j s = is_newly_skipped_from m j (Skip q first stop) s.learned
+is_newly_skipped_slot m q first stop j s = is_skipped_by m j (Skip q first stop) && is_none s.learned
 
 abbrev pub slot_after_skip : Membership → ServerId → Inst → Inst → Inst → SlotState → SlotState
 slot_after_skip m q first stop j s = if is_skipped m q first stop j then after_learn s Noop else s
@@ -184,14 +185,15 @@ is_suggested_again s t i j = nat_lt i j && is_ticket t (suggested_at s j)
 -- it waits where no-op was learned there, and it was suggested nowhere further on
 abbrev pub own_waiting_of : ServerState → Inst → Option TicketNo → Option TicketNo
 own_waiting_of s i None = None
-own_waiting_of s i (Some t) = waiting_ticket (slot s i).learned (list_any (is_suggested_again s t i) instances) t
+own_waiting_of s i (Some t) =
+    if is_noop (slot s i).learned && not (list_any (is_suggested_again s t i) instances) then Some t else None
 
 abbrev pub own_waiting_at : ServerState → Inst → Option TicketNo
 own_waiting_at s i = own_waiting_of s i (suggested_at s i)
 
 -- the first ticket that waits
 abbrev pub first_waiting : ServerState → Option TicketNo
-first_waiting s = first_item (filter_map (own_waiting_at s) instances)
+first_waiting s = slice_get (filter_map (own_waiting_at s) instances) 0
 
 -- the suggestion of the ticket that waits, where there is one
 abbrev pub retry_sent : ServerState → Option TicketNo → List Message
@@ -208,7 +210,7 @@ retry_cause s o (Some t) = submit_cause o (free_at s)
 
 -- a suspicion of q covers the instance, of which the server knows this
 abbrev pub is_covered_in : Membership → ServerId → Inst → Inst → SlotState → Bool
-is_covered_in m q reach i s = is_covered_from m q reach i s.learned
+is_covered_in m q stop i s = (owner m i == q && nat_lt i stop) && is_none s.learned
 
 -- one above the rounds that were tried and promised
 abbrev pub next_round_of : Membership → SlotState → ℕ
@@ -235,9 +237,13 @@ is_open_at s q i = is_open_from s.members q i (slot s i).learned
 abbrev pub first_open_at : ServerState → ServerId → Option Inst
 first_open_at s q = find (is_open_at s q) instances
 
--- how far the suspicion reaches
+-- the place before which a suspicion of this reach covers open instances: 0 if it covers none
+abbrev pub stop_of : Option Inst → Inst
+stop_of reach = option_map_or (λ last. last + 1) reach 0
+
+-- the place before which a suspicion of q covers open instances
 abbrev pub reach_at : ServerState → ServerId → Inst
-reach_at s q = reach_from s.members s.front (first_open_at s q)
+reach_at s q = stop_of (reach_from s.members s.front (first_open_at s q))
 
 abbrev pub is_covered_at : ServerState → ServerId → Inst → Bool
 is_covered_at s q i = is_covered_in s.members q (reach_at s q) i (slot s i)
@@ -277,6 +283,6 @@ revocation_causes is_nothing is_any_spent o count =
 abbrev pub suspect_cause : ServerState → OutboxState → ServerId → Option Refusal
 suspect_cause s o q = first_cause (
     (s.id == q, SelfSuspect)
-    ∷ revocation_causes (is_none (first_item (covered_instances_at s q)))
+    ∷ revocation_causes (is_none (slice_get (covered_instances_at s q) 0))
     (list_any (is_spent_at s) (covered_instances_at s q)) o
     (length (suspect_sent s q)))

@@ -4,7 +4,7 @@ use Rattle.std.specs.Prelude.{IfSome, option_map, nat_lt, nat_le, slice_get}
 use Rattle.std.specs.List.{filter}
 use Rattle.std.proofs.lemmas.Bool.{leb-false, or_parts}
 use Rattle.mencius_base.specs.Limits.{instance_count, most_servers}
-use Rattle.mencius_base.specs.Members.{IsMember, Membership, first_item, instances}
+use Rattle.mencius_base.specs.Members.{IsMember, Membership, instances}
 use Rattle.mencius_base.specs.declared.event.Event.{Event}
 use Rattle.mencius_base.specs.declared.event.Event.TheVariants.{Submit, Deliver, Lose, Suspect, Retry, Execute}
 use Rattle.mencius_base.specs.declared.message.Answer.{Answer}
@@ -17,7 +17,7 @@ use Rattle.mencius_model.specs.Trace.{Line, Heard, Sent, Learned, Trace, followe
 use Rattle.mencius_model.specs.Instance.{learned_value, promised_ballot, vote}
 use Rattle.mencius_model.specs.Server.{done, free_instance, front, covered_instances, waiting_tickets}
 use Rattle.mencius_model.specs.Rules.{answer_lines, decision_lines, due_decision_from, learning_lines, proposal_lines, suggestion}
-use Rattle.mencius_model.specs.Next.{IsReached, retry_lines, causes, due_decision_at, delivery, is_newly_skipped, learned_count, lines, preparation, with_event, server_of}
+use Rattle.mencius_model.specs.Next.{IsReached, due_decision_at, learned_count, lines, preparation, with_event, server_of}
 use Rattle.mencius_model.proofs.trace.AnswersLast.{same_two, sent_in}
 use Rattle.mencius_model.proofs.events.EventLines.{sent_messages-event}
 use Rattle.mencius_model.proofs.rights.EventRights.{NoneHolds}
@@ -29,6 +29,7 @@ use Rattle.mencius_trace.specs.Before.{execution_in, heard_in, is_awaited, skipp
 use Rattle.mencius_trace.specs.After.{execution_after, learned_after, learned_at, messages_from, notice_after, value_learned}
 use Rattle.mencius_trace.specs.Facts.{learned_line, sent_line}
 use Rattle.mencius_trace.proofs.MessageLines.{of_messages_are}
+use Rattle.mencius_model.proofs.trace.Parts.{causes, is_newly_skipped, retry_lines, delivery}
 
 -- an accepted event happens at a member
 pub server_member : (m : Membership) (w : Trace) (e : Event) → NoneHolds (causes m w e) → IsMember m (server_of e)
@@ -177,7 +178,7 @@ learned_same m w (Submit p command) g h =
 learned_same m w (Deliver k p) g h = heard_told m w k p g (slice_get (sent_messages w) k) h
 learned_same m w (Lose k p) g h = refl
 learned_same m w (Suspect p q) g h = sym (prepared m w (with_event m w (Suspect p q)) p (covered_instances m w p q))
-learned_same m w (Retry p) g h = sym (retried m w (with_event m w (Retry p)) p (first_item (waiting_tickets w p)))
+learned_same m w (Retry p) g h = sym (retried m w (with_event m w (Retry p)) p (slice_get (waiting_tickets w p) 0))
 learned_same m w (Execute p) g h = refl
 
 -- ---- what was sent, and what was executed

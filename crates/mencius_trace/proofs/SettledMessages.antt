@@ -11,11 +11,12 @@ use Rattle.mencius_base.specs.declared.event.Event.TheVariants.{Submit, Deliver,
 use Rattle.mencius_base.specs.declared.refusal.Refusal.{Refusal}
 use Rattle.mencius_cluster.specs.State.{entries_from, entries_of, entry_of}
 use Rattle.mencius_model.specs.Trace.{Line, Sent, Learned, Trace}
-use Rattle.mencius_model.specs.Next.{causes, head, lines, next, replay, replay_from, replay_on, submission_count, with_event}
+use Rattle.mencius_model.specs.Next.{head, lines, next, replay, replay_from, replay_on, submission_count, with_event}
 use Rattle.mencius_model.proofs.events.EventLines.{IsAnswer, answers, unchanged_after}
 use Rattle.mencius_model.proofs.rights.EventRights.{NoneHolds, next_is}
 use Rattle.mencius_trace.specs.Closing.{is_settled_by}
 use Rattle.mencius_trace.specs.Settled.{IsOfServer, is_settled_by_entry}
+use Rattle.mencius_model.proofs.trace.Parts.{causes}
 
 -- ---- the first event of a journal that replays
 

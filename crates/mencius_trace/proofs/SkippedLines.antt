@@ -10,11 +10,11 @@ use Rattle.mencius_base.specs.Members.{IsMember, Membership, numbers_below, owne
 use Rattle.mencius_base.specs.declared.message.Value.TheVariants.{Noop}
 use Rattle.mencius_model.specs.Trace.{Learned, Trace}
 use Rattle.mencius_model.specs.Instance.{learned_value}
-use Rattle.mencius_model.specs.Next.{is_newly_skipped, on_skip}
 use Rattle.mencius_model.proofs.trace.Lists.{eqb_swap}
 use Rattle.mencius_model.proofs.trace.NumberLists.{filter-below_more, filter-below_none, filter-below_zero, instances-below}
 use Rattle.mencius_trace.specs.Facts.{learned_line}
 use Rattle.mencius_trace.specs.Effects.{learned_in, learned_lines}
+use Rattle.mencius_model.proofs.trace.Parts.{is_newly_skipped, on_skip}
 
 -- those below a place
 abbrev pub skipped_below : (ℕ → Bool) → Trace → ℕ → ℕ → List ℕ

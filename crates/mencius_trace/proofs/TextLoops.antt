@@ -10,7 +10,7 @@ use Rattle.mencius_model.specs.Trace.{Trace}
 use Rattle.mencius_model.specs.Server.{waiting_at, waiting_tickets}
 use Rattle.mencius_model.proofs.trace.NumberLists.{below-more, instances-below}
 use Rattle.mencius_trace.specs.Closing.{ticket_in}
-use Rattle.mencius_trace.specs.Words.{spaced_ticket, tickets_text}
+use Rattle.mencius_trace.specs.Words.{ticket_text, tickets_text}
 
 -- one number more
 pub range_last : (a n j : ℕ) → a + n ≡ j → range_with_len a (suc n) ≡ range_with_len a n ++ j ∷ []
@@ -35,6 +35,9 @@ texts_further f n before old new had got =
     ∙ ap (λ text. before ++ text) (sym (texts_more f n))
 
 -- ---- tickets that wait
+
+abbrev spaced_ticket : Trace → ℕ → List ℕ
+spaced_ticket w t = 32 ∷ ticket_text w t
 
 -- those of the instances below a place
 abbrev pub waiting_below : Trace → ℕ → ℕ → List ℕ

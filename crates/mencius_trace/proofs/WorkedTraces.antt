@@ -12,7 +12,7 @@ use Rattle.mencius_base.specs.declared.event.Event.{Event}
 use Rattle.mencius_base.specs.declared.event.Event.TheVariants.{Submit, Deliver, Lose, Suspect, Retry, Execute}
 use Rattle.mencius_base.specs.Members.{Membership, new_members, numbers_below, instances, most_messages, most_events}
 use Rattle.mencius_model.specs.KeyMap.{map_after}
-use Rattle.mencius_trace.specs.Words.{former_text, line_feed}
+use Rattle.mencius_trace.specs.Words.{former_text}
 use Rattle.mencius_trace.specs.Closing.{trace_text}
 
 abbrev three : Membership
@@ -23,7 +23,7 @@ one = new_members 1
 
 -- lines, each with its end
 abbrev text_of : List (List ℕ) → List ℕ
-text_of ls = flat_map (λ l. l ++ line_feed) ls
+text_of ls = flat_map (λ l. l ++ codes "\n") ls
 
 -- client 1 binds the key `a` to the text `x`
 abbrev set_a : Command

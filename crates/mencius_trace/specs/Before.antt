@@ -1,20 +1,22 @@
 -- What is noted before an event, so that what came of it can be told after it.
-use Rattle.std.specs.Prelude.{◌≡◌, Ok, ℕ, ◌<◌, Bool, false, List, [], Option, Some, None, option_map, slice_get, string_bytes, IfSome}
+use Rattle.std.specs.Prelude.{◌≡◌, Ok, ℕ, ◌<◌, Bool, false, List, [], Option, Some, None, option_map, slice_get, string_bytes, IfSome, map, is_none, ◌&&◌}
+use Rattle.mencius_model.specs.Rules.{is_skipped_by}
+use Rattle.std.specs.List.{filter}
 use Rattle.mencius_base.specs.Limits.{instance_count}
-use Rattle.mencius_base.specs.Members.{IsMember, Membership}
+use Rattle.mencius_base.specs.Members.{IsMember, Membership, instances}
 use Rattle.mencius_base.specs.Numbers.{ServerId, Inst}
 use Rattle.mencius_base.specs.declared.event.Event.{Event}
 use Rattle.mencius_base.specs.declared.event.Event.TheVariants.{Deliver, Execute}
 use Rattle.mencius_base.specs.declared.message.Message.{Message}
 use Rattle.mencius_base.specs.declared.message.Message.TheVariants.{Skip}
 use Rattle.mencius_base.specs.declared.message.Value.{Value}
-use Rattle.mencius_base.specs.declared.message.Value.TheVariants.{Ticket}
+use Rattle.mencius_base.specs.declared.message.Value.TheVariants.{Noop, Ticket}
 use Rattle.mencius_cluster.specs.Answers.{if_member}
 use Rattle.mencius_cluster.specs.State.{ClusterState, trace_of}
-use Rattle.mencius_model.specs.Trace.{Trace, sent_messages}
+use Rattle.mencius_model.specs.Trace.{Trace, sent_messages, Learned}
 use Rattle.mencius_model.specs.Instance.{learned_value}
 use Rattle.mencius_model.specs.Server.{done, front}
-use Rattle.mencius_model.specs.Next.{on_skip, replay, server_of}
+use Rattle.mencius_model.specs.Next.{replay, server_of}
 use Rattle.mencius_model.specs.Replying.{command_at}
 use Rattle.mencius_trace.specs.declared.before.Before.{Before}
 use Rattle.mencius_trace.specs.declared.reaction.Reaction.{Reaction}
@@ -27,7 +29,10 @@ heard_in w _ = None
 
 -- the lines of the instances that a Skip makes the server learn
 abbrev pub skipped_text : Membership → Trace → ServerId → Option Message → List ℕ
-skipped_text m w p (Some (Skip from first stop)) = learned_lines w (on_skip m w p from first stop)
+skipped_text m w p (Some (Skip from first stop)) =
+    learned_lines w
+    (map (λ i. Learned p i Noop)
+    (filter (λ i. is_skipped_by m i (Skip from first stop) && is_none (learned_value w p i)) instances))
 skipped_text m w p _ = []
 
 -- the instance that an event executes, with its value

@@ -1,25 +1,25 @@
 -- What is told after the last event, and the whole text.
 use Rattle.std.specs.Prelude.{Option, Some, None, ℕ, ◌+◌, Bool, List, [], ◌∷◌, ◌++◌, codes, decimal, ◌&&◌, not, if◌then◌else◌}
+use Rattle.std.specs.Result.{result_unwrap_or}
 use Rattle.std.specs.List.{enumerate_from, flat_map, list_any}
 use Rattle.mencius_base.specs.Numbers.{ServerId, Inst, TicketNo, MessageNo}
 use Rattle.mencius_base.specs.declared.event.Event.{Event}
 use Rattle.mencius_base.specs.declared.message.Message.{Message}
-use Rattle.mencius_base.specs.Members.{Membership, servers_of}
+use Rattle.mencius_base.specs.Members.{Membership, numbers_below}
 use Rattle.mencius_base.specs.Message.{is_sent_to}
 use Rattle.mencius_model.specs.Trace.{Line, Heard, Lost, Trace, sent_messages}
 use Rattle.mencius_model.specs.Server.{done, front, waiting_tickets}
 use Rattle.mencius_model.specs.Next.{is_loss, next}
-use Rattle.mencius_model.specs.Outcomes.{trace_after}
 use Rattle.mencius_trace.specs.Facts.{kind_text}
 use Rattle.mencius_trace.specs.Effects.{event_lines}
-use Rattle.mencius_trace.specs.Words.{line_feed, spaced_ticket, tickets_text}
+use Rattle.mencius_trace.specs.Words.{ticket_text, tickets_text}
 
 -- ---- each server
 
 -- the command of a ticket that may be absent
 abbrev pub ticket_in : Trace → Option TicketNo → List ℕ
 ticket_in w None = []
-ticket_in w (Some t) = spaced_ticket w t
+ticket_in w (Some t) = 32 ∷ ticket_text w t
 
 -- its front, how many instances it executed, and the next one
 abbrev pub progress_text : ServerId → Inst → ℕ → List ℕ
@@ -29,10 +29,10 @@ progress_text p front done =
 
 -- and what waits at it
 abbrev pub server_line : Membership → Trace → ServerId → List ℕ
-server_line m w p = progress_text p (front m w p) (done w p) ++ tickets_text w (waiting_tickets w p) ++ line_feed
+server_line m w p = progress_text p (front m w p) (done w p) ++ tickets_text w (waiting_tickets w p) ++ codes "\n"
 
 abbrev pub server_lines : Membership → Trace → List ℕ
-server_lines m w = flat_map (server_line m w) (servers_of m)
+server_lines m w = flat_map (server_line m w) (numbers_below m.count)
 
 -- ---- each message that may still be heard
 
@@ -48,11 +48,11 @@ is_unheard w k x p = is_sent_to p x && not (list_any (is_settled_by k p) w)
 abbrev pub unheard_line : Trace → MessageNo → Message → ServerId → List ℕ
 unheard_line w k x p =
     if is_unheard w k x p
-    then codes "unheard " ++ decimal k ++ 32 ∷ kind_text x ++ codes " to " ++ decimal p ++ line_feed
+    then codes "unheard " ++ decimal k ++ 32 ∷ kind_text x ++ codes " to " ++ decimal p ++ codes "\n"
     else []
 
 abbrev pub unheard_lines : Membership → Trace → MessageNo × Message → List ℕ
-unheard_lines m w (k, x) = flat_map (unheard_line w k x) (servers_of m)
+unheard_lines m w (k, x) = flat_map (unheard_line w k x) (numbers_below m.count)
 
 abbrev pub unheard_text : Membership → Trace → List ℕ
 unheard_text m w = flat_map (unheard_lines m w) (enumerate_from 0 (sent_messages w))
@@ -66,8 +66,9 @@ closing_text m w = server_lines m w ++ unheard_text m w
 -- the events from a place on, and then what is told after the last
 abbrev pub events_text : Membership → Trace → ℕ → List Event → List ℕ
 events_text m w place [] = closing_text m w
-events_text m w place (e ∷ es) = event_lines m w place e ++ events_text m (trace_after w (next m w e)) (place + 1) es
+events_text m w place (e ∷ es) =
+    event_lines m w place e ++ events_text m (result_unwrap_or (next m w e) w) (place + 1) es
 
 -- the events of a scenario of these servers
 abbrev pub trace_text : Membership → List Event → List ℕ
-trace_text m es = codes "servers " ++ decimal m.count ++ line_feed ++ events_text m [] 0 es
+trace_text m es = codes "servers " ++ decimal m.count ++ codes "\n" ++ events_text m [] 0 es

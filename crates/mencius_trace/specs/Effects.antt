@@ -18,12 +18,12 @@ use Rattle.mencius_server.specs.declared.glance.Glance.{Glance}
 use Rattle.mencius_model.specs.Trace.{Line, Learned, Trace, messages_of, sent_messages}
 use Rattle.mencius_model.specs.Instance.{learned_value}
 use Rattle.mencius_model.specs.Server.{done, front}
-use Rattle.mencius_model.specs.Next.{learned_count, lines, message_count, next, server_of}
+use Rattle.mencius_model.specs.Next.{learned_count, lines, next, server_of}
 use Rattle.mencius_model.specs.Replying.{Answered, Given, Pending, command_at, reply_of}
 use Rattle.mencius_trace.specs.declared.reaction.Reaction.{Reaction}
 use Rattle.mencius_trace.specs.declared.reaction.Reaction.TheVariants.{Effective, Counted, Promised, Tries, Learned as LearnedBefore, Proposed}
 use Rattle.mencius_trace.specs.Facts.{event_line, executed_line, front_line, learned_line, refused_line, sent_line, tally_line, value_text}
-use Rattle.mencius_trace.specs.Words.{answer_line, line_feed}
+use Rattle.mencius_trace.specs.Words.{answer_line}
 
 -- ---- what a server makes of a message
 
@@ -89,7 +89,7 @@ reason_text v Proposed = codes "proposed already"
 reason_text v _ = []
 
 abbrev pub ignored_line : Trace → Reaction → List ℕ
-ignored_line v reaction = codes "ignored " ++ reason_text v reaction ++ line_feed
+ignored_line v reaction = codes "ignored " ++ reason_text v reaction ++ codes "\n"
 
 -- the count, where the message counts; the reason, where nothing was sent and nothing learned
 abbrev pub notice : Membership → Trace → ServerId → Message → Bool → Reaction → List ℕ
@@ -99,7 +99,7 @@ notice m v p x is_ignored reaction = if is_ignored then ignored_line v reaction 
 
 -- nothing is sent and nothing is learned
 abbrev pub is_ignored : List Line → Bool
-is_ignored ls = message_count ls == 0 && learned_count ls == 0
+is_ignored ls = length (messages_of ls) == 0 && learned_count ls == 0
 
 abbrev pub notice_of : Membership → Trace → Trace → ServerId → Bool → Option Message → List ℕ
 notice_of m w v p is_ignored None = []

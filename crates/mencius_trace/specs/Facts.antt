@@ -11,7 +11,7 @@ use Rattle.mencius_base.specs.declared.refusal.Refusal.{Refusal}
 use Rattle.mencius_base.specs.Refusal.{refusal_name}
 use Rattle.mencius_model.specs.Trace.{Trace}
 use Rattle.mencius_format.specs.Texts.{event_text}
-use Rattle.mencius_trace.specs.Words.{line_feed, ticket_text}
+use Rattle.mencius_trace.specs.Words.{ticket_text}
 
 -- ---- parts of lines
 
@@ -74,18 +74,18 @@ content_text w (Learn from inst value) = at_instance inst ++ with_value w value
 
 -- an event, by its place among all events
 abbrev pub event_line : ℕ → Event → List ℕ
-event_line place e = codes "event " ++ decimal place ++ 32 ∷ event_text e ++ line_feed
+event_line place e = codes "event " ++ decimal place ++ 32 ∷ event_text e ++ codes "\n"
 
 abbrev pub refused_line : Refusal → List ℕ
-refused_line refusal = codes "refused " ++ refusal_name refusal ++ line_feed
+refused_line refusal = codes "refused " ++ refusal_name refusal ++ codes "\n"
 
 abbrev pub sent_line : Trace → MessageNo × Message → List ℕ
 sent_line w (k, x) =
-    codes "sent " ++ decimal k ++ 32 ∷ kind_text x ++ way_text x ++ content_text w x ++ line_feed
+    codes "sent " ++ decimal k ++ 32 ∷ kind_text x ++ way_text x ++ content_text w x ++ codes "\n"
 
 -- which value a server learned or executed at an instance
 abbrev pub value_line : List ℕ → Trace → ServerId → Inst → Value → List ℕ
-value_line kind w p i x = kind ++ 32 ∷ decimal p ++ at_instance i ++ with_value w x ++ line_feed
+value_line kind w p i x = kind ++ 32 ∷ decimal p ++ at_instance i ++ with_value w x ++ codes "\n"
 
 abbrev pub learned_line : Trace → ServerId → Inst → Value → List ℕ
 learned_line w p i x = value_line (codes "learned") w p i x
@@ -94,10 +94,10 @@ abbrev pub executed_line : Trace → ServerId → Inst → Value → List ℕ
 executed_line w p i x = value_line (codes "executed") w p i x
 
 abbrev pub front_line : ServerId → Inst → List ℕ
-front_line p front = codes "front " ++ decimal p ++ 32 ∷ decimal front ++ line_feed
+front_line p front = codes "front " ++ decimal p ++ 32 ∷ decimal front ++ codes "\n"
 
 -- how many servers' words of one kind a server has counted, and how many are a majority
 abbrev pub tally_line : List ℕ → ServerId → Inst → BallotNo → ℕ → ℕ → List ℕ
 tally_line kind p i b count majority =
     kind ++ 32 ∷ decimal p ++ at_ballot i b ++ codes " count " ++ decimal count ++ codes " of " ++ decimal majority
-    ++ line_feed
+    ++ codes "\n"

@@ -1,11 +1,15 @@
 //! What is noted before an event, so that what came of it can be told after it.
 
-ghost use Rattle.std.specs.Prelude.{◌≡◌, ◌<◌, ◌++◌, ◌&&◌, [], IfOk, OnOk, if◌then◌else◌, is_none, string_bytes};
+ghost use Rattle.std.specs.Prelude.{◌≡◌, ◌<◌, ◌++◌, ◌&&◌, [], IfOk, OnOk, if◌then◌else◌, is_none, map, string_bytes};
+ghost use Rattle.std.specs.List.{filter};
 ghost use Rattle.mencius_base.specs.Limits.{instance_count};
-ghost use Rattle.mencius_base.specs.Members.{IsMember};
+ghost use Rattle.mencius_base.specs.Members.{IsMember, instances};
+ghost use Rattle.mencius_base.specs.declared.message.Message.TheVariants.{Skip};
 ghost use Rattle.mencius_base.specs.declared.message.Value.TheVariants.{Noop};
 ghost use Rattle.mencius_model.specs.Instance.{learned_value};
-ghost use Rattle.mencius_model.specs.Next.{on_skip, server_of};
+ghost use Rattle.mencius_model.specs.Rules.{is_skipped_by};
+ghost use Rattle.mencius_model.specs.Trace.{Learned};
+ghost use Rattle.mencius_model.specs.Next.{server_of};
 ghost use Rattle.mencius_trace.specs.Facts.{learned_line};
 ghost use Rattle.mencius_cluster.specs.State.{trace_of};
 ghost use Rattle.mencius_trace.specs.Effects.{if_tried, instance_of, learned_lines, learned_or, proposed_or, reaction, reaction_at};
@@ -224,7 +228,9 @@ fn push_skipped(
     ensures { OnOk result (IsMember cluster.now.members server → first < instance_count
         → string_bytes text.new
         ≡ string_bytes text.old ++ learned_lines (trace_of cluster.now)
-        (on_skip cluster.now.members (trace_of cluster.now) server from first stop)) }
+        (map (λ i. Learned server i Noop)
+        (filter (λ i. is_skipped_by cluster.now.members i (Skip from first stop)
+        && is_none (learned_value (trace_of cluster.now) server i)) instances))) }
 {
     let members = cluster.members();
     for inst in first..stop.min(INSTANCES) {

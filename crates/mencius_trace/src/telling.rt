@@ -1,13 +1,13 @@
 //! What came of an event.
 
 ghost use Rattle.std.specs.Prelude.{ℕ, ◌≡◌, ◌≢◌, ◌==◌, ◌&&◌, false, slice_get, ◌<◌, ◌++◌, ◌-◌, [], Some, IfErr, IfSome, OnOk, length, string_bytes};
+ghost use Rattle.std.specs.Result.{result_unwrap_or};
 ghost use Rattle.mencius_base.specs.Limits.{instance_count};
 ghost use Rattle.mencius_base.specs.Members.{IsMember};
 ghost use Rattle.mencius_base.specs.declared.event.Event.{Event};
 ghost use Rattle.mencius_base.specs.declared.refusal.Refusal.TheVariants.{NoMemory as Unreserved};
 ghost use Rattle.mencius_cluster.specs.State.{ClusterState, IsStepped, trace_of};
 ghost use Rattle.mencius_model.specs.Next.{next};
-ghost use Rattle.mencius_model.specs.Outcomes.{trace_after};
 ghost use Rattle.mencius_model.specs.Replying.{command_at};
 ghost use Rattle.mencius_model.specs.Server.{front};
 ghost use Rattle.mencius_model.specs.Trace.{sent_messages};
@@ -38,8 +38,8 @@ pub fn tell(
 ) -> Result<(), NoMemory>
     ensures text { OnOk result (string_bytes text.new ≡ string_bytes text.old
         ++ event_lines cluster.old.members (trace_of cluster.old) place event) }
-    ensures trace { OnOk result (trace_of cluster.new ≡ trace_after (trace_of cluster.old)
-        (next cluster.old.members (trace_of cluster.old) event)) }
+    ensures trace { OnOk result (trace_of cluster.new
+        ≡ result_unwrap_or (next cluster.old.members (trace_of cluster.old) event) (trace_of cluster.old)) }
     ensures members { OnOk result (cluster.new.members ≡ cluster.old.members) }
     ensures hasher { OnOk result (cluster.new.hasher ≡ cluster.old.hasher) }
 {

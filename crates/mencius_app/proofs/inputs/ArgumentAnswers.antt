@@ -9,10 +9,10 @@ use Rattle.mencius_ends.specs.declared.fault.IoFault.TheVariants.{NotJson, BadSh
 use Rattle.mencius_ends.specs.Ends.{HasFailed, WritesFront}
 use Rattle.mencius_command_line.specs.CommandLine.{faults, line_of, task_in}
 use Rattle.mencius_command_line.specs.Help.{shown_for}
-use Rattle.mencius_app.specs.Calls.{IsCause}
+use Rattle.mencius_app.specs.Calls.{IsCause, StreamChanges}
 use Rattle.mencius_app.specs.CallEndings.{EndsForCause}
 use Rattle.mencius_app.specs.Ending.{IsAskedFor, IsFaultFor, IsShown, fault_in, is_explained}
-use Rattle.mencius_app.specs.Input.{IsBadInput}
+use Rattle.mencius_app.proofs.inputs.Inputs.{IsBadInput}
 use Rattle.mencius_app.specs.declared.ending.Ending.{Ending}
 use Rattle.mencius_app.proofs.inputs.FindingWords.{unexplained}
 
@@ -33,6 +33,16 @@ keeps_same (Some bytes) = refl
 module _ {W : Type 0} (contents : W → Option (List ℕ)) (failed_writes : W → ℕ) (arguments : List Text)
     (kind : ErrorKind) (known : Option (List ℕ)) (reads : ℕ) (empty full : W)
     (has : (kind ≡ OutOfMemory) ⊎ IsAmong kind (faults (line_of arguments))) where
+  abbrev pub changes : StreamChanges
+  changes = record {
+    failed_reads = reads;
+    failed_reads_now = reads;
+    failed_writes = failed_writes empty;
+    failed_writes_now = failed_writes full;
+    written = contents empty;
+    written_now = contents full;
+  }
+
   abbrev pub IsAnswerFault : IoFault → Type 0
   IsAnswerFault fault =
       ((fault ≡ WriteFailed) × HasFailed (failed_writes empty) (failed_writes full) × (text : List ℕ)
@@ -46,8 +56,7 @@ module _ {W : Type 0} (contents : W → Option (List ℕ)) (failed_writes : W �
   is_shown text (inr among) shown = (kind, among, shown)
 
   cause_of : (fault : IoFault) → IsAnswerFault fault
-      → IsCause (IsFaultFor arguments known) (IsAskedFor arguments known) reads reads (failed_writes empty)
-      (failed_writes full) (contents empty) (contents full) fault
+      → IsCause (IsFaultFor arguments known) (IsAskedFor arguments known) changes fault
   cause_of fault (inl h) = record {
     bad_input = λ bad. absurd (no_input fault (inl h.0) bad);
     read_failed = λ e. (let both : WriteFailed ≡ ReadFailed = sym h.0 ∙ e in absurd (cc));
@@ -64,14 +73,12 @@ module _ {W : Type 0} (contents : W → Option (List ℕ)) (failed_writes : W �
   }
 
   cause_in : (fault : Option IoFault) → IfSome fault IsAnswerFault
-      → IfSome fault (IsCause (IsFaultFor arguments known) (IsAskedFor arguments known) reads reads
-      (failed_writes empty) (failed_writes full) (contents empty) (contents full))
+      → IfSome fault (IsCause (IsFaultFor arguments known) (IsAskedFor arguments known) changes)
   cause_in None h = tt
   cause_in (Some fault) h = cause_of fault h
 
   pub answer_cause : (ending : Ending) → is_explained ending ≡ false → IfSome (fault_in ending) IsAnswerFault
-      → EndsForCause arguments known reads reads (failed_writes empty) (failed_writes full) (contents empty)
-      (contents full) ending
+      → EndsForCause arguments known changes ending
   answer_cause ending plain h = record {
     fault = cause_in (fault_in ending) h;
     explained = λ e. (let both : true ≡ false = sym e ∙ plain in absurd (cc));

@@ -2,12 +2,23 @@
 use Rattle.std.proofs.Common.{◌≡◌, ◌≢◌, inr, ℕ, Bool, true, false, List, Option, IfOk, IfSome, Result, Ok, Err, sym, subst, arith, ◌∙◌}
 use Rattle.clap.specs.Words.{Text}
 use Rattle.mencius_command_line.specs.CommandLine.{TaskState, line_of, task_in}
-use Rattle.mencius_app.specs.Calls.{AsksAs, IsCause}
+use Rattle.mencius_app.specs.Calls.{AsksAs, IsCause, StreamChanges}
 use Rattle.mencius_app.specs.CallEndings.{AsksFor, EndsForCause, RefusesArguments, WritesWhole}
 use Rattle.mencius_app.specs.Ending.{Did, DidTask, IsInputFaultOf, IsTextOf, TellsOf, fault_in}
 use Rattle.mencius_app.specs.declared.ending.Ending.{Ending}
 use Rattle.mencius_app.specs.declared.ending.Ending.TheVariants.{BadCommandLine}
 use Rattle.mencius_app.proofs.inputs.EndingCauses.{asks_as, of_task}
+
+-- what changed from one reader to another and from one writer to another
+abbrev changes : {S W : Type 0} → (S → ℕ) → (W → ℕ) → (W → Option (List ℕ)) → S → S → W → W → StreamChanges
+changes failed failed_writes contents s after w full = record {
+  failed_reads = failed s;
+  failed_reads_now = failed after;
+  failed_writes = failed_writes w;
+  failed_writes_now = failed_writes full;
+  written = contents w;
+  written_now = contents full;
+}
 
 module _ (arguments : List Text) (task : TaskState) (asks : AsksFor arguments task) where
   did : (known old new : Option (List ℕ)) (is_refused : Bool) → DidTask task known old new is_refused
@@ -29,13 +40,11 @@ module _ (arguments : List Text) (task : TaskState) (asks : AsksFor arguments ta
     unread = λ some. absurd (some asks.1);
   }
 
-  pub call_cause : (ending : Ending) (known : Option (List ℕ)) (reads reads_now writes writes_now : ℕ) (old new : Option (List ℕ))
-      → IfSome (fault_in ending) (IsCause (IsInputFaultOf task known) (IsTextOf task known) reads reads_now writes
-      writes_now old new)
-      → TellsOf task known ending → EndsForCause arguments known reads reads_now writes writes_now old new ending
-  call_cause ending known reads reads_now writes writes_now old new fault words = record {
-    fault = of_task arguments task known reads reads_now writes writes_now old new (fault_in ending) asks.1
-        (sym asks.2) fault;
+  pub call_cause : (ending : Ending) (known : Option (List ℕ)) (x : StreamChanges)
+      → IfSome (fault_in ending) (IsCause (IsInputFaultOf task known) (IsTextOf task known) x)
+      → TellsOf task known ending → EndsForCause arguments known x ending
+  call_cause ending known x fault words = record {
+    fault = of_task arguments task known x (fault_in ending) asks.1 (sym asks.2) fault;
     explained = λ _. asks.1;
     words = subst (λ t. TellsOf t known ending) (sym asks.2) words;
   }
@@ -52,14 +61,13 @@ module _ (arguments : List Text) (task : TaskState) (asks : AsksFor arguments ta
       (unwritten : sink ≡ empty) where
     abbrev pub CallClauses : S → W → Type 0
     CallClauses s w = WritesWhole (Did arguments (remaining s) (contents w) (contents full)) ending
-        × EndsForCause arguments (remaining s) (failed s) (failed after) (failed_writes w) (failed_writes full)
-        (contents w) (contents full) ending
+        × EndsForCause arguments (remaining s) (changes failed failed_writes contents s after w full) ending
         × AsksAs (task_in (line_of arguments)) (remaining s) (remaining after) (failed s) (failed after)
         (failed_writes w) (failed_writes full)
 
     pub call_of_task : WritesWhole (DidTask task (remaining source) (contents sink) (contents full)) ending
         → IfSome (fault_in ending) (IsCause (IsInputFaultOf task (remaining source)) (IsTextOf task (remaining source))
-        (failed source) (failed after) (failed_writes sink) (failed_writes full) (contents sink) (contents full))
+        (changes failed failed_writes contents source after sink full))
         → TellsOf task (remaining source) ending
         → AsksAs task (remaining source) (remaining after) (failed source) (failed after) (failed_writes sink)
         (failed_writes full)
@@ -67,7 +75,7 @@ module _ (arguments : List Text) (task : TaskState) (asks : AsksFor arguments ta
     call_of_task written fault words extent =
         subst (λ s. CallClauses s empty) unread (subst (λ w. CallClauses source w) unwritten (
           call_written _ _ _ _ written,
-          call_cause _ _ _ _ _ _ _ _ fault words,
+          call_cause _ _ _ fault words,
           call_asks _ _ _ _ _ _ extent,
         ))
 
@@ -76,14 +84,13 @@ pub call_of_no_task : {S W : Type 0} (remaining : S → Option (List ℕ)) (fail
     (failed_writes : W → ℕ) (arguments : List Text) (ending : Ending) (start after : S) (empty full : W)
     → after ≡ start → full ≡ empty → ending ≡ BadCommandLine
     → WritesWhole (Did arguments (remaining start) (contents empty) (contents full)) ending
-    × EndsForCause arguments (remaining start) (failed start) (failed after) (failed_writes empty) (failed_writes full)
-    (contents empty) (contents full) ending
+    × EndsForCause arguments (remaining start) (changes failed failed_writes contents start after empty full) ending
     × AsksAs (task_in (line_of arguments)) (remaining start) (remaining after) (failed start) (failed after)
     (failed_writes empty) (failed_writes full)
 call_of_no_task {S} {W} remaining failed contents failed_writes arguments ending start after empty full unread unwritten is = (
   (λ e. (let both = sym is ∙ e in absurd (cc)), λ e. (let both = sym is ∙ e in absurd (cc))),
-  subst (λ d. EndsForCause arguments (remaining start) (failed start) (failed after) (failed_writes empty)
-      (failed_writes full) (contents empty) (contents full) d) (sym is)
+  subst (λ d. EndsForCause arguments (remaining start)
+      (changes failed failed_writes contents start after empty full) d) (sym is)
       (record { fault = tt; explained = λ e. absurd (cc); words = tt }),
   subst (λ s. AsksAs (task_in (line_of arguments)) (remaining start) (remaining s) (failed start) (failed s)
       (failed_writes empty) (failed_writes full)) (sym unread) (subst (λ w. AsksAs (task_in (line_of arguments))

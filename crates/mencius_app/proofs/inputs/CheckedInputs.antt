@@ -1,4 +1,5 @@
 -- What a check reads of an input.
+use Rattle.std.specs.Prelude.{codes}
 use Rattle.std.proofs.Common.{◌≡◌, ◌≢◌, ◌≤◌, ◌⊎◌, ◌++◌, inl, inr, ℕ, List, length, Option, Some, None, IfSome, IfOk, IfErr, Result, Ok, Err, String, Global, string_bytes, ap, sym, subst, ◌∙◌}
 use Rattle.mencius_ends.specs.declared.fault.IoFault.{IoFault}
 use Rattle.mencius_ends.specs.declared.fault.IoFault.TheVariants.{BadShape, NoMemory}
@@ -10,14 +11,13 @@ use Rattle.mencius_input.specs.Kinds.{kind_in}
 use Rattle.mencius_input.specs.Explanations.{Explains}
 use Rattle.mencius_input.specs.Plan.{plan}
 use Rattle.mencius_input.specs.Scenario.{scenario}
-use Rattle.mencius_trace.specs.Words.{line_feed}
 use Rattle.mencius_app.specs.Calls.{IsReadingCause}
 use Rattle.mencius_app.specs.Check.{EitherScenario, IsCheckFaultOf, IsCheckOf, as_replay, as_run, either_scenario, ok_line, replay_scenario, run_scenario, scenario_of_kind}
 use Rattle.mencius_app.specs.Findings.{ExplainsByFields, IsFoundIn}
-use Rattle.mencius_app.specs.Input.{IsBadInput, unless_long}
+use Rattle.mencius_app.specs.Input.{unless_long}
 use Rattle.mencius_app.specs.declared.finding.Finding.{Finding}
 use Rattle.mencius_app.proofs.inputs.FindingWords.{of_bytes}
-use Rattle.mencius_app.proofs.inputs.Inputs.{bad_there, failing, flipped, no_read, no_write, own_fault, plan_bad, says_by_bytes, scenario_bad}
+use Rattle.mencius_app.proofs.inputs.Inputs.{IsBadInput, bad_there, failing, flipped, no_read, no_write, own_fault, plan_bad, says_by_bytes, scenario_bad}
 use Rattle.mencius_app.proofs.inputs.ScenarioKinds.{meant_as_replay}
 use Rattle.mencius_input.specs.declared.scenario.Scenario.{Scenario}
 use Rattle.mencius_base.specs.declared.event.Event.{Event}
@@ -28,7 +28,7 @@ use Rattle.mencius_base.specs.Plan.{PlanState}
 -- words of a fault that bytes have as a scenario of this kind
 abbrev pub AreWordsAs : Kind → IoFault → List ℕ → Option (String Global) → Type 0
 AreWordsAs kind fault bytes words =
-    IfSome words (λ line. (said : List ℕ) × Explains kind fault bytes said × (string_bytes line ≡ said ++ line_feed))
+    IfSome words (λ line. (said : List ℕ) × Explains kind fault bytes said × (string_bytes line ≡ said ++ codes "\n"))
 
 abbrev pub AreWordsByFields : IoFault → List ℕ → Option (String Global) → Type 0
 AreWordsByFields fault bytes words = AreWordsAs (kind_in bytes) fault bytes words

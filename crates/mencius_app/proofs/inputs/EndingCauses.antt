@@ -3,8 +3,8 @@ use Rattle.std.proofs.Common.{◌≡◌, ◌≢◌, ◌≤◌, ◌+◌, ◌∙�
 use Rattle.clap.specs.Words.{Text}
 use Rattle.mencius_ends.specs.declared.fault.IoFault.{IoFault}
 use Rattle.mencius_ends.specs.Ends.{TakesAtMost, most_bytes, most_failed_calls}
-use Rattle.mencius_app.specs.Calls.{AsksAs, AsksLittle, IsCause}
-use Rattle.mencius_app.specs.Replay.{IsReplayOf, are_all_accepted}
+use Rattle.mencius_app.specs.Calls.{AsksAs, AsksLittle, IsCause, StreamChanges}
+use Rattle.mencius_app.specs.Replay.{IsMadeOf, are_all_accepted, replay_text}
 use Rattle.mencius_app.specs.Run.{IsRunOf}
 use Rattle.mencius_app.specs.Ending.{IsAskedFor, IsFaultFor, IsInputFaultOf, IsTextOf, ending_at, ending_of, ending_of_run, ending_with, fault_in, are_refusals_reported}
 use Rattle.mencius_app.specs.declared.finding.Finding.{Finding}
@@ -16,10 +16,8 @@ use Rattle.mencius_app.specs.declared.ending.Ending.TheVariants.{Done, BoardFail
 use Rattle.mencius_command_line.specs.CommandLine.{TaskState, asked_check, asked_draw, asked_judge, asked_replay, asked_run, asked_trace, faults, line_of, task_in}
 
 -- where its text is also one of another kind
-pub as_text : {F : IoFault → Type 0} {P Q : List ℕ → Type 0} {reads reads_now writes writes_now : ℕ}
-    {old new : Option (List ℕ)} {fault : IoFault} → ((text : List ℕ) → P text → Q text)
-    → IsCause F P reads reads_now writes writes_now old new fault
-    → IsCause F Q reads reads_now writes writes_now old new fault
+pub as_text : {F : IoFault → Type 0} {P Q : List ℕ → Type 0} {x : StreamChanges} {fault : IoFault}
+    → ((text : List ℕ) → P text → Q text) → IsCause F P x fault → IsCause F Q x fault
 as_text also h = record {
   bad_input = h.bad_input;
   read_failed = h.read_failed;
@@ -28,7 +26,7 @@ as_text also h = record {
   nothing = h.nothing;
 }
 
-pub text_of_replay : (is_strict : Bool) (known : Option (List ℕ)) (text : List ℕ) → IsReplayOf known text
+pub text_of_replay : (is_strict : Bool) (known : Option (List ℕ)) (text : List ℕ) → IsMadeOf replay_text known text
     → IsTextOf (asked_replay is_strict) known text
 text_of_replay is_strict known text h =
     let all = are_all_accepted h.written.members h.written.course in
@@ -83,14 +81,12 @@ board_of_run (Err at.BoardFailed) ending e failed is = failed refl
 
 -- what holds of a task holds of the arguments that ask for it
 pub of_task : (arguments : List Text) (task : TaskState) (known : Option (List ℕ))
-    (reads reads_now writes writes_now : ℕ)
-    (old new : Option (List ℕ)) (fault : Option IoFault) → faults (line_of arguments) ≡ []
+    (x : StreamChanges) (fault : Option IoFault) → faults (line_of arguments) ≡ []
     → task ≡ task_in (line_of arguments)
-    → IfSome fault (IsCause (IsInputFaultOf task known) (IsTextOf task known) reads reads_now writes writes_now old new)
-    → IfSome fault (IsCause (IsFaultFor arguments known) (IsAskedFor arguments known) reads reads_now writes writes_now
-    old new)
-of_task arguments task known reads reads_now writes writes_now old new None none same h = tt
-of_task arguments task known reads reads_now writes writes_now old new (Some fault) none same h = record {
+    → IfSome fault (IsCause (IsInputFaultOf task known) (IsTextOf task known) x)
+    → IfSome fault (IsCause (IsFaultFor arguments known) (IsAskedFor arguments known) x)
+of_task arguments task known x None none same h = tt
+of_task arguments task known x (Some fault) none same h = record {
   bad_input = λ bad. (none, subst (λ a. IsInputFaultOf a known fault) same (h.bad_input bad));
   read_failed = h.read_failed;
   write_failed = h.write_failed;

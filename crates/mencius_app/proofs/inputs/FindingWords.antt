@@ -1,11 +1,11 @@
 -- The words of a finding: of which bytes they are.
+use Rattle.std.specs.Prelude.{codes}
 use Rattle.std.proofs.Common.{◌≡◌, ◌⊎◌, ◌<◌, ◌++◌, inl, inr, ℕ, false, List, length, Option, Some, None, IfSome, IfErr, Result, Ok, Err, String, Global, string_bytes, sym, subst}
 use Rattle.mencius_ends.specs.declared.fault.IoFault.{IoFault}
 use Rattle.mencius_ends.specs.declared.fault.IoFault.TheVariants.{BadLimit, ReadFailed, NoMemory}
 use Rattle.mencius_ends.specs.Ends.{most_bytes}
 use Rattle.mencius_input.specs.declared.kind.Kind.{Kind}
 use Rattle.mencius_input.specs.Explanations.{ExplainsUnread}
-use Rattle.mencius_trace.specs.Words.{line_feed}
 use Rattle.mencius_app.specs.Findings.{AreWordsOfInput, ExplainsAs, ExplainsByFields, Explanation, IsFoundIn}
 use Rattle.mencius_app.specs.Ending.{TellsOf, ending_at, ending_of, ending_of_run, ending_with, explanation_of, is_explained}
 use Rattle.mencius_app.specs.declared.finding.Finding.{Finding}
@@ -35,7 +35,7 @@ free_by_fields fault (inr memory) bytes words = rw memory tt
 pub of_unread : (Tells : Explanation) → IsFree Tells → (known : Option (List ℕ)) (fault : IoFault)
     (words : Option (String Global)) → (fault ≡ BadLimit) ⊎ (fault ≡ ReadFailed) ⊎ (fault ≡ NoMemory)
     → (fault ≡ BadLimit → IfSome known (λ bytes. most_bytes < length bytes))
-    → IfSome words (λ line. (said : List ℕ) × ExplainsUnread fault said × (string_bytes line ≡ said ++ line_feed))
+    → IfSome words (λ line. (said : List ℕ) × ExplainsUnread fault said × (string_bytes line ≡ said ++ codes "\n"))
     → IfSome words (λ line. AreWordsOfInput Tells known fault (string_bytes line))
 of_unread Tells free known fault None reading long h = tt
 of_unread Tells free None fault (Some line) reading long h = tt
@@ -47,7 +47,7 @@ of_unread Tells free (Some bytes) fault (Some line) (inr other) long h =
 -- all bytes were read
 pub of_bytes : (Tells : Explanation) (known : Option (List ℕ)) (bytes : List ℕ) (fault : IoFault)
     (words : Option (String Global)) → IfSome known (λ all. all ≡ bytes)
-    → IfSome words (λ line. (said : List ℕ) × Tells fault bytes said × (string_bytes line ≡ said ++ line_feed))
+    → IfSome words (λ line. (said : List ℕ) × Tells fault bytes said × (string_bytes line ≡ said ++ codes "\n"))
     → IfSome words (λ line. AreWordsOfInput Tells known fault (string_bytes line))
 of_bytes Tells known bytes fault None same h = tt
 of_bytes Tells None bytes fault (Some line) same h = tt

@@ -7,7 +7,7 @@ use Rattle.mencius_app.specs.declared.fault.AppFault.{AppFault}
 use Rattle.mencius_app.specs.declared.fault.AppFault.TheVariants.{BoardFailed}
 use Rattle.mencius_app.specs.declared.run_finding.RunFinding.{RunFinding}
 use Rattle.mencius_app.specs.declared.run_finding.RunFinding.TheVariants as at
-use Rattle.mencius_app.specs.Fault.{IsFaultWith, app_fault, fault_of_run}
+use Rattle.mencius_app.specs.Fault.{app_fault, fault_of_run}
 use Rattle.mencius_app.specs.RunFindings.{IfFound}
 
 -- no other fault is told as the board's
@@ -29,7 +29,7 @@ result_not_board (Err fault) cause is e =
 
 -- the fault of a run is its board's, or one that any task may have
 pub either_fault : (P : IoFault → Type 0) (run : RunFinding) → IfFound (λ found. P found.fault) run
-    → (fault_of_run run ≡ BoardFailed) ⊎ IsFaultWith P (fault_of_run run)
+    → (fault_of_run run ≡ BoardFailed) ⊎ ((cause : IoFault) × (fault_of_run run ≡ app_fault cause) × P cause)
 either_fault P (at.Found found) h = inr (found.fault, refl, h)
 either_fault P at.BoardFailed h = inl refl
 

@@ -1,6 +1,7 @@
 -- What is read of an input, and why a task ended at a fault.
 use Rattle.std.proofs.Common.{◌≡◌, ◌≢◌, ◌≤◌, ◌<◌, ◌⊎◌, inl, inr, ℕ, Bool, true, false, cond, List, length, Option, Some, None, IfSome, IfOk, IfErr, Result, Ok, Err, refl, ap, sym, subst, ◌∙◌, arith}
 use Rattle.std.specs.Prelude.{OnOk, OnErr}
+use Rattle.std.specs.Option.{option_map_or}
 use Rattle.std.specs.Result.{IsErrAnd}
 use Rattle.std.proofs.lemmas.Result.{err_from_is_err_and}
 use Rattle.std.specs.Io.KnownBytes.{Appends, Keeps}
@@ -10,12 +11,11 @@ use Rattle.mencius_ends.specs.declared.fault.IoFault.{IoFault}
 use Rattle.mencius_ends.specs.declared.fault.IoFault.TheVariants.{NotJson, BadShape, BadLimit, ReadFailed, WriteFailed, NoMemory}
 use Rattle.mencius_ends.specs.Ends.{HasFailed, WritesFront, most_bytes}
 use Rattle.mencius_format.specs.ValuesOrFaults.{FailsBy, Gives, map_ok, value_or_fault}
-use Rattle.mencius_input.specs.declared.kind.Kind.TheVariants.{Run}
-use Rattle.mencius_input.specs.Plan.{plan, plan_read, is_plan_within}
+use Rattle.mencius_input.specs.Plan.{plan, plan_read, is_plan_within, run_names}
 use Rattle.mencius_base.specs.Members.{Membership}
-use Rattle.mencius_input.specs.Scenario.{is_within_limits, json_of, or_not_json, read_there, scenario, scenario_of, is_scenario_within, written_of}
-use Rattle.mencius_app.specs.Calls.{IsCause, IsReadingCause}
-use Rattle.mencius_app.specs.Input.{HasFault, IsBadInput, Says, input_of, unless_long}
+use Rattle.mencius_input.specs.Scenario.{is_within_limits, json_of, scenario, scenario_of, is_scenario_within, written_of}
+use Rattle.mencius_app.specs.Calls.{IsCause, IsReadingCause, StreamChanges}
+use Rattle.mencius_app.specs.Input.{HasFault, Says, unless_long}
 use Rattle.mencius_app.specs.Replay.{IsMadeOf}
 use Rattle.mencius_app.specs.declared.finding.Finding.{Finding}
 use Rattle.mencius_base.specs.declared.event.Event.{Event}
@@ -41,6 +41,9 @@ long_fault read (Some bytes) h =
 
 -- ---- the faults of bad inputs
 
+abbrev pub IsBadInput : IoFault → Type 0
+IsBadInput fault = (fault ≡ NotJson) ⊎ (fault ≡ BadShape) ⊎ (fault ≡ BadLimit)
+
 -- what is judged has no other fault
 value_fault_bad : {X : Type 0} (fits : X → Bool) (o : Option X) (fault : IoFault) → value_or_fault fits o ≡ Err fault
     → IsBadInput fault
@@ -51,7 +54,7 @@ value_fault_bad {X} fits (Some x) fault e = by_test (fits x) e where
   by_test false e = inr (inr (cc))
 
 json_bad : {X : Type 0} (fits : X → Bool) (of : Data → Option X) (o : Option Data) (fault : IoFault)
-    → read_there (λ d. value_or_fault fits (of d)) (or_not_json o) ≡ Err fault → IsBadInput fault
+    → option_map_or (λ d. value_or_fault fits (of d)) o (Err NotJson) ≡ Err fault → IsBadInput fault
 json_bad fits of None fault e = inl (cc)
 json_bad fits of (Some d) fault e = value_fault_bad fits (of d) fault e
 
@@ -59,7 +62,7 @@ pub scenario_bad : (bytes : List ℕ) (fault : IoFault) → scenario bytes ≡ E
 scenario_bad bytes fault e = json_bad is_within_limits written_of (json_of bytes) fault e
 
 pub plan_bad : (bytes : List ℕ) (fault : IoFault) → plan bytes ≡ Err fault → IsBadInput fault
-plan_bad bytes fault e = json_bad (is_scenario_within is_plan_within) (scenario_of Run plan_read) (json_of bytes) fault e
+plan_bad bytes fault e = json_bad (is_scenario_within is_plan_within) (scenario_of run_names plan_read) (json_of bytes) fault e
 
 -- a bad input is no failed reader or writer
 other_bad : (fault other : IoFault) → fault ≡ other → (other ≢ NotJson) × (other ≢ BadShape) × (other ≢ BadLimit)
@@ -168,7 +171,14 @@ keeps (Some bytes) = refl
 -- the fault came before anything was written
 pub unwritten : {F : IoFault → Type 0} {P : List ℕ → Type 0} {reads reads_now writes writes_now : ℕ}
     {contents : Option (List ℕ)} {fault : IoFault} → IsReadingCause F reads reads_now fault
-    → IsCause F P reads reads_now writes writes_now contents contents fault
+    → IsCause F P (record {
+      failed_reads = reads;
+      failed_reads_now = reads_now;
+      failed_writes = writes;
+      failed_writes_now = writes_now;
+      written = contents;
+      written_now = contents;
+    }) fault
 unwritten {F} {P} {reads} {reads_now} {writes} {writes_now} {contents} {fault} h = record {
   bad_input = h.bad_input;
   read_failed = h.read_failed;
@@ -178,12 +188,12 @@ unwritten {F} {P} {reads} {reads_now} {writes} {writes_now} {contents} {fault} h
 }
 
 -- once there is a text, only its writing may fail
-pub unwritable : (F : IoFault → Type 0) (P : List ℕ → Type 0) (reads reads_now writes writes_now : ℕ)
-    (old new : Option (List ℕ)) {T : Type 0} (r : Result T IoFault) (made text : List ℕ) → P made → text ≡ made
-    → WritesFront old new text → IfErr r (λ fault. fault ≡ WriteFailed) → OnErr r (HasFailed writes writes_now)
-    → IfErr r (IsCause F P reads reads_now writes writes_now old new)
-unwritable F P reads reads_now writes writes_now old new (Ok x) made text is same front only failed = tt
-unwritable F P reads reads_now writes writes_now old new (Err fault) made text is same front only failed = record {
+pub unwritable : (F : IoFault → Type 0) (P : List ℕ → Type 0) (x : StreamChanges) {T : Type 0} (r : Result T IoFault)
+    (made text : List ℕ) → P made → text ≡ made → WritesFront x.written x.written_now text
+    → IfErr r (λ fault. fault ≡ WriteFailed) → OnErr r (HasFailed x.failed_writes x.failed_writes_now)
+    → IfErr r (IsCause F P x)
+unwritable F P x (Ok done) made text is same front only failed = tt
+unwritable F P x (Err fault) made text is same front only failed = record {
   bad_input = λ bad. absurd (no_write fault bad only);
   read_failed = λ e. let other = sym only ∙ e in absurd (cc);
   write_failed = λ _. failed;
@@ -201,7 +211,8 @@ written P old new (Err fault) made text is same h = tt
 
 -- the line of a check that a scenario's servers and events make
 pub made : (text_of : Membership → List Event → List ℕ) (known : Option (List ℕ)) (said_there : Scenario (List Event)) (text : List ℕ)
-    → Says input_of known said_there → text ≡ text_of said_there.members said_there.course → IsMadeOf text_of known text
+    → Says (unless_long scenario) known said_there → text ≡ text_of said_there.members said_there.course
+    → IsMadeOf text_of known text
 made text_of known said_there text says is = record { written = said_there; says = says; is = is }
 
 -- what holds of the fault holds of what was found

@@ -1,9 +1,8 @@
 -- Why a judgement of a log ended at a fault, and what is told of it.
 use Rattle.std.proofs.Common.{◌≡◌, ◌≢◌, ◌++◌, ℕ, Bool, true, false, cond, List, Option, Some, None, IfSome, IfOk, IfErr, Result, Ok, Err, String, Global, string_bytes, refl, sym, subst, ◌∙◌}
-use Rattle.std.specs.Prelude.{not}
+use Rattle.std.specs.Prelude.{not, codes}
 use Rattle.std.specs.Io.KnownBytes.{Appends}
 use Rattle.mencius_ends.specs.declared.fault.IoFault.{IoFault}
-use Rattle.mencius_trace.specs.Words.{line_feed}
 use Rattle.mencius_command_line.specs.CommandLine.{asked_judge}
 use Rattle.mencius_app.specs.Ending.{DidTask, IsTextOf, TellsOf, ending_of_judgement, fault_in}
 use Rattle.mencius_app.specs.Findings.{IsFoundIn}
@@ -51,7 +50,7 @@ judged_no_other (Err found) ending other e none done refused is = found_no_other
 
 -- words with a line feed are the line of them
 pub line_of_words : (line : Option (String Global)) (given : Option (String Global)) (words : String Global)
-    → given ≡ Some words → IfSome line (λ s. string_bytes s ≡ string_bytes words ++ line_feed)
-    → IfSome line (λ s. (x : String Global) × (given ≡ Some x) × (string_bytes s ≡ string_bytes x ++ line_feed))
+    → given ≡ Some words → IfSome line (λ s. string_bytes s ≡ string_bytes words ++ codes "\n")
+    → IfSome line (λ s. (x : String Global) × (given ≡ Some x) × (string_bytes s ≡ string_bytes x ++ codes "\n"))
 line_of_words None given words is h = tt
 line_of_words (Some line) given words is h = (words, is, h)

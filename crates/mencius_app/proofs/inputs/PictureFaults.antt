@@ -1,10 +1,10 @@
 -- Why there is no picture: as there is no trace, or since it would be too large.
+use Rattle.std.specs.Prelude.{codes}
 use Rattle.std.proofs.Common.{◌≡◌, ◌<◌, ◌∙◌, ◌++◌, inl, inr, ℕ, List, Option, Some, None, IfSome, String, Global, string_bytes, refl, sym}
 use Rattle.mencius_ends.specs.declared.fault.IoFault.{IoFault}
 use Rattle.mencius_ends.specs.declared.fault.IoFault.TheVariants.{BadLimit, ReadFailed, WriteFailed}
 use Rattle.mencius_draw.specs.declared.options.Options.{Options}
 use Rattle.mencius_draw.specs.Places.{most_levels}
-use Rattle.mencius_trace.specs.Words.{line_feed}
 use Rattle.mencius_app.specs.Calls.{IsReadingCause}
 use Rattle.mencius_app.specs.Drawing.{ExplainsPicture, IsDrawingFaultOf, IsRefusedAs, levels_in, too_large_words}
 use Rattle.mencius_app.specs.Findings.{AreWordsOfInput, Explanation, IsFoundIn}
@@ -50,7 +50,7 @@ found_as S T also (Some bytes) fault (Some line) h = (
 
 large_words : (o : Options) (known : Option (List ℕ)) (trace : List ℕ) (fault : IoFault)
     (words : Option (String Global)) → IsTraceOf known trace → fault ≡ BadLimit → most_levels < levels_in o trace
-    → IfSome words (λ line. string_bytes line ≡ too_large_words (levels_in o trace) ++ line_feed)
+    → IfSome words (λ line. string_bytes line ≡ too_large_words (levels_in o trace) ++ codes "\n")
     → IfSome words (λ line. AreWordsOfInput (ExplainsPicture o) known fault (string_bytes line))
 large_words o known trace fault None is limit large h = tt
 large_words o None trace fault (Some line) is limit large h = tt

@@ -1,14 +1,15 @@
 -- What has the shape of a scenario of `replay` is meant as one.
 use Rattle.std.proofs.Common.{◌≡◌, ◌≢◌, Bool, true, false, cond, not, List, ℕ, Option, Some, None, is_some, codes, Err, refl, ap}
 use Rattle.std.specs.Prelude.{◌&&◌}
+use Rattle.std.specs.Option.{option_map_or}
 use Rattle.serde_json.specs.Data.{Data}
 use Rattle.serde_json.specs.Find.{get}
-use Rattle.mencius_ends.specs.declared.fault.IoFault.TheVariants.{BadShape}
+use Rattle.mencius_ends.specs.declared.fault.IoFault.TheVariants.{BadShape, NotJson}
 use Rattle.mencius_input.specs.declared.kind.Kind.{Kind}
 use Rattle.mencius_input.specs.declared.kind.Kind.TheVariants.{Replay, Run}
 use Rattle.mencius_format.specs.ValuesOrFaults.{value_or_fault}
 use Rattle.mencius_input.specs.Kinds.{has_run_field, is_crowded, kind_in, kind_said}
-use Rattle.mencius_input.specs.Scenario.{is_within_limits, json_of, or_not_json, read_there, scenario, written_of}
+use Rattle.mencius_input.specs.Scenario.{is_within_limits, json_of, scenario, written_of}
 use Rattle.mencius_input.proofs.objects.ScenarioFields.{no_events_said}
 
 has_none : (o : Option Data) (other : Bool) → cond (not (is_some o) && other) Run Replay ≡ Run → o ≡ None
@@ -16,7 +17,7 @@ has_none None other e = refl
 has_none (Some x) other e = absurd (cc)
 
 run_said : (o : Option Data) → kind_said o ≡ Run
-    → read_there (λ d. value_or_fault is_within_limits (written_of d)) (or_not_json o) ≡ Err BadShape
+    → option_map_or (λ d. value_or_fault is_within_limits (written_of d)) o (Err NotJson) ≡ Err BadShape
 run_said None e = absurd (cc)
 run_said (Some d) e =
     ap (value_or_fault is_within_limits) (no_events_said d (has_none (get (codes "events") d) (has_run_field d) e))

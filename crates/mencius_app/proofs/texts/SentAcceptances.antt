@@ -1,12 +1,13 @@
 -- What a server accepted and what was proposed, asked of the messages alone.
 use Rattle.std.proofs.Common.{◌≡◌, ℕ, zero, suc, ◌+◌, ◌≤◌, List, [], ◌∷◌, ◌++◌, length, take, drop, Option, Some, None, refl, sym, ap, ◌∙◌, append-nil, arith}
+use Rattle.std.specs.Option.{option_or}
 use Rattle.std.specs.Prelude.{slice_get}
 use Rattle.std.specs.List.{fold}
 use Rattle.std.proofs.lemmas.Grind.{fold-append}
 use Rattle.std.proofs.lemmas.List.{take_all}
 use Rattle.mencius_base.specs.declared.message.Message.{Message}
 use Rattle.mencius_base.specs.declared.message.Value.{Value}
-use Rattle.mencius_model.specs.Trace.{Sent, Submitted, Heard, Lost, Suspected, Retried, Executed, Learned, Trace, first_some, sent_messages}
+use Rattle.mencius_model.specs.Trace.{Sent, Submitted, Heard, Lost, Suspected, Retried, Executed, Learned, Trace, sent_messages}
 use Rattle.mencius_model.specs.Instance.{accepted_ballot, accepted_by, greater_ballot, proposal, proposal_by}
 
 -- one element more
@@ -64,23 +65,23 @@ accepted_whole p i w n found past had =
 -- ---- what was proposed
 
 abbrev with_proposal : ℕ → ℕ → Option Value → Message → Option Value
-with_proposal i b o x = first_some o (proposal_by i b (Sent x))
+with_proposal i b o x = option_or o (proposal_by i b (Sent x))
 
 abbrev pub proposed_among : ℕ → ℕ → List Message → Option Value
 proposed_among i b xs = fold (with_proposal i b) None xs
 
-earlier_none : {A : Type 0} (o : Option A) → first_some o None ≡ o
+earlier_none : {A : Type 0} (o : Option A) → option_or o None ≡ o
 earlier_none None = refl
 earlier_none (Some b) = refl
 
 unsaid : (i b : ℕ) (w : Trace) → proposal w i b ≡ proposed_among i b (sent_messages w)
-    → first_some (proposal w i b) None ≡ proposed_among i b (sent_messages w ++ [])
+    → option_or (proposal w i b) None ≡ proposed_among i b (sent_messages w ++ [])
 unsaid i b w e = earlier_none (proposal w i b) ∙ e ∙ ap (proposed_among i b) (sym (append-nil (sent_messages w)))
 
 pub proposed_is : (i b : ℕ) (w : Trace) → proposal w i b ≡ proposed_among i b (sent_messages w)
 proposed_is i b [] = refl
 proposed_is i b (Sent x ∷ w) =
-    ap (λ o. first_some o (proposal_by i b (Sent x))) (proposed_is i b w)
+    ap (λ o. option_or o (proposal_by i b (Sent x))) (proposed_is i b w)
     ∙ sym (fold-append (with_proposal i b) None (sent_messages w) (x ∷ []))
 proposed_is i b (Submitted command q ∷ w) = unsaid i b w (proposed_is i b w)
 proposed_is i b (Heard k q ∷ w) = unsaid i b w (proposed_is i b w)
@@ -97,7 +98,7 @@ pub unsaid_further : (i b : ℕ) (xs : List Message) (n : ℕ) (x : Message) →
 unsaid_further i b xs n x here had none =
     let on : n + 1 ≡ suc n = omega arith in
     ap (λ n. proposed_among i b (take n xs)) on ∙ fold_further (with_proposal i b) None xs n x here
-    ∙ ap (λ o. first_some o (proposal_by i b (Sent x))) had ∙ none
+    ∙ ap (λ o. option_or o (proposal_by i b (Sent x))) had ∙ none
 
 -- no message proposes anything there
 pub unsaid_whole : (i b : ℕ) (w : Trace) (n : ℕ) → length (sent_messages w) ≤ n
@@ -123,7 +124,7 @@ pub proposed_here : (i b : ℕ) (w : Trace) (n : ℕ) (x : Message) (value : Val
     → Some value ≡ proposal w i b
 proposed_here i b w n x value here had is =
     let first : proposed_among i b (take (suc n) (sent_messages w)) ≡ Some value =
-    fold_further (with_proposal i b) None (sent_messages w) n x here ∙ ap (λ o. first_some o (proposal_by i b (Sent x))) had
+    fold_further (with_proposal i b) None (sent_messages w) n x here ∙ ap (λ o. option_or o (proposal_by i b (Sent x))) had
     ∙ sym is in
     sym (proposed_is i b w ∙ split_at (with_proposal i b) None (sent_messages w) (suc n)
     ∙ ap (λ o. fold (with_proposal i b) o (drop (suc n) (sent_messages w))) first

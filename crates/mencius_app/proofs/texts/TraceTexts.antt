@@ -1,7 +1,7 @@
 -- A text to which the first of a list of events were told.
 use Rattle.std.proofs.Common.{◌≡◌, ℕ, ◌+◌, List, [], ◌∷◌, ◌++◌, append_assoc, length, refl, sym, ap, ◌∙◌, arith}
+use Rattle.std.specs.Result.{result_unwrap_or}
 use Rattle.mencius_base.specs.declared.event.Event.{Event}
-use Rattle.mencius_model.specs.Outcomes.{trace_after}
 use Rattle.mencius_model.specs.Next.{next}
 use Rattle.mencius_cluster.specs.State.{ClusterState, trace_of}
 use Rattle.mencius_trace.specs.Closing.{closing_text, events_text}
@@ -27,12 +27,12 @@ text_of_none old before es left same = record {
 pub text_of_one_more : (old mid new : ClusterState) (before text more : List ℕ) (es left rest : List Event) (e : Event)
     (place : ℕ) → IsTraced old before es left mid text place → left ≡ e ∷ rest
     → more ≡ text ++ event_lines mid.members (trace_of mid) place e
-    → trace_of new ≡ trace_after (trace_of mid) (next mid.members (trace_of mid) e) → new.members ≡ mid.members
+    → trace_of new ≡ result_unwrap_or (next mid.members (trace_of mid) e) (trace_of mid) → new.members ≡ mid.members
     → IsTraced old before es rest new more (place + 1)
 text_of_one_more old mid new before text more es left rest e place is next_is got trace members =
     let m = mid.members in
     let told = event_lines m (trace_of mid) place e in
-    let w = trace_after (trace_of mid) (next m (trace_of mid) e) in
+    let w = result_unwrap_or (next m (trace_of mid) e) (trace_of mid) in
     record {
       members = members ∙ is.members;
       text_is = ap (λ xs. xs ++ events_text new.members (trace_of new) (place + 1) rest) got

@@ -2,6 +2,7 @@
 use Rattle.std.proofs.Common.{◌≡◌, ◌∙◌, ◌<◌, ◌==◌, arith, ℕ, List, length, get_or, codes, Bool, true, false, cond, is_some, option_map, option_and_then, Option, Some, None, Ok, Err, refl, sym, ap}
 use Rattle.std.specs.Prelude.{unwrap_or}
 use Rattle.std.specs.List.{list_all}
+use Rattle.std.specs.Option.{option_map_or}
 use Rattle.std.proofs.lemmas.Bool.{and_from}
 use Rattle.serde_json.specs.Data.{Data, Items, Members, array, boolean, no_members, null, number, object, string}
 use Rattle.serde_json.specs.Events.{items_len}
@@ -11,19 +12,20 @@ use Rattle.mencius_base.specs.Members.{Membership}
 use Rattle.mencius_base.specs.Plan.{PlanState, plan_of}
 use Rattle.mencius_base.specs.CommandState.{CommandState}
 use Rattle.mencius_ends.specs.declared.fault.IoFault.{IoFault}
-use Rattle.mencius_ends.specs.declared.fault.IoFault.TheVariants.{BadLimit, BadShape}
-use Rattle.mencius_format.specs.Grammar.{is_command_within}
+use Rattle.mencius_ends.specs.declared.fault.IoFault.TheVariants.{BadLimit, BadShape, NotJson}
+use Rattle.mencius_format.specs.Grammar.{is_command_within, is_event_within}
 use Rattle.mencius_format.specs.ValuesOrFaults.{value_or_fault}
 use Rattle.mencius_input.specs.declared.field.Field.{Field}
 use Rattle.mencius_input.specs.declared.field.Field.TheVariants.{Version, Servers, Beta, Workers, Seed, Turns, Loss}
 use Rattle.mencius_input.specs.declared.kind.Kind.{Kind}
 use Rattle.mencius_input.specs.declared.kind.Kind.TheVariants.{Replay, Run}
 use Rattle.mencius_input.specs.declared.scenario.Scenario.{Scenario}
-use Rattle.mencius_input.specs.FieldsOf.{field_name, is_field_within, fields, names}
+use Rattle.mencius_input.specs.FieldsOf.{field_name, field_number, is_field_within, is_number_within, fields, names}
+use Rattle.mencius_input.specs.FieldValues.{own_names}
 use Rattle.mencius_input.specs.Laws.{FaultsHavePlaces, HasPlace}
 use Rattle.mencius_input.specs.Places.{count_place, course_place, field_named, first_in, first_of, first_place, is_lacking, lack_place, list_place, names_in, names_of, place_in, version_in}
 use Rattle.mencius_input.specs.Plan.{commands_read, plan_read, is_plan_within}
-use Rattle.mencius_input.specs.Scenario.{all_of, has_only, json_of, number_of, or_not_json, read_there, scenario_in, scenario_of, is_scenario_within, schedule_of, is_schedule_within}
+use Rattle.mencius_input.specs.Scenario.{all_of, has_only, json_of, scenario_in, scenario_of, is_scenario_within, schedule_of}
 use Rattle.mencius_input.proofs.JsonTexts.{json_read}
 use Rattle.mencius_input.proofs.objects.NameOrder.{names_made}
 use Rattle.mencius_input.proofs.objects.RunFields.{mapped_items, plan_bound, plan_by_fields}
@@ -79,7 +81,7 @@ planned_parts version (Some workers) (Some seed) (Some turns) (Some loss) value 
       commands = lists ∙ ap (λ o. Some (unwrap_or o plan).commands) is;
     }
 
-module _ (ms : Members) (h : HasNone Run BadShape ms) (version : ℕ) (said : number_of Version (object ms) ≡ Some version) where
+module _ (ms : Members) (h : HasNone Run BadShape ms) (version : ℕ) (said : field_number Version (object ms) ≡ Some version) where
   run_lists : (o : Option Items) → course_place Run BadShape (object ms) o ≡ None
       → is_some (option_and_then (all_of (commands_read version)) o) ≡ true
   run_lists None none = absurd cc
@@ -95,7 +97,7 @@ module _ (ms : Members) (h : HasNone Run BadShape ms) (version : ℕ) (said : nu
   run_value (Some value) some none = run_lists (as_array value) none
 
   run_number : (field : Field) → field_named Run (field_name field) ≡ Some field → (i : ℕ) → i < length (fields Run)
-      → get_or (fields Run) i Version ≡ field → is_some (number_of field (object ms)) ≡ true
+      → get_or (fields Run) i Version ≡ field → is_some (field_number field (object ms)) ≡ true
   run_number field named i less is =
       number_there Run ms h field named
       (ap (is_lacking (object ms)) (sym is) ∙ none_lacking Run ms h i less)
@@ -112,7 +114,7 @@ module _ (ms : Members) (h : HasNone Run BadShape ms) (version : ℕ) (said : nu
       (list_none Run BadShape ms h))
 
 module _ (ms : Members) (h : HasNone Run BadLimit ms) (version servers : ℕ)
-    (said : number_of Version (object ms) ≡ Some version) (counted : number_of Servers (object ms) ≡ Some servers)
+    (said : field_number Version (object ms) ≡ Some version) (counted : field_number Servers (object ms) ≡ Some servers)
     (few : is_field_within Servers servers ≡ true) where
   -- the lists are within their limits, and as many as there are servers
   run_lists_fit : (o : Option Items) (lists : List (List CommandState)) → course_place Run BadLimit (object ms) o ≡ None
@@ -121,9 +123,9 @@ module _ (ms : Members) (h : HasNone Run BadLimit ms) (version servers : ℕ)
   run_lists_fit None lists none is = absurd cc
   run_lists_fit (Some items) lists none is =
       let parts = none_both (first_of (list_place BadLimit (version_in (object ms))) 0 items)
-      (count_place BadLimit (items_len items) (number_of Servers (object ms))) none in (
+      (count_place BadLimit (items_len items) (field_number Servers (object ms))) none in (
         ap (λ n. n == servers) (same_count (commands_read version) (list_place BadLimit version) items lists is)
-            ∙ counts_agree (items_len items) servers (number_of Servers (object ms)) counted few parts.1,
+            ∙ counts_agree (items_len items) servers (field_number Servers (object ms)) counted few parts.1,
         lists_fit version items lists
             (sym (ap (λ v. first_of (list_place BadLimit v) 0 items) (same_version ms version said)) ∙ parts.0) is,
       )
@@ -137,9 +139,10 @@ module _ (ms : Members) (h : HasNone Run BadLimit ms) (version servers : ℕ)
 
   plan_fits_all : (members : Membership) → members.count ≡ servers → (plan : PlanState)
       → plan_read version (object ms) ≡ Some plan → is_plan_within members plan ≡ true
+  unfolding is_field_within is_number_within
   plan_fits_all members same plan is =
-      let p = planned_parts version (number_of Workers (object ms)) (number_of Seed (object ms))
-      (number_of Turns (object ms)) (number_of Loss (object ms)) (get_member (codes "commands") ms) plan
+      let p = planned_parts version (field_number Workers (object ms)) (field_number Seed (object ms))
+      (field_number Turns (object ms)) (field_number Loss (object ms)) (get_member (codes "commands") ms) plan
       (sym (plan_bound version ms) ∙ is) in
       let lists = run_value_fits (get_member (codes "commands") ms) plan.commands (list_none Run BadLimit ms h) p.commands in
       let workers = number_fits Run ms h Workers refl plan.workers p.workers in
@@ -203,8 +206,8 @@ module _ {X : Type 0} where
 -- ---- the fields of both kinds
 
 shared_there : (kind : Kind) (ms : Members) → HasNone kind BadShape ms
-    → (is_some (number_of Version (object ms)) ≡ true) × (is_some (number_of Servers (object ms)) ≡ true)
-    × (is_some (number_of Beta (object ms)) ≡ true)
+    → (is_some (field_number Version (object ms)) ≡ true) × (is_some (field_number Servers (object ms)) ≡ true)
+    × (is_some (field_number Beta (object ms)) ≡ true)
 shared_there Replay ms h = (
   number_there Replay ms h Version refl (none_lacking Replay ms h 0 (omega arith)),
   number_there Replay ms h Servers refl (none_lacking Replay ms h 1 (omega arith)),
@@ -217,8 +220,8 @@ shared_there Run ms h = (
 )
 
 shared_fit : (kind : Kind) (ms : Members) → HasNone kind BadLimit ms → (version servers beta : ℕ)
-    → number_of Version (object ms) ≡ Some version → number_of Servers (object ms) ≡ Some servers
-    → number_of Beta (object ms) ≡ Some beta
+    → field_number Version (object ms) ≡ Some version → field_number Servers (object ms) ≡ Some servers
+    → field_number Beta (object ms) ≡ Some beta
     → (is_field_within Version version ≡ true) × (is_field_within Servers servers ≡ true) × (is_field_within Beta beta ≡ true)
 shared_fit Replay ms h version servers beta v s b = (
   number_fits Replay ms h Version refl version v,
@@ -261,17 +264,17 @@ only_known kind bytes ms is none =
 -- of what the parts of a scenario were read that an object says
 abbrev IsOf : {X : Type 0} → (ℕ → Data → Option X) → Members → Scenario X → Type 0
 IsOf course_of ms x =
-    IsBound (number_of Version (object ms)) (number_of Servers (object ms)) (number_of Beta (object ms))
+    IsBound (field_number Version (object ms)) (field_number Servers (object ms)) (field_number Beta (object ms))
     (λ version. course_of version (object ms)) x
 
 module _ {X : Type 0} (kind : Kind) (course_of : ℕ → Data → Option X) (fits : Membership → X → Bool)
-    (there : (ms : Members) → HasNone kind BadShape ms → (version : ℕ) → number_of Version (object ms) ≡ Some version
+    (there : (ms : Members) → HasNone kind BadShape ms → (version : ℕ) → field_number Version (object ms) ≡ Some version
     → is_some (course_of version (object ms)) ≡ true)
     (fit : (ms : Members) → HasNone kind BadLimit ms → (x : Scenario X) → IsOf course_of ms x
     → is_field_within Servers x.members.count ≡ true → fits x.members x.course ≡ true)
     (bytes : List ℕ) where
   shape_none : (d : Data) → read bytes ≡ Some d → place_in kind BadShape (names_in bytes) d ≡ None
-      → is_some (scenario_of kind course_of d) ≡ true
+      → is_some (scenario_of (own_names kind) course_of d) ≡ true
   shape_none null is none = absurd cc
   shape_none (boolean b) is none = absurd cc
   shape_none (number n) is none = absurd cc
@@ -284,8 +287,8 @@ module _ {X : Type 0} (kind : Kind) (course_of : ℕ → Data → Option X) (fit
       ∙ bound_there _ _ _ _ _ (only_known kind bytes ms is none) numbers.0 numbers.1 numbers.2 (there ms h)
 
   limit_none : (d : Data) → read bytes ≡ Some d → place_in kind BadLimit (names_in bytes) d ≡ None
-      → (x : Scenario X) → scenario_of kind course_of d ≡ Some x → is_scenario_within fits x ≡ true
-  unfolding scenario_of
+      → (x : Scenario X) → scenario_of (own_names kind) course_of d ≡ Some x → is_scenario_within fits x ≡ true
+  unfolding scenario_of is_field_within is_number_within
   limit_none null is none x said = absurd cc
   limit_none (boolean b) is none x said = absurd cc
   limit_none (number n) is none x said = absurd cc
@@ -301,10 +304,10 @@ module _ {X : Type 0} (kind : Kind) (course_of : ℕ → Data → Option X) (fit
       → place_in kind fault (names_in bytes) d ≡ None
   place_none fault d is none = sym (ap (option_and_then (place_in kind fault (names_in bytes))) is) ∙ none
 
-  has_place : HasPlace kind bytes (scenario_in kind course_of fits bytes)
+  has_place : HasPlace kind bytes (scenario_in (own_names kind) course_of fits bytes)
   has_place = by_json (json_of bytes) refl
     where
-      by_test : (d : Data) → json_of bytes ≡ Some d → (x : Scenario X) → scenario_of kind course_of d ≡ Some x
+      by_test : (d : Data) → json_of bytes ≡ Some d → (x : Scenario X) → scenario_of (own_names kind) course_of d ≡ Some x
           → (a : Bool) → is_scenario_within fits x ≡ a → HasPlace kind bytes (cond a (Ok x) (Err BadLimit))
       by_test d is x said true within = tt
       by_test d is x said false within =
@@ -313,7 +316,7 @@ module _ {X : Type 0} (kind : Kind) (course_of : ℕ → Data → Option X) (fit
           let both = sym within ∙ all in
           absurd cc)
 
-      by_scenario : (d : Data) → json_of bytes ≡ Some d → (o : Option (Scenario X)) → scenario_of kind course_of d ≡ o
+      by_scenario : (d : Data) → json_of bytes ≡ Some d → (o : Option (Scenario X)) → scenario_of (own_names kind) course_of d ≡ o
           → HasPlace kind bytes (value_or_fault (is_scenario_within fits) o)
       by_scenario d is None said =
           some_unless (first_place kind BadShape bytes) (λ none.
@@ -324,13 +327,13 @@ module _ {X : Type 0} (kind : Kind) (course_of : ℕ → Data → Option X) (fit
 
       by_json : (o : Option Data) → json_of bytes ≡ o
           → HasPlace kind bytes
-          (read_there (λ d. value_or_fault (is_scenario_within fits) (scenario_of kind course_of d)) (or_not_json o))
+          (option_map_or (λ d. value_or_fault (is_scenario_within fits) (scenario_of (own_names kind) course_of d)) o (Err NotJson))
       by_json None is = tt
-      by_json (Some d) is = by_scenario d is (scenario_of kind course_of d) refl
+      by_json (Some d) is = by_scenario d is (scenario_of (own_names kind) course_of d) refl
 
 pub places_there : FaultsHavePlaces
 places_there bytes = (
-  has_place Replay schedule_of is_schedule_within schedule_there
+  has_place Replay schedule_of (λ members. list_all is_event_within) schedule_there
       (λ ms h x parts few. schedule_fits ms h x.version x.course parts.version parts.course) bytes,
   has_place Run plan_read is_plan_within plan_there
       (λ ms h x parts few. plan_fits_all ms h x.version x.members.count parts.version parts.servers few x.members refl

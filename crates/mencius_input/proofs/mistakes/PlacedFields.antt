@@ -17,10 +17,10 @@ use Rattle.mencius_input.specs.declared.field.Field.{Field}
 use Rattle.mencius_input.specs.declared.field.Field.TheVariants.{Version, Servers}
 use Rattle.mencius_input.specs.declared.kind.Kind.{Kind}
 use Rattle.mencius_input.specs.declared.kind.Kind.TheVariants.{Replay, Run}
-use Rattle.mencius_input.specs.FieldsOf.{default_of, field_name, is_field_within, fields, list_field}
+use Rattle.mencius_input.specs.FieldsOf.{default_of, field_name, field_number, is_field_within, fields, list_field, number_in, whole_in}
 use Rattle.mencius_input.specs.Places.{commands_place, count_place, course_place, events_place, fault_at, field_named, field_place, first_item, first_of, is_fault, is_lacking, lack_place, list_field_place, list_place, missing_field, named_place, number_place, version_in, whole_place}
 use Rattle.mencius_input.specs.Plan.{commands_read}
-use Rattle.mencius_input.specs.Scenario.{all_of, events_of, number_in, number_of, said_by, schedule_of, whole_in}
+use Rattle.mencius_input.specs.Scenario.{all_of, said_by, schedule_of}
 use Rattle.mencius_input.proofs.objects.ScenarioFields.{schedule_bound}
 use Rattle.mencius_input.proofs.objects.SharedFields.{default_fits}
 use Rattle.mencius_input.proofs.mistakes.PlacedNames.{none_both, none_found, none_mapped, not_given}
@@ -71,8 +71,8 @@ module _ (kind : Kind) (ms : Members) (h : HasNone kind BadShape ms) where
   by_default (Some n) e = refl
 
   pub number_there : (field : Field) → field_named kind (field_name field) ≡ Some field
-      → is_lacking (object ms) field ≡ false → is_some (number_of field (object ms)) ≡ true
-  unfolding number_of
+      → is_lacking (object ms) field ≡ false → is_some (field_number field (object ms)) ≡ true
+  unfolding field_number
   number_there field named there =
       by_value (get_member (field_name field) ms) there (number_none kind BadShape ms h field named)
     where
@@ -101,8 +101,8 @@ module _ (kind : Kind) (ms : Members) (h : HasNone kind BadShape ms) where
 
 module _ (kind : Kind) (ms : Members) (h : HasNone kind BadLimit ms) where
   pub number_fits : (field : Field) → field_named kind (field_name field) ≡ Some field → (n : ℕ)
-      → number_of field (object ms) ≡ Some n → is_field_within field n ≡ true
-  unfolding number_of
+      → field_number field (object ms) ≡ Some n → is_field_within field n ≡ true
+  unfolding field_number
   number_fits field named n is =
       by_value (get_member (field_name field) ms) (number_none kind BadLimit ms h field named) is
     where
@@ -186,50 +186,50 @@ module _ {X P : Type 0} (fits : X → Bool) (place : P) where
 -- ---- events
 
 events_there : (version : ℕ) (items : Items) → events_place BadShape version items ≡ None
-    → is_some (events_of version items) ≡ true
+    → is_some (all_of (said_by (event_of version)) items) ≡ true
 events_there version items none =
     all_there (said_by (event_of version)) (fault_at Replay BadShape version)
     (λ n d none. item_there is_event_within _ (said_by (event_of version) d) none)
     0 items (none_mapped _ (first_item Replay BadShape version items) none)
 
 events_fit : (version : ℕ) (items : Items) (es : List Event) → events_place BadLimit version items ≡ None
-    → events_of version items ≡ Some es → list_all is_event_within es ≡ true
+    → all_of (said_by (event_of version)) items ≡ Some es → list_all is_event_within es ≡ true
 events_fit version items es none is =
     all_fit (said_by (event_of version)) (fault_at Replay BadLimit version) is_event_within
     (λ n d x none is. item_fits is_event_within _ (said_by (event_of version) d) x none is)
     0 items es (none_mapped _ (first_item Replay BadLimit version items) none) is
 
-pub same_version : (ms : Members) (version : ℕ) → number_of Version (object ms) ≡ Some version
+pub same_version : (ms : Members) (version : ℕ) → field_number Version (object ms) ≡ Some version
     → version_in (object ms) ≡ version
 same_version ms version is = ap (λ o. unwrap_or o newest_version) is
 
 pub schedule_there : (ms : Members) → HasNone Replay BadShape ms → (version : ℕ)
-    → number_of Version (object ms) ≡ Some version → is_some (schedule_of version (object ms)) ≡ true
+    → field_number Version (object ms) ≡ Some version → is_some (schedule_of version (object ms)) ≡ true
 schedule_there ms h version said =
     ap is_some (schedule_bound version ms)
     ∙ by_value (get_member (codes "events") ms) (list_there Replay ms h (none_lacking Replay ms h 3 (omega arith)))
     (list_none Replay BadShape ms h)
   where
     by_items : (o : Option Items) → course_place Replay BadShape (object ms) o ≡ None
-        → is_some (option_and_then (events_of version) o) ≡ true
+        → is_some (option_and_then (all_of (said_by (event_of version))) o) ≡ true
     by_items None none = absurd cc
     by_items (Some items) none =
         events_there version items (sym (ap (λ v. events_place BadShape v items) (same_version ms version said)) ∙ none)
 
     by_value : (o : Option Data) → is_some o ≡ true
         → option_and_then (λ value. course_place Replay BadShape (object ms) (as_array value)) o ≡ None
-        → is_some (option_and_then (events_of version) (option_and_then as_array o)) ≡ true
+        → is_some (option_and_then (all_of (said_by (event_of version))) (option_and_then as_array o)) ≡ true
     by_value None some none = absurd cc
     by_value (Some value) some none = by_items (as_array value) none
 
 pub schedule_fits : (ms : Members) → HasNone Replay BadLimit ms → (version : ℕ) (es : List Event)
-    → number_of Version (object ms) ≡ Some version → schedule_of version (object ms) ≡ Some es
+    → field_number Version (object ms) ≡ Some version → schedule_of version (object ms) ≡ Some es
     → list_all is_event_within es ≡ true
 schedule_fits ms h version es said is =
     by_value (get_member (codes "events") ms) (list_none Replay BadLimit ms h) (sym (schedule_bound version ms) ∙ is)
   where
     by_items : (o : Option Items) → course_place Replay BadLimit (object ms) o ≡ None
-        → option_and_then (events_of version) o ≡ Some es → list_all is_event_within es ≡ true
+        → option_and_then (all_of (said_by (event_of version))) o ≡ Some es → list_all is_event_within es ≡ true
     by_items None none is = absurd cc
     by_items (Some items) none is =
         events_fit version items es
@@ -237,7 +237,7 @@ schedule_fits ms h version es said is =
 
     by_value : (o : Option Data)
         → option_and_then (λ value. course_place Replay BadLimit (object ms) (as_array value)) o ≡ None
-        → option_and_then (events_of version) (option_and_then as_array o) ≡ Some es → list_all is_event_within es ≡ true
+        → option_and_then (all_of (said_by (event_of version))) (option_and_then as_array o) ≡ Some es → list_all is_event_within es ≡ true
     by_value None none is = absurd cc
     by_value (Some value) none is = by_items (as_array value) none is
 

@@ -20,8 +20,8 @@ use Rattle.mencius_input.specs.declared.fields.KeptList as code_list
 use Rattle.mencius_input.specs.declared.kind.Kind.{Kind}
 use Rattle.mencius_input.specs.declared.kind.Kind.TheVariants.{Replay, Run}
 use Rattle.mencius_input.specs.FieldValues.{AreFieldValues, Says, list_kept, list_said, wholes_of}
-use Rattle.mencius_input.specs.FieldsOf.{default_of, field_name, fields, is_one_of, list_field, names, whole_fields}
-use Rattle.mencius_input.specs.Scenario.{has_only, number_in, number_of, whole_in}
+use Rattle.mencius_input.specs.FieldsOf.{default_of, field_name, field_number, fields, is_one_of, list_field, names, number_in, whole_fields, whole_in}
+use Rattle.mencius_input.specs.Scenario.{has_only}
 
 -- ---- names
 
@@ -117,15 +117,15 @@ module _ (name : List ℕ) (d : Data) where
 
 module _ (name : List ℕ) (d : Data) (ms : Members) where
   number_stays : (field : Field) → is_named name field ≡ false
-      → number_of field (object (put name d ms)) ≡ number_of field (object ms)
-  unfolding number_of
+      → field_number field (object (put name d ms)) ≡ field_number field (object ms)
+  unfolding field_number
   number_stays field e =
       ap (number_in field)
       (get_member-put_other (field_name field) name d ms (λ same. other_name name (field_name field) e (sym same)))
 
   number_read : (field : Field) → is_named name field ≡ true
-      → number_of field (object (put name d ms)) ≡ whole_in d
-  unfolding number_of
+      → field_number field (object (put name d ms)) ≡ whole_in d
+  unfolding field_number
   number_read field e =
       ap (number_in field)
       (ap (λ n. get_member (field_name field) (put n d ms)) (same_name name (field_name field) e)
@@ -174,7 +174,7 @@ module _ (name : List ℕ) (d : Data) (ms : Members) where
 -- ---- all fields
 
 wholes_none : (fs : List Field) → map default_of fs ≡ wholes_of fs (object no_members)
-unfolding number_of
+unfolding field_number
 wholes_none [] = refl
 wholes_none (f ∷ fs) = ap (λ ns. default_of f ∷ ns) (wholes_none fs)
 

@@ -16,9 +16,9 @@ use Rattle.mencius_input.specs.declared.fields.FieldValues as code
 use Rattle.mencius_input.specs.declared.kind.Kind.TheVariants.{Run}
 use Rattle.mencius_input.specs.declared.scenario.Shared.{Shared}
 use Rattle.mencius_input.specs.FieldValues.{AreFieldValues, list_kept, list_said, are_lists_within, is_plan_for, plan_or_fault, plan_said, said_of, scenario_or_fault, shared_in, is_shared_within}
-use Rattle.mencius_input.specs.FieldsOf.{is_field_within, names}
-use Rattle.mencius_input.specs.Plan.{commands_read, are_numbers_within, plan_read, is_plan_within}
-use Rattle.mencius_input.specs.Scenario.{all_in, all_of, has_only, number_of, scenario_of, is_scenario_within}
+use Rattle.mencius_input.specs.FieldsOf.{field_number, is_field_within, names, number_of}
+use Rattle.mencius_input.specs.Plan.{commands_read, are_numbers_within, plan_read, is_plan_within, run_names}
+use Rattle.mencius_input.specs.Scenario.{all_in, all_of, has_only, scenario_of, is_scenario_within}
 use Rattle.mencius_input.proofs.lists.VersionItems.{lists_said_in}
 use Rattle.mencius_input.proofs.objects.SharedFields.{members_in, scenario_or_fault_is, shared_say}
 
@@ -31,9 +31,9 @@ plan_by_fields version ow os ot ol value =
     (all_of (commands_read version) lists)) (option_and_then as_array value)) ol) ot) os) ow
 
 pub plan_bound : (version : ℕ) (ms : Members) → plan_read version (object ms)
-    ≡ plan_by_fields version (number_of Workers (object ms)) (number_of Seed (object ms)) (number_of Turns (object ms))
-    (number_of Loss (object ms)) (get_member (codes "commands") ms)
-unfolding plan_read
+    ≡ plan_by_fields version (field_number Workers (object ms)) (field_number Seed (object ms)) (field_number Turns (object ms))
+    (field_number Loss (object ms)) (get_member (codes "commands") ms)
+unfolding plan_read number_of field_number
 plan_bound version ms = refl
 
 -- ---- the limits
@@ -115,12 +115,12 @@ plan_or_fault_is shared (Some workers) (Some seed) (Some turns) (Some loss) (Som
 -- the answer
 pub plan_fields_say : (f : code.FieldValues) (ms : Members) → AreFieldValues Run f ms → has_only (names Run) ms ≡ true
     → said_of (λ shared own. plan_said shared own (option_map list_kept f.list)) (shared_in f.wholes.items)
-    ≡ value_or_fault (is_scenario_within is_plan_within) (scenario_of Run plan_read (object ms))
+    ≡ value_or_fault (is_scenario_within is_plan_within) (scenario_of run_names plan_read (object ms))
 plan_fields_say f ms h only =
-    let ow = number_of Workers (object ms) in
-    let os = number_of Seed (object ms) in
-    let ot = number_of Turns (object ms) in
-    let ol = number_of Loss (object ms) in
+    let ow = field_number Workers (object ms) in
+    let os = field_number Seed (object ms) in
+    let ot = field_number Turns (object ms) in
+    let ol = field_number Loss (object ms) in
     let value = get_member (codes "commands") ms in
     ap (λ list. said_of (λ shared own. plan_said shared own list) (shared_in f.wholes.items)) h.list
     ∙ shared_say Run (λ shared own. plan_said shared own (option_map (list_said Run) value)) is_plan_within

@@ -1,21 +1,23 @@
 -- The fields of both kinds of scenario, and what they say.
 use Rattle.std.proofs.Common.{◌≡◌, ℕ, ◌&&◌, List, ◌∷◌, Bool, true, false, cond, Option, Some, None, option_map, option_and_then, Result, Ok, Err, inl, inr, refl, sym, ap, ◌∙◌}
 use Rattle.std.specs.Prelude.{if◌then◌else◌, unwrap_or}
+use Rattle.std.specs.Option.{option_map_or}
 use Rattle.std.proofs.Math.Bool.{and-true, and-false}
 use Rattle.serde_json.specs.Data.{Data, Members, object}
 use Rattle.serde_json.specs.Find.{as_object}
 use Rattle.mencius_base.specs.Members.{Membership}
 use Rattle.mencius_ends.specs.declared.fault.IoFault.{IoFault}
-use Rattle.mencius_ends.specs.declared.fault.IoFault.TheVariants.{BadLimit}
+use Rattle.mencius_ends.specs.declared.fault.IoFault.TheVariants.{BadLimit, NotJson}
 use Rattle.mencius_format.specs.ValuesOrFaults.{FailsBy, value_or_fault}
 use Rattle.mencius_input.specs.declared.field.Field.{Field}
 use Rattle.mencius_input.specs.declared.field.Field.TheVariants.{Version, Servers, Beta, Workers, Seed, Turns, Loss, Events, Commands}
 use Rattle.mencius_input.specs.declared.kind.Kind.{Kind}
+use Rattle.mencius_input.specs.declared.kind.Kind.TheVariants.{Replay, Run}
 use Rattle.mencius_input.specs.declared.scenario.Scenario.{Scenario}
 use Rattle.mencius_input.specs.declared.scenario.Shared.{Shared}
-use Rattle.mencius_input.specs.FieldValues.{IsForeign, IsUnread, said_of, scenario_or_fault, shared_in, is_shared_within, with_course}
-use Rattle.mencius_input.specs.FieldsOf.{default_of, is_field_within, names}
-use Rattle.mencius_input.specs.Scenario.{has_only, members_of, number_of, or_not_json, read_there, scenario_of, is_scenario_within}
+use Rattle.mencius_input.specs.FieldValues.{IsForeign, IsUnread, own_names, said_of, scenario_or_fault, shared_in, is_shared_within, with_course}
+use Rattle.mencius_input.specs.FieldsOf.{beta_field, default_of, field_number, is_field_within, is_number_within, names, number_of, servers_field, version_field}
+use Rattle.mencius_input.specs.Scenario.{has_only, scenario_of, is_scenario_within}
 
 -- ---- the limits
 
@@ -28,6 +30,7 @@ pub scenario_or_fault_is : {X : Type 0} (shared : Shared) (test : X → Bool) (f
     → (o : Option X)
     → scenario_or_fault shared (value_or_fault test o)
     ≡ value_or_fault (is_scenario_within fits) (option_map (with_course shared) o)
+unfolding is_field_within is_number_within
 scenario_or_fault_is shared test fits same None = refl
 scenario_or_fault_is {X} shared test fits same (Some x) = by_test (test x) (same x)
   where
@@ -56,17 +59,18 @@ default_fits Commands n is = absurd cc
 
 abbrev pub scenario_by_fields : {X : Type 0} → Bool → Option ℕ → Option ℕ → Option ℕ → (ℕ → Option X) → Option (Scenario X)
 scenario_by_fields only ov os ox course_of =
-    option_and_then (λ version. option_and_then (λ members. option_and_then (λ course.
-    if only then Some (record { version = version; members = members; course = course }) else None)
-    (course_of version))
-    (option_and_then (λ servers. option_and_then (λ beta. Some (record { count = servers; beta = beta })) ox) os)) ov
+    option_and_then (λ version. option_and_then (λ servers. option_and_then (λ beta. option_and_then (λ course.
+    if only then Some (record { version = version; members = record { count = servers; beta = beta }; course = course })
+    else None)
+    (course_of version)) ox) os) ov
 
 pub scenario_bound : {X : Type 0} (kind : Kind) (course_of : ℕ → Data → Option X) (ms : Members)
-    → scenario_of kind course_of (object ms)
-    ≡ scenario_by_fields (has_only (names kind) ms) (number_of Version (object ms)) (number_of Servers (object ms))
-    (number_of Beta (object ms)) (λ version. course_of version (object ms))
-unfolding scenario_of members_of
-scenario_bound kind course_of ms = refl
+    → scenario_of (own_names kind) course_of (object ms)
+    ≡ scenario_by_fields (has_only (names kind) ms) (field_number Version (object ms)) (field_number Servers (object ms))
+    (field_number Beta (object ms)) (λ version. course_of version (object ms))
+unfolding scenario_of number_of field_number
+scenario_bound Replay course_of ms = refl
+scenario_bound Run course_of ms = refl
 
 module _ {X : Type 0} (course_said : Shared → List (Option ℕ) → Result X IoFault) (fits : Membership → X → Bool)
     (course_of : ℕ → Option X) (own : List (Option ℕ))
@@ -89,16 +93,16 @@ module _ {X : Type 0} (course_said : Shared → List (Option ℕ) → Result X I
 -- the numbers of both kinds, and then a course by those that follow
 pub shared_say : {X : Type 0} (kind : Kind) (course_said : Shared → List (Option ℕ) → Result X IoFault)
     (fits : Membership → X → Bool) (course_of : ℕ → Data → Option X) (wholes own : List (Option ℕ)) (ms : Members)
-    → wholes ≡ number_of Version (object ms) ∷ number_of Servers (object ms) ∷ number_of Beta (object ms) ∷ own
+    → wholes ≡ field_number Version (object ms) ∷ field_number Servers (object ms) ∷ field_number Beta (object ms) ∷ own
     → has_only (names kind) ms ≡ true
     → ((shared : Shared) → scenario_or_fault shared (course_said shared own)
     ≡ value_or_fault (is_scenario_within fits) (option_map (with_course shared) (course_of shared.version (object ms))))
     → said_of course_said (shared_in wholes)
-    ≡ value_or_fault (is_scenario_within fits) (scenario_of kind course_of (object ms))
+    ≡ value_or_fault (is_scenario_within fits) (scenario_of (own_names kind) course_of (object ms))
 shared_say {X} kind course_said fits course_of wholes own ms are only h =
-    let ov = number_of Version (object ms) in
-    let os = number_of Servers (object ms) in
-    let ox = number_of Beta (object ms) in
+    let ov = field_number Version (object ms) in
+    let os = field_number Servers (object ms) in
+    let ox = field_number Beta (object ms) in
     let read : ℕ → Option X = λ version. course_of version (object ms) in
     ap (λ all. said_of course_said (shared_in all)) are
     ∙ said_bound course_said fits read own h ov os ox
@@ -114,26 +118,32 @@ none_behind (Some x) f h = h x refl
 
 -- what has no course
 pub no_course : {X : Type 0} (kind : Kind) (course_of : ℕ → Data → Option X) (d : Data)
-    → ((version : ℕ) → course_of version d ≡ None) → scenario_of kind course_of d ≡ None
+    → ((version : ℕ) → course_of version d ≡ None) → scenario_of (own_names kind) course_of d ≡ None
 unfolding scenario_of
 no_course kind course_of d h =
-    none_behind (as_object d) _ (λ fields _. none_behind (number_of Version d) _ (λ version _.
-    none_behind (members_of d) _ (λ members _. rw (h version) refl)))
+    none_behind (as_object d) _ (λ fields _. none_behind (number_of version_field d) _ (λ version _.
+    none_behind (number_of servers_field d) _ (λ servers _. none_behind (number_of beta_field d) _ (λ beta _.
+    rw (h version) refl))))
+
+all_names : (kind : Kind) (ms : Members)
+    → has_only (version_field.name ∷ servers_field.name ∷ beta_field.name ∷ own_names kind) ms ≡ has_only (names kind) ms
+all_names Replay ms = refl
+all_names Run ms = refl
 
 -- nor what is no object with fields of the kind alone
 foreign_said : {X : Type 0} (kind : Kind) (course_of : ℕ → Data → Option X) (d : Data) → IsForeign kind d
-    → scenario_of kind course_of d ≡ None
+    → scenario_of (own_names kind) course_of d ≡ None
 unfolding scenario_of
 foreign_said kind course_of d foreign =
-    none_behind (as_object d) _ (λ fields is. none_behind (number_of Version d) _ (λ version _.
-    none_behind (members_of d) _ (λ members _. none_behind (course_of version d) _ (λ course _.
-    rw (foreign fields is) refl))))
+    none_behind (as_object d) _ (λ fields is. none_behind (number_of version_field d) _ (λ version _.
+    none_behind (number_of servers_field d) _ (λ servers _. none_behind (number_of beta_field d) _ (λ beta _.
+    none_behind (course_of version d) _ (λ course _. rw (all_names kind fields, foreign fields is) refl)))))
 
 -- why there are no fields is the fault of the bytes
 pub unread_fails : {X : Type 0} (kind : Kind) (course_of : ℕ → Data → Option X) (fits : Membership → X → Bool)
     (o : Option Data) (fault : IoFault) → IsUnread kind o fault
     → FailsBy fault
-    (read_there (λ d. value_or_fault (is_scenario_within fits) (scenario_of kind course_of d)) (or_not_json o))
+    (option_map_or (λ d. value_or_fault (is_scenario_within fits) (scenario_of (own_names kind) course_of d)) o (Err NotJson))
 unread_fails kind course_of fits o fault (inl memory) = rw memory tt
 unread_fails kind course_of fits o fault (inr (inl (is, none))) = rw (is, none) refl
 unread_fails kind course_of fits o fault (inr (inr (is, d, some, foreign))) =

@@ -1,5 +1,6 @@
 -- What a judge holds, with one more observation.
 use Rattle.std.proofs.Common.{◌≡◌, ◌≢◌, inl, inr, ℕ, zero, suc, ◌<◌, true, false, cond, ◌||◌, Bool, List, [], ◌∷◌, ◌++◌, Option, Some, None, is_some, length, option_map, slice_get, take, arith, refl, sym, subst, ap, ◌∙◌, ⊎_elim, length-append, append-nil}
+use Rattle.std.specs.Option.{option_or}
 use Rattle.std.specs.Prelude.{IsSome}
 use Rattle.std.specs.List.{Contains}
 use Rattle.std.specs.Ordering.{nat_cmp}
@@ -9,7 +10,6 @@ use Rattle.mencius_base.specs.declared.command.Command.{Command}
 use Rattle.mencius_base.specs.declared.command.CommandId.{CommandId}
 use Rattle.mencius_base.specs.Command.{is_same_id}
 use Rattle.mencius_model.specs.KeyMap.{out}
-use Rattle.mencius_model.specs.Trace.{first_some}
 use Rattle.mencius_judge.specs.declared.judge.Execution.{Execution}
 use Rattle.mencius_judge.specs.declared.judge.Submission.{Submission}
 use Rattle.mencius_judge.specs.declared.observation.Observation.TheVariants.{Submit, Execute, Reply}
@@ -185,7 +185,7 @@ module _ (w : Log) (rows : BTreeMap ℕ Submission) (h : AreSubmissions w rows) 
 
 -- a reply to another command
 reply_elsewhere : (w : Log) (x : CommandId) (text : Option (List ℕ)) (id : CommandId) → x ≢ id
-    → (o : Option (Option (List ℕ))) → first_some o (cond (is_same_id x id) (Some text) None) ≡ o
+    → (o : Option (Option (List ℕ))) → option_or o (cond (is_same_id x id) (Some text) None) ≡ o
 reply_elsewhere w x text id ne None = ap (λ d. cond d (Some text) None) (other_id x id ne)
 reply_elsewhere w x text id ne (Some y) = refl
 
@@ -226,7 +226,7 @@ table_reply w x text replies new ids h small updates none = record {
 
     here : reply_of (Reply x text ∷ w) x ≡ Some text
     here =
-        ap (λ o. first_some o (cond (is_same_id x x) (Some text) None)) none
+        ap (λ o. option_or o (cond (is_same_id x x) (Some text) None)) none
         ∙ ap (λ d. cond d (Some text) None) (same_id x)
 
     all_small : (xs : List CommandId) → ((n : ℕ) (id : CommandId) → slice_get xs n ≡ Some id → id.number < number_count)
@@ -246,7 +246,7 @@ table_again w x text replies ids h there = record {
   small = λ n id e. h.small n id (ap (λ ys. slice_get ys n) (sym (with_reply_again w x text there)) ∙ e);
 }
   where
-    stays : (o : Option (Option (List ℕ))) (other : Option (Option (List ℕ))) → is_some o ≡ true → first_some o other
+    stays : (o : Option (Option (List ℕ))) (other : Option (Option (List ℕ))) → is_some o ≡ true → option_or o other
         ≡ o
     stays None other e = absurd (cc)
     stays (Some y) other e = refl

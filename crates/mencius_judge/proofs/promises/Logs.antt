@@ -1,10 +1,10 @@
 -- What a log says with one more observation.
 use Rattle.std.proofs.Common.{◌≡◌, ◌≢◌, ◌⊎◌, inl, inr, ℕ, zero, suc, ◌<◌, Bool, true, false, cond, List, [], ◌∷◌, ◌++◌, Option, Some, None, get_or, is_some, length, slice_get, arith, refl, sym, subst, ap, ◌∙◌}
+use Rattle.std.specs.Option.{option_or}
 use Rattle.std.specs.List.{Contains}
 use Rattle.mencius_base.specs.Command.{is_same_id}
 use Rattle.mencius_base.specs.declared.command.Command.{Command}
 use Rattle.mencius_base.specs.declared.command.CommandId.{CommandId}
-use Rattle.mencius_model.specs.Trace.{first_some}
 use Rattle.mencius_judge.specs.declared.observation.Observation.TheVariants.{Submit, Execute, Reply, Lookup, Tell}
 use Rattle.mencius_judge.specs.Log.{Log, command_of, commands_of, with_reply, with_reply_before, reply_of}
 use Rattle.mencius_judge.proofs.promises.Identities.{other_id, same_id, same_id_eq}
@@ -37,7 +37,7 @@ command_found (Submit command ∷ w) id c e =
   where
     by_cases : (command_of w id ≡ Some c → Contains w (Submit c) × (c.id ≡ id))
         → (o : Option Command) → command_of w id ≡ o → (d : Bool) → is_same_id command.id id ≡ d
-        → first_some o (cond d (Some command) None) ≡ Some c → Contains (Submit command ∷ w) (Submit c) × (c.id ≡ id)
+        → option_or o (cond d (Some command) None) ≡ Some c → Contains (Submit command ∷ w) (Submit c) × (c.id ≡ id)
     by_cases before (Some x) was d is h =
         let r = before (was ∙ h) in (contains_later (Submit command) w (Submit c) r.0, r.1)
     by_cases before None was true is h =
@@ -65,21 +65,21 @@ pub kept_command : (w : Log) (c : Command) (id : CommandId) → is_some (command
 kept_command w c id e = by_option (command_of w id) e
   where
     by_option : (o : Option Command) → is_some o ≡ true
-        → first_some o (cond (is_same_id c.id id) (Some c) None) ≡ o
+        → option_or o (cond (is_same_id c.id id) (Some c) None) ≡ o
     by_option None h = absurd (cc)
     by_option (Some x) h = refl
 
 pub other_command : (w : Log) (c : Command) (id : CommandId) → c.id ≢ id → command_of (Submit c ∷ w) id ≡ command_of w id
 other_command w c id ne = by_option (command_of w id) (is_same_id c.id id) (other_id c.id id ne)
   where
-    by_option : (o : Option Command) (d : Bool) → d ≡ false → first_some o (cond d (Some c) None) ≡ o
+    by_option : (o : Option Command) (d : Bool) → d ≡ false → option_or o (cond d (Some c) None) ≡ o
     by_option None false h = refl
     by_option None true h = absurd (cc)
     by_option (Some x) d h = refl
 
 pub new_command : (w : Log) (c : Command) → command_of w c.id ≡ None → command_of (Submit c ∷ w) c.id ≡ Some c
 new_command w c none =
-    ap (λ o. first_some o (cond (is_same_id c.id c.id) (Some c) None)) none
+    ap (λ o. option_or o (cond (is_same_id c.id c.id) (Some c) None)) none
     ∙ ap (λ d. cond d (Some c) None) (same_id c.id)
 
 pub command_known : (w : Log) (c : Command) → Contains w (Submit c) → is_some (command_of w c.id) ≡ true
@@ -94,7 +94,7 @@ command_known (Submit x ∷ w) c h =
           ap is_some (kept_command w x c.id was) ∙ was
     ]
   where
-    last : (o : Option Command) → is_some (first_some o (cond (is_same_id c.id c.id) (Some c) None)) ≡ true
+    last : (o : Option Command) → is_some (option_or o (cond (is_same_id c.id c.id) (Some c) None)) ≡ true
     last None = ap (λ d. is_some (cond d (Some c) None)) (same_id c.id)
     last (Some y) = refl
 command_known (Execute server x ∷ w) c h =
@@ -169,7 +169,7 @@ reply_found (Reply y text ∷ w) id x e =
     by_cases (λ h. reply_found w id x h) (reply_of w id) refl (is_same_id y id) refl e
   where
     by_cases : (reply_of w id ≡ Some x → Contains w (Reply id x)) → (o : Option (Option (List ℕ))) → reply_of w id ≡ o → (d : Bool) → is_same_id y id ≡ d
-        → first_some o (cond d (Some text) None) ≡ Some x → Contains (Reply y text ∷ w) (Reply id x)
+        → option_or o (cond d (Some text) None) ≡ Some x → Contains (Reply y text ∷ w) (Reply id x)
     by_cases before (Some z) was d is h = contains_later (Reply y text) w (Reply id x) (before (was ∙ h))
     by_cases before None was true is h =
         let ids : y ≡ id = same_id_eq y id is in
@@ -197,14 +197,14 @@ reply_missing (Reply y text ∷ w) id x h =
       | inr later ↦ first (reply_of w id) (reply_missing w id x later)
     ]
   where
-    last : (o : Option (Option (List ℕ))) (d : Bool) → d ≡ true → is_some (first_some o (cond d (Some text) None))
+    last : (o : Option (Option (List ℕ))) (d : Bool) → d ≡ true → is_some (option_or o (cond d (Some text) None))
         ≡ true
     last None true e = refl
     last None false e = absurd (cc)
     last (Some z) d e = refl
 
     first : (o : Option (Option (List ℕ))) → is_some o ≡ true
-        → is_some (first_some o (cond (is_same_id y id) (Some text) None)) ≡ true
+        → is_some (option_or o (cond (is_same_id y id) (Some text) None)) ≡ true
     first None e = absurd (cc)
     first (Some z) e = refl
 reply_missing (Lookup reader key text ∷ w) id x h =

@@ -1,10 +1,10 @@
 -- If a log keeps all promises and no reply is open, its longest history is a linearization.
 use Rattle.std.proofs.Common.{◌≡◌, ℕ, zero, suc, ◌+◌, Bool, true, false, cond, not, List, [], ◌∷◌, ◌++◌, Option, Some, None, count_by, is_some, length, slice_get, arith, refl, sym, subst, ap, ◌∙◌, ◌||◌}
+use Rattle.std.specs.Option.{option_or}
 use Rattle.std.proofs.lemmas.Bool.{or_left}
 use Rattle.std.proofs.lemmas.List.Sums.{sum_by-cons}
 use Rattle.mencius_base.specs.Command.{is_same_id}
 use Rattle.mencius_base.specs.declared.command.CommandId.{CommandId}
-use Rattle.mencius_model.specs.Trace.{first_some}
 use Rattle.mencius_model.proofs.trace.Prefixes.{prefix_whole, shorter_begins}
 use Rattle.mencius_judge.specs.declared.observation.Observation.TheVariants.{Submit, Execute, Reply, Lookup, Tell}
 use Rattle.mencius_judge.specs.Log.{Log, has_id, history, reply_of, with_reply}
@@ -48,7 +48,7 @@ reply_listed (Reply x text ∷ w) id h =
     by_cases : (is_some (reply_of w id) ≡ true → has_id (with_reply w) id ≡ true)
         → (o : Option (Option (List ℕ))) → reply_of w id ≡ o
         → (same : Bool) → is_same_id x id ≡ same → (d : Bool) → is_some (reply_of w x) ≡ d
-        → is_some (first_some o (cond same (Some text) None)) ≡ true
+        → is_some (option_or o (cond same (Some text) None)) ≡ true
         → has_id (cond d (with_reply w) (with_reply w ++ x ∷ [])) id ≡ true
     by_cases before (Some y) was same is d e g = listed d (before (ap is_some was))
     by_cases before None was false is d e g = absurd (cc)

@@ -10,13 +10,14 @@ use Rattle.mencius_base.specs.declared.message.Message.{Message}
 use Rattle.mencius_base.specs.declared.message.Message.TheVariants.{Suggest, Skip, Accepted, Prepare, Promise, Propose, Learn}
 use Rattle.mencius_base.specs.declared.message.Value.{Value}
 use Rattle.mencius_base.specs.declared.message.Value.TheVariants.{Noop}
-use Rattle.mencius_base.specs.Members.{Membership, first_owned, instances, first_item}
+use Rattle.mencius_base.specs.Members.{Membership, first_owned, instances}
 use Rattle.mencius_model.specs.Trace.{Line, Heard, Sent, Learned, Trace, sent_messages}
 use Rattle.mencius_model.specs.Instance.{learned_value, promised_ballot, vote}
 use Rattle.mencius_model.specs.Server.{free_instance, front, covered_instances, waiting_tickets}
 use Rattle.mencius_model.specs.Rules.{answer_lines, decision_lines, prepare_answer_from, proposal_lines, suggestion}
 use Rattle.mencius_model.proofs.rights.EachLine.{AreAll, one_if}
-use Rattle.mencius_model.specs.Next.{retry_lines, delivery, head, is_newly_skipped, lines, on_message, preparation, due_decision_at, due_proposal_at, server_of}
+use Rattle.mencius_model.specs.Next.{head, lines, on_message, preparation, due_decision_at, due_proposal_at, server_of}
+use Rattle.mencius_model.proofs.trace.Parts.{is_newly_skipped, retry_lines, delivery}
 
 -- whose line it is
 abbrev pub IsBy : ServerId → Line → Type 0
@@ -90,7 +91,7 @@ lines_by m w (Submit p command) = by_suggestion p _ (free_instance m w p)
 lines_by m w (Deliver k p) = by_delivery m w (Heard k p ∷ w) p (slice_get (sent_messages w) k)
 lines_by m w (Lose k p) = tt
 lines_by m w (Suspect p q) = by_prepared m w p (covered_instances m w p q)
-lines_by m w (Retry p) = by_again m w p (first_item (waiting_tickets w p))
+lines_by m w (Retry p) = by_again m w p (slice_get (waiting_tickets w p) 0)
 lines_by m w (Execute p) = tt
 
 pub head_by : (e : Event) → IsBy (server_of e) (head e)

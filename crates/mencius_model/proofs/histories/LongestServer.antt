@@ -6,8 +6,9 @@ use Rattle.mencius_base.specs.Numbers.{ServerId}
 use Rattle.mencius_base.specs.Members.{Membership, numbers_below}
 use Rattle.mencius_model.specs.Trace.{Trace}
 use Rattle.mencius_model.proofs.trace.NumberLists.{below-more}
-use Rattle.mencius_model.specs.Replying.{longest_at, longest_below}
+use Rattle.mencius_model.specs.Replying.{longest_at}
 use Rattle.mencius_model.specs.Executed.{history}
+use Rattle.mencius_model.proofs.trace.Parts.{longest_below}
 
 -- p is the first of the n numbers where f is greatest
 pub record IsFurthest (f : ServerId → ℕ) (n : ℕ) (p : ServerId) : Type 0 where

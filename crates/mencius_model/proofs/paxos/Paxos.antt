@@ -1,6 +1,7 @@
 -- One instance of Paxos, in any trace that grew line by line: what a promise rules out, why a proposal is
 -- safe, and that a chosen value is proposed at every greater ballot.
 use Rattle.std.proofs.Common.{◌≡◌, ℕ, zero, suc, ◌<◌, ◌≤◌, Bool, true, [], ◌∷◌, ◌⊎◌, inl, inr, refl, ◌∙◌, arith, Option, Some, None}
+use Rattle.std.specs.Option.{option_map_or}
 use Rattle.std.proofs.lemmas.Bool.{cases_lt}
 use Rattle.mencius_base.specs.Numbers.{ServerId, Inst, BallotNo}
 use Rattle.mencius_base.specs.declared.message.Message.TheVariants.{Accepted, Promise, Propose}
@@ -9,7 +10,7 @@ use Rattle.mencius_base.specs.declared.message.Value.TheVariants.{Noop}
 use Rattle.mencius_base.specs.declared.message.Vote.{Vote}
 use Rattle.mencius_base.specs.Members.{Membership}
 use Rattle.mencius_model.specs.Trace.{Line, Sent, Trace}
-use Rattle.mencius_model.specs.Instance.{promised_ballot, proposal, accepted_ballot, vote, are_majority, value_or_noop, has_accepted}
+use Rattle.mencius_model.specs.Instance.{promised_ballot, proposal, accepted_ballot, vote, are_majority, has_accepted}
 use Rattle.mencius_model.proofs.trace.Lists.{IsIn, majorities_meet}
 use Rattle.mencius_model.proofs.rights.LineRights.{May, IsGrown, MayAccept, MayPromise, MayPropose, Reaches}
 use Rattle.mencius_model.proofs.trace.AnswersLast.{promise_within, acceptance_within, promised_more, accepted_above, accepted_in, proposed_more, proposal_in, acceptance_in}
@@ -34,7 +35,7 @@ pub record IsSafe (m : Membership) (w : Trace) (i : Inst) (b : BallotNo) (z : Va
   pub covers : (q to : ServerId) (c : BallotNo) → among q ≡ true → IsIn (Sent (Accepted q to i c)) w → c < b
       → Reaches highest c
   pub backed : IsBacked w i b highest
-  pub is : z ≡ value_or_noop highest
+  pub is : z ≡ option_map_or (λ x. x.value) highest Noop
 
 backed_more : (l : Line) (w : Trace) (i b : ℕ) (o : Option Vote) → IsBacked w i b o → IsBacked (l ∷ w) i b o
 backed_more l w i b None h = h
@@ -163,7 +164,7 @@ proposal_safe m w grown i b z pos h = let r = proposal_in w i b z pos h in propo
 -- where v was chosen at ballot c: every proposal at a greater ballot has v
 module _ (m : Membership) (w : Trace) (g : IsGrown m w) (i c : ℕ) (z : Value) (start : proposal w i c ≡ Some z)
     (chosen : are_majority m (has_accepted w i c) ≡ true) where
-  above : (b : ℕ) (x : Value) (h : Option Vote) → Reaches h c → IsBacked w i b h → x ≡ value_or_noop h
+  above : (b : ℕ) (x : Value) (h : Option Vote) → Reaches h c → IsBacked w i b h → x ≡ option_map_or (λ x. x.value) h Noop
       → ((between : ℕ) (y : Value) → between < b → c < between → proposal w i between ≡ Some y → y ≡ z) → x ≡ z
   above b x None r backed is rest = absurd r
   above b x (Some highest) r backed is rest =
@@ -185,7 +186,7 @@ module _ (m : Membership) (w : Trace) (g : IsGrown m w) (i c : ℕ) (z : Value) 
   chosen_above b x lt h = chosen_above_to b b x (omega arith) lt h
 
 module _ (m : Membership) (w : Trace) (g : IsGrown m w) (i : ℕ) where
-  under : (b : ℕ) (x : Value) (h : Option Vote) → IsBacked w i b h → x ≡ value_or_noop h
+  under : (b : ℕ) (x : Value) (h : Option Vote) → IsBacked w i b h → x ≡ option_map_or (λ x. x.value) h Noop
       → ((c : ℕ) (y : Value) → c < b → proposal w i c ≡ Some y → (y ≡ Noop) ⊎ (proposal w i 0 ≡ Some y))
       → (x ≡ Noop) ⊎ (proposal w i 0 ≡ Some x)
   under b x None backed is rest = inl is

@@ -1,12 +1,13 @@
 -- An instance has at most one Suggest, and at most one Propose at a ballot.
-use Rattle.std.proofs.Common.{◌≡◌, ℕ, ◌+◌, ◌≤◌, Bool, true, cond, eqb, List, [], ◌∷◌, ◌++◌, count_by, inl, inr, refl, sym, ◌∙◌, ap, subst, arith}
+use Rattle.std.proofs.Common.{◌≡◌, ℕ, zero, suc, ◌+◌, ◌≤◌, Bool, true, false, cond, eqb, ◌==◌, ◌&&◌, Some, slice_get, List, [], ◌∷◌, ◌++◌, count_by, inl, inr, refl, sym, ◌∙◌, ap, subst, arith}
 use Rattle.std.proofs.lemmas.List.Sums.{sum_by-append, sum_by-cons}
-use Rattle.std.proofs.lemmas.Bool.{and_parts, cases_Bool, eqb-true}
+use Rattle.std.proofs.lemmas.Bool.{and_from, and_parts, cases_Bool, eq-eqb, eqb-true}
+use Rattle.mencius_base.specs.Numbers.{Inst, BallotNo}
 use Rattle.mencius_base.specs.declared.message.Message.{Message}
 use Rattle.mencius_base.specs.declared.message.Message.TheVariants.{Suggest, Propose}
 use Rattle.mencius_base.specs.Members.{Membership, owner}
 use Rattle.mencius_model.specs.Trace.{Submitted, Heard, Lost, Suspected, Retried, Executed, Sent, Learned, Trace, sent_messages}
-use Rattle.mencius_model.specs.Laws.{AtMostOnePropose, AtMostOneSuggest, is_proposal_at, is_suggestion_at}
+use Rattle.mencius_model.specs.Laws.{AtMostOnePropose, AtMostOneSuggest}
 use Rattle.mencius_model.specs.Next.{IsReached}
 use Rattle.mencius_model.proofs.rights.LineRights.{IsGrown, MayPropose, MaySuggest}
 use Rattle.mencius_model.proofs.rights.Journals.{reached_grown, some_server_of}
@@ -18,6 +19,16 @@ use Rattle.mencius_model.proofs.trace.AnswersLast.{sent_in}
 
 abbrev bit : (Message → Bool) → Message → ℕ
 bit test x = cond (test x) 1 0
+
+-- whether a message is a Suggest at instance i
+abbrev pub is_suggestion_at : Inst → Message → Bool
+is_suggestion_at i (Suggest from inst ticket) = inst == i
+is_suggestion_at i _ = false
+
+-- whether a message is a Propose at ballot b of instance i
+abbrev is_proposal_at : Inst → BallotNo → Message → Bool
+is_proposal_at i b (Propose from inst ballot value) = inst == i && ballot == b
+is_proposal_at i b _ = false
 
 -- where none passes there is none to count
 none_counted : (test : Message → Bool) (xs : List Message) → ((x : Message) → IsIn x xs → test x ≡ true → ⊥)
@@ -101,10 +112,61 @@ no_line : (m : Membership) (w : Trace) (r : IsReached m w) (test : Message → B
 no_line m w r test some [] e = rw e (omega arith)
 no_line m w r test some (l ∷ v) e = some (some_server_of m w r l (subst (IsIn l) (sym e) (inl refl)))
 
-pub one_suggestion_holds : AtMostOneSuggest
-one_suggestion_holds = λ m w r i.
+-- an instance has at most one Suggest
+pub suggestions_few : (m : Membership) (w : Trace) → IsReached m w → (i : ℕ)
+    → count_by (is_suggestion_at i) (sent_messages w) ≤ 1
+suggestions_few m w r i =
     no_line m w r (is_suggestion_at i)
     (λ some. once m (is_suggestion_at i) (suggestion_first m i some) w (reached_grown m w r)) w refl
 
+-- an instance has at most one Propose at a ballot
+proposals_few : (m : Membership) (w : Trace) → IsReached m w → (i b : ℕ)
+    → count_by (is_proposal_at i b) (sent_messages w) ≤ 1
+proposals_few m w r i b = once m (is_proposal_at i b) (proposal_first m i b) w (reached_grown m w r)
+
+-- ---- where at most one passes, it has one place
+
+module _ (test : Message → Bool) where
+  -- there is one to count where one passes
+  some_counted : (xs : List Message) (k : ℕ) (x : Message) → slice_get xs k ≡ Some x → test x ≡ true
+      → 1 ≤ count_by test xs
+  some_counted [] k x there passes = absurd (cc)
+  some_counted (y ∷ xs) zero x there passes =
+      let same : y ≡ x = cc in
+      let here : bit test y ≡ 1 = rw (ap test same ∙ passes) refl in
+      let split : count_by test (y ∷ xs) ≡ bit test y + count_by test xs = sum_by-cons (bit test) y xs in
+      omega (arith, here, split)
+  some_counted (y ∷ xs) (suc k) x there passes =
+      let split : count_by test (y ∷ xs) ≡ bit test y + count_by test xs = sum_by-cons (bit test) y xs in
+      omega (arith, split, some_counted xs k x there passes)
+
+  -- where one passes at the front, and at most one does, none passes behind it
+  alone : (y : Message) (xs : List Message) (k : ℕ) (x z : Message) → count_by test (y ∷ xs) ≤ 1 → y ≡ z
+      → test z ≡ true → slice_get xs k ≡ Some x → test x ≡ true → ⊥
+  alone y xs k x z few same first there passes =
+      let here : bit test y ≡ 1 = rw (ap test same ∙ first) refl in
+      let split : count_by test (y ∷ xs) ≡ bit test y + count_by test xs = sum_by-cons (bit test) y xs in
+      absurd (omega (arith, here, split, few, some_counted xs k x there passes))
+
+  one_place : (xs : List Message) → count_by test xs ≤ 1 → (k l : ℕ) (x y : Message) → slice_get xs k ≡ Some x
+      → test x ≡ true → slice_get xs l ≡ Some y → test y ≡ true → k ≡ l
+  one_place [] few k l x y there passes other too = absurd (cc)
+  one_place (z ∷ xs) few zero zero x y there passes other too = refl
+  one_place (z ∷ xs) few zero (suc l) x y there passes other too =
+      absurd (alone z xs l y x few (cc) passes other too)
+  one_place (z ∷ xs) few (suc k) zero x y there passes other too =
+      absurd (alone z xs k x y few (cc) too there passes)
+  one_place (z ∷ xs) few (suc k) (suc l) x y there passes other too =
+      let split : count_by test (z ∷ xs) ≡ bit test z + count_by test xs = sum_by-cons (bit test) z xs in
+      ap suc (one_place xs (omega (arith, split, few)) k l x y there passes other too)
+
+pub one_suggestion_holds : AtMostOneSuggest
+one_suggestion_holds m w r k l p q i t u there other =
+    one_place (is_suggestion_at i) (sent_messages w) (suggestions_few m w r i) k l (Suggest p i t) (Suggest q i u)
+    there (eq-eqb i i refl) other (eq-eqb i i refl)
+
 pub one_proposal_holds : AtMostOnePropose
-one_proposal_holds = λ m w r i b. once m (is_proposal_at i b) (proposal_first m i b) w (reached_grown m w r)
+one_proposal_holds m w r k l p q i b x y there other =
+    let passes = and_from (eqb i i) (eqb b b) (eq-eqb i i refl) (eq-eqb b b refl) in
+    one_place (is_proposal_at i b) (sent_messages w) (proposals_few m w r i b) k l (Propose p i b x) (Propose q i b y)
+    there passes other passes

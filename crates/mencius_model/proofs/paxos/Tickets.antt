@@ -1,6 +1,7 @@
 -- A ticket was submitted, is suggested by one server alone and decided at one instance: where it was suggested
 -- twice, no-op is decided at the lower instance.
 use Rattle.std.proofs.Common.{◌≡◌, ℕ, zero, suc, subst, ◌<◌, ◌≤◌, true, false, eqb, List, [], ◌∷◌, ◌++◌, length, ◌⊎◌, inl, inr, refl, sym, ap, ◌∙◌, arith, Option, Some, None, slice_get, append-nil, length-append, eqb-true, eq-eqb}
+use Rattle.std.specs.Prelude.{option_to_list}
 use Rattle.std.specs.List.{list_any}
 use Rattle.std.proofs.lemmas.Bool.{cases_order, cases_lt, and_parts}
 use Rattle.std.proofs.lemmas.List.{length_push}
@@ -9,7 +10,7 @@ use Rattle.mencius_base.specs.declared.command.CommandId.{CommandId}
 use Rattle.mencius_base.specs.declared.message.Message.TheVariants.{Suggest}
 use Rattle.mencius_base.specs.declared.message.Value.TheVariants.{Noop, Ticket}
 use Rattle.mencius_base.specs.Members.{Membership}
-use Rattle.mencius_model.specs.Trace.{Line, Submitted, Sent, Trace, submitted_commands, command_in, option_to_list}
+use Rattle.mencius_model.specs.Trace.{Line, Submitted, Sent, Trace, submitted_commands, command_in}
 use Rattle.mencius_base.specs.Command.{is_same_id}
 use Rattle.mencius_model.specs.Decided.{IsDecided}
 use Rattle.mencius_model.proofs.trace.Lists.{IsIn, none_in, get_in}

@@ -1,10 +1,11 @@
 -- What a server heard was sent; its sets; the highest vote that it heard of.
 use Rattle.std.proofs.Common.{◌≡◌, ℕ, ◌≤◌, Bool, true, false, cond, ◌&&◌, eqb, ltb, List, [], ◌∷◌, ◌⊎◌, inl, inr, refl, sym, ap, ◌∙◌, arith, Option, Some, None, eqb-true, ltb-true, ltb-false, slice_get, map, fold}
+use Rattle.std.specs.Prelude.{option_to_list}
 use Rattle.std.proofs.lemmas.Bool.{and_parts, cases_Bool}
 use Rattle.mencius_base.specs.declared.message.Message.{Message}
 use Rattle.mencius_base.specs.declared.message.Message.TheVariants.{Promise}
 use Rattle.mencius_base.specs.declared.message.Vote.{Vote}
-use Rattle.mencius_model.specs.Trace.{Heard, Sent, Trace, sent_messages, heard_messages, option_to_list}
+use Rattle.mencius_model.specs.Trace.{Heard, Sent, Trace, sent_messages, heard_messages}
 use Rattle.mencius_model.specs.Instance.{promisers, is_promise, accepters, is_acceptance, higher_vote, vote_reported, reported_vote, has_accepted}
 use Rattle.mencius_model.proofs.trace.Lists.{IsIn, in_append, any_in, get_in}
 use Rattle.mencius_model.proofs.rights.LineRights.{Reaches, HasPromised}

@@ -11,18 +11,19 @@ use Rattle.mencius_base.specs.declared.message.Message.{Message}
 use Rattle.mencius_base.specs.declared.message.Message.TheVariants.{Suggest, Skip, Accepted, Prepare, Promise, Propose, Learn}
 use Rattle.mencius_base.specs.declared.message.Value.{Value}
 use Rattle.mencius_base.specs.declared.message.Value.TheVariants.{Noop}
-use Rattle.mencius_base.specs.Members.{Membership, numbers_below, first_item, instances}
+use Rattle.mencius_base.specs.Members.{Membership, numbers_below, instances}
 use Rattle.mencius_model.specs.Trace.{Line, Heard, Sent, Learned, Trace, sent_messages}
 use Rattle.mencius_model.specs.Instance.{learned_value, promised_ballot, vote}
 use Rattle.mencius_model.specs.Server.{free_instance, front, covered_instances, waiting_tickets}
 use Rattle.mencius_model.specs.Rules.{answer_lines, decision_lines, prepare_answer_from, proposal_lines, suggestion}
-use Rattle.mencius_model.specs.Next.{IsReached, retry_lines, delivery, head, is_newly_skipped, lines, next, on_message, preparation, due_decision_at, due_proposal_at}
+use Rattle.mencius_model.specs.Next.{IsReached, head, lines, next, on_message, preparation, due_decision_at, due_proposal_at}
 use Rattle.mencius_model.proofs.rights.EachLine.{AreAll, HoldsAlong, next_along, one_if}
 use Rattle.mencius_model.proofs.trace.Lists.{get_in}
 use Rattle.mencius_model.proofs.trace.AnswersLast.{learned_in, sent_in}
 use Rattle.mencius_model.proofs.rights.Journals.{reached_along, reached_next}
 use Rattle.mencius_model.proofs.reached.MessageLimits.{IsSmall, sent_small}
 use Rattle.mencius_base.specs.Limits.{instance_count, most_servers}
+use Rattle.mencius_model.proofs.trace.Parts.{is_newly_skipped, retry_lines, delivery}
 
 abbrev IsLow : Line → Type 0
 IsLow (Learned p i x) = i < instance_count
@@ -98,7 +99,7 @@ low_lines m few w (Submit p command) r = low_suggestion p _ (free_instance m w p
 low_lines m few w (Deliver k p) r = low_delivery m few w (Heard k p ∷ w) p k r (slice_get (sent_messages w) k) refl
 low_lines m few w (Lose k p) r = tt
 low_lines m few w (Suspect p q) r = low_prepared m w p (covered_instances m w p q)
-low_lines m few w (Retry p) r = low_again m w p (first_item (waiting_tickets w p))
+low_lines m few w (Retry p) r = low_again m w p (slice_get (waiting_tickets w p) 0)
 low_lines m few w (Execute p) r = tt
 
 low_head : (e : Event) → IsLow (head e)

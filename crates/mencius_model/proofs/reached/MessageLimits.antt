@@ -11,12 +11,12 @@ use Rattle.mencius_base.specs.declared.message.Message.{Message}
 use Rattle.mencius_base.specs.declared.message.Message.TheVariants.{Suggest, Skip, Accepted, Prepare, Promise, Propose, Learn}
 use Rattle.mencius_base.specs.declared.message.Value.{Value}
 use Rattle.mencius_base.specs.declared.message.Value.TheVariants.{Noop}
-use Rattle.mencius_base.specs.Members.{Membership, numbers_below, first_owned, instances, round, first_item}
+use Rattle.mencius_base.specs.Members.{Membership, numbers_below, first_owned, instances, round}
 use Rattle.mencius_model.specs.Trace.{Line, Heard, Sent, Learned, Trace, sent_messages}
 use Rattle.mencius_model.specs.Instance.{learned_value, promised_ballot, tried_ballot, vote}
-use Rattle.mencius_model.specs.Server.{free_instance, front, is_covered, is_free, covered_instances, waiting_tickets}
+use Rattle.mencius_model.specs.Server.{free_instance, front, covered_instances, waiting_tickets}
 use Rattle.mencius_model.specs.Rules.{answer_lines, decision_lines, prepare_answer_from, proposal_lines, suggestion}
-use Rattle.mencius_model.specs.Next.{IsReached, retry_lines, causes, delivery, head, is_newly_skipped, lines, next, on_message, preparation, due_decision_at, due_proposal_at}
+use Rattle.mencius_model.specs.Next.{IsReached, head, lines, next, on_message, preparation, due_decision_at, due_proposal_at}
 use Rattle.mencius_base.specs.Message.{is_sent_to, is_for, is_within}
 use Rattle.mencius_model.proofs.trace.NumberLists.{find-instances_found}
 use Rattle.mencius_model.proofs.rights.EachLine.{AreAll, HoldsAlong, next_along, one_if}
@@ -25,6 +25,7 @@ use Rattle.mencius_model.proofs.trace.AnswersLast.{sent_in}
 use Rattle.mencius_model.proofs.rights.EventRights.{NoneHolds, next_is}
 use Rattle.mencius_model.proofs.rights.Journals.{reached_along}
 use Rattle.mencius_base.specs.Limits.{greatest_front, instance_count, most_servers}
+use Rattle.mencius_model.proofs.trace.Parts.{causes, is_newly_skipped, is_free, is_covered, retry_lines, delivery}
 
 abbrev pub IsSmall : Membership → Message → Type 0
 IsSmall m (Suggest from inst ticket) = (from < m.count) × (inst < instance_count)
@@ -133,7 +134,7 @@ small_lines m few w (Deliver k p) all h =
 small_lines m few w (Lose k p) all h = tt
 small_lines m few w (Suspect p q) all h =
     small_suspects m w p q (leb-false m.count p (or_parts (leb m.count p) (leb m.count q) h.0).0)
-small_lines m few w (Retry p) all h = small_again m w p (leb-false m.count p h.0) (first_item (waiting_tickets w p))
+small_lines m few w (Retry p) all h = small_again m w p (leb-false m.count p h.0) (slice_get (waiting_tickets w p) 0)
 small_lines m few w (Execute p) all h = tt
 
 head_small : (m : Membership) (e : Event) → IsSmallLine m (head e)
@@ -155,7 +156,7 @@ pub sent_small : (m : Membership) → m.count ≤ most_servers → (w : Trace) �
 sent_small m few w r x h =
     reached_along m (HoldsAlong (IsSmallLine m)) (λ l h. absurd h) (small_next m few) w r (Sent x) h
 
-within_small : (m : Membership) (p : ℕ) (x : Message) → p < m.count → IsSmall m x → is_sent_to p x ≡ true
+pub within_small : (m : Membership) (p : ℕ) (x : Message) → p < m.count → IsSmall m x → is_sent_to p x ≡ true
     → is_within m x ≡ true
 within_small m p (Suggest from inst ticket) member h e = rw (lt-ltb from m.count h.0, lt-ltb inst instance_count h.1)
 within_small m p (Skip from first stop) member h e =

@@ -5,7 +5,7 @@ use Rattle.std.specs.List.{list_any}
 use Rattle.std.proofs.lemmas.Bool.{ltb-false, or_parts}
 use Rattle.std.proofs.lemmas.Nat.{div-mul-add}
 use Rattle.mencius_base.specs.Limits.{greatest_round}
-use Rattle.mencius_base.specs.Members.{Membership, first_item, instances, round}
+use Rattle.mencius_base.specs.Members.{Membership, instances, round}
 use Rattle.mencius_base.specs.declared.event.Event.{Event}
 use Rattle.mencius_base.specs.declared.event.Event.TheVariants.{Submit, Deliver, Lose, Suspect, Retry, Execute}
 use Rattle.mencius_base.specs.declared.message.Answer.{Answer}
@@ -18,11 +18,12 @@ use Rattle.mencius_model.specs.Trace.{Line, Heard, Sent, Learned, Trace, sent_me
 use Rattle.mencius_model.specs.Instance.{learned_value, promised_ballot, vote}
 use Rattle.mencius_model.specs.Rules.{answer_lines, decision_lines, prepare_answer_from, proposal_lines, suggestion}
 use Rattle.mencius_model.specs.Server.{covered_instances, free_instance, front, waiting_tickets}
-use Rattle.mencius_model.specs.Next.{IsReached, causes, delivery, due_decision_at, due_proposal_at, head, is_newly_skipped, lines, next, next_round, on_message, preparation, retry_lines}
+use Rattle.mencius_model.specs.Next.{IsReached, due_decision_at, due_proposal_at, head, lines, next, next_round, on_message, preparation}
 use Rattle.mencius_model.proofs.rights.EachLine.{AreAll, HoldsAlong, next_along, one_if}
 use Rattle.mencius_model.proofs.trace.Lists.{IsIn}
 use Rattle.mencius_model.proofs.rights.EventRights.{NoneHolds, next_is}
 use Rattle.mencius_model.proofs.rights.Journals.{reached_along}
+use Rattle.mencius_model.proofs.trace.Parts.{causes, is_newly_skipped, retry_lines, delivery}
 
 abbrev IsLowBallot : Membership → Line → Type 0
 IsLowBallot m (Sent (Prepare from inst ballot)) = round m ballot ≤ greatest_round
@@ -98,7 +99,7 @@ low_lines m w (Suspect p q) h =
     low_prepared m w p (leb-false m.count p (or_parts (leb m.count p) (leb m.count q) h.0).0)
     (covered_instances m w p q)
     h.1.1.1.0
-low_lines m w (Retry p) h = low_again m w p (first_item (waiting_tickets w p))
+low_lines m w (Retry p) h = low_again m w p (slice_get (waiting_tickets w p) 0)
 low_lines m w (Execute p) h = tt
 
 low_head : (m : Membership) (e : Event) → IsLowBallot m (head e)

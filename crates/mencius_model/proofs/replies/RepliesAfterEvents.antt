@@ -1,23 +1,24 @@
 -- What an event leaves of what was executed and replied.
 use Rattle.std.proofs.Common.{◌≡◌, ℕ, ◌+◌, ◌<◌, zero, suc, List, [], ◌∷◌, ◌++◌, Option, Some, None, map, length, take, slice_get, refl, sym, ap, ◌∙◌, arith, filter_map, option_map, add-zero}
 use Rattle.std.specs.List.{cons_option}
-use Rattle.std.specs.Prelude.{◌==◌}
+use Rattle.std.specs.Prelude.{◌==◌, option_to_list}
 use Rattle.std.proofs.lemmas.List.Elements.{filter_map-append}
 use Rattle.mencius_base.specs.declared.command.Command.{Command}
 use Rattle.mencius_base.specs.declared.event.Event.{Event}
 use Rattle.mencius_base.specs.declared.message.Value.{Value}
 use Rattle.mencius_base.specs.declared.message.Value.TheVariants.{Noop, Ticket}
 use Rattle.mencius_base.specs.Members.{Membership, numbers_below}
-use Rattle.mencius_model.specs.Trace.{Trace, command_in, option_to_list, submitted_commands}
+use Rattle.mencius_model.specs.Trace.{Trace, command_in, submitted_commands}
 use Rattle.mencius_model.specs.Instance.{learned_value}
 use Rattle.mencius_model.specs.Server.{done, done_by, ticket_of}
 use Rattle.mencius_model.specs.Next.{head, with_event}
 use Rattle.mencius_model.specs.Executed.{history}
 use Rattle.mencius_model.proofs.trace.NumberLists.{below-more, map-below_same}
 use Rattle.mencius_model.specs.KeyMap.{out}
-use Rattle.mencius_model.specs.Replying.{Given, Answered, command_at, commands_of, index_of_first, reply_at, reply_from}
+use Rattle.mencius_model.specs.Replying.{Given, Answered, command_at, commands_of, index_of_first, reply_at}
 use Rattle.mencius_model.proofs.events.EventLines.{done-event, learned_value-event, submitted_commands-event}
 use Rattle.mencius_model.proofs.reached.ClusterFacts.{HasClusterFacts}
+use Rattle.mencius_model.proofs.trace.Parts.{reply_from}
 
 -- ---- plain lists
 

@@ -8,12 +8,13 @@ use Rattle.mencius_base.specs.Members.{Membership}
 use Rattle.mencius_model.specs.Trace.{Trace, submitted_commands}
 use Rattle.mencius_base.specs.Command.{is_same_id}
 use Rattle.mencius_model.specs.Executed.{history}
-use Rattle.mencius_model.specs.Replying.{Answered, Pending, Given, index_of_first, reply_from, reply_of_place, reply_of}
-use Rattle.mencius_model.specs.Laws.{IsReply, IsPending, IsSubmitted}
+use Rattle.mencius_model.specs.Replying.{Answered, Pending, Given, index_of_first, reply_of}
+use Rattle.mencius_model.specs.Laws.{IsReply, IsPending}
 use Rattle.mencius_model.proofs.trace.Lists.{none_in, get_in}
 use Rattle.mencius_model.proofs.rights.LineRights.{IsGrown}
 use Rattle.mencius_model.proofs.histories.Histories.{history_once}
 use Rattle.mencius_model.proofs.paxos.Tickets.{identity_once, Submission}
+use Rattle.mencius_model.proofs.trace.Parts.{reply_from, reply_of_place}
 
 -- ---- the first place
 
@@ -184,17 +185,11 @@ module _ (m : Membership) (few : 1 ≤ m.count) (w : Trace) (g : IsGrown m w) (i
 
   -- ---- and what is so it answers
 
-  not_true : (d : Bool) → (d ≡ true → ⊥) → d ≡ false
-  not_true true h = absurd (h refl)
-  not_true false h = refl
-
   -- no reply exactly where the identity was never submitted
-  pub unknown : (reply_of w id ≡ None) ↔ (IsSubmitted w id → ⊥)
+  pub unknown : (reply_of w id ≡ None) ↔ (list_any is_id (submitted_commands w) ≡ false)
   unknown = (
-    (λ h s. let n = no_place is_id (submitted_commands w)
-        (none_for (index_of_first is_id (submitted_commands w)) refl h) in
-        let holds : list_any is_id (submitted_commands w) ≡ true = s in absurd (cc)),
-    (λ h. rw (some_place is_id (submitted_commands w) (not_true (list_any is_id (submitted_commands w)) h))),
+    (λ h. no_place is_id (submitted_commands w) (none_for (index_of_first is_id (submitted_commands w)) refl h)),
+    (λ h. rw (some_place is_id (submitted_commands w) h)),
   )
 
   -- of a submitted identity there is a reply, if only a pending one

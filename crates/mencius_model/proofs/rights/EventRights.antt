@@ -1,7 +1,9 @@
 -- Each event adds lines that had their right: a reached trace has grown line by line.
-use Rattle.std.proofs.Common.{◌≡◌, ◌==◌, if◌then◌else◌, ℕ, suc, ◌+◌, ◌*◌, ◌<◌, ◌≤◌, max, Bool, true, false, cond, not, ◌&&◌, ◌||◌, eqb, ltb, leb, nat_le, List, [], ◌∷◌, ◌++◌, length, ◌⊎◌, inl, inr, refl, sym, ap, ◌∙◌, arith, Option, Some, None, Ok, eqb-true, ltb-true, leb-true, leb-false, eq-eqb, lt-ltb, slice_get, map, filter, filter_map, is_none}
+use Rattle.std.proofs.Common.{◌≡◌, ◌==◌, if◌then◌else◌, ℕ, suc, ◌+◌, ◌*◌, ◌<◌, ◌≤◌, max, Bool, true, false, cond, not, ◌&&◌, eqb, ltb, leb, nat_le, List, [], ◌∷◌, ◌++◌, length, ◌⊎◌, inl, inr, refl, sym, ap, ◌∙◌, arith, Option, Some, None, Ok, eqb-true, ltb-true, leb-true, leb-false, eq-eqb, lt-ltb, slice_get, map, filter, filter_map, is_none}
+use Rattle.std.specs.Prelude.{Err}
+use Rattle.std.specs.Option.{option_map_or, option_map}
 use Rattle.std.specs.List.{list_any, cons_option}
-use Rattle.std.proofs.lemmas.Bool.{and_parts, or_parts, cases_Bool, not-false}
+use Rattle.std.proofs.lemmas.Bool.{and_parts, or_parts, cases_Bool, not-true}
 use Rattle.std.proofs.lemmas.Nat.{mod-mul-add}
 use Rattle.mencius_base.specs.Numbers.{ServerId, Inst}
 use Rattle.mencius_base.specs.declared.command.Command.{Command}
@@ -15,18 +17,19 @@ use Rattle.mencius_base.specs.declared.message.Value.{Value}
 use Rattle.mencius_base.specs.declared.message.Value.TheVariants.{Noop, Ticket}
 use Rattle.mencius_base.specs.declared.message.Vote.{Vote}
 use Rattle.mencius_base.proofs.LeastOwned.{first_owned_owner}
-use Rattle.mencius_base.specs.Members.{Membership, owner, round, first_owned, instances, most_events, first_item}
+use Rattle.mencius_base.specs.Members.{Membership, owner, round, first_owned, instances, most_events}
 use Rattle.mencius_model.specs.Trace.{Line, Submitted, Heard, Suspected, Retried, Sent, Learned, Trace, followed_by, sent_messages, submitted_commands, events}
-use Rattle.mencius_model.specs.Instance.{promised_ballot, proposal, proposal_by, accepted_ballot, greater_ballot, vote, vote_of, vote_at, learned_value, tried_ballot, promisers, accepters, reported_vote, are_majority, has_accepted}
-use Rattle.mencius_model.specs.Server.{front, suggested_ticket, is_suggested_again_by, waiting_of, waiting_at, waiting_tickets, is_free, free_instance, is_covered, done}
-use Rattle.mencius_model.specs.Rules.{prepare_answer_from, answer_lines, decision_lines, is_skipped_by, due_proposal_from, proposal_lines, suggestion, is_noop, ticket_unless}
-use Rattle.mencius_model.specs.Next.{head, is_newly_skipped, on_promise, on_propose, on_accepted, on_learn, on_message, next_round, preparation, retry_lines, delivery, lines, causes, first_cause, refusal_cause, step_or, next}
+use Rattle.mencius_model.specs.Instance.{promised_ballot, proposal, proposal_by, accepted_ballot, greater_ballot, vote, learned_value, tried_ballot, promisers, accepters, reported_vote, are_majority, has_accepted}
+use Rattle.mencius_model.specs.Server.{front, suggested_ticket, is_suggested_again_by, waiting_at, waiting_tickets, free_instance, done}
+use Rattle.mencius_model.specs.Rules.{prepare_answer_from, answer_lines, decision_lines, is_skipped_by, due_proposal_from, proposal_lines, suggestion, is_noop, acceptance_lines, learning_lines}
+use Rattle.mencius_model.specs.Next.{head, on_message, next_round, preparation, lines, first_cause, refusal_cause, next, due_proposal_at, due_decision_at}
 use Rattle.mencius_model.proofs.trace.NumberLists.{find-instances_found}
 use Rattle.mencius_model.proofs.trace.Lists.{IsIn, in_any, get_in, none_in, majority_more, majorities_meet}
 use Rattle.mencius_model.proofs.rights.LineRights.{HasLost, MaySuggest, MayPromise, MayPropose, MayLearn, May, IsGrown}
 use Rattle.mencius_model.proofs.trace.AnswersLast.{earlier_right, oldest_none, proposed_more, in_sent, sent_in, same, same_two, learned_in, suggested_in}
 use Rattle.mencius_model.proofs.reached.HeardWasSent.{promiser, reported_promise, accepters_accepted}
 use Rattle.mencius_base.specs.Limits.{instance_count}
+use Rattle.mencius_model.proofs.trace.Parts.{causes, vote_of, is_newly_skipped, is_free, is_covered, retry_lines, delivery, waiting_of}
 
 -- lines that may come one after the other
 abbrev pub AllMay : Membership → Trace → List Line → Type 0
@@ -71,24 +74,24 @@ noop_is None h = absurd (cc)
 noop_is (Some Noop) h = refl
 noop_is (Some (Ticket t)) h = absurd (cc)
 
-unless_some : (a : Bool) (t u : ℕ) → ticket_unless a (Some t) ≡ Some u → (a ≡ false) × (t ≡ u)
-unless_some true t u h = absurd (cc)
-unless_some false t u h = (refl, cc)
+if_some : (a : Bool) (t u : ℕ) → (if a then Some t else None) ≡ Some u → (a ≡ true) × (t ≡ u)
+if_some true t u h = (refl, cc)
+if_some false t u h = absurd (cc)
 
 waits_lost : (w : Trace) (p i : ℕ) (o : Option ℕ) (t : ℕ) → suggested_ticket w p i ≡ o → waiting_of w p i o ≡ Some t
     → HasLost w p t i
 waits_lost w p i None t e h = absurd (cc)
 waits_lost w p i (Some u) t e h =
-    let r = unless_some (not (is_noop (learned_value w p i)) || list_any (is_suggested_again_by p u i) w) u t h in
-    let s = or_parts (not (is_noop (learned_value w p i))) (list_any (is_suggested_again_by p u i) w) r.0 in
-    let n = noop_is (learned_value w p i) (not-false (is_noop (learned_value w p i)) s.0) in
+    let r = if_some (is_noop (learned_value w p i) && not (list_any (is_suggested_again_by p u i) w)) u t h in
+    let s = and_parts (is_noop (learned_value w p i)) (not (list_any (is_suggested_again_by p u i) w)) r.0 in
+    let n = noop_is (learned_value w p i) s.0 in
     record {
       before = rw r.1 at (suggested_in w p i u e);
       lost = learned_in w p i Noop n;
       last =
           λ j h. elim (cases_Bool (ltb i j)) [
             | inl lt ↦ absurd
-                (none_in (is_suggested_again_by p u i) (Sent (Suggest p j t)) w s.1 h (rw (r.1, same p, same t) lt))
+                (none_in (is_suggested_again_by p u i) (Sent (Suggest p j t)) w (not-true (list_any (is_suggested_again_by p u i) w) s.1) h (rw (r.1, same p, same t) lt))
             | inr ge ↦ omega (arith, ge_from i j ge)
           ];
     } where
@@ -96,17 +99,17 @@ waits_lost w p i (Some u) t e h =
       ge_from i j h = omega (arith, leb-false (suc i) j h)
 
 first_given_at : (f : ℕ → Option ℕ) (x : ℕ) (xs : List ℕ) (t : ℕ) (o : Option ℕ) → f x ≡ o
-    → first_item (cons_option o (filter_map f xs)) ≡ Some t
-    → (first_item (filter_map f xs) ≡ Some t → (i : ℕ) × (f i ≡ Some t)) → (i : ℕ) × (f i ≡ Some t)
+    → slice_get (cons_option o (filter_map f xs)) 0 ≡ Some t
+    → (slice_get (filter_map f xs) 0 ≡ Some t → (i : ℕ) × (f i ≡ Some t)) → (i : ℕ) × (f i ≡ Some t)
 first_given_at f x xs t None e h rest = rest h
 first_given_at f x xs t (Some y) e h rest = (x, e ∙ h)
 
-first_given : (f : ℕ → Option ℕ) (xs : List ℕ) (t : ℕ) → first_item (filter_map f xs) ≡ Some t
+first_given : (f : ℕ → Option ℕ) (xs : List ℕ) (t : ℕ) → slice_get (filter_map f xs) 0 ≡ Some t
     → (i : ℕ) × (f i ≡ Some t)
 first_given f [] t h = absurd (cc)
 first_given f (x ∷ xs) t h = first_given_at f x xs t (f x) refl h (first_given f xs t)
 
-waiting_lost : (m : Membership) (w : Trace) (p t : ℕ) → first_item (waiting_tickets w p) ≡ Some t → (i : ℕ)
+waiting_lost : (m : Membership) (w : Trace) (p t : ℕ) → slice_get (waiting_tickets w p) 0 ≡ Some t → (i : ℕ)
     × HasLost w p t i
 waiting_lost m w p t h =
     let r = first_given (waiting_at w p) instances t h in
@@ -221,7 +224,7 @@ vote_heard : (w : Trace) (k q p i : ℕ) → vote (Heard k q ∷ w) p i ≡ vote
 vote_heard w k q p i = go (accepted_ballot w p i) where
   go : (o : Option ℕ) → vote_of (Heard k q ∷ w) i (greater_ballot o None) ≡ vote_of w i o
   go None = refl
-  go (Some b) = ap (vote_at b) (earlier_right (proposal w i b))
+  go (Some b) = ap (option_map (λ x. record { ballot = b; value = x })) (earlier_right (proposal w i b))
 
 module _ (m : Membership) (w : Trace) (g : IsGrown m w) (k p : ℕ) (member : p < m.count) where
   suggest_lines : (q i t : ℕ) → IsIn (Sent (Suggest q i t)) w → (a d : Bool) → (d ≡ true → promised_ballot w p i ≡ 0)
@@ -288,7 +291,7 @@ module _ (m : Membership) (w : Trace) (g : IsGrown m w) (k p : ℕ) (member : p 
         | inr ge ↦ rw ge tt
       ]
 
-  promise_lines : (i b : ℕ) → AllMay m (Heard k p ∷ w) (on_promise m w (Heard k p ∷ w) p i b)
+  promise_lines : (i b : ℕ) → AllMay m (Heard k p ∷ w) (proposal_lines p i b (due_proposal_at m w (Heard k p ∷ w) p i b))
   promise_lines i b =
       elim (cases_Bool (b == tried_ballot w p i)) [
         | inl e ↦ rw e (lines_due (eqb-true b (tried_ballot w p i) e))
@@ -322,7 +325,7 @@ module _ (m : Membership) (w : Trace) (g : IsGrown m w) (k p : ℕ) (member : p 
           ]
 
   propose_lines : (q i b : ℕ) (x : Value) → IsIn (Sent (Propose q i b x)) w
-      → AllMay m (Heard k p ∷ w) (on_propose w p q i b)
+      → AllMay m (Heard k p ∷ w) (acceptance_lines p q i b (promised_ballot w p i))
   propose_lines q i b x h =
       elim (cases_Bool (leb (promised_ballot w p i) b)) [
         | inl le ↦
@@ -353,7 +356,7 @@ module _ (m : Membership) (w : Trace) (g : IsGrown m w) (k p : ℕ) (member : p 
         (inl refl, tt),
       )
 
-  accepted_lines : (i b : ℕ) → AllMay m (Heard k p ∷ w) (on_accepted m w (Heard k p ∷ w) p i b)
+  accepted_lines : (i b : ℕ) → AllMay m (Heard k p ∷ w) (decision_lines p i (due_decision_at m w (Heard k p ∷ w) p i b))
   accepted_lines i b =
       let v = Heard k p ∷ w in
       elim (cases_Bool (b == tried_ballot w p i)) [
@@ -367,7 +370,7 @@ module _ (m : Membership) (w : Trace) (g : IsGrown m w) (k p : ℕ) (member : p 
         | inr e ↦ rw e tt
       ]
 
-  learn_lines : (q i : ℕ) (x : Value) → IsIn (Sent (Learn q i x)) w → AllMay m (Heard k p ∷ w) (on_learn w p i x)
+  learn_lines : (q i : ℕ) (x : Value) → IsIn (Sent (Learn q i x)) w → AllMay m (Heard k p ∷ w) (learning_lines p i x (learned_value w p i))
   learn_lines q i x h =
       elim (cases_Bool (is_none (learned_value w p i))) [
         | inl e ↦ rw e (inr (q, inr h), tt)
@@ -403,7 +406,7 @@ pub none_holds : (others : List (Bool × Refusal)) → first_cause others ≡ No
 none_holds [] h = tt
 none_holds (cause ∷ others) h = let r = if_none cause.0 cause.1 (first_cause others) h in (r.0, none_holds others r.1)
 
-step_ok : (w v : Trace) (o : Option Refusal) → step_or w o ≡ Ok v → (o ≡ None) × (w ≡ v)
+step_ok : (w v : Trace) (o : Option Refusal) → option_map_or Err o (Ok w) ≡ Ok v → (o ≡ None) × (w ≡ v)
 step_ok w v None h = (refl, cc)
 step_ok w v (Some r) h = absurd (cc)
 
@@ -417,7 +420,7 @@ step_may m w (Suspect p q) grown h =
     let parts = or_parts (leb m.count p) (leb m.count q) h.0 in
     (tt, suspect_may m w (Suspected p q ∷ w) p q instances (leb-false m.count p parts.0) h.1.0)
 step_may m w (Retry p) grown h =
-    (tt, retry_may m w p (first_item (waiting_tickets w p)) (λ t e. waiting_lost m w p t e))
+    (tt, retry_may m w p (slice_get (waiting_tickets w p) 0) (λ t e. waiting_lost m w p t e))
 step_may m w (Execute p) grown h = (some_is (learned_value w p (done w p)) h.1.0, tt)
 
 -- what is known of an event that is not refused

@@ -1,5 +1,6 @@
 -- What must hold for a line to come: a trace in which each line had that right.
 use Rattle.std.proofs.Common.{◌≡◌, ◌<◌, ◌≤◌, Bool, true, false, List, [], ◌∷◌, ◌++◌, length, ◌⊎◌, inr, Option, Some, None}
+use Rattle.std.specs.Option.{option_map_or}
 use Rattle.std.specs.List.{list_any}
 use Rattle.mencius_base.specs.Numbers.{ServerId, Inst, BallotNo, TicketNo}
 use Rattle.mencius_base.specs.declared.command.Command.{Command}
@@ -10,7 +11,7 @@ use Rattle.mencius_base.specs.declared.message.Value.TheVariants.{Noop}
 use Rattle.mencius_base.specs.declared.message.Vote.{Vote}
 use Rattle.mencius_base.specs.Members.{Membership, owner}
 use Rattle.mencius_model.specs.Trace.{Line, Submitted, Heard, Lost, Suspected, Retried, Executed, Sent, Learned, Trace, submitted_commands}
-use Rattle.mencius_model.specs.Instance.{promised_ballot, proposal, vote, learned_value, tried_ballot, are_majority, value_or_noop}
+use Rattle.mencius_model.specs.Instance.{promised_ballot, proposal, vote, learned_value, tried_ballot, are_majority}
 use Rattle.mencius_model.specs.Server.{front, done}
 use Rattle.mencius_base.specs.Command.{is_same_id}
 use Rattle.mencius_model.specs.Decided.{IsDecided}
@@ -77,7 +78,7 @@ pub record MayPropose (m : Membership) (w : Trace) (p : ServerId) (i : Inst) (b 
   pub promised : (q : ServerId) → among q ≡ true → HasPromised w q i b highest
   pub reported : (x : Vote) → highest ≡ Some x
       → (q : ServerId) × (to : ServerId) × IsIn (Sent (Promise q to i b (Some x))) w
-  pub is : z ≡ value_or_noop highest
+  pub is : z ≡ option_map_or (λ x. x.value) highest Noop
 
 abbrev pub MaySend : Membership → Trace → Message → Type 0
 MaySend m w (Suggest p i t) = MaySuggest m w p i t

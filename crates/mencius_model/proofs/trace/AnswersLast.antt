@@ -1,12 +1,14 @@
 -- What the questions asked of a trace say of its lines, and that their answers last.
 use Rattle.std.proofs.Common.{◌≡◌, ℕ, ◌<◌, ◌≤◌, Bool, true, false, cond, ◌&&◌, eqb, [], ◌∷◌, ◌⊎◌, inl, inr, refl, ap, arith, Option, Some, None, eq-eqb, eqb-true, ltb, ltb-false, ltb-true}
+use Rattle.std.specs.Prelude.{option_to_list}
+use Rattle.std.specs.Option.{option_or}
 use Rattle.std.proofs.lemmas.Bool.{and_parts, cases_Bool}
 use Rattle.mencius_base.specs.declared.message.Message.{Message}
 use Rattle.mencius_base.specs.declared.message.Message.TheVariants.{Suggest, Accepted, Promise, Propose}
 use Rattle.mencius_base.specs.declared.message.Value.{Value}
 use Rattle.mencius_base.specs.declared.message.Value.TheVariants.{Ticket}
 use Rattle.mencius_base.specs.declared.message.Vote.{Vote}
-use Rattle.mencius_model.specs.Trace.{Line, Submitted, Heard, Lost, Suspected, Retried, Executed, Sent, Learned, Trace, greatest_by, oldest_by, first_some, option_to_list, message_in, sent_messages}
+use Rattle.mencius_model.specs.Trace.{Line, Submitted, Heard, Lost, Suspected, Retried, Executed, Sent, Learned, Trace, greatest_by, oldest_by, message_in, sent_messages}
 use Rattle.mencius_model.specs.Instance.{promised_ballot, promised_by, proposal, proposal_by, accepted_ballot, accepted_by, greater_ballot, learned_value, learned_by, has_accepted, is_acceptance}
 use Rattle.mencius_model.specs.Server.{suggested_by, suggested_ticket}
 use Rattle.mencius_model.proofs.trace.Lists.{IsIn, in_append, in_append_left, in_append_right, any_in, in_any}
@@ -18,7 +20,7 @@ greatest_ge f l [] h = absurd h
 greatest_ge f l (x ∷ w) (inl e) = let so = ap f e in omega (arith, so)
 greatest_ge f l (x ∷ w) (inr h) = omega (arith, greatest_ge f l w h)
 
-pub earlier_cases : {A : Type 0} (x y : Option A) (a : A) → first_some x y ≡ Some a → (x ≡ Some a) ⊎ (y ≡ Some a)
+pub earlier_cases : {A : Type 0} (x y : Option A) (a : A) → option_or x y ≡ Some a → (x ≡ Some a) ⊎ (y ≡ Some a)
 earlier_cases None y a h = inr h
 earlier_cases (Some x) y a h = inl h
 
@@ -35,11 +37,11 @@ pub oldest_more : {A : Type 0} (f : Line → Option A) (l : Line) (w : Trace) (a
     → oldest_by f (l ∷ w) ≡ Some a
 oldest_more f l w a h = rw h
 
-pub earlier_none : {A : Type 0} (x y : Option A) → first_some x y ≡ None → (x ≡ None) × (y ≡ None)
+pub earlier_none : {A : Type 0} (x y : Option A) → option_or x y ≡ None → (x ≡ None) × (y ≡ None)
 earlier_none None y h = (refl, h)
 earlier_none (Some x) y h = absurd (cc)
 
-pub earlier_right : {A : Type 0} (x : Option A) → first_some x None ≡ x
+pub earlier_right : {A : Type 0} (x : Option A) → option_or x None ≡ x
 earlier_right None = refl
 earlier_right (Some x) = refl
 

@@ -1,6 +1,6 @@
 -- Lists over the servers and over the instances.
 use Rattle.std.proofs.Common.{◌≡◌, ℕ, ◌+◌, ◌<◌, ◌≤◌, Bool, true, false, Option, Some, None, cond, zero, suc, add-zero, List, [], ◌∷◌, ◌++◌, map, length, filter, get_or, set, append-nil, ◌&&◌, ◌||◌, refl, sym, ◌∙◌, ap, arith, ⊎_elim}
-use Rattle.std.specs.Prelude.{replicate}
+use Rattle.std.specs.Prelude.{replicate, slice_get}
 use Rattle.std.specs.List.{count_by, filter_map, find, fold, list_any, range_with_len}
 use Rattle.std.proofs.lemmas.List.{length-set, length-replicate, get_or-replicate, get_or-set_other}
 use Rattle.std.proofs.lemmas.Grind.{get_or-set_at}
@@ -8,7 +8,7 @@ use Rattle.std.proofs.lemmas.List.Sums.{fold-append}
 use Rattle.std.proofs.lemmas.List.FromFn.{map-range_with_len_more, fill_by_all, get_or-map-range_with_len, length-map-range_with_len}
 use Rattle.std.proofs.lemmas.List.Elements.{filter-append}
 use Rattle.std.proofs.lemmas.Bool.{cases_eq, or_cases, or_left, or_right}
-use Rattle.mencius_base.specs.Members.{numbers_below, instances, first_item}
+use Rattle.mencius_base.specs.Members.{numbers_below, instances}
 use Rattle.mencius_base.specs.Limits.{instance_count}
 
 pub length-map-below : {X : Type 0} (f : ℕ → X) (n : ℕ) → length (map f (numbers_below n)) ≡ n
@@ -212,24 +212,24 @@ pub map-instances_same : {X : Type 0} (f g : ℕ → X) (d : X) → ((m : ℕ) �
 map-instances_same f g d e = rw instances-below (map-below_same f g instance_count d e)
 
 -- the first that a function gives over the instances
-first_item-range : (f : ℕ → Option ℕ) (a n i t : ℕ) → a ≤ i → i < a + n → ((j : ℕ) → a ≤ j → j < i → f j ≡ None)
-    → f i ≡ Some t → first_item (filter_map f (range_with_len a n)) ≡ Some t
-first_item-range f a zero i t low high before here = absurd (omega arith)
-first_item-range f a (suc n) i t low high before here =
+slice_get-range : (f : ℕ → Option ℕ) (a n i t : ℕ) → a ≤ i → i < a + n → ((j : ℕ) → a ≤ j → j < i → f j ≡ None)
+    → f i ≡ Some t → slice_get (filter_map f (range_with_len a n)) 0 ≡ Some t
+slice_get-range f a zero i t low high before here = absurd (omega arith)
+slice_get-range f a (suc n) i t low high before here =
     ⊎_elim
     (λ (e : a ≡ i). rw (e, here))
     (λ (ne : a ≡ i → ⊥).
     let above : a + 1 ≤ i = omega arith in
     let missed : f a ≡ None = before a (omega arith) (omega arith) in
-    rw missed (first_item-range f (a + 1) n i t above (omega arith) (λ j l h. before j (omega arith) h) here))
+    rw missed (slice_get-range f (a + 1) n i t above (omega arith) (λ j l h. before j (omega arith) h) here))
     (cases_eq a i)
 
-first_item-range_none : (f : ℕ → Option ℕ) (a n : ℕ) → ((j : ℕ) → a ≤ j → j < a + n → f j ≡ None)
-    → first_item (filter_map f (range_with_len a n)) ≡ None
-first_item-range_none f a zero none = refl
-first_item-range_none f a (suc n) none =
+slice_get-range_none : (f : ℕ → Option ℕ) (a n : ℕ) → ((j : ℕ) → a ≤ j → j < a + n → f j ≡ None)
+    → slice_get (filter_map f (range_with_len a n)) 0 ≡ None
+slice_get-range_none f a zero none = refl
+slice_get-range_none f a (suc n) none =
     let missed : f a ≡ None = none a (omega arith) (omega arith) in
-    rw missed (first_item-range_none f (a + 1) n (λ j l h. none j (omega arith) (omega arith)))
+    rw missed (slice_get-range_none f (a + 1) n (λ j l h. none j (omega arith) (omega arith)))
 
 filter_map-range_same : (f g : ℕ → Option ℕ) (a n : ℕ) → ((j : ℕ) → j < a + n → f j ≡ g j)
     → filter_map f (range_with_len a n) ≡ filter_map g (range_with_len a n)
@@ -237,17 +237,17 @@ filter_map-range_same f g a zero e = refl
 filter_map-range_same f g a (suc n) e =
     rw (e a (omega arith), filter_map-range_same f g (a + 1) n (λ j h. e j (omega arith)))
 
-pub first_item-instances : (f : ℕ → Option ℕ) (i t : ℕ) → i < instance_count → ((j : ℕ) → j < i → f j ≡ None)
+pub slice_get-instances : (f : ℕ → Option ℕ) (i t : ℕ) → i < instance_count → ((j : ℕ) → j < i → f j ≡ None)
     → f i ≡ Some t
-    → first_item (filter_map f instances) ≡ Some t
+    → slice_get (filter_map f instances) 0 ≡ Some t
 unfolding numbers_below instances
-first_item-instances f i t small before here =
-    first_item-range f 0 instance_count i t (omega arith) small (λ j l h. before j h) here
+slice_get-instances f i t small before here =
+    slice_get-range f 0 instance_count i t (omega arith) small (λ j l h. before j h) here
 
-pub first_item-instances_none : (f : ℕ → Option ℕ) → ((j : ℕ) → j < instance_count → f j ≡ None)
-    → first_item (filter_map f instances) ≡ None
+pub slice_get-instances_none : (f : ℕ → Option ℕ) → ((j : ℕ) → j < instance_count → f j ≡ None)
+    → slice_get (filter_map f instances) 0 ≡ None
 unfolding numbers_below instances
-first_item-instances_none f none = first_item-range_none f 0 instance_count (λ j l h. none j h)
+slice_get-instances_none f none = slice_get-range_none f 0 instance_count (λ j l h. none j h)
 
 pub filter_map-instances_same : (f g : ℕ → Option ℕ) → ((j : ℕ) → j < instance_count → f j ≡ g j)
     → filter_map f instances ≡ filter_map g instances

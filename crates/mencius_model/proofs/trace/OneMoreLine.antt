@@ -1,16 +1,18 @@
 -- What one more line changes in what the trace says.
 use Rattle.std.proofs.Common.{◌≡◌, ℕ, ◌<◌, ◌≤◌, Bool, true, false, [], ◌∷◌, Option, Some, None, max, refl, ap, arith, cond, ltb, eqb, ◌&&◌, ⊎_elim}
+use Rattle.std.specs.Option.{option_map, option_or}
 use Rattle.std.proofs.lemmas.Bool.{cases_lt, lt-ltb, le-ltb}
 use Rattle.mencius_base.specs.declared.message.Message.TheVariants.{Suggest, Skip, Accepted, Prepare, Promise, Propose, Learn}
-use Rattle.mencius_model.specs.Trace.{Line, Submitted, Heard, Lost, Suspected, Retried, Executed, Sent, Learned, Trace, first_some, greatest_by, oldest_by}
-use Rattle.mencius_model.specs.Instance.{promised_by, promised_ballot, proposal, accepted_by, accepted_ballot, greater_ballot, vote_at, vote_of, vote}
+use Rattle.mencius_model.specs.Trace.{Line, Submitted, Heard, Lost, Suspected, Retried, Executed, Sent, Learned, Trace, greatest_by, oldest_by}
+use Rattle.mencius_model.specs.Instance.{promised_by, promised_ballot, proposal, accepted_by, accepted_ballot, greater_ballot, vote}
+use Rattle.mencius_model.proofs.trace.Parts.{vote_of}
 
 pub max-zero : (n : ℕ) → max n 0 ≡ n
 max-zero n = omega arith
 
-pub first_some-none : {A : Type 0} (x : Option A) → first_some x None ≡ x
-first_some-none None = refl
-first_some-none (Some x) = refl
+pub option_or-none : {A : Type 0} (x : Option A) → option_or x None ≡ x
+option_or-none None = refl
+option_or-none (Some x) = refl
 
 pub greater_ballot-none : (x : Option ℕ) → greater_ballot x None ≡ x
 greater_ballot-none None = refl
@@ -22,7 +24,7 @@ greatest_quiet f l w e = rw e (max-zero (greatest_by f w))
 
 pub oldest_quiet : {A : Type 0} (f : Line → Option A) (l : Line) (w : Trace) → f l ≡ None
     → oldest_by f (l ∷ w) ≡ oldest_by f w
-oldest_quiet f l w e = rw e (first_some-none (oldest_by f w))
+oldest_quiet f l w e = rw e (option_or-none (oldest_by f w))
 
 -- what was given first stays
 pub oldest_stays : {A : Type 0} (f : Line → Option A) (l : Line) (w : Trace) (x : A) → oldest_by f w ≡ Some x
@@ -32,7 +34,7 @@ oldest_stays f l w x e = rw e
 pub vote_of_same : (v w : Trace) (i : ℕ) (o : Option ℕ) → ((b : ℕ) → proposal v i b ≡ proposal w i b)
     → vote_of v i o ≡ vote_of w i o
 vote_of_same v w i None e = refl
-vote_of_same v w i (Some b) e = ap (vote_at b) (e b)
+vote_of_same v w i (Some b) e = ap (option_map (λ x. record { ballot = b; value = x })) (e b)
 
 -- no number, or one that is not above
 abbrev pub IsAtMost : Option ℕ → ℕ → Type 0

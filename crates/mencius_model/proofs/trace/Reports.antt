@@ -1,5 +1,5 @@
 -- The vote reported: which of the votes heard it is, and that a repeat changes nothing.
-use Rattle.std.proofs.Common.{◌≡◌, ℕ, ◌<◌, ◌≤◌, Bool, true, false, List, [], ◌∷◌, ◌++◌, Option, Some, None, ◌⊎◌, inl, inr, map, refl, ◌∙◌, ap, subst, arith, cond, ltb, eqb, ◌&&◌, ◌||◌, ⊎_elim}
+use Rattle.std.proofs.Common.{◌≡◌, ℕ, ◌<◌, ◌≤◌, Bool, true, false, List, [], ◌∷◌, ◌++◌, Option, Some, None, ◌⊎◌, inl, inr, map, refl, ◌∙◌, ap, subst, arith, cond, ltb, eqb, ◌&&◌, ◌||◌, ⊎_elim, sym}
 use Rattle.std.specs.Prelude.{Contains}
 use Rattle.std.specs.List.{fold, list_any}
 use Rattle.std.proofs.lemmas.List.Elements.{Contains-append_cases, Contains-append_left, Contains-append_right, Contains-push, Contains-push_cases}
@@ -9,8 +9,9 @@ use Rattle.mencius_base.specs.Numbers.{ServerId, Inst, BallotNo}
 use Rattle.mencius_base.specs.declared.message.Message.{Message}
 use Rattle.mencius_base.specs.declared.message.Message.TheVariants.{Suggest, Skip, Accepted, Prepare, Promise, Propose, Learn}
 use Rattle.mencius_base.specs.declared.message.Vote.{Vote}
-use Rattle.mencius_model.specs.Instance.{higher_vote, highest_vote, vote_reported}
+use Rattle.mencius_model.specs.Instance.{higher_vote, vote_reported}
 use Rattle.mencius_model.proofs.trace.ServerSets.{any_more}
+use Rattle.mencius_model.proofs.trace.Lists.{IsIn}
 
 contains_here : {X : Type 0} (x : X) (xs : List X) → Contains (x ∷ xs) x
 contains_here x xs = Contains-append_left (x ∷ []) xs x (Contains-push [] x)
@@ -25,6 +26,14 @@ contains_cases y x xs has =
     (λ (same : y ≡ x). inl same) (Contains-push_cases [] y x one))
     (λ (later : Contains xs x). inr later)
     (Contains-append_cases (y ∷ []) xs x has)
+
+pub contained_in : {X : Type 0} (xs : List X) (x : X) → Contains xs x → IsIn x xs
+contained_in [] x has = absurd (let few = has.1 in omega arith)
+contained_in (y ∷ xs) x has =
+    elim (contains_cases y x xs has) [
+      | inl same ↦ inl (sym same)
+      | inr later ↦ inr (contained_in xs x later)
+    ]
 
 -- the first vote stands when the second is reported
 abbrev pub Stands : Option Vote → Option Vote → Type 0
@@ -78,7 +87,7 @@ Stands-fold_heard report (h ∷ hs) x o has =
 
 -- the highest vote stands against each that was heard
 pub Stands-heard : (report : Message → Option Vote) (hs : List Message) (x : Message) → Contains hs x
-    → Stands (highest_vote (map report hs)) (report x)
+    → Stands (fold higher_vote None (map report hs)) (report x)
 Stands-heard report hs x has = Stands-fold_heard report hs x None has
 
 -- a set's question has the same answer when a message comes again
@@ -145,9 +154,9 @@ fold_heard i b z (h ∷ hs) o e =
     (fold_heard i b z hs (higher_vote o (vote_reported i b h)) e)
 
 -- the highest vote was heard
-pub highest_vote-heard : (i b : ℕ) (z : Vote) (hs : List Message) → highest_vote (map (vote_reported i b) hs) ≡ Some z
+pub higher_vote-heard : (i b : ℕ) (z : Vote) (hs : List Message) → fold higher_vote None (map (vote_reported i b) hs) ≡ Some z
     → (from : ℕ) × (to : ℕ) × Contains hs (Promise from to i b (Some z))
-highest_vote-heard i b z hs e =
+higher_vote-heard i b z hs e =
     ⊎_elim
     (λ (none : None ≡ Some z). absurd (cc))
     (λ (heard : IsReported hs i b z). heard)

@@ -1,7 +1,7 @@
 -- What one more message heard changes in a set of servers.
 use Rattle.std.proofs.Common.{◌≡◌, ℕ, Bool, true, false, List, [], ◌∷◌, ◌++◌, Option, Some, None, map, set, refl, sym, ◌∙◌, ap, eqb, ◌||◌}
 use Rattle.std.specs.Prelude.{slice_get}
-use Rattle.std.specs.List.{list_any}
+use Rattle.std.specs.List.{list_any, fold}
 use Rattle.std.proofs.lemmas.List.{map-append}
 use Rattle.std.proofs.lemmas.List.Folds.{list_any-append}
 use Rattle.std.proofs.lemmas.List.Sums.{fold-append}
@@ -10,7 +10,7 @@ use Rattle.mencius_base.specs.declared.message.Message.{Message}
 use Rattle.mencius_base.specs.declared.message.Vote.{Vote}
 use Rattle.mencius_base.specs.Members.{numbers_below}
 use Rattle.mencius_model.specs.Trace.{Heard, Trace, heard_messages, sent_messages}
-use Rattle.mencius_model.specs.Instance.{higher_vote, highest_vote}
+use Rattle.mencius_model.specs.Instance.{higher_vote}
 use Rattle.mencius_model.proofs.trace.NumberLists.{map-below_same, map-below_set}
 
 pub heard_more : (w : Trace) (k p : ℕ) (x : Message) → slice_get (sent_messages w) k ≡ Some x
@@ -55,12 +55,12 @@ higher_vote-none None = refl
 higher_vote-none (Some o) = refl
 
 pub votes_more : (report : Message → Option Vote) (hs : List Message) (x : Message)
-    → highest_vote (map report (hs ++ x ∷ [])) ≡ higher_vote (highest_vote (map report hs)) (report x)
+    → fold higher_vote None (map report (hs ++ x ∷ [])) ≡ higher_vote (fold higher_vote None (map report hs)) (report x)
 votes_more report hs x =
-    ap highest_vote (map-append report hs (x ∷ [])) ∙ fold-append higher_vote None (map report hs) (report x ∷ [])
+    ap (fold higher_vote None) (map-append report hs (x ∷ [])) ∙ fold-append higher_vote None (map report hs) (report x ∷ [])
 
 pub votes_quiet : (report : Message → Option Vote) (hs : List Message) (x : Message) → report x ≡ None
-    → highest_vote (map report (hs ++ x ∷ [])) ≡ highest_vote (map report hs)
+    → fold higher_vote None (map report (hs ++ x ∷ [])) ≡ fold higher_vote None (map report hs)
 votes_quiet report hs x e =
-    votes_more report hs x ∙ ap (higher_vote (highest_vote (map report hs))) e
-    ∙ higher_vote-none (highest_vote (map report hs))
+    votes_more report hs x ∙ ap (higher_vote (fold higher_vote None (map report hs))) e
+    ∙ higher_vote-none (fold higher_vote None (map report hs))

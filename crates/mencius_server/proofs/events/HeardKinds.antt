@@ -12,8 +12,8 @@ use Rattle.mencius_base.specs.Members.{Membership, first_owned, owner}
 use Rattle.mencius_model.specs.Trace.{Line, Heard, Sent, Learned, Trace, followed_by, sent_messages, messages_of}
 use Rattle.mencius_model.specs.Instance.{promised_ballot, proposal, tried_ballot, learned_value, accepted_ballot, accepters, promisers, reported_vote, vote, are_majority, IsVoted}
 use Rattle.mencius_model.specs.Server.{front}
-use Rattle.mencius_model.specs.Next.{learned_count, on_suggest, on_prepare, on_accepted, on_promise, on_learn}
-use Rattle.mencius_model.specs.Rules.{answer_lines, decision_lines, due_decision_from, due_proposal_from, prepare_answer_from, proposal_lines}
+use Rattle.mencius_model.specs.Next.{learned_count, due_proposal_at, due_decision_at}
+use Rattle.mencius_model.specs.Rules.{answer_lines, decision_lines, due_decision_from, due_proposal_from, prepare_answer_from, proposal_lines, own_skip_lines, acceptance_lines, learning_lines}
 use Rattle.mencius_model.proofs.trace.OneMoreLine.{greater_ballot-none}
 use Rattle.coord_paxos.specs.SlotState.{SlotState}
 use Rattle.coord_paxos.specs.Slot.{acceptance_answer, promise_answer, after_answer, after_promise, with_proposal, due_proposal, with_promise, after_accept, after_prepare, after_learn, after_acceptance, with_learned, due_decision, with_acceptance}
@@ -65,7 +65,7 @@ learn_cases m w k p q i z small e (Some y) un = record {
 
 pub meets_learn : (m : Membership) (w : Trace) (k p q i : ℕ) (z : Value) → i < instance_count
     → slice_get (sent_messages w) k ≡ Some (Learn q i z)
-    → Meets m w k p (Learn q i z) (on_learn w p i z)
+    → Meets m w k p (Learn q i z) (learning_lines p i z (learned_value w p i))
 meets_learn m w k p q i z small e = learn_cases m w k p q i z small e (learned_value w p i) refl
 
 -- ---- Prepare
@@ -132,7 +132,7 @@ prepare_cases m w k p q i b small e (Some x) known = record {
 
 pub meets_prepare : (m : Membership) (w : Trace) (k p q i b : ℕ) → i < instance_count
     → slice_get (sent_messages w) k ≡ Some (Prepare q i b)
-    → Meets m w k p (Prepare q i b) (on_prepare w p q i b)
+    → Meets m w k p (Prepare q i b) (answer_lines p q i b (prepare_answer_from (promised_ballot w p i) (vote w p i) b (learned_value w p i)))
 meets_prepare m w k p q i b small e = prepare_cases m w k p q i b small e (learned_value w p i) refl
 
 -- ---- Suggest
@@ -234,7 +234,7 @@ suggest_cases m w k p q i t small e said a d ahead free = record {
 
 pub meets_suggest : (m : Membership) (w : Trace) (k p q i t : ℕ) → i < instance_count
     → slice_get (sent_messages w) k ≡ Some (Suggest q i t) → proposal w i 0 ≡ Some (Ticket t)
-    → Meets m w k p (Suggest q i t) (on_suggest m w p q i)
+    → Meets m w k p (Suggest q i t) (own_skip_lines m p (front m w p) i ++ acceptance_lines p q i 0 (promised_ballot w p i))
 meets_suggest m w k p q i t small e said =
     suggest_cases m w k p q i t small e said (ltb (front m w p) i) (leb (promised_ballot w p i) 0) refl refl
 
@@ -310,7 +310,7 @@ accepted_tried m w k p from i small e =
 accepted_lines : (m : Membership) (w : Trace) (k p from i : ℕ) → (tried_ballot w p i ≡ 0 → owner m i ≡ p)
     → slice_get (sent_messages w) k ≡ Some (Accepted from p i (tried_ballot w p i))
     → decision_lines p i (due_decision (with_acceptance (slot_at m w p i) from))
-    ≡ on_accepted m w (Heard k p ∷ w) p i (tried_ballot w p i)
+    ≡ decision_lines p i (due_decision_at m w (Heard k p ∷ w) p i (tried_ballot w p i))
 accepted_lines m w k p from i mine e =
     ap (decision_lines p i)
     (ap (λ (a : Bool). cond a (due_decision (with_acceptance (slot_at m w p i) from)) None)
@@ -320,12 +320,12 @@ accepted_lines m w k p from i mine e =
 accepted_cases : (m : Membership) (w : Trace) (k p from i b : ℕ) → i < instance_count → (b ≡ 0 → owner m i ≡ p)
     → slice_get (sent_messages w) k ≡ Some (Accepted from p i b)
     → (d : Bool) → eqb b (tried_ballot w p i) ≡ d
-    → Meets m w k p (Accepted from p i b) (on_accepted m w (Heard k p ∷ w) p i b)
+    → Meets m w k p (Accepted from p i b) (decision_lines p i (due_decision_at m w (Heard k p ∷ w) p i b))
 accepted_cases m w k p from i b small mine e true same =
     let tried : tried_ballot w p i ≡ b = sym (eqb-true b (tried_ballot w p i) same) in
     let P : ℕ → Type 0 =
     λ c. (c ≡ 0 → owner m i ≡ p) → slice_get (sent_messages w) k ≡ Some (Accepted from p i c)
-    → Meets m w k p (Accepted from p i c) (on_accepted m w (Heard k p ∷ w) p i c) in
+    → Meets m w k p (Accepted from p i c) (decision_lines p i (due_decision_at m w (Heard k p ∷ w) p i c)) in
     subst P tried
     (λ own said. subst (λ (ls : List Line). Meets m w k p (Accepted from p i (tried_ballot w p i)) ls)
     (accepted_lines m w k p from i own said) (accepted_tried m w k p from i small said))
@@ -345,7 +345,7 @@ accepted_cases m w k p from i b small mine e false other = record {
       ∙ ap (λ (ls : List Line). server_at m (followed_by (Heard k p ∷ w) ls) p) no_lines;
 }
   where
-    no_lines : [] ≡ on_accepted m w (Heard k p ∷ w) p i b
+    no_lines : [] ≡ decision_lines p i (due_decision_at m w (Heard k p ∷ w) p i b)
     no_lines = ap
         (λ (d : Bool). decision_lines p i
         (cond d (due_decision_from (learned_value w p i) (proposal w i b)
@@ -359,7 +359,7 @@ accepted_cases m w k p from i b small mine e false other = record {
 
 pub meets_accepted : (m : Membership) (w : Trace) (k p from i b : ℕ) → i < instance_count → (b ≡ 0 → owner m i ≡ p)
     → slice_get (sent_messages w) k ≡ Some (Accepted from p i b)
-    → Meets m w k p (Accepted from p i b) (on_accepted m w (Heard k p ∷ w) p i b)
+    → Meets m w k p (Accepted from p i b) (decision_lines p i (due_decision_at m w (Heard k p ∷ w) p i b))
 meets_accepted m w k p from i b small mine e =
     accepted_cases m w k p from i b small mine e (eqb b (tried_ballot w p i)) refl
 
@@ -419,7 +419,7 @@ propose_decided m w k p from i r small high voted e (Some x) decided =
 promise_lines : (m : Membership) (w : Trace) (k p from i : ℕ) (o : Option Vote) → 0 < tried_ballot w p i
     → slice_get (sent_messages w) k ≡ Some (Promise from p i (tried_ballot w p i) o)
     → proposal_lines p i (tried_ballot w p i) (due_proposal (with_promise (slot_at m w p i) from o))
-    ≡ on_promise m w (Heard k p ∷ w) p i (tried_ballot w p i)
+    ≡ proposal_lines p i (tried_ballot w p i) (due_proposal_at m w (Heard k p ∷ w) p i (tried_ballot w p i))
 promise_lines m w k p from i o high e =
     ap (proposal_lines p i (tried_ballot w p i))
     (ap (λ (a : Bool). cond a (due_proposal (with_promise (slot_at m w p i) from o)) None)
@@ -454,12 +454,12 @@ promise_tried m w k p from i r small high voted e =
 promise_cases : (m : Membership) (w : Trace) (k p from i b : ℕ) (r : Option Vote) → i < instance_count → 0 < b
     → IsVoted w p i → slice_get (sent_messages w) k ≡ Some (Promise from p i b r)
     → (d : Bool) → eqb b (tried_ballot w p i) ≡ d
-    → Meets m w k p (Promise from p i b r) (on_promise m w (Heard k p ∷ w) p i b)
+    → Meets m w k p (Promise from p i b r) (proposal_lines p i b (due_proposal_at m w (Heard k p ∷ w) p i b))
 promise_cases m w k p from i b r small high voted e true same =
     let tried : tried_ballot w p i ≡ b = sym (eqb-true b (tried_ballot w p i) same) in
     let P : ℕ → Type 0 =
     λ c. 0 < c → slice_get (sent_messages w) k ≡ Some (Promise from p i c r)
-    → Meets m w k p (Promise from p i c r) (on_promise m w (Heard k p ∷ w) p i c) in
+    → Meets m w k p (Promise from p i c r) (proposal_lines p i c (due_proposal_at m w (Heard k p ∷ w) p i c)) in
     subst P tried
     (λ above said. subst (λ (ls : List Line). Meets m w k p (Promise from p i (tried_ballot w p i) r) ls)
     (promise_lines m w k p from i r above said) (promise_tried m w k p from i r small above voted said))
@@ -480,7 +480,7 @@ promise_cases m w k p from i b r small high voted e false other = record {
       ∙ ap (λ (ls : List Line). server_at m (followed_by (Heard k p ∷ w) ls) p) no_lines;
 }
   where
-    no_lines : [] ≡ on_promise m w (Heard k p ∷ w) p i b
+    no_lines : [] ≡ proposal_lines p i b (due_proposal_at m w (Heard k p ∷ w) p i b)
     no_lines = ap
         (λ (d : Bool). proposal_lines p i b
         (cond d
@@ -494,6 +494,6 @@ promise_cases m w k p from i b r small high voted e false other = record {
 
 pub meets_promise : (m : Membership) (w : Trace) (k p from i b : ℕ) (o : Option Vote) → i < instance_count → 0 < b
     → IsVoted w p i → slice_get (sent_messages w) k ≡ Some (Promise from p i b o)
-    → Meets m w k p (Promise from p i b o) (on_promise m w (Heard k p ∷ w) p i b)
+    → Meets m w k p (Promise from p i b o) (proposal_lines p i b (due_proposal_at m w (Heard k p ∷ w) p i b))
 meets_promise m w k p from i b o small high voted e =
     promise_cases m w k p from i b o small high voted e (eqb b (tried_ballot w p i)) refl

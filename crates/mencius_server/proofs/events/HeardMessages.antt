@@ -1,11 +1,12 @@
 -- What a server does on a message is what the model says.
 use Rattle.std.proofs.Common.{◌≡◌, ℕ, List, ◌∷◌, Some, length, ap, subst, sym, ◌∙◌, true}
+use Rattle.mencius_model.specs.Rules.{proposal_lines, decision_lines}
 use Rattle.std.specs.Prelude.{slice_get, IsTrue}
 use Rattle.mencius_base.specs.Outbox.{outbox_full}
 use Rattle.mencius_base.specs.declared.message.Message.{Message}
 use Rattle.mencius_base.specs.declared.event.Event.TheVariants.{Deliver}
 use Rattle.mencius_model.specs.Trace.{Trace, sent_messages, messages_of, Heard, Line, followed_by}
-use Rattle.mencius_model.specs.Next.{lines, learned_count, delivery, on_accepted, on_message, on_promise}
+use Rattle.mencius_model.specs.Next.{lines, learned_count, on_message, due_proposal_at, due_decision_at}
 use Rattle.mencius_server.specs.State.{ServerState}
 use Rattle.mencius_server.specs.Machine.{sent_on, after_hearing, learned_on}
 use Rattle.mencius_server.specs.Laws.{HearIsEvent, HearLearnsAsEvent}
@@ -19,6 +20,7 @@ use Rattle.mencius_model.proofs.reached.ServerFacts.{HasServerFacts, server_fact
 use Rattle.mencius_server.proofs.events.ServerTrace.{Meets, meets_propose}
 use Rattle.mencius_server.proofs.events.HeardSkip.{meets_skip}
 use Rattle.mencius_server.proofs.events.HeardKinds.{meets_accepted, meets_learn, meets_prepare, meets_promise, meets_suggest}
+use Rattle.mencius_model.proofs.trace.Parts.{delivery}
 
 voted_at : (m : Membership) (w : Trace) (p i : ℕ) → HasServerFacts m w → IsVoted w p i
 voted_at m w p i facts = record { proposal = λ b e. facts.voted p i b e }
@@ -42,7 +44,7 @@ meets_any m w k p (Accepted from to inst ballot) facts addressed e =
     let here : to ≡ p = eqb-true _ _ (goes_of m p (Accepted from to inst ballot) addressed) in
     let P : ℕ → Type 0 =
     λ d. slice_get (sent_messages w) k ≡ Some (Accepted from d inst ballot)
-    → Meets m w k p (Accepted from d inst ballot) (on_accepted m w (Heard k p ∷ w) p inst ballot) in
+    → Meets m w k p (Accepted from d inst ballot) (decision_lines p inst (due_decision_at m w (Heard k p ∷ w) p inst ballot)) in
     subst P (sym here)
     (λ said. meets_accepted m w k p from inst ballot (ltb-true _ _ known.1)
     (λ zero. facts.to_owner k from p inst
@@ -57,7 +59,7 @@ meets_any m w k p (Promise from to inst ballot vote) facts addressed e =
     let here : to ≡ p = eqb-true _ _ (goes_of m p (Promise from to inst ballot vote) addressed) in
     let P : ℕ → Type 0 =
     λ d. slice_get (sent_messages w) k ≡ Some (Promise from d inst ballot vote)
-    → Meets m w k p (Promise from d inst ballot vote) (on_promise m w (Heard k p ∷ w) p inst ballot) in
+    → Meets m w k p (Promise from d inst ballot vote) (proposal_lines p inst ballot (due_proposal_at m w (Heard k p ∷ w) p inst ballot)) in
     subst P (sym here)
     (λ said. meets_promise m w k p from inst ballot vote (ltb-true _ _ inside.1) (ltb-true _ _ known.1)
     (voted_at m w p inst facts) said)

@@ -1,5 +1,6 @@
 -- A Skip.
 use Rattle.std.proofs.Common.{◌≡◌, ℕ, ◌+◌, ◌<◌, ◌≤◌, Bool, true, false, List, [], ◌∷◌, Option, Some, None, map, refl, sym, ◌∙◌, ap, arith, cond, eqb, zero, suc, add-zero, ◌&&◌, ◌||◌, ⊎_elim}
+use Rattle.std.specs.Option.{option_or}
 use Rattle.std.specs.Prelude.{slice_get, is_none}
 use Rattle.std.specs.List.{count_by, filter, fold, list_any, range_with_len}
 use Rattle.std.proofs.lemmas.Bool.{cases_eq, eq-eqb, eqb-false, eqb-true, ne_eqb}
@@ -7,10 +8,10 @@ use Rattle.mencius_base.specs.declared.message.Message.TheVariants.{Skip}
 use Rattle.mencius_base.specs.declared.message.Value.{Value}
 use Rattle.mencius_base.specs.declared.message.Value.TheVariants.{Noop}
 use Rattle.mencius_base.specs.Members.{Membership, numbers_below, instances}
-use Rattle.mencius_model.specs.Trace.{Heard, Learned, Line, Trace, first_some, followed_by, sent_messages, messages_of}
+use Rattle.mencius_model.specs.Trace.{Heard, Learned, Line, Trace, followed_by, sent_messages, messages_of}
 use Rattle.mencius_model.specs.Instance.{learned_value, tried_ballot}
 use Rattle.mencius_model.specs.Server.{front}
-use Rattle.mencius_model.specs.Next.{is_learning, is_newly_skipped, learned_count, on_skip}
+use Rattle.mencius_model.specs.Next.{is_learning, learned_count}
 use Rattle.mencius_model.proofs.trace.NumberLists.{map-instances_same}
 use Rattle.coord_paxos.specs.SlotState.{SlotState}
 use Rattle.coord_paxos.specs.Fresh.{new_slot}
@@ -23,20 +24,21 @@ use Rattle.mencius_server.specs.Machine.{is_newly_skipped_slot, is_skipped, slot
 use Rattle.mencius_server.specs.Reached.{server_at}
 use Rattle.mencius_server.proofs.events.ServerTrace.{Meets, slot-server_at}
 use Rattle.mencius_base.specs.Limits.{instance_count}
+use Rattle.mencius_model.proofs.trace.Parts.{is_newly_skipped, on_skip}
 
 abbrev noop_at : ℕ → ℕ → Line
 noop_at p j = Learned p j Noop
 
 -- the first value that is learned stays
 after_learn_is : (s : SlotState) (z : Value) (o : Option Value) → s.learned ≡ o
-    → after_learn s z ≡ record s { learned = first_some s.learned (Some z) }
+    → after_learn s z ≡ record s { learned = option_or s.learned (Some z) }
 after_learn_is s z None e =
     ap (λ (o : Option Value). cond (is_none o) (record s { learned = Some z }) s) e
-    ∙ ap (λ (o : Option Value). record s { learned = first_some o (Some z) }) (sym e)
+    ∙ ap (λ (o : Option Value). record s { learned = option_or o (Some z) }) (sym e)
 after_learn_is s z (Some x) e =
     ap (λ (o : Option Value). cond (is_none o) (record s { learned = Some z }) s) e
     ∙ ap (λ (o : Option Value). record s { learned = o }) e
-    ∙ ap (λ (o : Option Value). record s { learned = first_some o (Some z) }) (sym e)
+    ∙ ap (λ (o : Option Value). record s { learned = option_or o (Some z) }) (sym e)
 
 -- one more line, for a slot that may know already
 noop_cases : (m : Membership) (v : Trace) (p i j : ℕ) (a : Bool) → eqb i j ≡ a
@@ -51,16 +53,16 @@ learned_noop : (m : Membership) (v : Trace) (p i j : ℕ)
     → slot_at m (Learned p i Noop ∷ v) p j ≡ cond (eqb i j) (after_learn (slot_at m v p j) Noop) (slot_at m v p j)
 learned_noop m v p i j = noop_cases m v p i j (eqb i j) refl
 
-first_some-twice : (o : Option Value) (z : Value) → first_some (first_some o (Some z)) (Some z) ≡ first_some o (Some z)
-first_some-twice None z = refl
-first_some-twice (Some x) z = refl
+option_or-twice : (o : Option Value) (z : Value) → option_or (option_or o (Some z)) (Some z) ≡ option_or o (Some z)
+option_or-twice None z = refl
+option_or-twice (Some x) z = refl
 
 after_learn-twice : (x : SlotState) → after_learn (after_learn x Noop) Noop ≡ after_learn x Noop
 after_learn-twice x =
     ap (λ (s : SlotState). after_learn s Noop) (after_learn_is x Noop x.learned refl)
-    ∙ after_learn_is (record x { learned = first_some x.learned (Some Noop) }) Noop
-    (first_some x.learned (Some Noop)) refl
-    ∙ ap (λ (o : Option Value). record x { learned = o }) (first_some-twice x.learned Noop)
+    ∙ after_learn_is (record x { learned = option_or x.learned (Some Noop) }) Noop
+    (option_or x.learned (Some Noop)) refl
+    ∙ ap (λ (o : Option Value). record x { learned = o }) (option_or-twice x.learned Noop)
     ∙ sym (after_learn_is x Noop x.learned refl)
 
 -- all the lines

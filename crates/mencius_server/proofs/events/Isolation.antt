@@ -1,16 +1,18 @@
 -- What an accepted event leaves, in the words of the laws.
 use Rattle.std.proofs.Common.{◌≡◌, Option, None, Some, Ok, refl, ap, ◌∙◌}
+use Rattle.std.specs.Prelude.{Err}
+use Rattle.std.specs.Option.{option_map_or}
 use Rattle.mencius_base.specs.declared.event.Event.{Event}
 use Rattle.mencius_base.specs.declared.event.Event.TheVariants.{Lose, Execute}
 use Rattle.mencius_base.specs.declared.refusal.Refusal.{Refusal}
 use Rattle.mencius_base.specs.Members.{Membership}
 use Rattle.mencius_model.specs.Trace.{Trace}
-use Rattle.mencius_model.specs.Next.{next, refusal_cause, step_or, with_event}
+use Rattle.mencius_model.specs.Next.{next, refusal_cause, with_event}
 use Rattle.mencius_server.specs.Laws.{ExecutionLeavesAll, LeavesOthers, LossLeavesAll}
 use Rattle.mencius_server.specs.Reached.{server_at}
 use Rattle.mencius_server.proofs.events.OtherServers.{execution_stays, loss_stays, others_stay}
 
-accepted_on : (w v : Trace) (o : Option Refusal) → step_or w o ≡ Ok v → (o ≡ None) × (v ≡ w)
+accepted_on : (w v : Trace) (o : Option Refusal) → option_map_or Err o (Ok w) ≡ Ok v → (o ≡ None) × (v ≡ w)
 accepted_on w v None h = (refl, cc)
 accepted_on w v (Some r) h = absurd (cc)
 

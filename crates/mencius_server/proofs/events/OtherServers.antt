@@ -13,7 +13,7 @@ use Rattle.mencius_base.specs.Members.{Membership, most_events, owner}
 use Rattle.mencius_model.specs.Trace.{Line, Submitted, Heard, Lost, Suspected, Retried, Executed, Sent, Learned, Trace, events, followed_by}
 use Rattle.mencius_model.specs.Instance.{proposal, proposal_by, tried_ballot, IsVoted}
 use Rattle.mencius_model.specs.Server.{front_by}
-use Rattle.mencius_model.specs.Next.{IsReached, causes, head, lines, refusal_cause, with_event, server_of}
+use Rattle.mencius_model.specs.Next.{IsReached, head, lines, refusal_cause, with_event, server_of}
 use Rattle.mencius_model.proofs.trace.OneMoreLine.{greatest_quiet, oldest_quiet}
 use Rattle.mencius_model.proofs.rights.LineRights.{IsGrown, MaySuggest}
 use Rattle.mencius_model.proofs.trace.AnswersLast.{accepted_in}
@@ -27,6 +27,7 @@ use Rattle.coord_paxos.proofs.SlotTrace.{slot_at-proposing, slot_at-quiet}
 use Rattle.mencius_server.specs.Reached.{server_at}
 use Rattle.mencius_server.proofs.events.ServerTrace.{server_unchanged}
 use Rattle.mencius_model.proofs.events.LineServers.{IsBy, AreBy, lines_by, head_by}
+use Rattle.mencius_model.proofs.trace.Parts.{causes}
 
 -- ---- one line of another server
 

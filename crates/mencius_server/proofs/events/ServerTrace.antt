@@ -1,5 +1,6 @@
 -- How the lines of an event change a server.
 use Rattle.std.proofs.Common.{◌≡◌, ℕ, ◌<◌, ◌≤◌, Bool, true, false, List, [], ◌∷◌, Some, refl, sym, ◌∙◌, ap, arith, cond, leb}
+use Rattle.mencius_model.specs.Rules.{acceptance_lines}
 use Rattle.std.specs.Prelude.{slice_get}
 use Rattle.std.proofs.lemmas.Bool.{leb-true}
 use Rattle.mencius_base.specs.declared.message.Message.{Message}
@@ -9,7 +10,7 @@ use Rattle.mencius_base.specs.Members.{Membership}
 use Rattle.mencius_model.specs.Trace.{Line, Heard, Sent, Trace, followed_by, sent_messages, messages_of}
 use Rattle.mencius_model.specs.Instance.{promised_ballot, proposal, tried_ballot}
 use Rattle.mencius_model.specs.Server.{front}
-use Rattle.mencius_model.specs.Next.{learned_count, on_propose}
+use Rattle.mencius_model.specs.Next.{learned_count}
 use Rattle.mencius_model.proofs.trace.NumberLists.{get_or-map-instances, map-instances_same, map-instances_set}
 use Rattle.coord_paxos.specs.SlotState.{SlotState}
 use Rattle.coord_paxos.specs.Fresh.{new_slot}
@@ -113,6 +114,6 @@ propose_cases m w k p q i b z small e said false low = record {
 
 pub meets_propose : (m : Membership) (w : Trace) (k p q i b : ℕ) (z : Value) → i < instance_count
     → slice_get (sent_messages w) k ≡ Some (Propose q i b z) → proposal w i b ≡ Some z
-    → Meets m w k p (Propose q i b z) (on_propose w p q i b)
+    → Meets m w k p (Propose q i b z) (acceptance_lines p q i b (promised_ballot w p i))
 meets_propose m w k p q i b z small e said =
     propose_cases m w k p q i b z small e said (leb (promised_ballot w p i) b) refl

@@ -1,17 +1,17 @@
 -- What a server does on a submission is what the model says.
 use Rattle.std.proofs.Common.{◌≡◌, ℕ, ◌+◌, ◌<◌, ◌≤◌, List, ◌∷◌, Option, Some, None, leb, eqb, max, refl, sym, ◌∙◌, ap, arith}
-use Rattle.std.specs.Prelude.{is_none, ◌&&◌}
+use Rattle.std.specs.Prelude.{is_none, ◌&&◌, slice_get}
 use Rattle.std.proofs.lemmas.Bool.{and_parts, eq-eqb, eqb-true, leb-true}
 use Rattle.mencius_base.specs.declared.command.Command.{Command}
 use Rattle.mencius_base.specs.declared.event.Event.TheVariants.{Retry, Submit}
 use Rattle.mencius_base.specs.declared.message.Message.TheVariants.{Suggest}
 use Rattle.mencius_base.specs.declared.message.Value.TheVariants.{Ticket}
-use Rattle.mencius_base.specs.Members.{Membership, owner, first_item}
+use Rattle.mencius_base.specs.Members.{Membership, owner}
 use Rattle.mencius_base.specs.Outbox.{OutboxState}
 use Rattle.mencius_model.specs.Trace.{Line, Retried, Sent, Submitted, Trace, followed_by, greatest_by, heard_messages, messages_of}
 use Rattle.mencius_model.specs.Instance.{accepted_ballot, proposal, proposal_by, tried_by, tried_ballot, IsVoted}
-use Rattle.mencius_model.specs.Server.{free_instance, front, front_by, is_free, waiting_tickets}
-use Rattle.mencius_model.specs.Next.{lines, retry_lines}
+use Rattle.mencius_model.specs.Server.{free_instance, front, front_by, waiting_tickets}
+use Rattle.mencius_model.specs.Next.{lines}
 use Rattle.mencius_model.specs.Rules.{suggestion}
 use Rattle.mencius_model.proofs.trace.NumberLists.{IsFound, find-instances_found, find-instances_same}
 use Rattle.mencius_model.proofs.trace.OneMoreLine.{greater_ballot-none, greatest_quiet, oldest_quiet, oldest_stays}
@@ -27,6 +27,7 @@ use Rattle.mencius_server.proofs.events.ServerTrace.{server_unchanged, server_wr
 use Rattle.mencius_server.proofs.events.WaitingByTrace.{first_waiting_same}
 use Rattle.mencius_model.proofs.reached.ServerFacts.{HasServerFacts, server_facts}
 use Rattle.mencius_base.specs.Limits.{instance_count}
+use Rattle.mencius_model.proofs.trace.Parts.{is_free, retry_lines}
 
 -- the server finds the free instance that the trace has
 free-server_at : (m : Membership) (w : Trace) (p : ℕ) → free_at (server_at m w p) ≡ free_instance m w p
@@ -139,7 +140,7 @@ again_state w s at (Some t) =
     ∙ suggest_state s.members w (Retried s.id) s.id t (head_retried s.members s.id s.id)
     (server_facts s.members w at.reached) (free_instance s.members w s.id) refl
 
-retry_causes : (w : Trace) (s : ServerState) (o : OutboxState) (x y : Option ℕ) → first_item (waiting_tickets w s.id)
+retry_causes : (w : Trace) (s : ServerState) (o : OutboxState) (x y : Option ℕ) → slice_get (waiting_tickets w s.id) 0
     ≡ x
     → free_at s ≡ y → free_instance s.members w s.id ≡ y
     → retry_cause s o x ≡ refusal_of w (Retry s.id) s o
@@ -152,8 +153,8 @@ retry_is_event w s at =
     let same : free_at s ≡ free_instance s.members w s.id = ap free_at at.state ∙ free-server_at s.members w s.id in
     let first = first_waiting_at w s at in
     record {
-      sent = ap (retry_sent s) first ∙ sends_again w s same (first_item (waiting_tickets w s.id));
-      state = ap (after_retry s) first ∙ again_state w s at (first_item (waiting_tickets w s.id));
+      sent = ap (retry_sent s) first ∙ sends_again w s same (slice_get (waiting_tickets w s.id) 0);
+      state = ap (after_retry s) first ∙ again_state w s at (slice_get (waiting_tickets w s.id) 0);
       refusal = λ o. ap (retry_cause s o) first
-          ∙ retry_causes w s o (first_item (waiting_tickets w s.id)) (free_instance s.members w s.id) refl same refl;
+          ∙ retry_causes w s o (slice_get (waiting_tickets w s.id) 0) (free_instance s.members w s.id) refl same refl;
     }

@@ -1,19 +1,20 @@
 -- What a server does on a suspicion is what the model says.
-use Rattle.std.proofs.Common.{◌≡◌, ℕ, ◌+◌, ◌<◌, Bool, true, false, List, [], ◌∷◌, None, cond, eqb, filter, length, ltb, map, max, refl, sym, ◌∙◌, ap, arith, ◌&&◌, ◌||◌}
-use Rattle.std.specs.Prelude.{is_none}
-use Rattle.std.specs.List.{list_any}
-use Rattle.std.proofs.lemmas.Bool.{eqb-true}
+use Rattle.std.proofs.Common.{◌≡◌, ℕ, ◌+◌, ◌<◌, Bool, true, false, List, [], ◌∷◌, Option, Some, None, cond, eqb, filter, inl, inr, leb, length, ltb, map, max, refl, sym, ◌∙◌, ap, arith, ◌&&◌, ◌||◌}
+use Rattle.std.specs.Prelude.{is_none, slice_get}
+use Rattle.std.specs.List.{list_any, fold}
+use Rattle.std.specs.Option.{option_map_or}
+use Rattle.std.proofs.lemmas.Bool.{cases_lt, eqb-true, le-leb, le-ltb, lt-leb, lt-ltb}
 use Rattle.mencius_base.specs.declared.event.Event.TheVariants.{Suspect}
 use Rattle.mencius_base.specs.declared.refusal.Refusal.TheVariants.{MessagesFull, NothingToRevoke, RoundsFull, SelfSuspect}
 use Rattle.mencius_base.specs.declared.message.Message.{Message}
 use Rattle.mencius_base.specs.declared.message.Message.TheVariants.{Prepare}
-use Rattle.mencius_base.specs.Members.{Membership, ballot_of, numbers_below, instances, first_item}
+use Rattle.mencius_base.specs.Members.{Membership, ballot_of, numbers_below, instances, owner}
 use Rattle.mencius_base.specs.Outbox.{OutboxState}
 use Rattle.mencius_model.specs.Trace.{Line, Suspected, Trace, followed_by, heard_messages, messages_of}
-use Rattle.mencius_model.specs.Instance.{accepted_ballot, accepted_by, highest_vote, is_acceptance, is_promise, learned_by, promised_by, proposal, proposal_by, tried_by, tried_ballot, vote_of, vote_reported}
-use Rattle.mencius_model.specs.Server.{front, front_by, is_covered, is_open, covered_instances, reach}
+use Rattle.mencius_model.specs.Instance.{accepted_ballot, accepted_by, is_acceptance, is_promise, learned_by, promised_by, proposal, proposal_by, tried_by, tried_ballot, vote_reported, higher_vote}
+use Rattle.mencius_model.specs.Server.{front, front_by, covered_instances, reach}
 use Rattle.mencius_model.specs.Next.{IsReached, first_cause, next_round, preparation, server_causes}
-use Rattle.mencius_model.specs.Rules.{is_open_from, reach_from}
+use Rattle.mencius_model.specs.Rules.{is_covered_from, is_open_from, reach_from}
 use Rattle.mencius_model.proofs.trace.NumberLists.{any-map, filter-instances_same, find-instances_same, map-filter-instances_same, map-instances_same}
 use Rattle.mencius_model.proofs.trace.OneMoreLine.{greater_ballot-none, greatest_quiet, oldest_quiet, vote_of_same}
 use Rattle.mencius_model.proofs.trace.AnswersLast.{same}
@@ -25,12 +26,13 @@ use Rattle.coord_paxos.specs.Reached.{if_own, slot_at}
 use Rattle.coord_paxos.proofs.SlotTrace.{same_slot}
 use Rattle.coord_paxos.proofs.SlotLaws.{slot_trying, slot_untried}
 use Rattle.mencius_server.specs.State.{ServerState, slot}
-use Rattle.mencius_server.specs.Machine.{after_suspect, is_covered_in, is_spent_at, is_covered_at, is_open_at, next_prepare, prepare_for, reach_at, next_round_of, slot_after_suspect, suspect_cause, suspect_sent}
+use Rattle.mencius_server.specs.Machine.{after_suspect, is_covered_in, is_spent_at, is_covered_at, is_open_at, next_prepare, prepare_for, reach_at, next_round_of, slot_after_suspect, stop_of, suspect_cause, suspect_sent, with_next_phase}
 use Rattle.mencius_server.specs.Laws.{SuspectIsEvent}
 use Rattle.mencius_server.specs.Reached.{server_at}
 use Rattle.mencius_server.proofs.events.HeardSkip.{among, is_instance}
 use Rattle.mencius_server.proofs.events.ServerTrace.{slot-server_at}
 use Rattle.mencius_base.specs.Limits.{greatest_round, instance_count}
+use Rattle.mencius_model.proofs.trace.Parts.{vote_of, is_open, is_covered}
 
 -- a line that says nothing but which ballot is tried
 record IsTried (p j : ℕ) (l : Line) : Type 0 where
@@ -52,7 +54,7 @@ trying_same m w l p j b quiet deaf =
     (ap (vote_of (l ∷ w) j) acceptance ∙ vote_of_same (l ∷ w) w j (accepted_ballot w p j) proposals)
     (oldest_quiet (learned_by p j) l w quiet.learned)
     refl
-    (ap (λ (hs : List Message). highest_vote (map (vote_reported j b) hs)) deaf)
+    (ap (λ (hs : List Message). fold higher_vote None (map (vote_reported j b) hs)) deaf)
     (ap (if_own m p j b) (proposals b))
     (ap (λ (hs : List Message). map (λ (q : ℕ). list_any (is_promise j b q) hs) (numbers_below m.count)) deaf)
     (ap (λ (hs : List Message). map (λ (q : ℕ). list_any (is_acceptance j b q) hs) (numbers_below m.count)) deaf)
@@ -106,6 +108,18 @@ sends_prepared m w p [] = refl
 sends_prepared m w p (j ∷ js) =
     ap (λ (ms : List Message). Prepare p j (ballot_for m w p j) ∷ ms) (sends_prepared m w p js)
 
+-- what a suspicion covers up to its reach is what it covers before the stop
+covered_before : (m : Membership) (q j : ℕ) (o : Option ℕ) (s : SlotState)
+    → is_covered_in m q (stop_of o) j s ≡ is_covered_from m q o j s.learned
+covered_before m q j o s = ap (λ (a : Bool). (eqb (owner m j) q && a) && is_none s.learned) (before o) where
+  before : (o : Option ℕ) → ltb j (stop_of o) ≡ option_map_or (leb j) o false
+  before None = le-ltb j 0 (omega arith)
+  before (Some last) =
+      elim (cases_lt last j) [
+        | inl above ↦ le-ltb j _ (omega arith) ∙ sym (lt-leb j last above)
+        | inr within ↦ lt-ltb j _ (omega arith) ∙ sym (le-leb j last within)
+      ]
+
 module _ (m : Membership) (w : Trace) (p q : ℕ) (r : IsReached m w) (member : p < m.count) where
   abbrev covered : List ℕ
   covered = covered_instances m w p q
@@ -156,25 +170,29 @@ module _ (m : Membership) (w : Trace) (p q : ℕ) (r : IsReached m w) (member : 
       let ahead : front m later p ≡ front m w p =
       front_prepared m w p covered (Suspected p q ∷ w)
       ∙ ap (max p) (greatest_quiet (front_by m p) (Suspected p q) w refl) in
-      rw (← ahead, e)
+      ap (λ n. record { members = m; id = p; front = n; slots = xs }) (sym ahead)
+      ∙ ap (λ ys. record { members = m; id = p; front = front m later p; slots = ys }) e
 
-  reach_same : reach_at (server_at m w p) q ≡ reach m w p q
+  reach_same : reach_at (server_at m w p) q ≡ stop_of (reach m w p q)
   reach_same =
-      ap (reach_from m (front m w p))
+      ap (λ (o : Option ℕ). stop_of (reach_from m (front m w p) o))
       (find-instances_same (is_open_at (server_at m w p) q) (is_open m w p q)
       (λ j small. ap (λ (s : SlotState). is_open_from m q j s.learned) (slot-server_at m w p j small)))
 
   pub covered_same : (j : ℕ) → j < instance_count → is_covered_at (server_at m w p) q j ≡ is_covered m w p q j
   covered_same j small =
       ap (λ (n : ℕ). is_covered_in m q n j (slot (server_at m w p) j)) reach_same
-      ∙ ap (λ (s : SlotState). is_covered_in m q (reach m w p q) j s) (slot-server_at m w p j small)
+      ∙ ap (λ (s : SlotState). is_covered_in m q (stop_of (reach m w p q)) j s) (slot-server_at m w p j small)
+      ∙ covered_before m q j (reach m w p q) (slot_at m w p j)
 
   suspect_state : after_suspect (server_at m w p) q ≡ server_at m later p
   suspect_state =
       same_state _
       (map-instances_same _ (slot_at m later p) (new_slot m)
       (λ j small. ap (λ (n : ℕ). slot_after_suspect m p q n j (slot (server_at m w p) j)) reach_same
-      ∙ ap (slot_after_suspect m p q (reach m w p q) j) (slot-server_at m w p j small)
+      ∙ ap (slot_after_suspect m p q (stop_of (reach m w p q)) j) (slot-server_at m w p j small)
+      ∙ ap (λ (a : Bool). cond a (with_next_phase m p (slot_at m w p j)) (slot_at m w p j))
+      (covered_before m q j (reach m w p q) (slot_at m w p j))
       ∙ sym (slot_after j small (is_covered m w p q j) refl)))
 
   suspect_messages : suspect_sent (server_at m w p) q ≡ messages_of (map (preparation m w p) covered)
@@ -195,7 +213,7 @@ suspect_causes : (m : Membership) (w : Trace) (p q : ℕ) (s : ServerState) (o :
     → suspect_cause (server_at m w p) o q ≡ first_cause (server_causes m w (Suspect p q) (length o.messages) o.limit)
 suspect_causes m w p q s o e r member =
     same_causes (eqb p q) _ _ _ _ _ _
-    (ap (λ (xs : List ℕ). is_none (first_item xs))
+    (ap (λ (xs : List ℕ). is_none (slice_get xs 0))
     (filter-instances_same (is_covered_at (server_at m w p) q) (is_covered m w p q) is_same))
     (any-map (is_spent_at (server_at m w p)) (filter (is_covered_at (server_at m w p) q) instances)
     ∙ ap (list_any (λ (a : Bool). a))

@@ -1,13 +1,14 @@
 -- Which tickets wait is what the trace says.
 use Rattle.std.proofs.Common.{◌≡◌, ℕ, ◌<◌, Bool, true, false, Option, Some, None, cond, eqb, ltb, ◌&&◌, ◌||◌, not, refl, sym, ◌∙◌, ap}
+use Rattle.std.specs.Prelude.{if◌then◌else◌, slice_get}
 use Rattle.std.specs.List.{list_any}
 use Rattle.std.proofs.lemmas.Bool.{and_parts, eq-eqb, eqb-true}
 use Rattle.mencius_base.specs.declared.message.Message.TheVariants.{Suggest}
 use Rattle.mencius_base.specs.declared.message.Value.{Value}
-use Rattle.mencius_base.specs.Members.{Membership, instances, owner, first_item}
+use Rattle.mencius_base.specs.Members.{Membership, instances, owner}
 use Rattle.mencius_model.specs.Trace.{Line, Sent, Trace}
 use Rattle.mencius_model.specs.Instance.{learned_value, proposal, tried_ballot}
-use Rattle.mencius_model.specs.Server.{is_suggested_again_by, suggested_ticket, suggested_by, waiting_tickets, waiting_at, waiting_of, ticket_of}
+use Rattle.mencius_model.specs.Server.{is_suggested_again_by, suggested_ticket, suggested_by, waiting_tickets, waiting_at, ticket_of}
 use Rattle.mencius_model.specs.Next.{IsReached}
 use Rattle.mencius_model.proofs.trace.NumberLists.{any-instances, any-instances_found, filter_map-instances_same}
 use Rattle.mencius_server.proofs.tickets.WaitingTickets.{both_ways, ticket_is}
@@ -24,7 +25,8 @@ use Rattle.mencius_server.specs.Machine.{first_waiting, is_suggested_again, is_t
 use Rattle.mencius_server.specs.Reached.{server_at}
 use Rattle.mencius_server.proofs.events.ServerTrace.{slot-server_at}
 use Rattle.mencius_base.specs.Limits.{instance_count}
-use Rattle.mencius_model.specs.Rules.{is_noop, ticket_unless}
+use Rattle.mencius_model.specs.Rules.{is_noop}
+use Rattle.mencius_model.proofs.trace.Parts.{waiting_of}
 
 past_line : (p t i : ℕ) (l : Line) → is_suggested_again_by p t i l ≡ true
     → (j : ℕ) × (ltb i j ≡ true) × (l ≡ Sent (Suggest p j t))
@@ -106,16 +108,16 @@ module _ (m : Membership) (w : Trace) (p : ℕ) (r : IsReached m w) where
   waits_same : (i : ℕ) → i < instance_count → (o : Option ℕ) → own_waiting_of (server_at m w p) i o ≡ waiting_of w p i o
   waits_same i small None = refl
   waits_same i small (Some t) =
-      ap (λ (s : SlotState). ticket_unless
-      (not (is_noop s.learned) || list_any (is_suggested_again (server_at m w p) t i) instances) (Some t))
+      ap (λ (s : SlotState).
+      if is_noop s.learned && not (list_any (is_suggested_again (server_at m w p) t i) instances) then Some t else None)
       (slot-server_at m w p i small)
-      ∙ ap (λ (d : Bool). ticket_unless (not (is_noop (learned_value w p i)) || d) (Some t)) (past_same i t)
+      ∙ ap (λ (d : Bool). if is_noop (learned_value w p i) && not d then Some t else None) (past_same i t)
 
   pub waiting_at_same : (i : ℕ) → i < instance_count → own_waiting_at (server_at m w p) i ≡ waiting_at w p i
   waiting_at_same i small =
       ap (own_waiting_of (server_at m w p) i) (suggested_same i small) ∙ waits_same i small (suggested_ticket w p i)
 
-  pub first_waiting_same : first_waiting (server_at m w p) ≡ first_item (waiting_tickets w p)
+  pub first_waiting_same : first_waiting (server_at m w p) ≡ slice_get (waiting_tickets w p) 0
   first_waiting_same =
-      ap first_item
+      ap (λ xs. slice_get xs 0)
       (filter_map-instances_same (own_waiting_at (server_at m w p)) (waiting_at w p) waiting_at_same)

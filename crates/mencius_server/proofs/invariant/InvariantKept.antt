@@ -11,7 +11,7 @@ use Rattle.coord_paxos.specs.Fresh.{new_slot}
 use Rattle.coord_paxos.specs.Slot.{after_begin, after_learn}
 use Rattle.mencius_server.specs.Inside.{IsServerInside}
 use Rattle.mencius_server.specs.Notes.{NotesState}
-use Rattle.mencius_server.specs.Machine.{IsFree, after_skip, after_submit, after_suspect, is_free_at, is_covered_in, is_spent_at, is_skipped, is_covered_at, is_ticket, next_prepare, reach_at, next_round_of, slot_after_skip, slot_after_suspect, suggested_at, suggested_in, suspect_sent}
+use Rattle.mencius_server.specs.Machine.{IsFree, after_skip, after_submit, after_suspect, is_free_at, is_covered_in, is_spent_at, is_skipped, is_covered_at, is_ticket, next_prepare, reach_at, next_round_of, slot_after_skip, slot_after_suspect, stop_of, suggested_at, suggested_in, suspect_sent}
 use Rattle.mencius_model.specs.Server.{ticket_of}
 use Rattle.mencius_server.specs.State.{FitsAt, IsServer, ServerState, slot, with_slot_and_front}
 use Rattle.mencius_server.specs.Instances.{InstancesState, instance_slot, instances_after_skip, instances_after_suspect, is_covered_stored, is_spent_stored, prepares_stored, reach_stored, with_instance_slot}
@@ -250,8 +250,8 @@ module _ (m : Membership) (p f : ℕ) (y : InstancesState) (now : ServerState) (
   reach_shown : reach ≡ reach_at shown_state q
   reach_shown =
       at
-      ∙ ap (λ (n : Membership). reach_from n f
-      (find (λ (j : ℕ). is_open_from n q j (get_or y.slots j (new_slot n)).learned) instances)) same
+      ∙ ap (λ (n : Membership). stop_of (reach_from n f
+      (find (λ (j : ℕ). is_open_from n q j (get_or y.slots j (new_slot n)).learned) instances))) same
 
   pub open_shown : (j : ℕ) → is_covered_stored y q reach j ≡ is_covered_at now q j
   open_shown j =

@@ -1,7 +1,7 @@
 -- A loop over the slots that starts first phases at some.
 use Rattle.std.proofs.Common.{◌≡◌, ℕ, zero, suc, ◌+◌, ◌*◌, ◌/◌, ◌<◌, ◌≤◌, Option, Some, Bool, true, false, cond, eqb, List, [], ◌∷◌, ◌++◌, filter, length, map, max, refl, sym, ◌∙◌, ap, subst, arith, append-nil, append_assoc, ⊎_elim}
 use Rattle.std.specs.List.{count_by, list_any}
-use Rattle.std.specs.Prelude.{is_none, ◌&&◌}
+use Rattle.std.specs.Prelude.{is_none, slice_get, ◌&&◌}
 use Rattle.std.proofs.Math.Nat.{div-mul-le_self, div-zero, le-div_iff_mul-le}
 use Rattle.std.proofs.lemmas.Nat.{div-mul-add}
 use Rattle.std.proofs.lemmas.List.{get_or_past, length-map, map-append}
@@ -9,7 +9,7 @@ use Rattle.std.proofs.lemmas.List.Sums.{length-filter}
 use Rattle.std.proofs.lemmas.Bool.{and_parts, cases_Bool, cases_eq, cases_lt, eqb-true, ltb-false, ne_eqb}
 use Rattle.mencius_base.specs.declared.refusal.Refusal.TheVariants.{NothingToRevoke, RoundsFull}
 use Rattle.mencius_base.specs.Outbox.{OutboxState, outbox_full}
-use Rattle.mencius_base.specs.Members.{first_item, Membership, numbers_below, instances, owner}
+use Rattle.mencius_base.specs.Members.{Membership, numbers_below, instances, owner}
 use Rattle.mencius_base.specs.declared.message.Message.{Message}
 use Rattle.mencius_model.proofs.trace.NumberLists.{any-filter, any-instances, count_by-below_le, count_by-below_more, filter-below_more, filter-below_zero, get_or-map-instances, length-map-instances}
 use Rattle.coord_paxos.specs.SlotState.{SlotState}
@@ -121,9 +121,9 @@ IsServer-suspect s q other kept = record {
 
 -- ---- why a suspicion is refused
 
-none_given : (g : ℕ → Bool) (xs : List ℕ) → is_none (first_item (filter g xs)) ≡ eqb (count_by g xs) 0
+none_given : (g : ℕ → Bool) (xs : List ℕ) → is_none (slice_get (filter g xs) 0) ≡ eqb (count_by g xs) 0
 none_given g xs = go (filter g xs) ∙ ap (λ (n : ℕ). eqb n 0) (length-filter g xs) where
-  go : (ys : List ℕ) → is_none (first_item ys) ≡ eqb (length ys) 0
+  go : (ys : List ℕ) → is_none (slice_get ys 0) ≡ eqb (length ys) 0
   go [] = refl
   go (y ∷ ys) = sym (ne_eqb (length (y ∷ ys)) 0 (λ e. absurd (omega arith)))
 

@@ -9,6 +9,7 @@ use Rattle.mencius_base.specs.Members.{Membership, instances, owner}
 use Rattle.mencius_model.specs.Rules.{is_open_from, reach_from}
 use Rattle.mencius_model.proofs.trace.NumberLists.{find-instances, find-instances_found}
 use Rattle.coord_paxos.specs.SlotState.{SlotState}
+use Rattle.mencius_server.specs.Machine.{stop_of}
 use Rattle.mencius_server.specs.Instances.{InstancesState, instance_slot, instance_slot_in, instances_in, is_open_stored, reach_stored}
 use Rattle.mencius_server.specs.declared.skipped_intervals.Interval.{Interval}
 use Rattle.mencius_server.proofs.stored.StoredInstances.{seen}
@@ -53,21 +54,21 @@ module _ (m : Membership) (slots : List (Option SlotState)) (rs : List (List Int
       let small : first < instance_count = omega (arith, near_is) in
       let opens : is_open_stored now q first ≡ true =
       open_is first small ∙ rw (eq-eqb (owner m first) q own) unlearned in
-      sym (ap (reach_from now.members front)
+      sym (ap (λ o. stop_of (reach_from now.members front o))
       (find-instances (is_open_stored now q) first small (λ j l. closed j l (omega arith)) opens)
-      ∙ ap (λ n. reach_from n front (Some first)) members
+      ∙ ap (λ n. stop_of (reach_from n front (Some first))) members
       ∙ rw (lt-ltb first (front + m.beta) (omega (arith, near_is))) refl)
 
   pub reach_nowhere : near ≤ first → 0 ≡ reach_stored now q front
   reach_nowhere past = sym (go (find (is_open_stored now q) instances) refl)
     where
-      go : (o : Option ℕ) → find (is_open_stored now q) instances ≡ o → reach_from now.members front o ≡ 0
+      go : (o : Option ℕ) → find (is_open_stored now q) instances ≡ o → stop_of (reach_from now.members front o) ≡ 0
       go None e = refl
       go (Some i) e =
           let found = find-instances_found (is_open_stored now q) i e in
           ⊎_elim
           (λ (less : i < first). absurd (clash (is_open_stored now q i) found.passes (closed i less found.small)))
           (λ (from : first ≤ i).
-          ap (λ n. reach_from n front (Some i)) members
+          ap (λ n. stop_of (reach_from n front (Some i))) members
           ∙ rw (le-ltb i (front + m.beta) (omega (arith, near_is, past, from, found.small))) refl)
           (cases_lt i first)

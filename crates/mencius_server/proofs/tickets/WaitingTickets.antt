@@ -1,6 +1,6 @@
 -- Which tickets wait as the slots change.
 use Rattle.std.proofs.Common.{◌≡◌, ℕ, ◌<◌, ◌≤◌, Bool, true, false, ⊎_elim, ◌⊎◌, inl, inr, Option, Some, None, cond, eqb, ltb, get_or, length, List, refl, sym, ◌∙◌, ap, arith, not, ◌&&◌, ◌||◌}
-use Rattle.std.specs.Prelude.{is_none}
+use Rattle.std.specs.Prelude.{is_none, if◌then◌else◌}
 use Rattle.std.specs.List.{list_any}
 use Rattle.std.proofs.lemmas.Bool.{and_parts, cases_Bool, cases_eq, cases_lt, eq-eqb, eqb-true, lt-ltb, ltb-true, or_cases, or_left, or_right}
 use Rattle.std.proofs.lemmas.List.{get_or-set_other, get_or_past}
@@ -16,7 +16,7 @@ use Rattle.mencius_server.specs.Machine.{after_submit, is_suggested_again, is_ti
 use Rattle.mencius_model.specs.Server.{ticket_of}
 use Rattle.mencius_server.specs.State.{IsServer, ServerState, slot}
 use Rattle.mencius_base.specs.Limits.{instance_count}
-use Rattle.mencius_model.specs.Rules.{is_noop, ticket_unless}
+use Rattle.mencius_model.specs.Rules.{is_noop}
 
 -- two tests that follow from each other
 pub both_ways : (a d : Bool) → (a ≡ true → d ≡ true) → (d ≡ true → a ≡ true) → a ≡ d
@@ -39,9 +39,13 @@ past_same s x said t i =
     any-instances (is_suggested_again x t i) so.0 so.1
     (ap (λ (o : Option ℕ). ltb i so.0 && is_ticket t o) (said.same so.0 so.1) ∙ so.2))
 
-unless_none : (d : Bool) (t : ℕ) → ticket_unless d (Some t) ≡ None → d ≡ true
+unless_none : (d : Bool) (t : ℕ) → (if not d then Some t else None) ≡ None → d ≡ true
 unless_none true t h = refl
 unless_none false t h = absurd (cc)
+
+if_none : (d : Bool) (t : ℕ) → (if d then Some t else None) ≡ None → d ≡ false
+if_none true t h = absurd (cc)
+if_none false t h = refl
 
 -- a ticket waits where it waited, unless no-op was learned there since
 waits_cases : (s x : ServerState) → SaysSame s x → (j : ℕ) → own_waiting_at s j ≡ None
@@ -172,17 +176,17 @@ module _ (s : ServerState) (i t : ℕ) (kept : IsServer s) (mine : owner s.membe
           let known : (slot later i).learned ≡ None = ap (λ (y : SlotState). y.learned) here ∙ e in rw known refl
       free (Some x) e = let no = rw e at blank in absurd (cc)
 
-      longer : (a d z : Bool) (u : ℕ) → (a || d) ≡ true → ticket_unless (a || (d || z)) (Some u) ≡ None
-      longer true d z u h = refl
-      longer false true z u h = refl
-      longer false false z u h = absurd (cc)
+      longer : (a d z : Bool) (u : ℕ) → (a && not d) ≡ false → (if a && not (d || z) then Some u else None) ≡ None
+      longer false d z u h = refl
+      longer true true z u h = refl
+      longer true false z u h = absurd (cc)
 
       kept_waiting : (j ≡ i → ⊥) → (o : Option ℕ) → suggested_at s j ≡ o → own_waiting_of later j o ≡ None
       kept_waiting off None e = refl
       kept_waiting off (Some u) e =
-          let before = unless_none _ u (rw e at none) in
+          let before = if_none _ u (rw e at none) in
           rw (there j off, past_more u j)
-          (longer (not (is_noop (slot s j).learned))
+          (longer (is_noop (slot s j).learned)
           (list_any (is_suggested_again s u j) instances) (eqb t u && ltb j i) u before)
 
   -- the marks after it

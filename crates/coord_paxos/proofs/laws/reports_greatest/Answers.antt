@@ -5,7 +5,7 @@ use Rattle.mencius_base.specs.declared.message.Vote.{Vote}
 use Rattle.mencius_model.specs.Trace.{Trace, heard_messages}
 use Rattle.mencius_model.specs.Instance.{reported_vote, vote_reported}
 use Rattle.mencius_model.specs.Laws.{HearsReport}
-use Rattle.mencius_model.proofs.trace.Reports.{Stands, Stands-heard, highest_vote-heard}
+use Rattle.mencius_model.proofs.trace.Reports.{Stands, Stands-heard, higher_vote-heard}
 use Rattle.coord_paxos.proofs.laws.reports_greatest.Goals as goal
 
 -- the vote reported stands against each that was heard
@@ -17,7 +17,7 @@ stands w p i b z hears =
     (Stands-heard (vote_reported i b) (heard_messages w p) (Promise hears.0 hears.1 i b (Some z)) hears.2)
 
 pub returns-clause-heard : goal.returns-clause-heard
-returns-clause-heard c = λ w p i b x e. highest_vote-heard i b x (heard_messages w p) e
+returns-clause-heard c = λ w p i b x e. higher_vote-heard i b x (heard_messages w p) e
 
 pub returns-clause-greatest : goal.returns-clause-greatest
 returns-clause-greatest c =

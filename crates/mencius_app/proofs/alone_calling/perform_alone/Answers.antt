@@ -26,7 +26,7 @@ returns-in-Ok g c =
       )) h.ended;
       written = IfOk-weaker done _ _ (λ ending is. call_written arguments task asks ending _ _ _ is) h.written;
       refused = IfOk-weaker done _ _ (λ ending is. call_accepted arguments task asks ending is.0 refl) h.ended;
-      fault = of_both done _ _ _ (λ ending fault words. call_cause arguments task asks ending _ _ _ _ _ _ _ fault words)
+      fault = of_both done _ _ _ (λ ending fault words. call_cause arguments task asks ending _ _ fault words)
           h.fault h.words;
       asked = call_asks arguments task asks _ _ _ _ _ _ h.asked;
     }

@@ -6,7 +6,7 @@ use Rattle.mencius_app.proofs.checking.check.Goals as goal
 pub returns-in_err-write_all-clause-fault : goal.returns-in_err-write_all-clause-fault
 returns-in_err-write_all-clause-fault g c =
     at_finding _ _ _ c.from_residual-in_err-write_all.ensures.1
-    (unwritable _ _ _ _ _ _ _ _ {T = Unit {0}} (Err c.in_err-write_all.field-0.0) _ _ c.in_ok-line.ensures.line
+    (unwritable _ _ _ {T = Unit {0}} (Err c.in_err-write_all.field-0.0) _ _ c.in_ok-line.ensures.line
     c.as_bytes.ensures.value c.in_err-write_all.ensures.front c.in_err-write_all.ensures.fault
     c.in_err-write_all.ensures.failed)
 

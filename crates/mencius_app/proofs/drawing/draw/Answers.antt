@@ -35,7 +35,7 @@ returns-in_err-write_all-clause-fault g c =
     let trace = made trace_text _ c.in_ok-scenario.scenario c.as_str.result.now
     c.in_ok-scenario.ensures.said (c.as_str.ensures.value ∙ c.in_ok-trace.ensures.text) in
     at_finding _ _ _ c.from_residual-in_err-write_all.ensures.1
-    (unwritable _ _ _ _ _ _ _ _ {T = Unit {0}} (Err c.in_err-write_all.field-0.0) _ _
+    (unwritable _ _ _ {T = Unit {0}} (Err c.in_err-write_all.field-0.0) _ _
     (c.as_str.result.now, trace, c.in_ok-text.ensures.picture.0, c.in_ok-text.ensures.picture.1) c.as_bytes.ensures.value
     c.in_err-write_all.ensures.front c.in_err-write_all.ensures.fault c.in_err-write_all.ensures.failed)
 

@@ -1,7 +1,7 @@
+use Rattle.std.specs.Prelude.{codes}
 use Rattle.std.proofs.Common.{◌≡◌, ℕ, List, ◌++◌, Err, IfSome, ap, rules, string_bytes, subst, sym}
 use Rattle.mencius_input.specs.declared.kind.Kind.TheVariants.{Replay}
 use Rattle.mencius_app.specs.Findings.{AreWordsOfInput, ExplainsAs}
-use Rattle.mencius_trace.specs.Words.{line_feed}
 use Rattle.mencius_app.proofs.inputs.FindingWords.{free_as, of_bytes, of_unread}
 use Rattle.mencius_app.proofs.reading.read_input.Goals as goal
 
@@ -23,5 +23,5 @@ returns-clause-words g c =
     (sym c.misread_as.ensures.fault)
     (of_bytes (ExplainsAs Replay) _ c.in-Ok.bytes.items fault found.words (search rules)
     (subst (λ (bytes : List ℕ). IfSome found.words (λ line. (said : List ℕ) × ExplainsAs Replay fault bytes said
-    × (string_bytes line ≡ said ++ line_feed))) c.as_slice-in-Err-read_scenario.ensures.value
+    × (string_bytes line ≡ said ++ codes "\n"))) c.as_slice-in-Err-read_scenario.ensures.value
     c.misread_as.ensures.words))

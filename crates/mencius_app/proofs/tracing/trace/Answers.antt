@@ -9,7 +9,7 @@ returns-in_err-write_all-clause-fault g c =
     let text = made trace_text _ c.in_ok-scenario.scenario (string_bytes c.in_ok-text.text)
     c.in_ok-scenario.ensures.said c.in_ok-text.ensures.text in
     at_finding _ _ _ c.from_residual-in_err-write_all.ensures.1
-    (unwritable _ _ _ _ _ _ _ _ {T = Unit {0}} (Err c.in_err-write_all.field-0.0) _ _ text c.as_bytes.ensures.value
+    (unwritable _ _ _ {T = Unit {0}} (Err c.in_err-write_all.field-0.0) _ _ text c.as_bytes.ensures.value
     c.in_err-write_all.ensures.front c.in_err-write_all.ensures.fault c.in_err-write_all.ensures.failed)
 
 pub returns-clause-done : goal.returns-clause-done

@@ -1,6 +1,7 @@
-use Rattle.std.proofs.Common.{◌≡◌, ◌++◌, ℕ, List, arith, rules, sym, ap, ◌∙◌, length, take, get_or}
+use Rattle.std.proofs.Common.{◌≡◌, ◌++◌, ℕ, List, arith, rules, sym, ap, subst, ◌∙◌, length, take, get_or}
+use Rattle.std.proofs.lemmas.List.{get_or_default}
+use Rattle.std.specs.Prelude.{option_to_list, Contains}
 use Rattle.mencius_base.specs.declared.command.Command.{Command}
-use Rattle.mencius_model.specs.Trace.{option_to_list}
 use Rattle.mencius_model.specs.Server.{done}
 use Rattle.mencius_model.specs.Executed.{history}
 use Rattle.mencius_model.specs.Replying.{command_at, commands_of}
@@ -8,6 +9,20 @@ use Rattle.mencius_cluster.specs.State.{trace_of}
 use Rattle.mencius_board.specs.Boards.{longest_of}
 use Rattle.mencius_board.proofs.LongestCopy.{commands_next, longest_few, take_whole}
 use Rattle.mencius_board.proofs.longest.copy_longest.Goals as goal
+
+pub push_command-requires : goal.push_command-requires
+push_command-requires c =
+    let x = c.args.cluster.now in
+    let w = trace_of x in
+    let i : ℕ = c.loop-ticket.ticket-index in
+    let xs : List ℕ = c.unwrap-tickets.result.now in
+    let tickets : xs ≡ history w c.longest-server.result = search rules in
+    let there : Contains xs (get_or xs i 0) =
+    (i, c.loop-ticket-test.true, get_or_default xs i (get_or xs i 0) 0 c.loop-ticket-test.true) in
+    c.once.ensures.submitted x.members x.journal w
+    (record { some_server = omega (arith, c.longest-server.ensures.member); replays = c.replays.ensures })
+    c.longest-server.result (get_or xs i 0)
+    (subst (λ (ys : List ℕ). Contains ys (get_or xs i 0)) tickets there)
 
 pub loop-ticket-preserved : goal.loop-ticket-preserved
 loop-ticket-preserved c =

@@ -1,5 +1,6 @@
 use Rattle.std.proofs.Common.{◌≡◌, ◌++◌, ap, ◌∙◌, arith, string_bytes}
 use Rattle.std.specs.List.{flat_map, range_with_len}
+use Rattle.mencius_base.specs.Members.{numbers_below}
 use Rattle.mencius_cluster.specs.State.{trace_of}
 use Rattle.mencius_trace.specs.Closing.{unheard_line}
 use Rattle.mencius_trace.proofs.TextLoops.{texts_further}
@@ -12,6 +13,7 @@ loop-server-preserved c =
     (c.in_ok-push_for.ensures w (c.requires c.args.number c.loop-server.server))
 
 pub returns : goal.returns
+unfolding numbers_below
 returns c =
     let w = trace_of c.args.cluster.now in
     let line = unheard_line w c.args.number c.args.message.now in
