@@ -1,5 +1,5 @@
 -- Workers that take turns on one board, and what a board comes to by all turns of a plan.
-use Rattle.std.specs.Prelude.{ℕ, Bool, true, false, ◌≡◌, ◌≢◌, ◌⊎◌, ◌<◌, ◌+◌, ◌==◌, List, [], ◌∷◌, map, set, get_or, slice_get, Some, Result, Ok, Err, IfErr, if◌then◌else◌, length}
+use Rattle.std.specs.Prelude.{ℕ, Bool, true, false, ◌≡◌, ◌⊎◌, ◌<◌, ◌+◌, ◌==◌, List, [], ◌∷◌, map, set, get_or, slice_get, Option, Some, None, Result, Ok, Err, IfErr, if◌then◌else◌, length}
 use Rattle.mencius_base.specs.Members.{numbers_below, new_members}
 use Rattle.mencius_choices.specs.Choices.{ChooserState, first_chooser}
 use Rattle.mencius_base.specs.Plan.{PlanState, plan_of}
@@ -65,20 +65,15 @@ pub record HasRun (plan : PlanState) (old new : BoardState) : Type 0 where
   pub choosers : List ChooserState
   pub comes : ComesTo (first_run plan old) order (record { board = new; choosers = choosers })
 
--- the fault of a worker that came so far is its own, or that its thread took another number of turns than this
-abbrev pub IsFaultAt : ℕ → Way → BoardFault → Type 0
-IsFaultAt turns (Ok taken) f = (f ≡ NoWorker) × (taken ≢ turns)
-IsFaultAt turns (Err own) f = f ≡ own
-
--- in some order workers of the plan took turns on this board, and the least one that did not take all of its turns has
--- this fault
+-- in some order workers of the plan took turns on this board, and the least one that did not take all of its turns ended
+-- at this fault
 pub record HasFailed (plan : PlanState) (old new : BoardState) (f : BoardFault) : Type 0 where
   pub order : List TurnOf
   pub choosers : List ChooserState
   pub comes : ComesTo (first_run plan old) order (record { board = new; choosers = choosers })
   pub worker : ℕ
   pub there : worker < plan.workers
-  pub fault : IsFaultAt plan.turns (way_of worker order) f
+  pub fault : way_of worker order ≡ Err f
   pub least : (other : ℕ) → other < worker → way_of other order ≡ Ok plan.turns
 
 -- memory ran out before any turn, or workers have failed
@@ -96,11 +91,11 @@ GoesOn worker before after false =
     ⊎ ((old : ChooserState) × (new : ChooserState) × (taken : ℕ) × (f : BoardFault)
     × TakesTurn old new before after (is_to_show worker taken) (Err f))
 
--- the fault of the first of these workers that did not come so far, if there is one
-abbrev pub first_fault : ℕ → List Way → Result (Unit {0}) BoardFault
-first_fault turns [] = Ok tt
-first_fault turns (Err f ∷ ways) = Err f
-first_fault turns (Ok taken ∷ ways) = if taken == turns then first_fault turns ways else Err NoWorker
+-- how these workers ended: each took so many turns, or the first that did not has this fault; None if it has no fault
+abbrev pub first_end : ℕ → List Way → Option (Result (Unit {0}) BoardFault)
+first_end turns [] = Some (Ok tt)
+first_end turns (Err f ∷ ways) = Some (Err f)
+first_end turns (Ok taken ∷ ways) = if taken == turns then first_end turns ways else None
 
 -- what lies under the lock of a run: the board that turns of the plan brought here, and how far each worker came by them
 pub record IsRun (plan : PlanState) (first board : BoardState) (choosers : List ChooserState) (ways : List Way)

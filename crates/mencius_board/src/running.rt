@@ -3,7 +3,7 @@ ghost use Rattle.std.specs.Prelude.{◌≡◌, ◌<◌, map, replicate, IfErr, I
 ghost use Rattle.mencius_base.specs.Members.{numbers_below};
 ghost use Rattle.mencius_board.specs.Boards.{BoardState};
 ghost use Rattle.mencius_board.specs.Faults.{IsRunFault};
-ghost use Rattle.mencius_board.specs.Runs.{GoesOn, HasFailed, HasRun, HasStopped, first_fault};
+ghost use Rattle.mencius_board.specs.Runs.{GoesOn, HasFailed, HasRun, HasStopped, first_end};
 ghost use Rattle.mencius_choices.specs.Choices.{first_chooser};
 ghost use Rattle.mencius_base.specs.Plan.{PlanState};
 
@@ -116,36 +116,77 @@ impl<'p, J: Job> Run<'p, J> {
         }
     }
 
-    // The board, and whether each worker took all of its turns or which fault the first has that did
-    // not.
-    fn into_board(self) -> (Board, Result<(), BoardFault>)
-        ensures ran { OnOk result.1 (HasRun J.plan J.first result.0) }
-        ensures failed { IfErr result.1 (HasFailed J.plan J.first result.0) }
-        ensures fault { IfErr result.1 (IsRunFault J.plan.turns) }
+    // The board, and how the run ended: each worker took all of its turns, or the first that did not
+    // has this fault. If that worker has turns left, the run as it is.
+    fn into_board(self) -> Result<(Board, Result<(), BoardFault>), Run<'p, J>>
+        ensures ran { IfOk result (λ x. OnOk x.1 (HasRun J.plan J.first x.0)) }
+        ensures failed { IfOk result (λ x. IfErr x.1 (HasFailed J.plan J.first x.0)) }
+        ensures fault { IfOk result (λ x. IfErr x.1 (IsRunFault J.plan.turns)) }
     {
         let Run {
             board,
-            choosers: _choosers,
+            choosers,
             ways,
             turns,
-            job: _,
+            job,
         } = self;
-        (board, first_fault(ways.as_slice(), turns))
+        match first_end(ways.as_slice(), turns) {
+            Some(end) => Ok((board, end)),
+            None => Err(Run {
+                board,
+                choosers,
+                ways,
+                turns,
+                job,
+            }),
+        }
     }
 }
 
-// The fault of the first worker that did not take so many turns, if there is one.
-fn first_fault(ways: &[Way], turns: u32) -> Result<(), BoardFault>
-    ensures { result ≡ first_fault turns ways.now }
+// How these workers ended: each took so many turns, or the first that did not has this fault. None if
+// that worker has turns left.
+fn first_end(ways: &[Way], turns: u32) -> Option<Result<(), BoardFault>>
+    ensures { result ≡ first_end turns ways.now }
 {
     for way in ways {
-        let taken = (*way)?;
-        if taken != turns {
-            // A worker takes all of its turns, or has a fault. But no clause of a thread says so.
-            return Err(BoardFault::NoWorker);
+        match *way {
+            Ok(taken) => {
+                if taken != turns {
+                    return None;
+                }
+            }
+            Err(fault) => return Some(Err(fault)),
         }
     }
-    Ok(())
+    Some(Ok(()))
+}
+
+// Ends a run whose threads have ended.
+//
+// No clause says that a thread takes all turns of its worker. If one ended early, this takes the turns
+// that are left.
+fn finish<'p, J: Job, R: Wait>(
+    rt: &R,
+    alloc: Global,
+    run: Run<'p, J>,
+    workers: u8,
+) -> (Board, Result<(), BoardFault>)
+    requires { workers ≡ J.plan.workers }
+    ensures ran { OnOk result.1 (HasRun J.plan J.first result.0) }
+    ensures failed { IfErr result.1 (HasFailed J.plan J.first result.0) }
+    ensures fault { IfErr result.1 (IsRunFault J.plan.turns) }
+{
+    let mut left = run;
+    for _ in rt.forever() {
+        match left.into_board() {
+            Ok(end) => return end,
+            Err(unfinished) => left = unfinished,
+        }
+        for worker in 0..workers {
+            left.advance(rt, alloc, worker);
+        }
+    }
+    unreachable!()
 }
 
 // All turns of one worker, up to its first fault.
@@ -241,7 +282,7 @@ fn run_job<'p, J: Job + Send, R: Threads + Wait + Sync, G: Gate + Sync>(
     };
     let run = Mutex::new(Run::<J>::new(board, choosers, ways, plan.turns()));
     run_threads(rt, alloc, &run, plan, gate);
-    run.into_inner().into_board()
+    finish(rt, alloc, run.into_inner(), plan.workers())
 }
 
 /// Lets each worker of the plan take all of its turns on a board, each in a thread of its own, and
@@ -255,7 +296,8 @@ fn run_job<'p, J: Job + Send, R: Threads + Wait + Sync, G: Gate + Sync>(
 /// A worker ends at its first fault, and all others go on. `NoMemory` comes first, where there is no
 /// memory to start with, and then the fault of the worker of least number that has one: `NoMemory`,
 /// `NoWorker` where its thread could not be started, or, of worker 0 and from its 64th turn on,
-/// `ShowRefused`.
+/// `ShowRefused`. If a thread left turns of its worker, they are taken after all threads have ended,
+/// without the gate.
 pub fn run_plan<R: Threads + Wait + Sync, G: Gate + Sync>(
     rt: &R,
     alloc: Global,

@@ -1,7 +1,7 @@
 -- A run before its first turn, after one turn more, and at its end.
 use Rattle.std.specs.Prelude.{slice_get, IfErr, OnOk, if◌then◌else◌}
 use Rattle.std.specs.Result.{is_ok}
-use Rattle.std.proofs.Common.{◌≡◌, ◌≢◌, ℕ, zero, suc, ◌+◌, ◌<◌, ◌≤◌, ◌==◌, Bool, true, false, List, [], ◌∷◌, ◌++◌, Some, Result, Ok, Err, length, map, replicate, set, get_or, refl, sym, ◌∙◌, ap, subst, arith, zero-add, ⊎_elim, inl, inr}
+use Rattle.std.proofs.Common.{◌≡◌, ◌≢◌, ℕ, zero, suc, ◌+◌, ◌<◌, ◌≤◌, ◌==◌, Bool, true, false, List, [], ◌∷◌, ◌++◌, Some, None, Result, Ok, Err, length, map, replicate, set, get_or, refl, sym, ◌∙◌, ap, subst, arith, zero-add, ⊎_elim, inl, inr}
 use Rattle.std.proofs.lemmas.Bool.{cases_eq, cases_lt}
 use Rattle.std.proofs.lemmas.Bool.Decides.{nat_tests}
 use Rattle.std.proofs.lemmas.List.{get_or-replicate, get_or-set_other, get_or_default, get_or_past, length-map, length-replicate, length-set}
@@ -16,7 +16,7 @@ use Rattle.mencius_board.specs.declared.fault.BoardFault.{BoardFault}
 use Rattle.mencius_board.specs.declared.fault.BoardFault.TheVariants.{NoWorker}
 use Rattle.mencius_board.specs.Boards.{BoardState}
 use Rattle.mencius_board.specs.Faults.{IsRunFault, IsTurnFault}
-use Rattle.mencius_board.specs.Runs.{Befalls, HasFailed, HasRun, IsFaultAt, IsRun, TurnOf, Way, first_fault, way_after, way_of}
+use Rattle.mencius_board.specs.Runs.{Befalls, HasFailed, HasRun, IsRun, TurnOf, Way, first_end, way_after, way_of}
 use Rattle.mencius_board.specs.Turns.{TakesTurn, is_to_show}
 
 abbrev none_taken : Way
@@ -170,24 +170,24 @@ turn_is_run seat n turns shows f is below (inr refused) =
 
 -- ---- how each worker ended
 
-took : (turns taken : ℕ) (ways : List Way) (b : Bool) (x : Unit {0}) → (taken == turns) ≡ b
-    → (if b then first_fault turns ways else Err NoWorker) ≡ Ok x
-    → (taken ≡ turns) × (first_fault turns ways ≡ Ok x)
-took turns taken ways true x same e = (grind (arith, nat_tests, same), e)
-took turns taken ways false x same e = absurd (cc)
+took : (turns taken : ℕ) (ways : List Way) (b : Bool) (end : Result (Unit {0}) BoardFault) → (taken == turns) ≡ b
+    → (if b then first_end turns ways else None) ≡ Some end
+    → (taken ≡ turns) × (first_end turns ways ≡ Some end)
+took turns taken ways true end same e = (grind (arith, nat_tests, same), e)
+took turns taken ways false end same e = absurd (cc)
 
-all_took : (turns : ℕ) (ways : List Way) (worker : ℕ) (x : Unit {0}) → first_fault turns ways ≡ Ok x
+all_took : (turns : ℕ) (ways : List Way) (worker : ℕ) (x : Unit {0}) → first_end turns ways ≡ Some (Ok x)
     → worker < length ways → get_or ways worker (Ok 0) ≡ Ok turns
 all_took turns [] worker x e within = absurd (omega (arith, within))
 all_took turns (Err f ∷ ways) worker x e within = absurd (cc)
-all_took turns (Ok taken ∷ ways) zero x e within = ap Ok (took turns taken ways (taken == turns) x refl e).0
+all_took turns (Ok taken ∷ ways) zero x e within = ap Ok (took turns taken ways (taken == turns) (Ok x) refl e).0
 all_took turns (Ok taken ∷ ways) (suc worker) x e within =
-    all_took turns ways worker x (took turns taken ways (taken == turns) x refl e).1 (omega (arith, within))
+    all_took turns ways worker x (took turns taken ways (taken == turns) (Ok x) refl e).1 (omega (arith, within))
 
 -- the first of these workers that did not take all turns
 abbrev IsFirst : ℕ → List Way → BoardFault → ℕ → Type 0
 IsFirst turns ways f worker =
-    (worker < length ways) × IsFaultAt turns (get_or ways worker (Ok 0)) f
+    (worker < length ways) × (get_or ways worker (Ok 0) ≡ Err f)
     × ((other : ℕ) → other < worker → get_or ways other (Ok 0) ≡ Ok turns)
 
 before_next : (turns taken worker : ℕ) (ways : List Way) → taken ≡ turns
@@ -196,38 +196,21 @@ before_next : (turns taken worker : ℕ) (ways : List Way) → taken ≡ turns
 before_next turns taken worker ways same least zero below = ap Ok same
 before_next turns taken worker ways same least (suc other) below = least other (omega (arith, below))
 
-next_failed : (turns taken : ℕ) (ways : List Way) (f : BoardFault) (b : Bool) → (taken == turns) ≡ b
-    → (first_fault turns ways ≡ Err f → (worker : ℕ) × IsFirst turns ways f worker)
-    → (if b then first_fault turns ways else Err NoWorker) ≡ Err f
-    → (worker : ℕ) × IsFirst turns (Ok taken ∷ ways) f worker
-next_failed turns taken ways f true same behind e =
-    let next = behind e in (
-      suc next.0,
-      (
-        omega (arith, next.1.0),
-        next.1.1,
-        before_next turns taken next.0 ways (grind (arith, nat_tests, same)) next.1.2,
-      ),
-    )
-next_failed turns taken ways f false same behind e =
-    (0, (omega arith, (cc, grind (arith, nat_tests, same)), λ other below. absurd (omega (arith, below))))
-
-first_failed : (turns : ℕ) (ways : List Way) (f : BoardFault) → first_fault turns ways ≡ Err f
+first_failed : (turns : ℕ) (ways : List Way) (f : BoardFault) → first_end turns ways ≡ Some (Err f)
     → (worker : ℕ) × IsFirst turns ways f worker
 first_failed turns [] f e = absurd (cc)
 first_failed turns (Err g ∷ ways) f e = (0, (omega arith, cc, λ other below. absurd (omega (arith, below))))
 first_failed turns (Ok taken ∷ ways) f e =
-    next_failed turns taken ways f (taken == turns) refl (first_failed turns ways f) e
-
-fault_at : (turns : ℕ) (way : Way) (f : BoardFault) → IsFaultAt turns way f → IfErr way (IsRunFault turns)
-    → IsRunFault turns f
-fault_at turns (Ok taken) f is of = inr (inl is.0)
-fault_at turns (Err g) f is of = subst (IsRunFault turns) (sym is) of
+    let rest = took turns taken ways (taken == turns) (Err f) refl e in
+    let next = first_failed turns ways f rest.1 in (
+      suc next.0,
+      (omega (arith, next.1.0), next.1.1, before_next turns taken next.0 ways rest.0 next.1.2),
+    )
 
 -- all turns of all workers were taken, or the least worker that took fewer has a fault
 pub ended : (plan : PlanState) (first board : BoardState) (choosers : List ChooserState) (ways : List Way) (turns : ℕ)
     (answer : Result (Unit {0}) BoardFault) → IsRun plan first board choosers ways turns
-    → answer ≡ first_fault turns ways
+    → first_end turns ways ≡ Some answer
     → OnOk answer (HasRun plan first board) × IfErr answer (HasFailed plan first board)
     × IfErr answer (IsRunFault plan.turns)
 ended plan first board choosers ways turns (Ok x) run is = (
@@ -235,7 +218,7 @@ ended plan first board choosers ways turns (Ok x) run is = (
     order = run.order;
     each = λ worker below.
         sym (run.counted worker)
-        ∙ (all_took turns ways worker x (sym is) (omega (arith, run.counts, below)) ∙ ap Ok run.limit);
+        ∙ (all_took turns ways worker x is (omega (arith, run.counts, below)) ∙ ap Ok run.limit);
     choosers = choosers;
     comes = run.comes;
   },
@@ -243,8 +226,10 @@ ended plan first board choosers ways turns (Ok x) run is = (
   tt,
 )
 ended plan first board choosers ways turns (Err f) run is =
-    let found = first_failed turns ways f (sym is) in
-    let worker : ℕ = found.0 in (
+    let found = first_failed turns ways f is in
+    let worker : ℕ = found.0 in
+    let of : IsRunFault turns f =
+    subst (λ (way : Way). IfErr way (IsRunFault turns)) found.1.1 (run.faults worker) in (
       tt,
       record {
         order = run.order;
@@ -252,10 +237,8 @@ ended plan first board choosers ways turns (Err f) run is =
         comes = run.comes;
         worker = worker;
         there = omega (arith, run.counts, found.1.0);
-        fault = subst (λ n. IsFaultAt n (way_of worker run.order) f) run.limit
-            (subst (λ way. IsFaultAt turns way f) (run.counted worker) found.1.1);
+        fault = sym (run.counted worker) ∙ found.1.1;
         least = λ other below. sym (run.counted other) ∙ (found.1.2 other below ∙ ap Ok run.limit);
       },
-      subst (λ n. IsRunFault n f) run.limit
-          (fault_at turns (get_or ways worker (Ok 0)) f found.1.1 (run.faults worker)),
+      subst (λ n. IsRunFault n f) run.limit of,
     )

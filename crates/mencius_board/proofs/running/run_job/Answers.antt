@@ -13,4 +13,4 @@ stopped plan old new (Err f) failed = inr failed
 
 pub returns-clause-stopped : goal.returns-clause-stopped
 returns-clause-stopped g c =
-    stopped g.J.Job.plan g.J.Job.first c.into_board.result.0 c.into_board.result.1 c.into_board.ensures.failed
+    stopped g.J.Job.plan g.J.Job.first c.finish.result.0 c.finish.result.1 c.finish.ensures.failed
