@@ -1,7 +1,7 @@
 """What several checks need: the programs that they are given, how these are started, and how a check fails.
 
-A check is a script of this folder that hands its work to `run`. Its name, its usage and its help come from the text at
-its top, whose line `    checks/NAME ..` says which words it takes.
+A check is a script of checks/ that passes its work to `run`. Its name, its usage and its help come from the text at its
+top, whose line `    checks/NAME ..` says which words it takes.
 """
 import itertools
 import os
@@ -10,7 +10,8 @@ import subprocess
 import sys
 from typing import NamedTuple
 
-TOP = os.path.dirname(os.path.dirname(os.path.realpath(__file__)))
+LIB = os.path.dirname(os.path.realpath(__file__))
+TOP = os.path.dirname(os.path.dirname(LIB))
 NAME = "checks/" + os.path.basename(sys.argv[0])
 
 # The built programs, as they lie below the top of the repository.
@@ -89,9 +90,9 @@ def is_program(path):
 # ---- compiling C
 
 def compiled(source, path, *options):
-    """Compiles a file of this folder in C, and answers the path of what it becomes."""
+    """Compiles a C file of this folder, and returns the path of the result."""
     compiler = shlex.split(os.environ.get("CC", "cc"))
-    source = os.path.join(TOP, "checks", source)
+    source = os.path.join(LIB, source)
     try:
         subprocess.run([*compiler, "-O2", "-o", path, source, *options], check=True)
     except (OSError, subprocess.CalledProcessError) as error:
