@@ -1,4 +1,4 @@
-/* cc caller.c libmencius_library.a liblibc_c.a -o caller -lpthread
+/* cc caller.c libmencius_exports.a liblibc_c.a -o caller -lpthread
  *
  *     ./caller replay --strict < SCENARIO           does what the program does
  *     ./caller --threads replay < SCENARIO          the same from four threads of 128 kB of stack, 100 times each */

@@ -1,12 +1,12 @@
-/* The program `mencius` as a call: a function which does what the program does, over bytes in memory, but draws no
- * picture, and another one which tells what each server of a cluster knows after a schedule.
+/* The program `mencius` as a call. One function does what the program does, over bytes in memory. Another one tells what
+ * each server of a cluster knows after a schedule.
  *
  * The proved code reads and writes what it is given here and nothing else: no file, no clock, no variable of the
  * environment. It takes memory by malloc, realloc and free, gives all of it back before it returns, and keeps nothing
  * from one call to the next. So calls from several threads at once are fine, as long as no two of them share a room or
  * an answer. It must not be called from a signal handler, and needs 128 kB of stack.
  *
- * Link with libmencius_library.a and liblibc_c.a, and with nothing else but the C library. docs/EMBEDDING.md tells how. */
+ * Link with libmencius_exports.a and liblibc_c.a, and with nothing else but the C library. docs/EMBEDDING.md tells how. */
 #ifndef MENCIUS_H
 #define MENCIUS_H
 
@@ -25,7 +25,7 @@ struct mencius_answer {
 };
 
 /* `words` are the arguments behind the program's name, each with a zero byte behind it: "replay\0--strict\0" is 16
- * bytes. The task `draw` ends with status 2 and a line that says why. `input` is standard input. A length is how many bytes stand behind its pointer, and a room how many may be
+ * bytes. `input` is standard input. A length is how many bytes stand behind its pointer, and a room how many may be
  * written there; neither is more than PTRDIFF_MAX. No pointer may be null, not even for no bytes. What is written to, both
  * rooms and the answer, may overlap nothing else that is handed in. What is read, the words and the input, may be anything
  * and of any length, and must not change before the call returns.

@@ -1,6 +1,6 @@
 """The program from Python: mencius.call(["replay", "--strict"], b'{"version":1,..}') gives (status, printed, said).
 
-    cc -shared -o libmencius.so -Wl,--whole-archive libmencius_library.a -Wl,--no-whole-archive liblibc_c.a
+    cc -shared -o libmencius.so -Wl,--whole-archive libmencius_exports.a -Wl,--no-whole-archive liblibc_c.a
 
 As a program it does what mencius does: MENCIUS_LIBRARY=libmencius.so python3 mencius.py replay < SCENARIO.
 """

@@ -2,7 +2,7 @@
 //! and output, and ends with a status that says how it went.
 #![tactic(auto)]
 
-use mencius_app::{Ending, IoFault, Std, arguments_of, end, perform};
+use mencius_app::{Ending, Failure, Std, arguments_of, end, perform};
 use std::alloc::Global;
 use std::process::ExitCode;
 
@@ -20,7 +20,7 @@ fn main(rt: HostRuntime) -> ExitCode {
             let arguments = arguments.as_slice();
             perform(&rt, alloc, arguments, &mut source, &mut sink, &mut errors)
         }
-        Err(refused) => Ending::Failed(IoFault::from(refused)),
+        Err(refused) => Ending::Failed(Failure::from(refused)),
     };
     ExitCode::from(end(ending, &mut errors))
 }

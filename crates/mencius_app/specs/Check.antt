@@ -1,14 +1,15 @@
 -- What a check takes, and the line that it prints.
-use Rattle.std.specs.Prelude.{ℕ, ◌≡◌, List, ◌∷◌, ◌++◌, codes, decimal, length, Option, Result, Ok, Err}
+use Rattle.std.specs.Prelude.{ℕ, ◌≡◌, true, List, ◌∷◌, ◌++◌, codes, decimal, length, Option, Result, Ok, Err}
 use Rattle.std.specs.List.{flat_map}
 use Rattle.mencius_base.specs.CommandState.{CommandState}
-use Rattle.mencius_ends.specs.declared.fault.IoFault.{IoFault}
+use Rattle.mencius_io.specs.declared.fault.IoFault.{IoFault}
 use Rattle.mencius_input.specs.declared.kind.Kind.{Kind}
 use Rattle.mencius_input.specs.declared.kind.Kind.TheVariants as kind
 use Rattle.mencius_input.specs.Kinds.{kind_in}
 use Rattle.mencius_input.specs.Plan.{plan}
 use Rattle.mencius_input.specs.Scenario.{scenario}
 use Rattle.mencius_app.specs.Input.{HasFault, Says, unless_long}
+use Rattle.mencius_app.specs.Tasks.{Task}
 use Rattle.mencius_input.specs.declared.scenario.Scenario.{Scenario}
 use Rattle.mencius_base.specs.declared.event.Event.{Event}
 use Rattle.mencius_base.specs.Plan.{PlanState}
@@ -56,11 +57,14 @@ ok_line (run_scenario written) = run_line written
 
 -- ---- the whole
 
--- the line of a scenario that is all that a reader has, so far as that is known
+-- the line of the scenario that is all that a reader has, if that is known
 pub record IsCheckOf (known : Option (List ℕ)) (text : List ℕ) : Type 0 where
   pub written : EitherScenario
   pub says : Says (unless_long either_scenario) known written
   pub is : text ≡ ok_line written
 
-abbrev pub IsCheckFaultOf : Option (List ℕ) → IoFault → Type 0
-IsCheckFaultOf known fault = HasFault (unless_long either_scenario) known fault
+abbrev pub check_task : Task
+check_task = record {
+  IsText = λ known text is_clean. IsCheckOf known text × (is_clean ≡ true);
+  IsBadInput = HasFault (unless_long either_scenario);
+}

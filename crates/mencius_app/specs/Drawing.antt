@@ -1,14 +1,15 @@
 -- The picture of a scenario, which input it is of, and when it is refused.
-use Rattle.std.specs.Prelude.{◌≡◌, ◌⊎◌, ◌<◌, ◌≤◌, ℕ, List, ◌++◌, Option, Some, None, codes, decimal, IfSome, string_bytes}
-use Rattle.mencius_ends.specs.declared.fault.IoFault.{IoFault}
-use Rattle.mencius_ends.specs.declared.fault.IoFault.TheVariants.{BadLimit, NoMemory}
+use Rattle.std.specs.Prelude.{◌≡◌, ◌⊎◌, ◌<◌, ◌≤◌, ℕ, true, List, ◌++◌, Option, Some, None, codes, decimal, IfSome, string_bytes}
+use Rattle.mencius_io.specs.declared.failure.Failure.{Failure}
+use Rattle.mencius_io.specs.declared.fault.IoFault.{IoFault}
+use Rattle.mencius_io.specs.declared.fault.IoFault.TheVariants.{BadLimit, NoMemory}
 use Rattle.mencius_draw.specs.declared.options.Options.{Options}
 use Rattle.mencius_draw.specs.Layout.{lines_of}
 use Rattle.mencius_draw.specs.Picture.{levels_of, picture_of}
 use Rattle.mencius_draw.specs.Places.{most_levels}
 use Rattle.mencius_input.specs.declared.kind.Kind.TheVariants.{Replay}
-use Rattle.mencius_app.specs.declared.finding.Finding.{Finding}
-use Rattle.mencius_app.specs.Findings.{ExplainsAs}
+use Rattle.mencius_app.specs.Failures.{ExplainsAs}
+use Rattle.mencius_app.specs.Tasks.{Task}
 use Rattle.mencius_input.specs.Scenario.{scenario}
 use Rattle.mencius_app.specs.Input.{HasFault, unless_long}
 use Rattle.mencius_app.specs.Trace.{IsTraceOf}
@@ -28,9 +29,12 @@ IsTooLarge options known levels =
     (trace : List ℕ) × IsTraceOf known trace × (levels ≡ levels_in options trace) × (most_levels < levels)
 
 -- an input that no trace is of, or whose picture is too large
-abbrev pub IsDrawingFaultOf : Options → Option (List ℕ) → IoFault → Type 0
-IsDrawingFaultOf options known fault =
-    HasFault (unless_long scenario) known fault ⊎ ((fault ≡ BadLimit) × (levels : ℕ) × IsTooLarge options known levels)
+abbrev pub draw_task : Options → Task
+draw_task options = record {
+  IsText = λ known text is_clean. IsPictureOf options known text × (is_clean ≡ true);
+  IsBadInput = λ known fault. HasFault (unless_long scenario) known fault
+      ⊎ ((fault ≡ BadLimit) × (levels : ℕ) × IsTooLarge options known levels);
+}
 
 abbrev pub too_large_words : ℕ → List ℕ
 too_large_words levels =
@@ -45,8 +49,8 @@ ExplainsPicture options fault bytes words =
     ⊎ ((fault ≡ BadLimit) × (levels : ℕ) × IsTooLarge options (Some bytes) levels × (words ≡ too_large_words levels))
 
 -- memory ran out, or a trace takes too many levels
-abbrev pub IsRefusedAs : Options → List ℕ → Finding → Type 0
-IsRefusedAs options trace found =
-    ((found.fault ≡ NoMemory) × (found.words ≡ None))
-    ⊎ ((found.fault ≡ BadLimit) × (most_levels < levels_in options trace)
-    × IfSome found.words (λ line. string_bytes line ≡ too_large_words (levels_in options trace) ++ codes "\n"))
+abbrev pub IsRefusedAs : Options → List ℕ → Failure → Type 0
+IsRefusedAs options trace failure =
+    ((failure.fault ≡ NoMemory) × (failure.words ≡ None))
+    ⊎ ((failure.fault ≡ BadLimit) × (most_levels < levels_in options trace)
+    × IfSome failure.words (λ words. string_bytes words ≡ too_large_words (levels_in options trace)))

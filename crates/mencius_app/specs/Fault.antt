@@ -2,11 +2,10 @@
 use Rattle.std.specs.Prelude.{ℕ, List, codes}
 use Rattle.mencius_app.specs.declared.fault.AppFault.{AppFault}
 use Rattle.mencius_app.specs.declared.fault.AppFault.TheVariants.{NotJson, BadShape, BadLimit, ReadFailed, WriteFailed, NoMemory, BoardFailed}
-use Rattle.mencius_app.specs.declared.finding.Finding.{Finding}
-use Rattle.mencius_app.specs.declared.run_finding.RunFinding.{RunFinding}
-use Rattle.mencius_app.specs.declared.run_finding.RunFinding.TheVariants as at
-use Rattle.mencius_ends.specs.declared.fault.IoFault.{IoFault}
-use Rattle.mencius_ends.specs.declared.fault.IoFault.TheVariants as io
+use Rattle.mencius_app.specs.declared.run_failure.RunFailure.{RunFailure}
+use Rattle.mencius_app.specs.declared.run_failure.RunFailure.TheVariants as at
+use Rattle.mencius_io.specs.declared.fault.IoFault.{IoFault}
+use Rattle.mencius_io.specs.declared.fault.IoFault.TheVariants as io
 
 abbrev pub fault_number : AppFault → ℕ
 fault_number NotJson = 21
@@ -36,6 +35,6 @@ app_fault io.WriteFailed = WriteFailed
 app_fault io.NoMemory = NoMemory
 
 -- the fault at which a run ended
-abbrev pub fault_of_run : RunFinding → AppFault
-fault_of_run (at.Found found) = app_fault found.fault
+abbrev pub fault_of_run : RunFailure → AppFault
+fault_of_run (at.Failed failure) = app_fault failure.fault
 fault_of_run at.BoardFailed = BoardFailed

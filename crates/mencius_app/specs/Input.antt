@@ -1,8 +1,8 @@
 -- What an input says, or the fault of a bad one.
 use Rattle.std.specs.Prelude.{◌≡◌, ℕ, nat_lt, if◌then◌else◌, IfSome, Result, Ok, Err, List, length, Option}
-use Rattle.mencius_ends.specs.declared.fault.IoFault.{IoFault}
-use Rattle.mencius_ends.specs.declared.fault.IoFault.TheVariants.{BadLimit}
-use Rattle.mencius_ends.specs.Ends.{most_bytes}
+use Rattle.mencius_io.specs.declared.fault.IoFault.{IoFault}
+use Rattle.mencius_io.specs.declared.fault.IoFault.TheVariants.{BadLimit}
+use Rattle.mencius_io.specs.Streams.{most_bytes}
 
 -- what reading these bytes gives, or `BadLimit` if there are too many of them
 abbrev pub unless_long : {X : Type 0} → (List ℕ → Result X IoFault) → List ℕ → Result X IoFault

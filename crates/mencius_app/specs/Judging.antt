@@ -1,10 +1,11 @@
 -- The text of a judgement, and which log it is of.
 use Rattle.std.specs.Prelude.{◌≡◌, ℕ, Bool, true, false, List, Option, IfSome}
-use Rattle.mencius_ends.specs.declared.fault.IoFault.{IoFault}
-use Rattle.mencius_judge.specs.declared.reading.Verdict.{Verdict}
-use Rattle.mencius_judge.specs.declared.reading.Verdict.TheVariants.{Kept, Broken}
+use Rattle.mencius_io.specs.declared.fault.IoFault.{IoFault}
+use Rattle.mencius_judge.specs.declared.log_reader.Verdict.{Verdict}
+use Rattle.mencius_judge.specs.declared.log_reader.Verdict.TheVariants.{Kept, Broken}
 use Rattle.mencius_judge.specs.Reading.{AreBad, ExplainsLine, IsVerdictOf}
 use Rattle.mencius_judge.specs.VerdictLines.{broken_line, kept_line}
+use Rattle.mencius_app.specs.Tasks.{Task}
 
 -- the line that tells a verdict
 abbrev pub verdict_line : Verdict → List ℕ
@@ -22,16 +23,16 @@ pub record IsJudgementOf (known : Option (List ℕ)) (text : List ℕ) (kept : B
   pub is : text ≡ verdict_line verdict
   pub says : kept ≡ is_kept verdict
 
--- such a text, whatever it says
-abbrev pub IsJudgement : Option (List ℕ) → List ℕ → Type 0
-IsJudgement known text = (kept : Bool) × IsJudgementOf known text kept
-
 -- a line of a log has this fault, before which all promises are kept
 abbrev pub HasBadLine : List ℕ → IoFault → Type 0
 HasBadLine bytes fault = (number : ℕ) × AreBad bytes fault number
 
-abbrev pub IsLogFaultOf : Option (List ℕ) → IoFault → Type 0
-IsLogFaultOf known fault = IfSome known (λ bytes. HasBadLine bytes fault)
+-- a judgement writes such a text, which is clean if all promises are kept
+abbrev pub judge_task : Task
+judge_task = record {
+  IsText = IsJudgementOf;
+  IsBadInput = λ known fault. IfSome known (λ bytes. HasBadLine bytes fault);
+}
 
 -- the words tell of that line
 abbrev pub ExplainsByLine : IoFault → List ℕ → List ℕ → Type 0

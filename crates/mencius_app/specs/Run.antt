@@ -5,10 +5,11 @@ use Rattle.mencius_model.specs.Next.{replay}
 use Rattle.mencius_model.specs.Replying.{longest_commands}
 use Rattle.mencius_cluster.specs.State.{ClusterState, trace_of}
 use Rattle.mencius_input.specs.Plan.{plan}
-use Rattle.mencius_app.specs.Input.{Says, unless_long}
+use Rattle.mencius_app.specs.Input.{HasFault, Says, unless_long}
 use Rattle.mencius_app.specs.Journal.{ReadsBack, journal_text}
 use Rattle.mencius_app.specs.Plan.{IsOutcome}
 use Rattle.mencius_app.specs.Report.{report_text}
+use Rattle.mencius_app.specs.Tasks.{Task}
 use Rattle.mencius_judge.specs.Observed.{log_of}
 use Rattle.mencius_judge.specs.Written.{log_text}
 use Rattle.mencius_trace.specs.Words.{former_text}
@@ -66,3 +67,10 @@ pub record IsRunOf (known : Option (List ℕ)) (with_journal with_observations :
   pub replays : replay cluster.members cluster.journal ≡ Ok (trace_of cluster)
   pub run : text ≡ run_text with_journal with_observations key cluster
   pub reads_back : with_journal ≡ true → ReadsBack cluster
+
+-- a run with these options
+abbrev pub run_task : Bool → Bool → Option (List ℕ) → Task
+run_task with_journal with_observations key = record {
+  IsText = λ known text is_clean. IsRunOf known with_journal with_observations key text × (is_clean ≡ true);
+  IsBadInput = HasFault (unless_long plan);
+}

@@ -13,7 +13,9 @@ use Rattle.mencius_model.specs.Instance.{accepted_ballot, vote}
 use Rattle.mencius_model.specs.Outcomes.{outcomes_from, trace_from}
 use Rattle.mencius_trace.specs.Facts.{at_instance, value_text, vote_text}
 use Rattle.mencius_trace.specs.Effects.{glance}
-use Rattle.mencius_app.specs.Replay.{IsMadeOf, refused_line}
+use Rattle.mencius_app.specs.Replay.{refused_line}
+use Rattle.mencius_app.specs.Tasks.{Task}
+use Rattle.mencius_app.specs.Trace.{text_task}
 use Rattle.mencius_app.specs.Report.{server_line}
 
 -- for each instance the greatest ballot that p accepted there
@@ -69,6 +71,5 @@ abbrev pub state_text : Membership → List Event → List ℕ
 state_text m es =
     flat_map refused_line (enumerate_from 0 (outcomes_from m [] es)) ++ server_states m (trace_from m [] es)
 
--- a reader has a scenario, and this text is the one of the state after it
-abbrev pub IsStateOf : Option (List ℕ) → List ℕ → Type 0
-IsStateOf known text = IsMadeOf state_text known text
+abbrev pub state_task : Task
+state_task = text_task state_text

@@ -1,8 +1,23 @@
 -- The text of a trace, and which input it is of.
-use Rattle.std.specs.Prelude.{ℕ, List, Option}
+use Rattle.std.specs.Prelude.{◌≡◌, ℕ, true, List, Option}
+use Rattle.mencius_base.specs.Members.{Membership}
+use Rattle.mencius_base.specs.declared.event.Event.{Event}
+use Rattle.mencius_input.specs.Scenario.{scenario}
 use Rattle.mencius_trace.specs.Closing.{trace_text}
+use Rattle.mencius_app.specs.Input.{HasFault, unless_long}
 use Rattle.mencius_app.specs.Replay.{IsMadeOf}
+use Rattle.mencius_app.specs.Tasks.{Task}
 
--- a text of the trace of all that a reader has, so far as that is known
+-- a task that makes one text of the members and the events of a scenario
+abbrev pub text_task : (Membership → List Event → List ℕ) → Task
+text_task text_of = record {
+  IsText = λ known text is_clean. IsMadeOf text_of known text × (is_clean ≡ true);
+  IsBadInput = HasFault (unless_long scenario);
+}
+
+-- a text of the trace of all that a reader has, if that is known
 abbrev pub IsTraceOf : Option (List ℕ) → List ℕ → Type 0
 IsTraceOf known text = IsMadeOf trace_text known text
+
+abbrev pub trace_task : Task
+trace_task = text_task trace_text

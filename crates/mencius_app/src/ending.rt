@@ -1,12 +1,14 @@
-//! How a call of the program ends: its exit status, and its line on standard error.
+//! How a call of the program ends: its exit status, and its lines on standard error.
 
-ghost use Rattle.std.specs.Prelude.{◌≡◌, ◌⊎◌, ◌++◌, OnOk, OnErr};
+ghost use Rattle.std.specs.Prelude.{◌≡◌, ◌⊎◌, ◌++◌, OnOk, OnErr, codes, option_copied};
 ghost use Rattle.std.specs.Io.KnownBytes.{Appends};
-ghost use Rattle.mencius_ends.specs.Ends.{HasFailed, WritesFront};
-ghost use Rattle.mencius_app.specs.Ending.{fault_line, lines_of_ending, status_of, status_of_ending};
+ghost use Rattle.mencius_io.specs.Streams.{HasFailed, WritesFront};
+ghost use Rattle.mencius_app.specs.Calls.{WritesOrFails};
+ghost use Rattle.mencius_app.specs.Ending.{ending_of, ending_of_run, fault_line, lines_of_ending, status_of, status_of_ending, words_line};
 
 use crate::fault::AppFault;
-use mencius_input::{IoFault, Sink, write_all};
+use crate::run_failure::RunFailure;
+use mencius_io::{Failure, IoFault, Sink, write_all};
 
 /// How a call of the program went.
 #[derive(Debug, Drop, PartialEq, Eq)]
@@ -17,45 +19,60 @@ pub enum Ending {
     Refused,
     /// The command line is refused.
     BadCommandLine,
-    /// It ended at a fault.
-    Failed(IoFault),
-    /// A task ended at a fault, and there are words for it.
-    Explained {
-        /// The fault.
-        fault: IoFault,
-        /// Where the input is wrong, and how, with a line feed at the end of each line.
-        words: String,
-    },
-    /// A run ended as the board that its workers share failed.
+    /// A task failed.
+    Failed(Failure),
+    /// The board failed that the workers of a run share.
     BoardFailed,
 }
 
-/// Ends a call of the program: writes the line of a fault, `mencius: fault NUMBER NAME`, where the
-/// call ended at one, and behind it the words for it, if there are any; and answers the exit status:
-/// 0 where it was done, 1 where a strict replay had refused events or a judged log breaks a promise, 2
-/// for a bad command line, and else [`exit_status`] of the fault. If the lines can't be written, the status
-/// stays the same.
+/// Ends a call of the program. If the call failed, writes the line of its fault, `mencius: fault NUMBER NAME`, and then
+/// the words that explain it, if there are any. Returns the exit status: 0 if everything was done, 1 if a strict replay
+/// had refused events or a judged log breaks a promise, 2 for a bad command line, and otherwise [`exit_status`] of the
+/// fault. If the lines can't be written, the status stays the same.
 pub fn end<E: Sink>(ending: Ending, errors: &mut E) -> u8
     ensures status { result ≡ status_of_ending ending }
-    ensures lines { Appends (E.contents errors.old) (E.contents errors.new) (lines_of_ending ending)
-        ⊎ HasFailed (E.failed errors.old) (E.failed errors.new) }
-    ensures front { WritesFront (E.contents errors.old) (E.contents errors.new)
-        (lines_of_ending ending) }
+    ensures lines { WritesOrFails (E.state errors.old) (E.state errors.new) (lines_of_ending ending) }
 {
     match ending {
         Ending::Done => 0,
         Ending::Refused => 1,
         Ending::BadCommandLine => 2,
-        Ending::Failed(fault) => write_fault(errors, AppFault::from(fault), ""),
-        Ending::Explained { fault, words } => {
-            write_fault(errors, AppFault::from(fault), words.as_str())
+        Ending::Failed(Failure { fault, words }) => {
+            write_fault(errors, AppFault::from(fault), words.as_deref())
         }
-        Ending::BoardFailed => write_fault(errors, AppFault::BoardFailed, ""),
+        Ending::BoardFailed => write_fault(errors, AppFault::BoardFailed, None),
     }
 }
 
-/// The exit status of a task that ended at a fault: 3 for a bad scenario, 4 where reading or writing
-/// failed, and 5 where memory ran out or the board failed.
+/// How a call ends whose task came to this. A text that is not clean is only reported if `is_reported`.
+pub(crate) fn ending_of(is_reported: bool, done: Result<bool, Failure>) -> Ending
+    ensures { result ≡ ending_of is_reported done }
+{
+    match done {
+        Ok(is_clean) => {
+            if is_reported && !is_clean {
+                Ending::Refused
+            } else {
+                Ending::Done
+            }
+        }
+        Err(failure) => Ending::Failed(failure),
+    }
+}
+
+/// How a call ends whose run came to this.
+pub(crate) fn ending_of_run(done: Result<(), RunFailure>) -> Ending
+    ensures { result ≡ ending_of_run done }
+{
+    match done {
+        Ok(()) => Ending::Done,
+        Err(RunFailure::Failed(failure)) => Ending::Failed(failure),
+        Err(RunFailure::BoardFailed) => Ending::BoardFailed,
+    }
+}
+
+/// The exit status of a task that ended at a fault: 3 for a bad scenario, 4 if reading or writing
+/// failed, and 5 if memory ran out or the board failed.
 pub fn exit_status(fault: AppFault) -> u8
     ensures { result ≡ status_of fault }
 {
@@ -66,26 +83,41 @@ pub fn exit_status(fault: AppFault) -> u8
     }
 }
 
-// Writes the line of a fault and the words for it, and answers its exit status.
-fn write_fault<E: Sink>(errors: &mut E, fault: AppFault, words: &str) -> u8
+// Writes the line of a fault, and then the line of the words for it. Returns the exit status.
+fn write_fault<E: Sink>(errors: &mut E, fault: AppFault, words: Option<&str>) -> u8
     ensures status { result ≡ status_of fault }
-    ensures lines { Appends (E.contents errors.old) (E.contents errors.new)
-        (fault_line fault ++ words.now) ⊎ HasFailed (E.failed errors.old) (E.failed errors.new) }
-    ensures front { WritesFront (E.contents errors.old) (E.contents errors.new)
-        (fault_line fault ++ words.now) }
+    ensures lines { WritesOrFails (E.state errors.old) (E.state errors.new)
+        (fault_line fault ++ words_line (option_copied words.entry)) }
 {
-    // Nobody is left to tell where standard error fails.
-    let _ = write_both(errors, line_of_fault(fault), words);
+    // There is nobody left to tell if standard error fails.
+    let _ = match words {
+        Some(words) => write_words(errors, line_of_fault(fault), words),
+        None => write_all(errors, line_of_fault(fault).as_bytes()),
+    };
     exit_status(fault)
 }
 
-/// Writes two texts, one behind the other.
+// Writes a line, and then some words as another line.
+fn write_words<E: Sink>(errors: &mut E, line: &str, words: &str) -> Result<(), IoFault>
+    ensures whole { OnOk result (Appends (E.state errors.old).bytes (E.state errors.new).bytes
+        (line.now ++ (words.now ++ codes "\n"))) }
+    ensures front { WritesFront (E.state errors.old).bytes (E.state errors.new).bytes
+        (line.now ++ (words.now ++ codes "\n")) }
+    ensures failed { OnErr result (HasFailed (E.state errors.old).failures (E.state errors.new).failures) }
+{
+    write_all(errors, line.as_bytes())?;
+    let done = write_both(errors, words, "\n");
+    let _failures = errors.failures();
+    done
+}
+
+/// Writes two texts, one after the other.
 pub(crate) fn write_both<E: Sink>(errors: &mut E, first: &str, second: &str) -> Result<(), IoFault>
-    ensures whole { OnOk result (Appends (E.contents errors.old) (E.contents errors.new)
+    ensures whole { OnOk result (Appends (E.state errors.old).bytes (E.state errors.new).bytes
         (first.now ++ second.now)) }
-    ensures front { WritesFront (E.contents errors.old) (E.contents errors.new)
+    ensures front { WritesFront (E.state errors.old).bytes (E.state errors.new).bytes
         (first.now ++ second.now) }
-    ensures failed { OnErr result (HasFailed (E.failed errors.old) (E.failed errors.new)) }
+    ensures failed { OnErr result (HasFailed (E.state errors.old).failures (E.state errors.new).failures) }
 {
     write_all(errors, first.as_bytes())?;
     let done = write_all(errors, second.as_bytes());
@@ -93,7 +125,7 @@ pub(crate) fn write_both<E: Sink>(errors: &mut E, first: &str, second: &str) -> 
     done
 }
 
-// What is said of a fault. It takes no memory, which may be what ran out.
+// The line of a fault. It does not allocate, because memory may be what ran out.
 fn line_of_fault(fault: AppFault) -> &'static str
     ensures { result.now ≡ fault_line fault }
 {

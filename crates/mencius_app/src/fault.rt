@@ -3,9 +3,8 @@
 ghost use Rattle.std.specs.Prelude.{◌≡◌};
 ghost use Rattle.mencius_app.specs.Fault.{fault_name, fault_number};
 
-use crate::finding::Finding;
-use crate::run_finding::RunFinding;
-use mencius_input::IoFault;
+use crate::run_failure::RunFailure;
+use mencius_io::{Failure, IoFault};
 use std::alloc::AllocError;
 use thiserror::Error;
 
@@ -90,28 +89,28 @@ impl From<AllocError> for AppFault {
 }
 
 /// Drops the words that explain the fault.
-impl From<Finding> for AppFault {
+impl From<Failure> for AppFault {
     ghost use Rattle.std.specs.Prelude.{◌≡◌};
     ghost use Rattle.mencius_app.specs.Fault.{app_fault};
 
-    ghost from_gives = { λ found fault. fault ≡ app_fault found.fault };
+    ghost from_gives = { λ failure fault. fault ≡ app_fault failure.fault };
 
-    fn from(found: Finding) -> AppFault {
-        AppFault::from(found.fault)
+    fn from(failure: Failure) -> AppFault {
+        AppFault::from(failure.fault)
     }
 }
 
 /// Drops the words that explain the fault.
-impl From<RunFinding> for AppFault {
+impl From<RunFailure> for AppFault {
     ghost use Rattle.std.specs.Prelude.{◌≡◌};
     ghost use Rattle.mencius_app.specs.Fault.{fault_of_run};
 
     ghost from_gives = { λ run fault. fault ≡ fault_of_run run };
 
-    fn from(run: RunFinding) -> AppFault {
+    fn from(run: RunFailure) -> AppFault {
         match run {
-            RunFinding::Found(found) => AppFault::from(found),
-            RunFinding::BoardFailed => AppFault::BoardFailed,
+            RunFailure::Failed(failure) => AppFault::from(failure),
+            RunFailure::BoardFailed => AppFault::BoardFailed,
         }
     }
 }

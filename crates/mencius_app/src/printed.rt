@@ -5,7 +5,7 @@ ghost use Rattle.std.specs.Io.KnownBytes.{Appends};
 ghost use Rattle.std.specs.List.{flat_map};
 ghost use Rattle.std.specs.Option.{option_map_or};
 ghost use Rattle.mencius_base.specs.Members.{IsMember, numbers_below};
-ghost use Rattle.mencius_ends.specs.Ends.{HasFailed, WritesFront, most_failed_calls};
+ghost use Rattle.mencius_io.specs.Streams.{HasFailed, WritesFront, most_failed_calls};
 ghost use Rattle.mencius_app.specs.Report.{report_text, server_line};
 ghost use Rattle.mencius_model.specs.Trace.{submitted_commands};
 ghost use Rattle.mencius_cluster.specs.State.{trace_of};
@@ -15,22 +15,22 @@ ghost use Rattle.mencius_trace.specs.Words.{answer_line, tickets_text};
 use crate::fault::AppFault;
 use mencius_cluster::{Cluster, laws};
 use mencius_format::push_id;
-use mencius_input::{Sink, write_all};
+use mencius_io::{Sink, write_all};
 use mencius_trace::push_answer;
 use std::alloc::{AllocError, Global};
 
 /// Writes the report of a cluster, whole. At most 1,001 calls of the writer fail.
 pub fn report<W: Sink>(alloc: Global, cluster: &Cluster, sink: &mut W) -> Result<(), AppFault>
-    ensures whole { OnOk result (Appends (W.contents sink.old) (W.contents sink.new)
+    ensures whole { OnOk result (Appends (W.state sink.old).bytes (W.state sink.new).bytes
         (report_text cluster.now.members (trace_of cluster.now))) }
     ensures faults { IfErr result (λ f. (f ≡ AppFault.WriteFailed) ⊎ (f ≡ AppFault.NoMemory)) }
     ensures failed { IsErrOf result AppFault.WriteFailed
-        → HasFailed (W.failed sink.old) (W.failed sink.new) }
+        → HasFailed (W.state sink.old).failures (W.state sink.new).failures }
     ensures front { IsErrOf result AppFault.WriteFailed
-        → WritesFront (W.contents sink.old) (W.contents sink.new)
+        → WritesFront (W.state sink.old).bytes (W.state sink.new).bytes
         (report_text cluster.now.members (trace_of cluster.now)) }
     ensures nothing { IsErrOf result AppFault.NoMemory → sink.new ≡ sink.old }
-    ensures tried { W.failed sink.new ≤ W.failed sink.old + most_failed_calls }
+    ensures tried { (W.state sink.new).failures ≤ (W.state sink.old).failures + most_failed_calls }
 {
     let mut text = String::new(alloc);
     push_report(&mut text, cluster)?;

@@ -1,15 +1,17 @@
 -- A call of the program over bytes in memory: what it prints, says and answers.
-use Rattle.std.specs.Prelude.{◌≡◌, ◌≢◌, ◌⊎◌, ◌<◌, ◌≤◌, ◌==◌, ℕ, Bool, true, false, List, [], ◌∷◌, ◌++◌, length, drop, if◌then◌else◌, Some, IfSome}
+use Rattle.std.specs.Prelude.{◌≡◌, ◌≢◌, ◌⊎◌, ◌<◌, ◌≤◌, ◌==◌, ℕ, Bool, true, false, List, [], ◌∷◌, ◌++◌, length, drop, if◌then◌else◌, Some, IfSome, Result, Ok, Err}
 use Rattle.clap.specs.Words.{Text}
-use Rattle.mencius_command_line.specs.CommandLine.{asked_trace}
+use Rattle.mencius_io.specs.Streams.{StreamState}
+use Rattle.mencius_io.specs.declared.failure.Failure.{Failure}
+use Rattle.mencius_input.specs.declared.kind.Kind.TheVariants.{Replay}
+use Rattle.mencius_app.specs.Calls.{EndsCall, IsComplaint, IsUnread}
+use Rattle.mencius_app.specs.Ending.{failure_in, lines_of_ending, status_of, status_of_ending}
+use Rattle.mencius_app.specs.Failures.{ExplainsAs, Fails}
+use Rattle.mencius_app.specs.Replay.{IsMadeOf}
+use Rattle.mencius_app.specs.States.{state_task, state_text}
+use Rattle.mencius_app.specs.Tasks.{Streams, streams}
 use Rattle.mencius_app.specs.declared.ending.Ending.{Ending}
-use Rattle.mencius_app.specs.declared.ending.Ending.TheVariants.{Done, Refused, BadCommandLine, BoardFailed}
-use Rattle.mencius_app.specs.Calls.{IsCause, StreamChanges}
-use Rattle.mencius_app.specs.CallEndings.{AsksToDraw, EndsForCause, RefusesArguments, RefusesPicture, WritesWhole}
-use Rattle.mencius_app.specs.Ending.{Did, TellsOf, fault_in, lines_of_ending, status_of, status_of_ending}
-use Rattle.mencius_input.specs.Scenario.{scenario}
-use Rattle.mencius_app.specs.Input.{HasFault, unless_long}
-use Rattle.mencius_app.specs.States.{IsStateOf}
+use Rattle.mencius_app.specs.declared.ending.Ending.TheVariants.{Done, Refused, BadCommandLine, Failed, BoardFailed}
 use Rattle.mencius_app.specs.declared.fault.AppFault.TheVariants.{NoMemory}
 use Rattle.mencius_calls.specs.declared.answer.Answer.{Answer}
 
@@ -26,50 +28,42 @@ words_in bytes = words_from [] bytes
 
 -- ---- a call
 
--- no call of the reader or of the writer fails, and the writer, which was empty, gets this text
-abbrev pub changes_to : List ℕ → StreamChanges
-changes_to printed = record {
-  failed_reads = 0;
-  failed_reads_now = 0;
-  failed_writes = 0;
-  failed_writes_now = 0;
-  written = Some [];
-  written_now = Some printed;
-}
+-- a reader that has these bytes, or a writer that got them, of which no call failed
+abbrev pub of_bytes : List ℕ → StreamState
+of_bytes bytes = record { bytes = Some bytes; failures = 0 }
 
--- a call with these arguments and this input ended so. It printed and said these texts, each whole: what was asked for,
--- or why the arguments are refused, or a fault. Neither reading nor writing fails, and there is no board
+-- the reader has this input and then what is left of it, and the writer gets what is printed
+abbrev pub in_memory : List ℕ → List ℕ → List ℕ → Streams
+in_memory input left printed = streams (of_bytes input) (of_bytes left) (of_bytes []) (of_bytes printed)
+
+-- a call with these arguments and this input ended so. It printed and said these texts, each whole. No board fails
 pub record IsEndOf (arguments : List Text) (input : List ℕ) (ending : Ending) (printed said : List ℕ) (is_asked : Bool)
     : Type 0 where
-  pub written : WritesWhole (Did arguments (Some input) (Some []) (Some printed)) ending
-  pub refused : RefusesArguments arguments (is_asked ≡ false) (printed ≡ []) (λ text. said ≡ text)
-      (said ≡ lines_of_ending ending) ending
-  pub fault : EndsForCause arguments (Some input) (changes_to printed) ending
+  pub call : (left : List ℕ) × EndsCall arguments (in_memory input left printed) ending
   pub no_board : ending ≢ BoardFailed
+  pub unread : IsUnread arguments ending → is_asked ≡ false
+  pub unwritten : ending ≡ BadCommandLine → printed ≡ []
+  pub complaint : ending ≡ BadCommandLine → IsComplaint arguments said
+  pub quiet : ending ≢ BadCommandLine → said ≡ lines_of_ending ending
 
 -- and this is its status
 abbrev pub IsCall : List Text → List ℕ → ℕ → List ℕ → List ℕ → Bool → Type 0
 IsCall arguments input status printed said is_asked =
     (ending : Ending) × (status ≡ status_of_ending ending) × IsEndOf arguments input ending printed said is_asked
 
--- a call that draws no picture: it refuses one, and is a call like the others where none is asked for
-abbrev pub IsCallWithoutPictures : List Text → List ℕ → ℕ → List ℕ → List ℕ → Bool → Type 0
-IsCallWithoutPictures arguments input status printed said is_asked =
-    (ending : Ending) × (status ≡ status_of_ending ending)
-    × ((AsksToDraw arguments → ⊥) → IsEndOf arguments input ending printed said is_asked)
-    × (AsksToDraw arguments → RefusesPicture (is_asked ≡ false) (printed ≡ []) (λ text. said ≡ text)
-    (said ≡ lines_of_ending ending) ending)
-
 -- ---- a state
+
+-- how a call for a state ends that came to this
+abbrev pub ending_of_state : {T : Type 0} → Result T Failure → Ending
+ending_of_state (Ok done) = Done
+ending_of_state (Err failure) = Failed failure
 
 -- the state after this scenario was asked for, and it ended so. It printed and said these texts, each whole
 pub record IsEndOfState (input : List ℕ) (ending : Ending) (printed said : List ℕ) : Type 0 where
-  pub done : ending ≡ Done → IsStateOf (Some input) printed
-  -- it ends at a fault else: which, and when, where neither reading nor writing fails
+  pub done : ending ≡ Done → IsMadeOf state_text (Some input) printed
   pub no_other : (ending ≢ Refused) × (ending ≢ BadCommandLine) × (ending ≢ BoardFailed)
-  pub fault : IfSome (fault_in ending)
-      (IsCause (HasFault (unless_long scenario) (Some input)) (IsStateOf (Some input)) (changes_to printed))
-  pub words : TellsOf asked_trace (Some input) ending
+  pub failed : (left : List ℕ)
+      × IfSome (failure_in ending) (Fails state_task (ExplainsAs Replay) (in_memory input left printed))
   pub told : said ≡ lines_of_ending ending
 
 -- and this is its status; the scenario is always read
@@ -112,10 +106,6 @@ Answers IsSuchCall answer out then_out err then_err =
 -- the answer to these arguments and this input
 abbrev pub IsAnswered : List ℕ → List ℕ → Answer → List ℕ → List ℕ → List ℕ → List ℕ → Type 0
 IsAnswered words input = Answers (IsCall (words_in words) input)
-
--- the same where no picture is drawn
-abbrev pub IsAnsweredWithoutPictures : List ℕ → List ℕ → Answer → List ℕ → List ℕ → List ℕ → List ℕ → Type 0
-IsAnsweredWithoutPictures words input = Answers (IsCallWithoutPictures (words_in words) input)
 
 -- the answer to a call for the state after this scenario
 abbrev pub IsStateAnswered : List ℕ → Answer → List ℕ → List ℕ → List ℕ → List ℕ → Type 0

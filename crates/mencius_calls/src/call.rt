@@ -3,13 +3,10 @@
 ghost use Rattle.std.specs.Prelude.{◌≡◌, ◌++◌, [], IfOk, false, true, take, drop, map};
 ghost use Rattle.std.specs.Io.KnownBytes.{Appends};
 ghost use Rattle.mencius_app.specs.Ending.{lines_of_ending, status_of_ending};
-ghost use Rattle.mencius_calls.specs.Calls.{IsCall, IsCallWithoutPictures, IsStateCall, memory_status, words_in};
+ghost use Rattle.mencius_calls.specs.Calls.{IsCall, IsStateCall, ending_of_state, memory_status, words_in};
 
 use crate::streams::{Input, Text};
-use mencius_app::{
-    AppFault, Ending, end, ending_of, exit_status, perform_in_turns, perform_without_pictures,
-    state,
-};
+use mencius_app::{AppFault, Ending, Failure, end, exit_status, perform_in_turns, state};
 use mencius_base::NoMemory;
 use std::alloc::Global;
 
@@ -57,24 +54,6 @@ pub(crate) fn call(alloc: Global, words: &[u8], input: &[u8]) -> Result<Called, 
     end_call(ending, source.is_asked, sink, errors)
 }
 
-/// The same, but no picture is drawn.
-pub(crate) fn call_without_pictures(
-    alloc: Global,
-    words: &[u8],
-    input: &[u8],
-) -> Result<Called, NoMemory>
-    ensures { IfOk result (λ x. IsCallWithoutPictures (words_in words.now) input.now x.status x.printed.items
-        x.said.items x.is_asked) }
-{
-    let arguments = arguments_in(alloc, words)?;
-    let mut source = Input::new(input);
-    let mut sink = Text::new(alloc);
-    let mut errors = Text::new(alloc);
-    let arguments = arguments.as_slice();
-    let ending = perform_without_pictures(alloc, arguments, &mut source, &mut sink, &mut errors);
-    end_call(ending, source.is_asked, sink, errors)
-}
-
 /// Asks for the state after the scenario that this input is.
 pub(crate) fn call_for_state(alloc: Global, input: &[u8]) -> Result<Called, NoMemory>
     ensures { IfOk result (λ x. IsStateCall input.now x.status x.printed.items x.said.items
@@ -82,8 +61,18 @@ pub(crate) fn call_for_state(alloc: Global, input: &[u8]) -> Result<Called, NoMe
 {
     let mut source = Input::new(input);
     let mut sink = Text::new(alloc);
-    let ending = ending_of(state(alloc, &mut source, &mut sink));
+    let ending = ending_of_state(state(alloc, &mut source, &mut sink));
     end_call(ending, true, sink, Text::new(alloc))
+}
+
+// How a call for a state ends.
+fn ending_of_state(done: Result<(), Failure>) -> Ending
+    ensures { result ≡ ending_of_state done }
+{
+    match done {
+        Ok(()) => Ending::Done,
+        Err(failure) => Ending::Failed(failure),
+    }
 }
 
 // What a call came to that ended so, unless there was no memory for one of its texts.

@@ -1,15 +1,15 @@
 //! The program's call over bytes in memory, for a host that has no streams or no process: arguments and standard input
-//! go in, standard output, standard error and the exit status come out. The libraries that export it stand above.
+//! go in, standard output, standard error and the exit status come out. The crate `mencius_exports` exports it.
 #![tactic(auto)]
 
-ghost use Rattle.mencius_calls.specs.Calls.{IsAnswered, IsAnsweredWithoutPictures, IsStateAnswered};
+ghost use Rattle.mencius_calls.specs.Calls.{IsAnswered, IsStateAnswered};
 
 mod answer;
 mod call;
 mod streams;
 
 use crate::answer::tell;
-use crate::call::{call, call_for_state, call_without_pictures};
+use crate::call::{call, call_for_state};
 pub use answer::Answer;
 use std::alloc::Global;
 
@@ -30,23 +30,6 @@ pub fn answer_call(
     ensures { IsAnswered words.now input.now answer.new printed.old printed.new said.old said.new }
 {
     tell(alloc, call(alloc, words, input), printed, said, answer);
-}
-
-/// Does what [`answer_call`] does, but draws no picture: arguments that ask for one are refused, with the status 2 and
-/// a line that names the task whose text a picture shows.
-pub fn answer_call_without_pictures(
-    alloc: Global,
-    words: &[u8],
-    input: &[u8],
-    printed: &mut [u8],
-    said: &mut [u8],
-    answer: &mut Answer,
-)
-    ensures { IsAnsweredWithoutPictures words.now input.now answer.new printed.old printed.new
-        said.old said.new }
-{
-    let call = call_without_pictures(alloc, words, input);
-    tell(alloc, call, printed, said, answer);
 }
 
 /// Steps a new cluster through the events of this scenario of `replay`, and tells what each server knows then. What is

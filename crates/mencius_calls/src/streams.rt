@@ -2,7 +2,7 @@
 
 ghost use Rattle.std.specs.Prelude.{◌≡◌, [], false, Some};
 
-use mencius_input::{Sink, Source};
+use mencius_io::{Sink, Source};
 use std::alloc::Global;
 use std::io;
 use std::io::{Error, ErrorKind};
@@ -30,9 +30,7 @@ impl<'a> Input<'a> {
 }
 
 impl<'a> Source for Input<'a> {
-    ghost remaining = { λ s. Some s.rest.now };
-
-    ghost failed = { λ s. 0 };
+    ghost state = { λ s. record { bytes = Some s.rest.now; failures = 0 } };
 
     fn read(&mut self, buf: &mut [u8]) -> io::Result<usize> {
         self.is_asked = true;
@@ -71,9 +69,7 @@ impl Text {
 }
 
 impl Sink for Text {
-    ghost contents = { λ s. Some s.bytes.items };
-
-    ghost failed = { λ s. s.failures };
+    ghost state = { λ s. record { bytes = Some s.bytes.items; failures = s.failures } };
 
     fn write(&mut self, buf: &[u8]) -> io::Result<usize> {
         match self.bytes.extend_from_slice(buf) {

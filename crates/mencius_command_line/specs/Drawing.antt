@@ -3,7 +3,7 @@ use Rattle.std.specs.Prelude.{ℕ, ◌-◌, ◌^◌, Bool, true, false, List, []
 use Rattle.clap.specs.Words.{App, Kinds, Row, Rule, Text, first_of, new_app, new_rule, with_rule}
 use Rattle.clap.specs.declared.builder.action.ArgAction.TheVariants.{Set, SetTrue}
 use Rattle.clap.specs.declared.error.kind.ErrorKind.TheVariants as kind
-use Rattle.mencius_ends.specs.declared.fault.IoFault.{IoFault}
+use Rattle.mencius_io.specs.declared.fault.IoFault.{IoFault}
 use Rattle.mencius_format.specs.ValuesOrFaults.{value_or_fault}
 use Rattle.mencius_format.specs.Words.{is_u32, number_of}
 use Rattle.mencius_draw.specs.declared.options.Options.{Options}

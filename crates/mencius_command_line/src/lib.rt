@@ -2,7 +2,7 @@
 #![tactic(auto)]
 
 mod arguments;
-mod drawing;
+mod draw_options;
 mod line;
 mod pages;
 

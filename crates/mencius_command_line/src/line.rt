@@ -6,7 +6,7 @@ ghost use Rattle.clap.specs.Words.{FailsBy, HasKind, app_of, first_of, found_of,
 ghost use Rattle.mencius_command_line.specs.CommandLine.{task_in, task_by_name, task_state, bad_key_faults, faults, check_task, is_key, journal_option, judge_task, lookup_option, observations_option, program, replay_task, run_task, strict_option, trace_task, value_faults, with_joined_key, with_replays, without_tasks, words_read};
 ghost use Rattle.mencius_command_line.specs.Flags.{has_flag};
 
-use crate::drawing::{draw_command, options_of};
+use crate::draw_options::{draw_command, options_of};
 use clap::error::ErrorKind;
 use clap::{Arg, ArgAction, ArgMatches, Command, Error};
 use mencius_base::{MOST_KEY_BYTES, is_name};

@@ -3,8 +3,8 @@ use Rattle.std.specs.Prelude.{◌≡◌, Option, Some, None, Result, Ok, Err, if
 use Rattle.mencius_base.specs.declared.command.BadCommand.{BadCommand}
 use Rattle.mencius_base.specs.declared.command.BadCommand.TheVariants.{KeyByte, TextByte, KeyLength, TextLength}
 use Rattle.mencius_base.specs.declared.command.Op.{Op}
-use Rattle.mencius_ends.specs.declared.fault.IoFault.{IoFault}
-use Rattle.mencius_ends.specs.declared.fault.IoFault.TheVariants.{BadShape, BadLimit}
+use Rattle.mencius_io.specs.declared.fault.IoFault.{IoFault}
+use Rattle.mencius_io.specs.declared.fault.IoFault.TheVariants.{BadShape, BadLimit}
 use Rattle.mencius_format.specs.ValuesOrFaults.{value_or_fault, has_no_limit, FailsBy}
 use Rattle.mencius_format.specs.Operations.{has_names}
 

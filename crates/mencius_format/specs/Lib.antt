@@ -4,7 +4,6 @@ pub mod Versions
 pub mod Operations
 pub mod Grammar
 pub mod BadBytes
-pub mod BareEvents
 pub mod TextVersions
 pub mod Texts
 pub mod Sayable

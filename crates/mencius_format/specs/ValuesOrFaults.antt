@@ -1,7 +1,7 @@
 -- Shape before limits: what is judged of something that was read.
 use Rattle.std.specs.Prelude.{◌≡◌, Bool, true, Option, Some, None, Result, Ok, Err, if◌then◌else◌}
-use Rattle.mencius_ends.specs.declared.fault.IoFault.{IoFault}
-use Rattle.mencius_ends.specs.declared.fault.IoFault.TheVariants.{BadShape, BadLimit, NoMemory}
+use Rattle.mencius_io.specs.declared.fault.IoFault.{IoFault}
+use Rattle.mencius_io.specs.declared.fault.IoFault.TheVariants.{BadShape, BadLimit, NoMemory}
 
 -- a bad shape, or past a limit, or all well
 abbrev pub value_or_fault : {X : Type 0} → (X → Bool) → Option X → Result X IoFault

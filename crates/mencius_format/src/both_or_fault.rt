@@ -1,11 +1,11 @@
 ghost use Rattle.std.specs.Prelude.{◌≡◌};
 ghost use Rattle.mencius_format.specs.ValuesOrFaults.{both_or_fault};
 
-use mencius_ends::IoFault;
+use mencius_io::IoFault;
 
 /// Both values, or the fault of one of them: a passed limit gives way to the fault of the other,
 /// since shape is judged everywhere before any limit.
-pub(crate) fn both<A: Drop, B: Drop>(
+pub fn both<A: Drop, B: Drop>(
     first: Result<A, IoFault>,
     second: Result<B, IoFault>,
 ) -> Result<(A, B), IoFault>

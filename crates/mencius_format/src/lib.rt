@@ -7,28 +7,27 @@
 //! the crates above.
 #![tactic(auto)]
 
-mod bare_event;
 mod both_or_fault;
 pub mod laws;
 mod operations;
+mod parse;
 mod part;
-mod reading;
+mod print;
 mod text_version;
 mod version;
 mod words;
-mod writing;
 
-pub use bare_event::BareEvent;
+pub use both_or_fault::both;
 pub use operations::{NO_OPERATION, operands_of, version_of_command};
-pub use part::Part;
-pub use reading::{
-    behind_submit, fault_of, parse_bare_event, parse_command, parse_event, parse_id,
+pub use parse::{
+    behind_submit, fault_of, parse_command, parse_event, parse_id, parse_other_event,
     parse_submission,
+};
+pub use part::Part;
+pub use print::{
+    push_command, push_deliver, push_event, push_execute, push_id, push_lose, push_retry,
+    push_submit, push_suspect,
 };
 pub use text_version::{command_version, event_version, submit_version};
 pub use version::{FIRST_VERSION, NEWEST_VERSION, may_stand_in};
 pub use words::{cut_at_dot, cut_at_space, parse_u8, parse_u32};
-pub use writing::{
-    push_command, push_deliver, push_event, push_execute, push_id, push_lose, push_retry,
-    push_submit, push_suspect,
-};

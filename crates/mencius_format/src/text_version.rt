@@ -5,7 +5,7 @@ ghost use Rattle.mencius_format.specs.TextVersions.{command_version, event_versi
 ghost use Rattle.mencius_format.specs.Words.{words};
 
 use crate::operations::words_version;
-use crate::reading::behind_submit;
+use crate::parse::behind_submit;
 use crate::version::FIRST_VERSION;
 use crate::words::cut_at_space;
 

@@ -6,7 +6,7 @@ ghost use Rattle.std.specs.Char.{is_ascii_digit};
 ghost use Rattle.mencius_format.specs.ValuesOrFaults.{value_or_fault};
 ghost use Rattle.mencius_format.specs.Words.{is_number, is_u8, is_u32, number_of, parts, words};
 
-use mencius_ends::IoFault;
+use mencius_io::IoFault;
 
 // The text before the first byte `at` and the text behind it. A text that has none is a bad shape.
 fn cut(text: &str, at: u8) -> Result<(&str, &str), IoFault>

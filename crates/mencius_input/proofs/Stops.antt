@@ -2,7 +2,7 @@
 use Rattle.std.proofs.Common.{◌≡◌, Result, IfErr, inl, inr, Option, None}
 use Rattle.std.specs.Result.{IsErrAnd}
 use Rattle.std.proofs.lemmas.Result.{err_from_is_err_and}
-use Rattle.mencius_ends.specs.declared.fault.IoFault.{IoFault}
+use Rattle.mencius_io.specs.declared.fault.IoFault.{IoFault}
 use Rattle.mencius_input.specs.Stops.{StopsBy}
 
 pub stops_whole : {X Y : Type 0} (part : Option X) (whole : Option Y) (fault : IoFault) → (part ≡ None → whole ≡ None)

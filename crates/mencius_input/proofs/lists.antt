@@ -1,4 +1,4 @@
 -- Lists of texts.
 pub mod VersionItems
 pub mod ListItems
-pub mod BareEventsAndCommands
+pub mod ListedEvents

@@ -3,8 +3,8 @@
 use Rattle.std.specs.Prelude.{ℕ, max, List, Option, option_map, unwrap_or, Result, Err, if◌then◌else◌}
 use Rattle.serde_json.specs.Data.{Data, Items, no_items, item}
 use Rattle.serde_json.specs.Find.{as_array, as_str}
-use Rattle.mencius_ends.specs.declared.fault.IoFault.{IoFault}
-use Rattle.mencius_ends.specs.declared.fault.IoFault.TheVariants.{BadShape}
+use Rattle.mencius_io.specs.declared.fault.IoFault.{IoFault}
+use Rattle.mencius_io.specs.declared.fault.IoFault.TheVariants.{BadShape}
 use Rattle.mencius_input.specs.declared.newest.Newest.{Newest}
 use Rattle.mencius_format.specs.TextVersions.{command_version, event_version}
 use Rattle.mencius_format.specs.Versions.{first_version, may_stand_in}

@@ -6,7 +6,7 @@ use Rattle.serde_json.specs.Find.{as_array, get}
 use Rattle.mencius_base.specs.Members.{Membership}
 use Rattle.mencius_base.specs.Plan.{PlanState}
 use Rattle.mencius_base.specs.CommandState.{CommandState}
-use Rattle.mencius_ends.specs.declared.fault.IoFault.{IoFault}
+use Rattle.mencius_io.specs.declared.fault.IoFault.{IoFault}
 use Rattle.mencius_input.specs.declared.scenario.Scenario.{Scenario}
 use Rattle.mencius_format.specs.ValuesOrFaults.{value_or_fault}
 use Rattle.mencius_format.specs.Grammar.{command_of, is_command_within}

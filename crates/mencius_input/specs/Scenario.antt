@@ -8,8 +8,8 @@ use Rattle.serde_json.specs.Find.{as_object, as_array, as_str, get}
 use Rattle.serde_json.specs.Read.{read}
 use Rattle.mencius_base.specs.Members.{Membership}
 use Rattle.mencius_base.specs.declared.event.Event.{Event}
-use Rattle.mencius_ends.specs.declared.fault.IoFault.{IoFault}
-use Rattle.mencius_ends.specs.declared.fault.IoFault.TheVariants.{NotJson}
+use Rattle.mencius_io.specs.declared.fault.IoFault.{IoFault}
+use Rattle.mencius_io.specs.declared.fault.IoFault.TheVariants.{NotJson}
 use Rattle.mencius_input.specs.declared.scenario.Scenario.{Scenario}
 use Rattle.mencius_format.specs.ValuesOrFaults.{value_or_fault}
 use Rattle.mencius_format.specs.Words.{words}

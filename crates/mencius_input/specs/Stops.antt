@@ -1,7 +1,7 @@
 -- Why reading a value stops.
 use Rattle.std.specs.Prelude.{◌≡◌, ◌⊎◌, Option, None}
-use Rattle.mencius_ends.specs.declared.fault.IoFault.{IoFault}
-use Rattle.mencius_ends.specs.declared.fault.IoFault.TheVariants.{NoMemory, NotJson}
+use Rattle.mencius_io.specs.declared.fault.IoFault.{IoFault}
+use Rattle.mencius_io.specs.declared.fault.IoFault.TheVariants.{NoMemory, NotJson}
 
 -- memory ran out, or nothing of the kind comes next
 abbrev pub StopsBy : {X : Type 0} → Option X → IoFault → Type 0

@@ -11,10 +11,10 @@ ghost use Rattle.mencius_format.specs.Words.{words};
 
 use crate::kind::Kind;
 use mencius_base::NoMemory;
-use mencius_ends::IoFault;
 use mencius_format::{
     FIRST_VERSION, command_version, event_version, may_stand_in, parse_command, parse_event,
 };
+use mencius_io::IoFault;
 use serde_json::Value;
 use std::alloc::Global;
 

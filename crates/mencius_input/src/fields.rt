@@ -17,7 +17,7 @@ use crate::newest::Newest;
 use crate::schedule::next_events;
 use json::{Reader, Scratch};
 use mencius_base::{Command, NoMemory};
-use mencius_ends::IoFault;
+use mencius_io::IoFault;
 use mencius_json::{MOST_DEPTH, enter_object, next_whole, pass};
 use std::alloc::Global;
 

@@ -1,11 +1,11 @@
 //! What the input of the program says, read exactly: the bytes of a scenario. That a mistake in them has
 //! a place is the law of [`laws`]. The faults that end a run, and its readers and writers, are those of
-//! `mencius_ends`.
+//! `mencius_io`.
 #![tactic(auto)]
 
 mod commands;
 mod events;
-mod explaining;
+mod explanation;
 mod faulty_items;
 mod field;
 mod fields;
@@ -20,10 +20,9 @@ mod shown;
 mod wrong;
 
 pub use events::{Events, EventsLeft};
-pub use explaining::{explain, explain_unread};
+pub use explanation::{explain, explain_unread};
 pub use field::Field;
 pub use kind::{Kind, kind_of};
-pub use mencius_ends::{IoFault, Sink, Source, Std, read_all, write_all};
 pub use places::{Place, place_of};
 pub use plan::read_plan;
 pub use scenario::{Scenario, read_scenario};

@@ -3,8 +3,8 @@
 ghost use Rattle.std.specs.Prelude.{◌≡◌};
 ghost use Rattle.mencius_input.specs.Newest.{in_version};
 
-use mencius_ends::IoFault;
 use mencius_format::may_stand_in;
+use mencius_io::IoFault;
 
 /// What a list says in the newest version, and the least version in which it may stand. In each that
 /// has all of it, it says the same: so a list may be read before the version is.

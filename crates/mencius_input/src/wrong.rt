@@ -3,11 +3,11 @@
 use crate::kind::Kind;
 use crate::shown::shown;
 use mencius_base::{BadCommand, Command, CommandId, Key, NoMemory, Op, Text};
-use mencius_ends::IoFault;
 use mencius_format::{
     NO_OPERATION, Part, command_version, cut_at_dot, cut_at_space, event_version, fault_of,
     may_stand_in, operands_of, parse_id, parse_u8, parse_u32,
 };
+use mencius_io::IoFault;
 use std::alloc::Global;
 
 // What the words behind the first one are, up to the operation of a command.

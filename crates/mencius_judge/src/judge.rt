@@ -113,7 +113,13 @@ impl Judge {
         ensures kept { IfOk result (λ x. (w : Log) → HasSeenLog self.old w
             → (IsNone x ↔ KeepsAll (observation.now ∷ w))) }
     {
-        self.step(observation)
+        match observation {
+            Observation::Submit { command } => self.submit(command),
+            Observation::Execute { server, id } => self.execute(*server, *id),
+            Observation::Reply { id, text } => self.reply(*id, text),
+            Observation::Lookup { reader, key, text } => self.look_up(*reader, key, text),
+            Observation::Tell { reader, server } => self.tell(*reader, *server),
+        }
     }
 
     /// What was seen, in numbers. It goes through the commands that had a reply.
@@ -128,19 +134,6 @@ impl Judge {
             replies: with_reply.len(),
             open_replies: open_count(&self.executions, with_reply),
             lookups: self.lookups,
-        }
-    }
-
-    fn step(&mut self, observation: &Observation) -> Result<Option<Violation>, NoMemory>
-        ensures { IfOk result (λ x. (w : Log) → HasSeenLog self.old w
-            → IsJudged w observation.now x self.new) }
-    {
-        match observation {
-            Observation::Submit { command } => self.submit(command),
-            Observation::Execute { server, id } => self.execute(*server, *id),
-            Observation::Reply { id, text } => self.reply(*id, text),
-            Observation::Lookup { reader, key, text } => self.look_up(*reader, key, text),
-            Observation::Tell { reader, server } => self.tell(*reader, *server),
         }
     }
 

@@ -2,10 +2,10 @@
 
 use crate::line::MOST_LINE_BYTES;
 use mencius_base::{MOST_KEY_BYTES, MOST_TEXT_BYTES, is_name};
-use mencius_ends::IoFault;
 use mencius_format::{
     NO_OPERATION, Part, cut_at_space, operands_of, parse_id, parse_u8, parse_u32,
 };
+use mencius_io::IoFault;
 
 /// What is wrong with a line that is longer than a line may be.
 pub(crate) const TOO_LONG: &str = "it is longer than 1,024 bytes";

@@ -2,14 +2,14 @@
 #![tactic(auto)]
 
 mod before;
-mod closing;
+mod event_lines;
 mod facts;
+mod last_lines;
 mod reaction;
-mod telling;
 mod unheard;
 mod words;
 
-pub use closing::push_closing;
+pub use event_lines::tell;
+pub use last_lines::push_closing;
 pub use reaction::Reaction;
-pub use telling::tell;
 pub use words::push_answer;

@@ -2,7 +2,7 @@
 
 use mencius_input::{Events, Scenario};
 use std::alloc::Global;
-use test_watch::walk::{Stop, Walk};
+use test_support::walk::{Stop, Walk};
 
 /// A cluster after the events of a schedule.
 pub fn follow(alloc: Global, scenario: Scenario<Events>) -> Result<Walk, Stop> {

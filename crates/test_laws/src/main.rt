@@ -20,26 +20,27 @@
 
 mod counts;
 mod dice;
-mod drawing;
+mod event_table;
 mod given;
 mod mail;
 mod operations;
 
 use crate::counts::EventCounts;
 use crate::dice::Dice;
-use crate::drawing::{Mix, draw_event};
+use crate::event_table::{Mix, draw_event};
 use crate::given::{follow, send_again};
 use crate::mail::Mail;
 use mencius_app::{AppFault, report};
 use mencius_base::{Event, GREATEST_BETA, INSTANCES, Members, NoMemory};
 use mencius_cluster::Cluster;
-use mencius_input::{Events, IoFault, Scenario, Std, read_all, read_scenario, write_all};
+use mencius_input::{Events, Scenario, read_scenario};
+use mencius_io::{IoFault, Std, read_all, write_all};
 use std::alloc::{AllocError, Global};
 use std::process::ExitCode;
-use test_watch::again::again;
-use test_watch::observed::reach;
-use test_watch::same::first_difference_below;
-use test_watch::walk::{Stop, Walk};
+use test_support::again::again;
+use test_support::observed::reach;
+use test_support::same::first_difference_below;
+use test_support::walk::{Stop, Walk};
 
 // What is drawn, and how closely it is looked at.
 #[derive(Clone, Copy, Debug)]

@@ -9,7 +9,7 @@ use mencius_input::{Scenario, read_scenario};
 use std::alloc::Global;
 use std::marker::Model;
 use std::sync::Wait;
-use test_watch::same::first_difference;
+use test_support::same::first_difference;
 
 /// Why a course ends early.
 #[derive(Clone, Copy, Debug, PartialEq, Eq)]

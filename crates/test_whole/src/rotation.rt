@@ -12,7 +12,7 @@ use std::marker::Model;
 use std::panic::Expect;
 use std::process::Abort;
 use std::sync::Wait;
-use test_watch::plain_map::change;
+use test_support::plain_map::change;
 
 // Five servers and eight workers, and half of the choices lose a message.
 const EIGHT_WORKERS: &str = "{\"version\":1,\"servers\":5,\"workers\":8,\"seed\":7,\"turns\":2000,\

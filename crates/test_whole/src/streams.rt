@@ -2,7 +2,7 @@
 
 use crate::courses::cluster_after;
 use mencius_app::{
-    AppFault, Finding, Open, Sink, Source, Std, check, draw, judge, replay, report, run, trace,
+    AppFault, Failure, Open, Sink, Source, Std, check, draw, judge, replay, report, run, trace,
 };
 use mencius_draw::{Options, Scheme, picture};
 use std::alloc::Global;
@@ -147,7 +147,7 @@ const READS: [(Call, &str, &str); 5] = [
 const REPORTED: (Call, &str, &str) = (Call::Report, SCENARIO, REPORT);
 
 // What a judgement found, of a log that keeps all promises.
-fn judged_in<R: Abort>(rt: &R, judged: Result<bool, Finding>) -> Result<(), Finding> {
+fn judged_in<R: Abort>(rt: &R, judged: Result<bool, Failure>) -> Result<(), Failure> {
     let all_kept = judged?;
     assert!(rt; all_kept);
     Ok(())

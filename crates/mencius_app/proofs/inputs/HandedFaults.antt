@@ -1,14 +1,16 @@
 -- Faults that are handed on without the words that explain them.
 use Rattle.std.proofs.Common.{◌≡◌, ◌≢◌, ◌⊎◌, inl, inr, Result, Ok, Err, refl, sym, ◌∙◌}
 use Rattle.std.specs.Result.{IsErrAnd}
-use Rattle.mencius_ends.specs.declared.fault.IoFault.{IoFault}
-use Rattle.mencius_ends.specs.declared.fault.IoFault.TheVariants as io
+use Rattle.mencius_io.specs.declared.fault.IoFault.{IoFault}
+use Rattle.mencius_io.specs.declared.fault.IoFault.TheVariants as io
 use Rattle.mencius_app.specs.declared.fault.AppFault.{AppFault}
 use Rattle.mencius_app.specs.declared.fault.AppFault.TheVariants.{BoardFailed}
-use Rattle.mencius_app.specs.declared.run_finding.RunFinding.{RunFinding}
-use Rattle.mencius_app.specs.declared.run_finding.RunFinding.TheVariants as at
+use Rattle.mencius_app.specs.declared.run_failure.RunFailure.{RunFailure}
+use Rattle.mencius_app.specs.declared.run_failure.RunFailure.TheVariants as at
 use Rattle.mencius_app.specs.Fault.{app_fault, fault_of_run}
-use Rattle.mencius_app.specs.RunFindings.{IfFound}
+use Rattle.mencius_app.specs.Failures.{Explanation, Fails}
+use Rattle.mencius_app.specs.RunFailures.{UnlessBoard}
+use Rattle.mencius_app.specs.Tasks.{IsCause, Streams, Task}
 
 -- no other fault is told as the board's
 pub app_not_board : (cause : IoFault) → app_fault cause ≢ BoardFailed
@@ -27,14 +29,14 @@ result_not_board (Err fault) cause is e =
     let same : fault ≡ BoardFailed = cc in
     app_not_board cause (sym is ∙ same)
 
--- the fault of a run is its board's, or one that any task may have
-pub either_fault : (P : IoFault → Type 0) (run : RunFinding) → IfFound (λ found. P found.fault) run
-    → (fault_of_run run ≡ BoardFailed) ⊎ ((cause : IoFault) × (fault_of_run run ≡ app_fault cause) × P cause)
-either_fault P (at.Found found) h = inr (found.fault, refl, h)
-either_fault P at.BoardFailed h = inl refl
+-- the fault of a run is its board's, or it has a cause as the fault of any task
+pub board_or_cause : (t : Task) (Tells : Explanation) (s : Streams) (run : RunFailure) → UnlessBoard (Fails t Tells s) run
+    → (fault_of_run run ≡ BoardFailed) ⊎ ((cause : IoFault) × (fault_of_run run ≡ app_fault cause) × IsCause t s cause)
+board_or_cause t Tells s (at.Failed failure) h = inr (failure.fault, refl, h.cause)
+board_or_cause t Tells s at.BoardFailed h = inl refl
 
 -- a run that tells of the board failed at it
-pub at_board : {T : Type 0} (r : Result T AppFault) (run : RunFinding)
+pub at_board : {T : Type 0} (r : Result T AppFault) (run : RunFailure)
     → IsErrAnd r (λ fault. fault ≡ fault_of_run run) → r ≡ Err BoardFailed → run ≡ at.BoardFailed
-at_board r (at.Found found) is e = absurd (result_not_board r found.fault is e)
+at_board r (at.Failed failure) is e = absurd (result_not_board r failure.fault is e)
 at_board r at.BoardFailed is e = refl

@@ -1,28 +1,22 @@
--- What is read of an input, and why a task ended at a fault.
-use Rattle.std.proofs.Common.{◌≡◌, ◌≢◌, ◌≤◌, ◌<◌, ◌⊎◌, inl, inr, ℕ, Bool, true, false, cond, List, length, Option, Some, None, IfSome, IfOk, IfErr, Result, Ok, Err, refl, ap, sym, subst, ◌∙◌, arith}
-use Rattle.std.specs.Prelude.{OnOk, OnErr}
+-- What is read of an input, and why a task made no text.
+use Rattle.std.proofs.Common.{◌≡◌, ◌≢◌, ◌≤◌, ◌<◌, ◌⊎◌, inl, inr, ℕ, Bool, true, false, cond, List, length, Option, Some, None, IfSome, IfOk, IfErr, Result, Ok, Err, String, Global, string_bytes, refl, ap, sym, subst, ◌∙◌, arith}
 use Rattle.std.specs.Option.{option_map_or}
 use Rattle.std.specs.Result.{IsErrAnd}
 use Rattle.std.proofs.lemmas.Result.{err_from_is_err_and}
-use Rattle.std.specs.Io.KnownBytes.{Appends, Keeps}
 use Rattle.std.proofs.lemmas.Bool.{le-ltb, lt-ltb}
 use Rattle.serde_json.specs.Data.{Data}
-use Rattle.mencius_ends.specs.declared.fault.IoFault.{IoFault}
-use Rattle.mencius_ends.specs.declared.fault.IoFault.TheVariants.{NotJson, BadShape, BadLimit, ReadFailed, WriteFailed, NoMemory}
-use Rattle.mencius_ends.specs.Ends.{HasFailed, WritesFront, most_bytes}
+use Rattle.mencius_io.specs.Streams.{HasFailed, StreamState, most_bytes}
+use Rattle.mencius_io.specs.declared.failure.Failure.{Failure}
+use Rattle.mencius_io.specs.declared.fault.IoFault.{IoFault}
+use Rattle.mencius_io.specs.declared.fault.IoFault.TheVariants.{NotJson, BadShape, BadLimit, ReadFailed, WriteFailed, NoMemory}
 use Rattle.mencius_format.specs.ValuesOrFaults.{FailsBy, Gives, map_ok, value_or_fault}
+use Rattle.mencius_input.specs.Explanations.{ExplainsUnread}
 use Rattle.mencius_input.specs.Plan.{plan, plan_read, is_plan_within, run_names}
-use Rattle.mencius_base.specs.Members.{Membership}
 use Rattle.mencius_input.specs.Scenario.{is_within_limits, json_of, scenario, scenario_of, is_scenario_within, written_of}
-use Rattle.mencius_app.specs.Calls.{IsCause, IsReadingCause, StreamChanges}
+use Rattle.mencius_input.specs.declared.kind.Kind.{Kind}
+use Rattle.mencius_app.specs.Failures.{ExplainsAs, ExplainsByFields, ExplainsIn, Explanation, FailsReading, IsExplained}
 use Rattle.mencius_app.specs.Input.{HasFault, Says, unless_long}
-use Rattle.mencius_app.specs.Replay.{IsMadeOf}
-use Rattle.mencius_app.specs.declared.finding.Finding.{Finding}
-use Rattle.mencius_base.specs.declared.event.Event.{Event}
-use Rattle.mencius_app.specs.RunFindings.{IfFound}
-use Rattle.mencius_app.specs.declared.run_finding.RunFinding.{RunFinding}
-use Rattle.mencius_app.specs.declared.run_finding.RunFinding.TheVariants as at
-use Rattle.mencius_input.specs.declared.scenario.Scenario.{Scenario}
+use Rattle.mencius_app.specs.Tasks.{IsReadingCause}
 
 -- ---- long inputs
 
@@ -77,7 +71,7 @@ no_read fault bad e = other_bad fault ReadFailed e (λ h. absurd (cc), λ h. abs
 pub no_write : (fault : IoFault) → IsBadInput fault → fault ≢ WriteFailed
 no_write fault bad e = other_bad fault WriteFailed e (λ h. absurd (cc), λ h. absurd (cc), λ h. absurd (cc)) bad
 
-no_memory : (fault : IoFault) → IsBadInput fault → fault ≢ NoMemory
+pub no_memory : (fault : IoFault) → IsBadInput fault → fault ≢ NoMemory
 no_memory fault bad e = other_bad fault NoMemory e (λ h. absurd (cc), λ h. absurd (cc), λ h. absurd (cc)) bad
 
 -- ---- reading
@@ -88,31 +82,91 @@ pub at_err : {T E : Type 0} (r : Result T E) (error : E) (P : E → Type 0) → 
 at_err r error P is h = let failed = err_from_is_err_and r is in rw (failed.1, failed.2) h
 
 -- memory ran out
-pub own_fault : {F : IoFault → Type 0} {reads reads_now : ℕ} {fault : IoFault} → fault ≡ NoMemory
-    → IsReadingCause F reads reads_now fault
-own_fault {F} {reads} {reads_now} {fault} memory = record {
+pub own_cause : {F : Option (List ℕ) → IoFault → Type 0} {old new : StreamState} {fault : IoFault} → fault ≡ NoMemory
+    → IsReadingCause F old new fault
+own_cause {F} {old} {new} {fault} memory = record {
   bad_input = λ bad. absurd (no_memory fault bad memory);
   read_failed = λ e. let same = sym memory ∙ e in absurd (cc);
   no_writer = λ e. let same = sym memory ∙ e in absurd (cc);
 }
 
--- a reader answered no bytes
-pub unread : {X : Type 0} (read : List ℕ → Result X IoFault) (known : Option (List ℕ)) (reads reads_now : ℕ)
+if_none : {T : Type 0} (P : T → Type 0) (o : Option T) → o ≡ None → IfSome o P
+if_none P None e = tt
+if_none P (Some x) e = absurd (cc)
+
+pub own_failure : {F : Option (List ℕ) → IoFault → Type 0} {Tells : Explanation} {old new : StreamState}
+    (failure : Failure) → (failure.fault ≡ NoMemory) × (failure.words ≡ None) → FailsReading F Tells old new failure
+own_failure {F} {Tells} {old} {new} failure own = record {
+  cause = own_cause own.0;
+  words = if_none (λ words. ExplainsIn Tells old.bytes failure.fault (string_bytes words)) failure.words own.1;
+}
+
+-- so of a result that hands it on
+pub own_result : {T : Type 0} (F : Option (List ℕ) → IoFault → Type 0) (Tells : Explanation) (old new : StreamState)
+    (r : Result T Failure) → IsErrAnd r (λ failure. (failure.fault ≡ NoMemory) × (failure.words ≡ None))
+    → IfErr r (FailsReading F Tells old new)
+own_result F Tells old new (Ok x) own = tt
+own_result F Tells old new (Err failure) own = own_failure failure own
+
+-- ---- a reader that gave no bytes
+
+unread_cause : {X : Type 0} (read : List ℕ → Result X IoFault) (old new : StreamState)
     (fault : IoFault) → (fault ≡ BadLimit) ⊎ (fault ≡ ReadFailed) ⊎ (fault ≡ NoMemory)
-    → (fault ≡ BadLimit → IfSome known (λ bytes. most_bytes < length bytes))
-    → (fault ≡ ReadFailed → HasFailed reads reads_now)
-    → IsReadingCause (HasFault (unless_long read) known) reads reads_now fault
-unread read known reads reads_now fault (inl limit) long failed = record {
-  bad_input = λ _. subst (HasFault (unless_long read) known) (sym limit) (long_fault read known (long limit));
+    → (fault ≡ BadLimit → IfSome old.bytes (λ bytes. most_bytes < length bytes))
+    → (fault ≡ ReadFailed → HasFailed old.failures new.failures)
+    → IsReadingCause (HasFault (unless_long read)) old new fault
+unread_cause read old new fault (inl limit) long failed = record {
+  bad_input = λ _. subst (HasFault (unless_long read) old.bytes) (sym limit) (long_fault read old.bytes (long limit));
   read_failed = failed;
   no_writer = λ e. let same = sym limit ∙ e in absurd (cc);
 }
-unread read known reads reads_now fault (inr (inl broken)) long failed = record {
+unread_cause read old new fault (inr (inl broken)) long failed = record {
   bad_input = λ bad. absurd (no_read fault bad broken);
   read_failed = failed;
   no_writer = λ e. let same = sym broken ∙ e in absurd (cc);
 }
-unread read known reads reads_now fault (inr (inr memory)) long failed = own_fault memory
+unread_cause read old new fault (inr (inr memory)) long failed = own_cause memory
+
+-- a failed reader, or too little memory, may be explained by any words
+abbrev pub IsFree : Explanation → Type 0
+IsFree Tells = (fault : IoFault) → (fault ≡ ReadFailed) ⊎ (fault ≡ NoMemory) → (bytes words : List ℕ)
+    → Tells fault bytes words
+
+pub free_as : (kind : Kind) → IsFree (ExplainsAs kind)
+free_as kind fault (inl failed) bytes words = rw failed (inl tt)
+free_as kind fault (inr memory) bytes words = rw memory (inl tt)
+
+pub free_by_fields : IsFree ExplainsByFields
+free_by_fields fault (inl failed) bytes words = rw failed tt
+free_by_fields fault (inr memory) bytes words = rw memory tt
+
+unread_words : (Tells : Explanation) → IsFree Tells → (known : Option (List ℕ)) (fault : IoFault) (words : Option (String Global))
+    → (fault ≡ BadLimit) ⊎ (fault ≡ ReadFailed) ⊎ (fault ≡ NoMemory)
+    → (fault ≡ BadLimit → IfSome known (λ bytes. most_bytes < length bytes))
+    → IfSome words (λ said. ExplainsUnread fault (string_bytes said))
+    → IfSome words (λ said. ExplainsIn Tells known fault (string_bytes said))
+unread_words Tells free known fault None reading long h = tt
+unread_words Tells free None fault (Some said) reading long h = tt
+unread_words Tells free (Some bytes) fault (Some said) (inl limit) long h =
+    inr (limit, long limit, subst (λ f. ExplainsUnread f (string_bytes said)) limit h)
+unread_words Tells free (Some bytes) fault (Some said) (inr other) long h =
+    inl (free fault other bytes (string_bytes said))
+
+pub unread : {X : Type 0} (read : List ℕ → Result X IoFault) (Tells : Explanation) → IsFree Tells
+    → (old new : StreamState) (fault : IoFault) (failure : Failure) → failure.fault ≡ fault
+    → (fault ≡ BadLimit) ⊎ (fault ≡ ReadFailed) ⊎ (fault ≡ NoMemory)
+    → (fault ≡ BadLimit → IfSome old.bytes (λ bytes. most_bytes < length bytes))
+    → (fault ≡ ReadFailed → HasFailed old.failures new.failures)
+    → IfSome failure.words (λ words. ExplainsUnread fault (string_bytes words))
+    → FailsReading (HasFault (unless_long read)) Tells old new failure
+unread read Tells free old new fault failure same reading long failed words = record {
+  cause = subst (IsReadingCause (HasFault (unless_long read)) old new) (sym same)
+      (unread_cause read old new fault reading long failed);
+  words = subst (λ f. IfSome failure.words (λ said. ExplainsIn Tells old.bytes f (string_bytes said))) (sym same)
+      (unread_words Tells free old.bytes fault failure.words reading long words);
+}
+
+-- ---- all bytes were read
 
 pub flipped : (known : Option (List ℕ)) (bytes : List ℕ) → IfSome known (λ all. bytes ≡ all)
     → IfSome known (λ all. all ≡ bytes)
@@ -128,102 +182,64 @@ failing ReadFailed answer h = inr h
 failing WriteFailed answer h = inr h
 failing NoMemory answer h = inl refl
 
-pub bad_there : {Y : Type 0} (read : List ℕ → Result Y IoFault) (known : Option (List ℕ)) (bytes : List ℕ)
+bad_there : {Y : Type 0} (read : List ℕ → Result Y IoFault) (known : Option (List ℕ)) (bytes : List ℕ)
     (fault : IoFault) → IfSome known (λ all. bytes ≡ all) → unless_long read bytes ≡ Err fault
     → HasFault (unless_long read) known fault
 bad_there read None bytes fault same e = tt
 bad_there read (Some all) bytes fault same e = subst (λ input. unless_long read input ≡ Err fault) same e
 
+known_words : (Tells : Explanation) (known : Option (List ℕ)) (text : List ℕ) (fault : IoFault) (words : Option (String Global))
+    → IfSome known (λ all. all ≡ text) → IfSome words (λ said. Tells fault text (string_bytes said))
+    → IfSome words (λ said. ExplainsIn Tells known fault (string_bytes said))
+known_words Tells known text fault None same h = tt
+known_words Tells None text fault (Some said) same h = tt
+known_words Tells (Some all) text fault (Some said) same h =
+    inl (subst (λ bytes. Tells fault bytes (string_bytes said)) (sym same) h)
+
 -- a slice is as short as its vector
 pub short : (length_of most : ℕ) {n : ℕ} → n ≡ length_of → length_of ≤ most → n ≤ most
 short length_of most same few = omega (arith, same, few)
 
--- all bytes were read, which have these faults alone
-module _ {X Y : Type 0} (read : List ℕ → Result Y IoFault)
-    (bad : (bytes : List ℕ) (fault : IoFault) → read bytes ≡ Err fault → IsBadInput fault) (view : X → Y)
-    (known : Option (List ℕ)) (bytes text : List ℕ) (whole : IfSome known (λ all. bytes ≡ all))
+-- the bytes that were read have only these faults
+module _ {Y : Type 0} (read : List ℕ → Result Y IoFault)
+    (bad : (bytes : List ℕ) (fault : IoFault) → read bytes ≡ Err fault → IsBadInput fault)
+    (old : StreamState) (bytes text : List ℕ) (whole : IfSome old.bytes (λ all. bytes ≡ all))
     (fits : length text ≤ most_bytes) (is : text ≡ bytes) where
-  pub said : (r : Result X IoFault) → Gives (map_ok view r) (read text)
-      → IfOk r (λ x. Says (unless_long read) known (view x))
-  said (Ok x) gives =
-      (bytes, flipped known bytes whole, ap (unless_long read) (sym is) ∙ says_by_bytes read text fits ∙ gives)
-  said (Err fault) gives = tt
+  pub said : {X : Type 0} (view : X → Y) (r : Result X IoFault) → Gives (map_ok view r) (read text)
+      → IfOk r (λ x. Says (unless_long read) old.bytes (view x))
+  said view (Ok x) gives =
+      (bytes, flipped old.bytes bytes whole, ap (unless_long read) (sym is) ∙ says_by_bytes read text fits ∙ gives)
+  said view (Err fault) gives = tt
 
-  pub misread : (reads reads_now : ℕ) (r : Result X IoFault) → Gives (map_ok view r) (read text)
-      → IfErr r (IsReadingCause (HasFault (unless_long read) known) reads reads_now)
-  misread reads reads_now (Ok x) gives = tt
-  misread reads reads_now (Err fault) gives = elim (failing fault (read text) gives) [
-    | inl memory ↦ own_fault memory
-    | inr e ↦ record {
-      bad_input = λ _. bad_there read known bytes fault whole
-          (ap (unless_long read) (sym is) ∙ says_by_bytes read text fits ∙ e);
-      read_failed = λ broken. absurd (no_read fault (bad text fault e) broken);
-      no_writer = no_write fault (bad text fault e);
-    }
-  ]
+  misread_cause : (new : StreamState) (fault : IoFault) → (fault ≡ NoMemory) ⊎ (read text ≡ Err fault)
+      → IsReadingCause (HasFault (unless_long read)) old new fault
+  misread_cause new fault (inl memory) = own_cause memory
+  misread_cause new fault (inr e) = record {
+    bad_input = λ _. bad_there read old.bytes bytes fault whole
+        (ap (unless_long read) (sym is) ∙ says_by_bytes read text fits ∙ e);
+    read_failed = λ broken. absurd (no_read fault (bad text fault e) broken);
+    no_writer = no_write fault (bad text fault e);
+  }
 
--- ---- writing
+  same_text : (known : Option (List ℕ)) → IfSome known (λ all. bytes ≡ all) → IfSome known (λ all. all ≡ text)
+  same_text None whole = tt
+  same_text (Some all) whole = sym (is ∙ whole)
 
-keeps : (known : Option (List ℕ)) → Keeps known known
-keeps None = tt
-keeps (Some bytes) = refl
+  pub misread : (Tells : Explanation) (new : StreamState) (failure : Failure)
+      → (failure.fault ≡ NoMemory) ⊎ (read text ≡ Err failure.fault)
+      → IfSome failure.words (λ words. Tells failure.fault text (string_bytes words))
+      → FailsReading (HasFault (unless_long read)) Tells old new failure
+  misread Tells new failure fails words = record {
+    cause = misread_cause new failure.fault fails;
+    words = known_words Tells old.bytes text failure.fault failure.words (same_text old.bytes whole) words;
+  }
 
--- the fault came before anything was written
-pub unwritten : {F : IoFault → Type 0} {P : List ℕ → Type 0} {reads reads_now writes writes_now : ℕ}
-    {contents : Option (List ℕ)} {fault : IoFault} → IsReadingCause F reads reads_now fault
-    → IsCause F P (record {
-      failed_reads = reads;
-      failed_reads_now = reads_now;
-      failed_writes = writes;
-      failed_writes_now = writes_now;
-      written = contents;
-      written_now = contents;
-    }) fault
-unwritten {F} {P} {reads} {reads_now} {writes} {writes_now} {contents} {fault} h = record {
-  bad_input = h.bad_input;
-  read_failed = h.read_failed;
-  write_failed = λ e. absurd (h.no_writer e);
-  front = λ e. absurd (h.no_writer e);
-  nothing = λ _. keeps contents;
-}
-
--- once there is a text, only its writing may fail
-pub unwritable : (F : IoFault → Type 0) (P : List ℕ → Type 0) (x : StreamChanges) {T : Type 0} (r : Result T IoFault)
-    (made text : List ℕ) → P made → text ≡ made → WritesFront x.written x.written_now text
-    → IfErr r (λ fault. fault ≡ WriteFailed) → OnErr r (HasFailed x.failed_writes x.failed_writes_now)
-    → IfErr r (IsCause F P x)
-unwritable F P x (Ok done) made text is same front only failed = tt
-unwritable F P x (Err fault) made text is same front only failed = record {
-  bad_input = λ bad. absurd (no_write fault bad only);
-  read_failed = λ e. let other = sym only ∙ e in absurd (cc);
-  write_failed = λ _. failed;
-  front = λ _. (text, subst P (sym same) is, front);
-  nothing = λ other. absurd (other only);
-}
-
-pub written : (P : List ℕ → Type 0) (old new : Option (List ℕ)) {T E : Type 0} (r : Result T E) (made text : List ℕ)
-    → P made → text ≡ made → OnOk r (Appends old new text)
-    → OnOk r ((whole : List ℕ) × P whole × Appends old new whole)
-written P old new (Ok x) made text is same h = (text, subst P (sym same) is, h)
-written P old new (Err fault) made text is same h = tt
-
--- ---- a check
-
--- the line of a check that a scenario's servers and events make
-pub made : (text_of : Membership → List Event → List ℕ) (known : Option (List ℕ)) (said_there : Scenario (List Event)) (text : List ℕ)
-    → Says (unless_long scenario) known said_there → text ≡ text_of said_there.members said_there.course
-    → IsMadeOf text_of known text
-made text_of known said_there text says is = record { written = said_there; says = says; is = is }
-
--- what holds of the fault holds of what was found
-pub at_finding : {T : Type 0} (r : Result T Finding) (fault : IoFault) (P : IoFault → Type 0)
-    → IsErrAnd r (λ found. (found.fault ≡ fault) × (found.words ≡ None)) → P fault → IfErr r (λ found. P found.fault)
-at_finding r fault P is h = let failed = err_from_is_err_and r is in rw (failed.1, failed.2.0) h
-
--- ---- a run
-
--- what holds of all that is found holds of what a run found
-pub also_found : {P Q : Finding → Type 0} (run : RunFinding) → ((found : Finding) → P found → Q found) → IfFound P run
-    → IfFound Q run
-also_found (at.Found found) also h = also found h
-also_found at.BoardFailed also h = tt
+  -- a failure with the fault of the answer
+  pub misread_with : (Tells : Explanation) (new : StreamState) (fault : IoFault) (failure : Failure)
+      → failure.fault ≡ fault → FailsBy fault (read text)
+      → IfSome failure.words (λ words. Tells fault text (string_bytes words))
+      → FailsReading (HasFault (unless_long read)) Tells old new failure
+  misread_with Tells new fault failure same fails words =
+      misread Tells new failure
+      (subst (λ f. (f ≡ NoMemory) ⊎ (read text ≡ Err f)) (sym same) (failing fault (read text) fails))
+      (subst (λ f. IfSome failure.words (λ said. Tells f text (string_bytes said))) (sym same) words)

@@ -4,7 +4,7 @@ use Rattle.std.specs.Prelude.{◌&&◌}
 use Rattle.std.specs.Option.{option_map_or}
 use Rattle.serde_json.specs.Data.{Data}
 use Rattle.serde_json.specs.Find.{get}
-use Rattle.mencius_ends.specs.declared.fault.IoFault.TheVariants.{BadShape, NotJson}
+use Rattle.mencius_io.specs.declared.fault.IoFault.TheVariants.{BadShape, NotJson}
 use Rattle.mencius_input.specs.declared.kind.Kind.{Kind}
 use Rattle.mencius_input.specs.declared.kind.Kind.TheVariants.{Replay, Run}
 use Rattle.mencius_format.specs.ValuesOrFaults.{value_or_fault}

@@ -1,11 +1,12 @@
--- A text that is written behind another.
+-- A text that is written after another one.
 use Rattle.std.proofs.Common.{◌≡◌, ◌⊎◌, inl, inr, ℕ, ◌+◌, ◌^◌, ◌<◌, ◌≤◌, List, ◌++◌, Option, length, take, arith, subst, sym}
-use Rattle.std.specs.Prelude.{Result, Ok, Err, OnErr}
+use Rattle.std.specs.Prelude.{Result, Ok, Err, OnErr, OnOk}
 use Rattle.std.specs.Io.KnownBytes.{Appends}
 use Rattle.std.proofs.KnownBytes.{Appends-trans}
 use Rattle.std.proofs.Math.Seq.{take-append-add}
 use Rattle.std.proofs.lemmas.List.{length-append}
-use Rattle.mencius_ends.specs.Ends.{HasFailed, WritesFront, most_failures}
+use Rattle.mencius_io.specs.Streams.{HasFailed, StreamState, WritesFront, most_failures}
+use Rattle.mencius_app.specs.Calls.{WritesOrFails}
 
 -- a front of the second text, behind the first
 pub front_behind : (old mid new : Option (List ℕ)) (xs ys : List ℕ) → Appends old mid xs → WritesFront mid new ys
@@ -27,8 +28,9 @@ pub on_err_also : {T F : Type 0} (r : Result T F) (P Q : Type 0) → (P → Q) �
 on_err_also (Ok x) P Q also h = h
 on_err_also (Err e) P Q also h = also h
 
--- the same lines, by another name
-pub same_lines : (old new : Option (List ℕ)) (failed failed_now : ℕ) (xs ys : List ℕ) → xs ≡ ys
-    → Appends old new xs ⊎ HasFailed failed failed_now
-    → Appends old new ys ⊎ HasFailed failed failed_now
-same_lines old new failed failed_now xs ys e h = subst (λ text. Appends old new text ⊎ HasFailed failed failed_now) e h
+-- what writing a text came to
+pub write_result : {T F : Type 0} (r : Result T F) (old new : StreamState) (text shown : List ℕ) → text ≡ shown
+    → OnOk r (Appends old.bytes new.bytes text) → WritesFront old.bytes new.bytes text
+    → OnErr r (HasFailed old.failures new.failures) → WritesOrFails old new shown
+write_result (Ok x) old new text shown same whole front failed = subst (WritesOrFails old new) same (front, inl whole)
+write_result (Err e) old new text shown same whole front failed = subst (WritesOrFails old new) same (front, inr failed)

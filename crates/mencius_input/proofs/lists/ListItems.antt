@@ -10,8 +10,8 @@ use Rattle.std.proofs.lemmas.List.Folds.{list_all-append}
 use Rattle.json.specs.Json.{after_end_array}
 use Rattle.json.specs.Token.{Token}
 use Rattle.serde_json.specs.Data.{Data, Items, no_items}
-use Rattle.mencius_ends.specs.declared.fault.IoFault.{IoFault}
-use Rattle.mencius_ends.specs.declared.fault.IoFault.TheVariants.{BadLimit, BadShape}
+use Rattle.mencius_io.specs.declared.fault.IoFault.{IoFault}
+use Rattle.mencius_io.specs.declared.fault.IoFault.TheVariants.{BadLimit, BadShape}
 use Rattle.mencius_format.specs.ValuesOrFaults.{map_ok, value_or_fault}
 use Rattle.mencius_input.specs.Newest.{items_version}
 use Rattle.mencius_format.specs.Versions.{first_version}

@@ -11,8 +11,8 @@ use Rattle.serde_json.specs.Read.{read}
 use Rattle.mencius_base.specs.Members.{Membership}
 use Rattle.mencius_base.specs.Plan.{PlanState, plan_of}
 use Rattle.mencius_base.specs.CommandState.{CommandState}
-use Rattle.mencius_ends.specs.declared.fault.IoFault.{IoFault}
-use Rattle.mencius_ends.specs.declared.fault.IoFault.TheVariants.{BadLimit, BadShape, NotJson}
+use Rattle.mencius_io.specs.declared.fault.IoFault.{IoFault}
+use Rattle.mencius_io.specs.declared.fault.IoFault.TheVariants.{BadLimit, BadShape, NotJson}
 use Rattle.mencius_format.specs.Grammar.{is_command_within, is_event_within}
 use Rattle.mencius_format.specs.ValuesOrFaults.{value_or_fault}
 use Rattle.mencius_input.specs.declared.field.Field.{Field}

@@ -9,8 +9,8 @@ use Rattle.serde_json.specs.Events.{items_len}
 use Rattle.serde_json.specs.Find.{as_array, get_member}
 use Rattle.mencius_base.specs.CommandState.{CommandState}
 use Rattle.mencius_base.specs.declared.event.Event.{Event}
-use Rattle.mencius_ends.specs.declared.fault.IoFault.{IoFault}
-use Rattle.mencius_ends.specs.declared.fault.IoFault.TheVariants.{BadLimit, BadShape}
+use Rattle.mencius_io.specs.declared.fault.IoFault.{IoFault}
+use Rattle.mencius_io.specs.declared.fault.IoFault.TheVariants.{BadLimit, BadShape}
 use Rattle.mencius_format.specs.Grammar.{command_of, is_command_within, event_of, is_event_within, newest_version}
 use Rattle.mencius_format.specs.ValuesOrFaults.{value_or_fault}
 use Rattle.mencius_input.specs.declared.field.Field.{Field}

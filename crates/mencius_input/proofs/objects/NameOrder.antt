@@ -13,7 +13,7 @@ use Rattle.serde_json.specs.Data.{Data, Items, Members, Num, no_members, put}
 use Rattle.serde_json.specs.Find.{as_object}
 use Rattle.serde_json.specs.Read.{converted, number_of, of_items, of_json, of_members, read}
 use Rattle.mencius_json.specs.Next.{next_value}
-use Rattle.mencius_ends.specs.declared.fault.IoFault.{IoFault}
+use Rattle.mencius_io.specs.declared.fault.IoFault.{IoFault}
 use Rattle.mencius_input.specs.declared.kind.Kind.{Kind}
 use Rattle.mencius_input.specs.Places.{field_place, first_in, names_in, names_of, names_read}
 

@@ -8,7 +8,7 @@ use Rattle.serde_json.specs.Find.{as_array, get_member}
 use Rattle.mencius_base.specs.Limits.{most_servers}
 use Rattle.mencius_base.specs.Plan.{PlanState, plan_of}
 use Rattle.mencius_base.specs.CommandState.{CommandState}
-use Rattle.mencius_ends.specs.declared.fault.IoFault.TheVariants.{BadLimit}
+use Rattle.mencius_io.specs.declared.fault.IoFault.TheVariants.{BadLimit}
 use Rattle.mencius_format.specs.Grammar.{is_command_within}
 use Rattle.mencius_format.specs.ValuesOrFaults.{value_or_fault}
 use Rattle.mencius_input.specs.declared.field.Field.TheVariants.{Workers, Seed, Turns, Loss}

@@ -4,7 +4,8 @@ use super::Parts;
 use super::same::first_difference;
 use crate::watched::{Call, Stop};
 use mencius_base::{Event, Refusal};
-use mencius_input::{Events, Sink, read_scenario, write_all};
+use mencius_input::{Events, read_scenario};
+use mencius_io::{Sink, write_all};
 use std::alloc::Global;
 
 impl Parts {

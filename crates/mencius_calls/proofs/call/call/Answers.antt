@@ -27,10 +27,11 @@ returns c =
     (subst (λ a. IsCall a rest (status_of_ending performed.result) out err is_asked) args_is (
       performed.result,
       refl,
-      call_ended args rest before out err_0 err_1 err c.new-sink.result.failures performed.new.sink.failures
-          c.new-errors.result.failures performed.new.errors.failures is_asked performed.result
-          c.new-sink.ensures.bytes c.new-errors.ensures.bytes c.new-sink.ensures.none none still refl
-          (λ e. ap (λ source. source.is_asked) e ∙ c.new-source.ensures.unread) (ap (λ sink. sink.bytes.items))
-          (ap (λ errors. errors.bytes.items)) performed.ensures.written performed.ensures.refused
-          performed.ensures.fault performed.ensures.board,
+      call_ended args rest performed.new.source.rest.now before out err_0 err_1 err c.new-sink.result.failures
+          performed.new.sink.failures c.new-errors.result.failures performed.new.errors.failures is_asked
+          performed.result c.new-sink.ensures.bytes c.new-errors.ensures.bytes c.new-sink.ensures.none none still refl
+          performed.ensures.call performed.ensures.no_board
+          (λ e. ap (λ source. source.is_asked) (performed.ensures.unread e) ∙ c.new-source.ensures.unread)
+          (λ e. ap (λ sink. sink.bytes.items) (performed.ensures.unwritten e)) performed.ensures.complaint
+          (λ e. ap (λ errors. errors.bytes.items) (performed.ensures.quiet e)),
     )))

@@ -1,6 +1,6 @@
 use Rattle.std.proofs.Common.{IfOk, Some, ap, cond, subst, sym, ◌≡◌, ◌∙◌}
 use Rattle.serde_json.specs.View.{view}
-use Rattle.mencius_ends.specs.declared.fault.IoFault.TheVariants.{BadShape}
+use Rattle.mencius_io.specs.declared.fault.IoFault.TheVariants.{BadShape}
 use Rattle.mencius_format.specs.Grammar.{newest_version}
 use Rattle.mencius_input.specs.Places.{item_fault}
 use Rattle.mencius_input.proofs.mistakes.FaultPlaces.{item_fault_in}

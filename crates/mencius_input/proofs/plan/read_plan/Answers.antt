@@ -1,6 +1,6 @@
 use Rattle.std.proofs.Common.{Err, ap, sym, ◌∙◌}
 use Rattle.std.specs.Option.{option_map_or}
-use Rattle.mencius_ends.specs.declared.fault.IoFault.TheVariants.{NotJson}
+use Rattle.mencius_io.specs.declared.fault.IoFault.TheVariants.{NotJson}
 use Rattle.mencius_format.specs.ValuesOrFaults.{value_or_fault}
 use Rattle.mencius_format.proofs.ValuesOfParts.{given, passed_on}
 use Rattle.mencius_input.specs.declared.kind.Kind.TheVariants.{Run}

@@ -1,0 +1,48 @@
+use Rattle.std.proofs.Common.{◌≡◌, ◌∙◌, inr, refl, sym, true}
+use Rattle.clap.specs.Words.{kind_of}
+use Rattle.mencius_command_line.specs.CommandLine.{are_texts, bytes_of, task_state}
+use Rattle.mencius_app.specs.Calls.{AsksFor}
+use Rattle.mencius_app.specs.Tasks.{streams}
+use Rattle.mencius_app.proofs.inputs.ArgumentAnswers.{answered}
+use Rattle.mencius_app.proofs.inputs.TaskEnds.{call_ended, call_reads, ended_also, run_also}
+use Rattle.mencius_app.proofs.call.begin.Goals as goal
+
+pub returns-in-Ok : goal.returns-in-Ok
+returns-in-Ok g c =
+    let arguments = bytes_of c.args.arguments.now in
+    let task = task_state c.in-Ok.task in
+    let texts : are_texts arguments ≡ true = cc in
+    let asks : AsksFor arguments task = (texts, c.in-Ok.ensures.faults, sym c.in-Ok.ensures.task) in
+    let begun = c.begin_task.result in
+    let h = c.begin_task.ensures in
+    let s = streams (g.R.Source.state c.args.source.now) (g.R.Source.state c.begin_task.new.source)
+    (g.W.Sink.state c.args.sink.now) (g.W.Sink.state c.begin_task.new.sink) in
+    record {
+      call = ended_also begun _ _ (call_ended arguments task asks s) h.ended;
+      no_board = h.no_board;
+      unread = ended_also begun _ _ (λ ending is unread. absurd (call_reads arguments task asks ending is.not_refused unread))
+          h.ended;
+      unwritten = ended_also begun _ _ (λ ending is refused. absurd (is.not_refused refused)) h.ended;
+      complaint = ended_also begun _ _ (λ ending is refused. absurd (is.not_refused refused)) h.ended;
+      quiet = ended_also begun _ _ (λ ending is _. refl) h.ended;
+      run = run_also begun _ _ (λ options is. ((texts, c.in-Ok.ensures.faults, sym c.in-Ok.ensures.task ∙ is.0), is.1, is.2, refl))
+          h.run;
+    }
+
+pub returns-in-Err : goal.returns-in-Err
+returns-in-Err g c =
+    let arguments = bytes_of c.args.arguments.now in
+    let texts : are_texts arguments ≡ true = cc in
+    let answer = c.answer_command_line in
+    let h = answer.ensures in
+    record {
+      call = answered g.W.Sink.state arguments (kind_of c.in-Err.error) (g.R.Source.state c.args.source.now)
+          c.args.sink.now answer.new.sink answer.result c.in-Err.ensures.faults texts h.done h.plain.0 h.plain.1
+          h.misused h.fault h.tried;
+      no_board = h.plain.1;
+      unread = λ _. refl;
+      unwritten = λ refused. (h.misused refused).2;
+      complaint = λ refused. let told = h.complaint refused in (told.0, inr (texts, told.1), told.2);
+      quiet = h.quiet;
+      run = tt;
+    }

@@ -1,0 +1,24 @@
+use Rattle.std.proofs.Common.{◌≡◌, ◌++◌, ap, ◌∙◌, append-nil, arith, string_bytes, sym}
+use Rattle.std.specs.List.{flat_map, range_with_len}
+use Rattle.mencius_base.specs.Members.{numbers_below}
+use Rattle.mencius_app.specs.States.{server_state}
+use Rattle.mencius_cluster.specs.State.{trace_of}
+use Rattle.mencius_trace.proofs.TextLoops.{texts_further}
+use Rattle.mencius_app.proofs.states.push_states.Goals as goal
+
+pub loop-server-preserved : goal.loop-server-preserved
+loop-server-preserved c =
+    texts_further (server_state c.args.cluster.now.members (trace_of c.args.cluster.now)) c.loop-server.server _ _ _
+    c.loop-server.invariant c.in_ok-push_server_state.ensures
+
+pub loop-server-init : goal.loop-server-init
+loop-server-init c = sym (append-nil _)
+
+pub returns : goal.returns
+unfolding numbers_below
+returns c =
+    let line = server_state c.args.cluster.now.members (trace_of c.args.cluster.now) in
+    let all : c.loop-server.server ≡ c.args.cluster.now.members.count =
+    omega (arith, c.loop-server-test.false, c.loop-server.auto.server-end, c.servers-server-end.ensures.count) in
+    c.loop-server.invariant
+    ∙ ap (λ n. string_bytes c.args.text.now ++ flat_map line (range_with_len 0 n)) all

@@ -1,0 +1,10 @@
+use Rattle.std.proofs.Common.{◌≡◌, ◌++◌, string_bytes}
+use Rattle.std.specs.List.{flat_map, range_with_len}
+use Rattle.mencius_app.specs.States.{server_state}
+use Rattle.mencius_cluster.specs.State.{trace_of}
+use Rattle.mencius_app.proofs.states.push_states.Given as goal
+
+abbrev pub invariant-loop-server : goal.invariant-loop-server
+invariant-loop-server l =
+    string_bytes l.text ≡ string_bytes l.initial.text
+    ++ flat_map (server_state l.cluster.members (trace_of l.cluster)) (range_with_len 0 l.server)

@@ -1,0 +1,66 @@
+-- The words of a failure: which fault of which bytes they explain.
+use Rattle.std.specs.Prelude.{ℕ, ◌≡◌, ◌⊎◌, ◌<◌, List, codes, length, Option, IfSome, Ok, string_bytes}
+use Rattle.mencius_io.specs.Streams.{StreamState, most_bytes}
+use Rattle.mencius_io.specs.declared.failure.Failure.{Failure}
+use Rattle.mencius_io.specs.declared.fault.IoFault.{IoFault}
+use Rattle.mencius_io.specs.declared.fault.IoFault.TheVariants.{BadLimit}
+use Rattle.mencius_input.specs.declared.kind.Kind.{Kind}
+use Rattle.mencius_input.specs.declared.kind.Kind.TheVariants.{Replay, Run}
+use Rattle.mencius_input.specs.Kinds.{kind_in}
+use Rattle.mencius_input.specs.Explanations.{Explains, too_long_words}
+use Rattle.mencius_input.specs.Plan.{plan}
+use Rattle.mencius_input.specs.Scenario.{scenario}
+use Rattle.mencius_app.specs.Tasks.{IsCause, IsReadingCause, Streams, Task}
+use Rattle.mencius_input.specs.declared.scenario.Scenario.{Scenario}
+use Rattle.mencius_base.specs.declared.event.Event.{Event}
+use Rattle.mencius_base.specs.Plan.{PlanState}
+
+-- ---- what may be said of a fault that bytes have
+
+-- the words that may explain a fault of these bytes
+abbrev pub Explanation : Type 1
+Explanation = IoFault → List ℕ → List ℕ → Type 0
+
+-- the bytes are not a scenario of this kind, but one of the other
+abbrev pub IsOtherKind : Kind → List ℕ → Type 0
+IsOtherKind Replay bytes = (written : Scenario PlanState) × (plan bytes ≡ Ok written)
+IsOtherKind Run bytes = (written : Scenario (List Event)) × (scenario bytes ≡ Ok written)
+
+abbrev pub other_kind_words : Kind → List ℕ
+other_kind_words Replay = codes "this is a scenario of a run: `mencius run` takes it"
+other_kind_words Run = codes "this is a scenario of events: `mencius replay` takes it"
+
+-- a task that takes only this kind says where the fault is, or that the scenario is of the other kind
+abbrev pub ExplainsAs : Kind → Explanation
+ExplainsAs kind fault bytes words =
+    Explains kind fault bytes words ⊎ (IsOtherKind kind bytes × (words ≡ other_kind_words kind))
+
+-- a check takes both kinds, and goes by the fields
+abbrev pub ExplainsByFields : Explanation
+ExplainsByFields fault bytes words = Explains (kind_in bytes) fault bytes words
+
+-- every task says of too many bytes that they are too many
+abbrev pub IsTooLong : Explanation
+IsTooLong fault bytes words = (fault ≡ BadLimit) × (most_bytes < length bytes) × (words ≡ too_long_words)
+
+-- ---- the words of a failure
+
+-- the words explain the fault in all that a reader has, if that is known
+abbrev pub ExplainsIn : Explanation → Option (List ℕ) → IoFault → List ℕ → Type 0
+ExplainsIn Tells known fault words = IfSome known (λ bytes. Tells fault bytes words ⊎ IsTooLong fault bytes words)
+
+-- the words of the failure, if there are any, explain its fault
+abbrev pub IsExplained : Explanation → Option (List ℕ) → Failure → Type 0
+IsExplained Tells known failure =
+    IfSome failure.words (λ words. ExplainsIn Tells known failure.fault (string_bytes words))
+
+-- why a task made no text, and which words explain it
+pub record FailsReading (IsBadInput : Option (List ℕ) → IoFault → Type 0) (Tells : Explanation) (old new : StreamState)
+    (failure : Failure) : Type 0 where
+  pub cause : IsReadingCause IsBadInput old new failure.fault
+  pub words : IsExplained Tells old.bytes failure
+
+-- why a task failed, and which words explain it
+pub record Fails (t : Task) (Tells : Explanation) (s : Streams) (failure : Failure) : Type 0 where
+  pub cause : IsCause t s failure.fault
+  pub words : IsExplained Tells s.reader.bytes failure

@@ -1,0 +1,208 @@
+//! A call of the program, from its arguments to its ending.
+
+ghost use Rattle.std.specs.Prelude.{◌≡◌, ◌≢◌, ◌⊎◌, Some, IfErr, IfOk, IfSome, OnOk, Ok, Err, true, false};
+ghost use Rattle.mencius_command_line.specs.CommandLine.{bytes_of, task_state};
+ghost use Rattle.mencius_app.specs.Calls.{AsksFor, Complains, IfEnded, IfRun, EndsCall, EndsTask, IsUnread, task_with};
+ghost use Rattle.mencius_app.specs.Tasks.{streams};
+
+use crate::checks::read_check;
+use crate::ending::{Ending, ending_of, ending_of_run};
+use crate::judgements::read_judgement;
+use crate::no_task::{NOT_TEXT, answer_command_line};
+use crate::output::deliver;
+use crate::pictures::read_picture;
+use crate::replays::read_replay;
+use crate::runs::run_explained;
+use crate::traces::read_trace;
+use crate::turns::read_turns;
+use mencius_board::Open;
+use mencius_command_line::{Task, are_texts, read_arguments};
+use mencius_io::{Sink, Source, write_all};
+use std::alloc::Global;
+use std::sync::Wait;
+use std::thread::Threads;
+
+/// How far a call came without a run.
+#[derive(Drop)]
+pub(crate) enum Begun {
+    /// It has ended.
+    Ended(Ending),
+    /// Its run is left to do.
+    Run(RunOptions),
+}
+
+/// The options of a run.
+#[derive(Drop)]
+pub(crate) struct RunOptions {
+    /// Whether the journal's line comes first.
+    pub with_journal: bool,
+    /// Whether the observations of the servers replace the report.
+    pub with_observations: bool,
+    /// The key to look up, if there is one.
+    pub key: Option<String>,
+}
+
+/// Does what the arguments after the program's name ask for. It does a [`replay`](crate::replay), a
+/// [`trace`](crate::trace), a picture ([`draw`](crate::draw)), a [`check`](crate::check) or a [`run`](crate::run) of
+/// the scenario in `source`, or judges the log in it ([`judge`](crate::judge)), and writes the text to `sink`. Help and
+/// the version go there too. If the arguments are wrong, for example because one is not UTF-8, it reads nothing and
+/// writes the reason to `errors`. Otherwise it writes nothing to `errors`: [`end`](crate::end) reports a fault. The
+/// arguments are without the program's own name.
+///
+/// It ends with `Done` only after it has written the whole text, and with `Refused` in its place if a strict replay
+/// had refused events or the log breaks a promise. Only a run waits for threads.
+pub fn perform<R: Source, W: Sink, E: Sink, T: Threads + Wait + Sync>(
+    rt: &T,
+    alloc: Global,
+    arguments: &[Vec<u8>],
+    source: &mut R,
+    sink: &mut W,
+    errors: &mut E,
+) -> Ending
+    ensures call { EndsCall (bytes_of arguments.now) (streams (R.state source.old) (R.state source.new)
+        (W.state sink.old) (W.state sink.new)) result }
+    ensures unread { IsUnread (bytes_of arguments.now) result → source.new ≡ source.old }
+    ensures unwritten { (result ≡ Ending.BadCommandLine) ⊎ (result ≡ Ending.BoardFailed)
+        → sink.new ≡ sink.old }
+    ensures complaint { result ≡ Ending.BadCommandLine
+        → Complains (bytes_of arguments.now) (E.state errors.old) (E.state errors.new) }
+    ensures quiet { result ≢ Ending.BadCommandLine → errors.new ≡ errors.old }
+{
+    match begin(alloc, arguments, source, sink, errors) {
+        Begun::Ended(ending) => ending,
+        Begun::Run(options) => perform_run(rt, alloc, &options, source, sink),
+    }
+}
+
+/// Does what [`perform`] does, and starts no thread: a run is one of [`run_in_turns`](crate::run_in_turns). It waits for
+/// nobody, and has no board that could fail.
+pub fn perform_in_turns<R: Source, W: Sink, E: Sink>(
+    alloc: Global,
+    arguments: &[Vec<u8>],
+    source: &mut R,
+    sink: &mut W,
+    errors: &mut E,
+) -> Ending
+    ensures call { EndsCall (bytes_of arguments.now) (streams (R.state source.old) (R.state source.new)
+        (W.state sink.old) (W.state sink.new)) result }
+    ensures no_board { result ≢ Ending.BoardFailed }
+    ensures unread { IsUnread (bytes_of arguments.now) result → source.new ≡ source.old }
+    ensures unwritten { result ≡ Ending.BadCommandLine → sink.new ≡ sink.old }
+    ensures complaint { result ≡ Ending.BadCommandLine
+        → Complains (bytes_of arguments.now) (E.state errors.old) (E.state errors.new) }
+    ensures quiet { result ≢ Ending.BadCommandLine → errors.new ≡ errors.old }
+{
+    match begin(alloc, arguments, source, sink, errors) {
+        Begun::Ended(ending) => ending,
+        Begun::Run(options) => perform_run_in_turns(alloc, &options, source, sink),
+    }
+}
+
+// Does everything that the arguments ask for but a run: nothing was read or written for that.
+fn begin<R: Source, W: Sink, E: Sink>(
+    alloc: Global,
+    arguments: &[Vec<u8>],
+    source: &mut R,
+    sink: &mut W,
+    errors: &mut E,
+) -> Begun
+    ensures call { IfEnded (EndsCall (bytes_of arguments.now) (streams (R.state source.old) (R.state source.new)
+        (W.state sink.old) (W.state sink.new))) result }
+    ensures no_board { IfEnded (λ ending. ending ≢ Ending.BoardFailed) result }
+    ensures unread { IfEnded (λ ending. IsUnread (bytes_of arguments.now) ending
+        → source.new ≡ source.old) result }
+    ensures unwritten { IfEnded (λ ending. ending ≡ Ending.BadCommandLine
+        → sink.new ≡ sink.old) result }
+    ensures complaint { IfEnded (λ ending. ending ≡ Ending.BadCommandLine
+        → Complains (bytes_of arguments.now) (E.state errors.old) (E.state errors.new)) result }
+    ensures quiet { IfEnded (λ ending. ending ≢ Ending.BadCommandLine
+        → errors.new ≡ errors.old) result }
+    ensures run { IfRun (λ options. AsksFor (bytes_of arguments.now) (task_with options)
+        × (source.new ≡ source.old) × (sink.new ≡ sink.old) × (errors.new ≡ errors.old)) result }
+{
+    if !are_texts(arguments) {
+        // There is nobody left to tell if standard error fails.
+        let _ = write_all(errors, NOT_TEXT.as_bytes());
+        return Begun::Ended(Ending::BadCommandLine);
+    }
+    match read_arguments(alloc, arguments) {
+        Ok(task) => begin_task(alloc, task, source, sink),
+        Err(error) => Begun::Ended(answer_command_line(alloc, arguments, &error, sink, errors)),
+    }
+}
+
+// Does a task, if it is not a run.
+fn begin_task<R: Source, W: Sink>(alloc: Global, task: Task, source: &mut R, sink: &mut W) -> Begun
+    ensures ended { IfEnded (EndsTask (task_state task) (streams (R.state source.old) (R.state source.new)
+        (W.state sink.old) (W.state sink.new))) result }
+    ensures no_board { IfEnded (λ ending. ending ≢ Ending.BoardFailed) result }
+    ensures run { IfRun (λ options. (task_state task ≡ task_with options)
+        × (source.new ≡ source.old) × (sink.new ≡ sink.old)) result }
+{
+    let (made, is_reported) = match task {
+        Task::Replay { is_strict } => (read_replay(alloc, source), is_strict),
+        Task::Trace => (read_trace(alloc, source), false),
+        Task::Draw(options) => (read_picture(alloc, source, &options), false),
+        Task::Check => (read_check(alloc, source), false),
+        Task::Judge => (read_judgement(alloc, source), true),
+        Task::Run {
+            with_journal,
+            with_observations,
+            key,
+        } => {
+            return Begun::Run(RunOptions {
+                with_journal,
+                with_observations,
+                key,
+            });
+        }
+    };
+    Begun::Ended(ending_of(is_reported, deliver(sink, made)))
+}
+
+// Does a run. Only this waits for threads.
+fn perform_run<R: Source, W: Sink, T: Threads + Wait + Sync>(
+    rt: &T,
+    alloc: Global,
+    options: &RunOptions,
+    source: &mut R,
+    sink: &mut W,
+) -> Ending
+    ensures ended { EndsTask (task_with options.now) (streams (R.state source.old) (R.state source.new)
+        (W.state sink.old) (W.state sink.new)) result }
+    ensures board { result ≡ Ending.BoardFailed → sink.new ≡ sink.old }
+{
+    let key = options.key.as_deref();
+    ending_of_run(run_explained(
+        rt,
+        alloc,
+        source,
+        sink,
+        &Open,
+        options.with_journal,
+        options.with_observations,
+        key,
+    ))
+}
+
+// Does a run whose workers take turns.
+fn perform_run_in_turns<R: Source, W: Sink>(
+    alloc: Global,
+    options: &RunOptions,
+    source: &mut R,
+    sink: &mut W,
+) -> Ending
+    ensures ended { EndsTask (task_with options.now) (streams (R.state source.old) (R.state source.new)
+        (W.state sink.old) (W.state sink.new)) result }
+    ensures no_board { result ≢ Ending.BoardFailed }
+{
+    let key = options.key.as_deref();
+    let made = read_turns(
+        alloc,
+        source,
+        options.with_journal,
+        options.with_observations,
+        key,
+    );
+    ending_of(false, deliver(sink, made))
+}
