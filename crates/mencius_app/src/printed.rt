@@ -76,8 +76,8 @@ pub(crate) fn push_server(
     ensures { OnOk result (string_bytes text.new
         ≡ string_bytes text.old ++ server_line cluster.now.members (trace_of cluster.now) server) }
 {
-    laws::once();
-    cluster.replays();
+    laws::once(); // proof: a history has each command once
+    cluster.replays(); // proof: the journal replays to the trace
     let Some(front) = cluster.front(server) else {
         unreachable!();
     };

@@ -78,9 +78,9 @@ impl Board {
         ensures err { IfErr result (λ f. f ≡ NoMemory) }
     {
         // What every cluster promises: the board's type keeps it from here on.
-        laws::growth();
+        laws::growth(); // proof: histories only grow
         cluster.servers();
-        cluster.replays();
+        cluster.replays(); // proof: the journal replays to the trace
         let log = ShownLog::new();
         let opening = log.mark();
         let writer = open_writer(rt, alloc, &opening, readers)?;

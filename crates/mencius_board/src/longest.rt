@@ -13,10 +13,10 @@ pub fn copy_longest(alloc: Global, cluster: &Cluster) -> Result<Vec<Command>, No
     ensures list { IfOk result (λ x. x.items ≡ longest_of cluster.now) }
     ensures limit { IfOk result (λ x. length x.items < 2 ^ 32) }
 {
-    laws::once();
-    cluster.replays();
+    laws::once(); // proof: a history has each command once
+    cluster.replays(); // proof: the journal replays to the trace
     let server = cluster.longest();
-    let _done = cluster.done(server).unwrap();
+    let _within_limit = cluster.done(server).unwrap(); // proof: the history's length fits in 32 bits
     let tickets = cluster.history(server).unwrap();
     let mut list = Vec::with_capacity(alloc, tickets.len())?;
     for ticket in tickets {

@@ -50,16 +50,16 @@ pub fn note_across(
     ensures refusal { IfErr result (IsRefusalAcross cluster.old cluster.new server other) }
 {
     // The laws, and `replays` below, are called for their promises alone.
-    laws::agreement();
-    laws::growth();
+    laws::agreement(); // proof: histories agree
+    laws::growth(); // proof: histories only grow
     let servers = cluster.servers();
     if server >= servers || other >= servers {
         return Err(Refusal::BadServer);
     }
-    cluster.replays();
+    cluster.replays(); // proof: the journal replays to the trace
     let earlier = cluster.history(server).unwrap().to_vec(alloc)?;
     step_all(cluster, events)?;
-    cluster.replays();
+    cluster.replays(); // proof: the journal replays to the trace
     let later = cluster.history(other).unwrap().to_vec(alloc)?;
     Ok(TwoHistories { earlier, later })
 }
@@ -74,8 +74,8 @@ pub fn histories(cluster: &Cluster, first: u8, second: u8) -> Option<(&[u32], &[
     ensures comparable { IfSome result (λ h. IsComparable h.0.now h.1.now) }
 {
     // Called for their promises alone.
-    laws::agreement();
-    cluster.replays();
+    laws::agreement(); // proof: histories agree
+    cluster.replays(); // proof: the journal replays to the trace
     Some((cluster.history(first)?, cluster.history(second)?))
 }
 

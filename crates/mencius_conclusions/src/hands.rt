@@ -48,9 +48,9 @@ pub fn deliver(
     ensures err { OnErr result (IsUndone receiver.old receiver.new out.old out.new) }
 {
     // The two others are asked for nothing but their numbers.
-    let _others = (second.id(), third.id());
+    let _within_limit = (second.id(), third.id()); // proof: both are members
     // The laws are called for their promises alone.
-    laws::events();
-    laws::isolation();
+    laws::events(); // proof: how an event changes a server
+    laws::isolation(); // proof: an event leaves other servers alone
     receiver.hear(message, out)
 }

@@ -48,7 +48,7 @@ impl Server {
         ensures err { OnErr result (IsUndone self.old self.new out.old out.new) }
         ensures same { SameServerAndLimit self.old self.new out.old out.new }
     {
-        let _few = out.len();
+        let _within_limit = out.len(); // proof: no more messages than the outbox may hold
         match *message {
             Message::Suggest { from, inst, ticket } => self.hear_suggest(from, inst, ticket, out),
             Message::Skip { from, first, stop } => Ok(self.hear_skip(from, first, stop)?),
@@ -141,7 +141,7 @@ impl Server {
         ensures refusal { IsRefusedFor
             (outbox_full out.old (length (prepare_sent self.old from inst ballot))) result }
     {
-        let _few = out.len();
+        let _within_limit = out.len(); // proof: no more messages than the outbox may hold
         match self.instances.prepare_answer(inst, ballot) {
             Answer::Promise(vote) => {
                 out.reserve(1)?;
@@ -184,7 +184,7 @@ impl Server {
         ensures refusal { IsRefusedFor
             (outbox_full out.old (length (promise_sent self.old from inst ballot vote))) result }
     {
-        let _few = out.len();
+        let _within_limit = out.len(); // proof: no more messages than the outbox may hold
         if ballot != self.instances.trying(inst) {
             return Ok(0);
         }
@@ -220,7 +220,7 @@ impl Server {
         ensures refusal { IsRefusedFor
             (outbox_full out.old (length (propose_sent self.old from inst ballot))) result }
     {
-        let _few = out.len();
+        let _within_limit = out.len(); // proof: no more messages than the outbox may hold
         if ballot < self.instances.promised(inst) {
             return Ok(0);
         }
@@ -264,7 +264,7 @@ impl Server {
         ensures refusal { IsRefusedFor
             (outbox_full out.old (length (accepted_sent self.old from inst ballot))) result }
     {
-        let _few = out.len();
+        let _within_limit = out.len(); // proof: no more messages than the outbox may hold
         if ballot != self.instances.trying(inst) {
             return Ok(0);
         }
@@ -298,7 +298,7 @@ impl Server {
         ensures after { self.new ≡ record self.old { front = next_front self.old inst } }
     {
         let first = self.front;
-        let _few = self.members.count();
+        let _within_limit = self.members.count(); // proof: at most 7 servers
         let stop = self.members.first_owned(self.id, inst + 1);
         self.advance(stop);
         out.push(Message::Skip {

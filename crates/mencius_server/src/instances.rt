@@ -250,7 +250,7 @@ impl Instances {
             first,
             stop,
         };
-        let _few = members.count();
+        let _within_limit = members.count(); // proof: at most 7 servers
         let tally = self
             .stored
             .tally_after_skip(&interval, self.tallies.get(from));

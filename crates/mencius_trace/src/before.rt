@@ -44,7 +44,7 @@ pub(crate) struct Before {
 pub(crate) fn note(alloc: Global, cluster: &Cluster, event: &Event) -> Result<Before, AllocError>
     ensures { IfOk result (IsBefore cluster.now event.now) }
 {
-    cluster.replays();
+    cluster.replays(); // proof: the journal replays to the trace
     let server = server_of(event);
     let heard = heard_in(cluster, event);
     let execution = execution_in(cluster, event);

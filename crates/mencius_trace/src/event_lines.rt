@@ -71,7 +71,7 @@ fn push_effect(
         → IsStepped x cluster.now e effect → string_bytes text.new
         ≡ string_bytes text.old ++ effect_text x.members (trace_of x) (trace_of cluster.now) e) }
 {
-    let _few = cluster.servers();
+    let _within_limit = cluster.servers(); // proof: 1 to 7 servers
     push_notice(text, cluster, before, is_ignored(effect))?;
     push_learned_lines(text, cluster, before, effect.learned)?;
     push_sent_lines(text, cluster, effect.first)?;

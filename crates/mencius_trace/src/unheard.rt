@@ -34,8 +34,8 @@ pub(crate) fn push_unheard(
 fn settled(alloc: Global, cluster: &Cluster) -> Result<MessageBits, NoMemory>
     ensures { IfOk result (AreSettled (trace_of cluster.now)) }
 {
-    cluster.replays();
-    let _few = cluster.servers();
+    cluster.replays(); // proof: the journal replays to the trace
+    let _within_limit = cluster.servers(); // proof: 1 to 7 servers
     let mut marks = MessageBits::new(alloc);
     for entry in cluster.journal() {
         settle(&mut marks, entry)?;

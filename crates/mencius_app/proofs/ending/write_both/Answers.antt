@@ -11,4 +11,4 @@ returns-clause-front g c =
 pub returns-clause-failed : goal.returns-clause-failed
 returns-clause-failed g c =
     on_err_also c.write_all-done.result _ _ (failed_behind _ _ _ c.in_ok-write_all.ensures.counted
-    (subst (λ n. n < 2 ^ 64) c.failures-failures.ensures c.failures-failures.type_inv)) c.write_all-done.ensures.failed
+    (subst (λ n. n < 2 ^ 64) c.failures-within_limit.ensures c.failures-within_limit.type_inv)) c.write_all-done.ensures.failed

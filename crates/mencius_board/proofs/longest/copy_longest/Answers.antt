@@ -47,7 +47,7 @@ pub returns-clause-limit : goal.returns-clause-limit
 returns-clause-limit c =
     let x = c.args.cluster.now in
     let is : c.loop-ticket.list.items ≡ longest_of x = returns-clause-list c in
-    let done_is : c.unwrap-done.result ≡ done (trace_of x) c.longest-server.result = search rules in
-    let few = longest_few x c.longest-server.result c.unwrap-done.result c.longest-server.ensures.place done_is in
+    let done_is : c.unwrap-within_limit.result ≡ done (trace_of x) c.longest-server.result = search rules in
+    let few = longest_few x c.longest-server.result c.unwrap-within_limit.result c.longest-server.ensures.place done_is in
     let same : length c.loop-ticket.list.items ≡ length (longest_of x) = ap length is in
-    omega (arith, few, same, c.unwrap-done.type_inv)
+    omega (arith, few, same, c.unwrap-within_limit.type_inv)

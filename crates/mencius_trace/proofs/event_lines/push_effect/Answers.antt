@@ -12,7 +12,7 @@ pub returns : goal.returns
 returns c = λ old e noted step.
     let front = c.args.before.now in
     let d = c.args.cluster.now in
-    let few = subst (λ n. n ≤ most_servers) c.servers-few.ensures.count c.servers-few.ensures.few in
+    let few = subst (λ n. n ≤ most_servers) c.servers-within_limit.ensures.count c.servers-within_limit.ensures.few in
     effect_text_is old d e front c.args.effect noted step few _ (string_bytes c.push_notice.new.text) _ _ _ _
     (subst (λ s. IsMember d.members front.server → IfSome front.heard (λ x. instance_of x < instance_count)
     → string_bytes c.push_notice.new.text ≡ string_bytes c.args.text.now

@@ -6,7 +6,7 @@ use Rattle.mencius_trace.proofs.unheard.settled.Goals as goal
 pub settle-requires : goal.settle-requires
 settle-requires c =
     let few : c.args.cluster.now.members.count ≤ most_servers =
-    omega (arith, c.servers-few.ensures.count, c.servers-few.ensures.few) in
+    omega (arith, c.servers-within_limit.ensures.count, c.servers-within_limit.ensures.few) in
     of_servers c.args.cluster.now.members c.args.cluster.now.journal _ few c.replays.ensures
     _ c.journal-entry-items.ensures c.loop-entry.entry-index _ c.loop-entry-test.true
 
