@@ -1,18 +1,28 @@
-//! The exports of the program's call over bytes in memory. The module of `module/` and the static library for other
-//! languages are both built from this crate.
+//! The program's calls over bytes in memory, for a host without streams or processes. The host passes arguments and
+//! standard input, and gets standard output, standard error and the exit status. The static library for C and other
+//! languages and the WebAssembly module of `module/` are both built from this crate.
 #![tactic(auto)]
 
-ghost use Rattle.mencius_calls.specs.Calls.{IsAnswered, IsStateAnswered};
+ghost use Rattle.mencius_exports.specs.Calls.{IsAnswered, IsStateAnswered};
 
-use mencius_calls::{Answer, answer_call, answer_state};
+mod answer;
+mod call;
+mod streams;
+
+use crate::answer::tell;
+use crate::call::{call, call_for_state};
+pub use answer::Answer;
 use std::alloc::Global;
 
-/// Does what the program `mencius` does with these arguments, each with a zero byte behind it, and with this standard
-/// input. What goes to standard output is put to the front of `printed`, and what goes to standard error to the front
-/// of `said`, each where it has room for the whole of it; the rest of both stays as it is.
+/// Does what the program `mencius` does with these arguments and this standard input. Each argument ends with a zero
+/// byte.
 ///
-/// A run starts no thread: its workers take turns. Where memory runs out for the arguments or for the texts the status
-/// is 5, and nothing is printed or said. Nothing is kept from one call to the next.
+/// The text for standard output goes to the start of `printed` if the whole text fits, and the text for standard error
+/// to the start of `said` under the same condition. The rest of both stays unchanged. `answer` gets the exit status and
+/// the lengths of both texts.
+///
+/// A run starts no thread. Its workers take turns in the calling thread. If there is no memory for the arguments or for
+/// one of the texts, the status is 5 and both texts are empty. Nothing is kept from one call to the next.
 #[unsafe(no_mangle)]
 pub extern "C" fn mencius_call(
     alloc: Global,
@@ -24,11 +34,20 @@ pub extern "C" fn mencius_call(
 )
     ensures { IsAnswered words.now input.now answer.new printed.old printed.new said.old said.new }
 {
-    answer_call(alloc, words, input, printed, said, answer);
+    tell(alloc, call(alloc, words, input), printed, said, answer);
 }
 
-/// Tells what each server knows after the events of this scenario of `replay`, as
-/// [`answer_state`](mencius_calls::answer_state) does. All else is as at [`mencius_call`] with the argument `trace`.
+/// Steps a new cluster through the events of a scenario of `replay`, and prints what each server knows afterwards.
+///
+/// The output has a line `refused PLACE REFUSAL` for each refused event. Then come the lines of each server: its line of
+/// the report, and a line for each instance that it has received a message about:
+///
+/// `slot SERVER instance INSTANCE promised BALLOT vote BALLOT VALUE tries BALLOT promises COUNT proposed VALUE acceptances
+/// COUNT learned VALUE`
+///
+/// The vote is `none` if the server has accepted nothing there, and a value is `none` if it has none. The proposal and
+/// both counts belong to the ballot that the server tries, which is 0 before its first. All else is as for
+/// [`mencius_call`] with the argument `trace`.
 #[unsafe(no_mangle)]
 pub extern "C" fn mencius_state(
     alloc: Global,
@@ -39,5 +58,5 @@ pub extern "C" fn mencius_state(
 )
     ensures { IsStateAnswered input.now answer.new printed.old printed.new said.old said.new }
 {
-    answer_state(alloc, input, printed, said, answer);
+    tell(alloc, call_for_state(alloc, input), printed, said, answer);
 }

@@ -11,3 +11,4 @@ pub mod HeardWasSent
 pub mod OwnBallots
 pub mod ServerFacts
 pub mod ClusterFacts
+pub mod LedBallots

@@ -5,4 +5,5 @@
 //! stands here as definitions, and their contracts say so.
 #![tactic(auto)]
 
+pub mod further_laws;
 pub mod laws;

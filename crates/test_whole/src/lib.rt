@@ -5,7 +5,7 @@
 #[cfg(test)]
 mod calls;
 #[cfg(test)]
-mod conclusions;
+mod callers;
 #[cfg(test)]
 mod courses;
 #[cfg(test)]

@@ -1,4 +1,0 @@
-pub mod JournalMoments
-pub mod HandDeliveries
-pub mod LedBallots
-pub mod OneWorkers

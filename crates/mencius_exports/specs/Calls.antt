@@ -1,0 +1,112 @@
+-- A call of the program over bytes in memory: what it prints, says and answers.
+use Rattle.std.specs.Prelude.{◌≡◌, ◌≢◌, ◌⊎◌, ◌<◌, ◌≤◌, ◌==◌, ℕ, Bool, true, false, List, [], ◌∷◌, ◌++◌, length, drop, if◌then◌else◌, Some, IfSome, Result, Ok, Err}
+use Rattle.clap.specs.Words.{Text}
+use Rattle.mencius_io.specs.Streams.{StreamState}
+use Rattle.mencius_io.specs.declared.failure.Failure.{Failure}
+use Rattle.mencius_input.specs.declared.kind.Kind.TheVariants.{Replay}
+use Rattle.mencius_app.specs.Calls.{EndsCall, IsComplaint, IsUnread}
+use Rattle.mencius_app.specs.Ending.{failure_in, lines_of_ending, status_of, status_of_ending}
+use Rattle.mencius_app.specs.Failures.{ExplainsAs, Fails}
+use Rattle.mencius_app.specs.Replay.{IsMadeOf}
+use Rattle.mencius_app.specs.States.{state_task, state_text}
+use Rattle.mencius_app.specs.Tasks.{Streams, streams}
+use Rattle.mencius_app.specs.declared.ending.Ending.{Ending}
+use Rattle.mencius_app.specs.declared.ending.Ending.TheVariants.{Done, Refused, BadCommandLine, Failed, BoardFailed}
+use Rattle.mencius_app.specs.declared.fault.AppFault.TheVariants.{NoMemory}
+use Rattle.mencius_exports.specs.declared.answer.Answer.{Answer}
+
+-- ---- arguments
+
+-- the words of these bytes, where the next word has begun so: each ends at a zero, and bytes behind the last are none
+abbrev pub words_from : Text → List ℕ → List Text
+words_from begun [] = []
+words_from begun (byte ∷ bytes) =
+    if byte == 0 then begun ∷ words_from [] bytes else words_from (begun ++ byte ∷ []) bytes
+
+abbrev pub words_in : List ℕ → List Text
+words_in bytes = words_from [] bytes
+
+-- ---- a call
+
+-- a reader that has these bytes, or a writer that got them, of which no call failed
+abbrev pub of_bytes : List ℕ → StreamState
+of_bytes bytes = record { bytes = Some bytes; failures = 0 }
+
+-- the reader has this input and then what is left of it, and the writer gets what is printed
+abbrev pub in_memory : List ℕ → List ℕ → List ℕ → Streams
+in_memory input left printed = streams (of_bytes input) (of_bytes left) (of_bytes []) (of_bytes printed)
+
+-- a call with these arguments and this input ended so. It printed and said these texts, each whole. No board fails
+pub record IsEndOf (arguments : List Text) (input : List ℕ) (ending : Ending) (printed said : List ℕ) (is_asked : Bool)
+    : Type 0 where
+  pub call : (left : List ℕ) × EndsCall arguments (in_memory input left printed) ending
+  pub no_board : ending ≢ BoardFailed
+  pub unread : IsUnread arguments ending → is_asked ≡ false
+  pub unwritten : ending ≡ BadCommandLine → printed ≡ []
+  pub complaint : ending ≡ BadCommandLine → IsComplaint arguments said
+  pub quiet : ending ≢ BadCommandLine → said ≡ lines_of_ending ending
+
+-- and this is its status
+abbrev pub IsCall : List Text → List ℕ → ℕ → List ℕ → List ℕ → Bool → Type 0
+IsCall arguments input status printed said is_asked =
+    (ending : Ending) × (status ≡ status_of_ending ending) × IsEndOf arguments input ending printed said is_asked
+
+-- ---- a state
+
+-- how a call for a state ends that came to this
+abbrev pub ending_of_state : {T : Type 0} → Result T Failure → Ending
+ending_of_state (Ok done) = Done
+ending_of_state (Err failure) = Failed failure
+
+-- the state after this scenario was asked for, and it ended so. It printed and said these texts, each whole
+pub record IsEndOfState (input : List ℕ) (ending : Ending) (printed said : List ℕ) : Type 0 where
+  pub done : ending ≡ Done → IsMadeOf state_text (Some input) printed
+  pub no_other : (ending ≢ Refused) × (ending ≢ BadCommandLine) × (ending ≢ BoardFailed)
+  pub failed : (left : List ℕ)
+      × IfSome (failure_in ending) (Fails state_task (ExplainsAs Replay) (in_memory input left printed))
+  pub told : said ≡ lines_of_ending ending
+
+-- and this is its status; the scenario is always read
+abbrev pub IsStateCall : List ℕ → ℕ → List ℕ → List ℕ → Bool → Type 0
+IsStateCall input status printed said is_asked =
+    (ending : Ending) × (status ≡ status_of_ending ending) × IsEndOfState input ending printed said × (is_asked ≡ true)
+
+-- ---- an answer
+
+-- the status of a call for which there is no memory
+abbrev pub memory_status : ℕ
+memory_status = status_of NoMemory
+
+-- a text was put to the front of a room, where it fits, and the rest of the room stays
+abbrev pub IsPut : List ℕ → List ℕ → List ℕ → Type 0
+IsPut text old new =
+    ((length text ≤ length old) × (new ≡ text ++ drop (length text) old)) ⊎ ((length old < length text) × (new ≡ old))
+
+-- a number for whether the input was read
+abbrev pub asked_number : Bool → ℕ
+asked_number is_asked = if is_asked then 1 else 0
+
+-- the answer tells of a call that printed and said these texts, which were put where there is room
+pub record Tells (answer : Answer) (status : ℕ) (printed said : List ℕ) (is_asked : Bool)
+    (out then_out err then_err : List ℕ) : Type 0 where
+  pub status_is : answer.status ≡ status
+  pub printed_is : answer.printed ≡ length printed
+  pub said_is : answer.said ≡ length said
+  pub asked_is : answer.asked ≡ asked_number is_asked
+  pub out_is : IsPut printed out then_out
+  pub err_is : IsPut said err then_err
+
+-- the answer to such a call, or to one for which there was no memory
+abbrev pub Answers : (ℕ → List ℕ → List ℕ → Bool → Type 0) → Answer → List ℕ → List ℕ → List ℕ → List ℕ → Type 0
+Answers IsSuchCall answer out then_out err then_err =
+    ((status : ℕ) × (printed said : List ℕ) × (is_asked : Bool) × IsSuchCall status printed said is_asked
+    × Tells answer status printed said is_asked out then_out err then_err)
+    ⊎ Tells answer memory_status [] [] false out then_out err then_err
+
+-- the answer to these arguments and this input
+abbrev pub IsAnswered : List ℕ → List ℕ → Answer → List ℕ → List ℕ → List ℕ → List ℕ → Type 0
+IsAnswered words input = Answers (IsCall (words_in words) input)
+
+-- the answer to a call for the state after this scenario
+abbrev pub IsStateAnswered : List ℕ → Answer → List ℕ → List ℕ → List ℕ → List ℕ → Type 0
+IsStateAnswered input = Answers (IsStateCall input)

@@ -1,0 +1,3 @@
+pub mod JournalMoments
+pub mod HandDeliveries
+pub mod OneWorkers
