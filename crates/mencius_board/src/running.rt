@@ -11,7 +11,7 @@ use crate::board::Board;
 use crate::fault::BoardFault;
 use crate::workers::{Gate, is_to_show, lend, take_turn};
 use mencius_base::{NoMemory, Plan};
-use mencius_choices::Chooser;
+use mencius_choices::{Chooser, first_choosers};
 use std::alloc::Global;
 use std::marker::{Brand, Model, PhantomData, Send, Sync};
 use std::sync::{Mutex, Wait};
@@ -254,12 +254,8 @@ fn seats<'p>(alloc: Global, plan: &'p Plan) -> Result<(Vec<Chooser<'p>>, Vec<Way
         ≡ map (first_chooser plan.now) (numbers_below plan.now.workers)) }
     ensures ways { IfOk result (λ x. x.1.items ≡ replicate plan.now.workers (Ok 0)) }
 {
-    let many = usize::from(plan.workers());
-    let mut choosers = Vec::with_capacity(alloc, many)?;
-    for worker in 0..plan.workers() {
-        choosers.push_reserved(Chooser::new(plan, worker));
-    }
-    let ways = vec![in alloc; Ok(0); many]?;
+    let choosers = first_choosers(alloc, plan)?;
+    let ways = vec![in alloc; Ok(0); usize::from(plan.workers())]?;
     Ok((choosers, ways))
 }
 

@@ -2,3 +2,4 @@ pub mod DrawnWords
 pub mod CommandOrder
 pub mod ChosenEvents
 pub mod WorkedChoices
+pub mod WorkerLists

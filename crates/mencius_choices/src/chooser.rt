@@ -1,6 +1,7 @@
 //! What a worker chooses.
-ghost use Rattle.std.specs.Prelude.{◌≡◌, ◌+◌, ◌<◌, ◌^◌, ◌∷◌, [], MatchOption, MatchResult, OnSome, IfSome};
+ghost use Rattle.std.specs.Prelude.{◌≡◌, ◌+◌, ◌<◌, ◌^◌, ◌∷◌, [], MatchOption, MatchResult, OnSome, IfOk, IfSome, map};
 ghost use Rattle.mencius_base.specs.Limits.{most_servers};
+ghost use Rattle.mencius_base.specs.Members.{numbers_below};
 ghost use Rattle.mencius_base.specs.declared.event.Event.TheVariants.{Submit};
 ghost use Rattle.mencius_choices.specs.Order.{after_place};
 ghost use Rattle.mencius_choices.specs.Choices.{IsChoice, IsPutOff, after_words, chooser_at, first_chooser, words_of};
@@ -12,6 +13,7 @@ use mencius_base::{Command, Event, NoMemory, Plan};
 use mencius_cluster::Cluster;
 use rand_core::utils::NextWord;
 use rand_pcg::Lcg64Xsh32;
+use std::alloc::Global;
 use std::marker::Model;
 
 /// How far a worker's choices have come. It borrows nothing, so that a thread can hand it back.
@@ -146,4 +148,19 @@ impl<'a> Chooser<'a> {
         let third = self.progress.generator.next_word();
         [first, second, third]
     }
+}
+
+/// The choosers of all workers of a plan before any turn, in the order of the workers' numbers.
+///
+/// # Errors
+///
+/// `NoMemory` if there is no memory for the list.
+pub fn first_choosers<'a>(alloc: Global, plan: &'a Plan) -> Result<Vec<Chooser<'a>>, NoMemory>
+    ensures { IfOk result (λ x. x.items ≡ map (first_chooser plan.now) (numbers_below plan.now.workers)) }
+{
+    let mut choosers = Vec::with_capacity(alloc, usize::from(plan.workers()))?;
+    for worker in 0..plan.workers() {
+        choosers.push_reserved(Chooser::new(plan, worker));
+    }
+    Ok(choosers)
 }

@@ -11,5 +11,5 @@ mod order;
 mod table;
 
 pub use choice::Pick;
-pub use chooser::{Chooser, Progress};
+pub use chooser::{Chooser, Progress, first_choosers};
 pub use table::pick;

@@ -13,13 +13,13 @@ use Rattle.mencius_model.specs.Trace.{Trace}
 use Rattle.mencius_model.specs.Next.{refusal_cause, with_event}
 use Rattle.mencius_cluster.specs.State.{ClusterState, trace_of}
 use Rattle.mencius_choices.specs.Choices.{ChooserState, IsChoice, IsTaken, first_chooser, pick_at}
+use Rattle.mencius_choices.proofs.WorkerLists.{no_worker, one_worker}
 use Rattle.mencius_choices.specs.declared.choice.Pick.{Pick}
 use Rattle.mencius_choices.specs.declared.choice.Pick.TheVariants.{NextCommand, Is}
 use Rattle.mencius_board.specs.declared.fault.BoardFault.{BoardFault}
 use Rattle.mencius_board.specs.Boards.{BoardState}
 use Rattle.mencius_board.specs.Runs.{Befalls, ComesTo, RunState, TurnOf, Way, first_run, way_after, way_of}
 use Rattle.mencius_board.specs.Turns.{EndsTurn, IsAccepted, IsAfterTurn, IsRefusedBy, IsTurn}
-use Rattle.mencius_board.proofs.runs.RunSteps.{no_seat, one_seat}
 use Rattle.mencius_input.specs.declared.scenario.Scenario.{Scenario}
 use Rattle.mencius_input.specs.Plan.{plan}
 use Rattle.mencius_app.specs.Input.{Says, unless_long}
@@ -203,8 +203,8 @@ one_seated : (plan : PlanState) → plan.workers ≡ 1
     → map (first_chooser plan) (numbers_below plan.workers) ≡ first_chooser plan 0 ∷ []
 one_seated plan one =
     ap (λ n. map (first_chooser plan) (numbers_below n)) one
-    ∙ (sym (one_seat (first_chooser plan) 0 (first_chooser plan 0) refl)
-    ∙ ap (λ cs. cs ++ first_chooser plan 0 ∷ []) (sym (no_seat (first_chooser plan))))
+    ∙ (sym (one_worker (first_chooser plan) 0 (first_chooser plan 0) refl)
+    ∙ ap (λ cs. cs ++ first_chooser plan 0 ∷ []) (sym (no_worker (first_chooser plan))))
 
 pub one_cluster : OneCluster
 one_cluster plan old other new other_new one same ran also =

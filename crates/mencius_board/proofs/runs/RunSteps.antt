@@ -1,11 +1,10 @@
 -- A run before its first turn, after one turn more, and at its end.
 use Rattle.std.specs.Prelude.{slice_get, IfErr, OnOk, if◌then◌else◌}
 use Rattle.std.specs.Result.{is_ok}
-use Rattle.std.proofs.Common.{◌≡◌, ◌≢◌, ℕ, zero, suc, ◌+◌, ◌<◌, ◌≤◌, ◌==◌, Bool, true, false, List, [], ◌∷◌, ◌++◌, Some, None, Result, Ok, Err, length, map, replicate, set, get_or, refl, sym, ◌∙◌, ap, subst, arith, zero-add, ⊎_elim, inl, inr}
+use Rattle.std.proofs.Common.{◌≡◌, ◌≢◌, ℕ, zero, suc, ◌+◌, ◌<◌, ◌≤◌, ◌==◌, Bool, true, false, List, [], ◌∷◌, ◌++◌, Some, None, Result, Ok, Err, length, map, replicate, set, get_or, refl, sym, ◌∙◌, ap, subst, arith, ⊎_elim, inl, inr}
 use Rattle.std.proofs.lemmas.Bool.{cases_eq, cases_lt}
 use Rattle.std.proofs.lemmas.Bool.Decides.{nat_tests}
 use Rattle.std.proofs.lemmas.List.{get_or-replicate, get_or-set_other, get_or_default, get_or_past, length-map, length-replicate, length-set}
-use Rattle.std.proofs.lemmas.List.FromFn.{map-range_with_len_more}
 use Rattle.std.proofs.lemmas.Grind.{get_or-set_at}
 use Rattle.std.proofs.lemmas.Option.{slice_get_read}
 use Rattle.mencius_base.specs.Members.{numbers_below}
@@ -28,15 +27,6 @@ no_turns n i =
     (λ (past : n ≤ i).
     get_or_past (replicate n none_taken) i none_taken (omega (arith, past, length-replicate n none_taken)))
     (cases_lt i n)
-
--- the seats of a plan, from none on
-pub no_seat : {X : Type 0} (f : ℕ → X) → [] ≡ map f (numbers_below 0)
-unfolding numbers_below
-no_seat f = refl
-
-pub one_seat : {X : Type 0} (f : ℕ → X) (n : ℕ) (x : X) → x ≡ f n → map f (numbers_below n) ++ x ∷ [] ≡ map f (numbers_below (n + 1))
-unfolding numbers_below
-one_seat f n x e = ap (λ y. map f (numbers_below n) ++ y ∷ []) e ∙ sym (map-range_with_len_more f 0 n n (zero-add n))
 
 -- a run before its first turn
 pub begun : (plan : PlanState) (board : BoardState) (choosers : List ChooserState) (ways : List Way) (turns : ℕ)
