@@ -11,10 +11,10 @@ const VERSION_TEXT: &str = "mencius 0.1.0\n";
 const PROGRAM_HELP: &str = "\
 An executable reference of Mencius, the replicated state machine for wide area networks
 
-All servers of a cluster live in this one process, and nothing happens by itself: a
-schedule says which command is submitted where, which message reaches which server and
-when, which message is lost, which server suspects which, and who executes next. The
-cluster takes the schedule step by step, and what it prints is what Mencius does then.
+All servers of a cluster live in this one process. They do nothing on their own. A schedule
+says which command is submitted at which server, which message reaches which server and when,
+which message is lost, which server suspects which other server, and which server executes
+next. The cluster follows the schedule step by step, and prints the result.
 
 Usage: mencius <COMMAND>
 
@@ -23,8 +23,8 @@ Commands:
   trace   Steps a new cluster through the scenario on standard input and prints what each event did
   draw    Steps a new cluster through the scenario on standard input and prints a picture of what each event did
   check   Says where the scenario on standard input is wrong
-  judge   Judges what any replicated store did, by the log on standard input
-  run     Lets workers choose what happens to a new cluster and prints a report
+  judge   Judges the log of any replicated store on standard input
+  run     Lets workers choose the events of a new cluster and prints a report
   help    Print this message or the help of the given subcommand(s)
 
 Options:
@@ -37,47 +37,48 @@ Examples, at the top of the repository:
   ./mencius trace < examples/duelling_revokers.json
   ./mencius run --journal < examples/calm_run.json | sed -n 1p | ./mencius replay
 
-`./mencius replay --help` and `./mencius run --help` say what goes in, and the help of each
-task what comes out. The folder examples/ has schedules and runs to try, and
-docs/FORMATS.md describes all formats.
+`./mencius replay --help` and `./mencius run --help` describe the input. The help of each task
+describes its output. The folder examples/ has schedules and runs to try, and docs/FORMATS.md
+describes all formats.
 ";
 
 const REPLAY_HELP: &str = "\
 Steps a new cluster through the scenario on standard input and prints a report
 
-The scenario is one JSON object: its version, 1 or 2, the number of servers, 1 to 7, a
-list of events, and maybe beta, 0 to 4095. Servers, messages and instances are numbered
-from 0, the messages in order of sending. A command's ID is CLIENT.NUMBER, two numbers
-that the client chose.
+The scenario is one JSON object. It has a version (1 or 2), the number of servers (1 to 7), a
+list of events, and optionally beta (0 to 4095). Servers, messages and instances are numbered
+from 0, and messages in the order of sending. The ID of a command is CLIENT.NUMBER, two
+numbers that the client chose.
 
-  submit S ID set KEY TEXT  a client asks server S to bind KEY to TEXT, which may be empty
-  submit S ID get KEY       .. to look KEY up
-  submit S ID del KEY       .. to remove KEY
+  submit S ID set KEY TEXT  A client asks server S to bind KEY to TEXT, which may be empty
+  submit S ID get KEY       A client asks server S to look KEY up
+  submit S ID del KEY       A client asks server S to remove KEY
   submit S ID cas KEY OLD NEW
-                            .. to bind KEY to NEW where its text is OLD, in version 2 alone
-  deliver K D               message K reaches server D, for the first time or again
-  lose K D                  message K can no longer reach server D
-  suspect P Q               server P suspects that Q has stopped, and revokes what Q left open
-                            up to P's own front, with a beta also ahead of it
-  retry P                   server P suggests a command again that lost its instance
-  execute S                 server S executes its next instance
+                            A client asks server S to bind KEY to NEW if its text is OLD.
+                            Only in version 2
+  deliver K D               Message K reaches server D, for the first time or again
+  lose K D                  Message K can no longer reach server D
+  suspect P Q               Server P suspects that Q has stopped. It revokes the instances
+                            that Q left open, up to P's own front, and ahead of it by beta
+  retry P                   Server P suggests a command again that lost its instance
+  execute S                 Server S executes its next instance
 
-What is printed, in this order:
+The output has these lines, in this order:
 
-  refused INDEX NAME        for each event that was refused: its place, from 0, and why
+  refused INDEX NAME        For each refused event: its place, from 0, and the reason
   servers N messages M events E
-                            the servers, the messages sent, and the accepted events
+                            The numbers of servers, sent messages and accepted events
   server S front F done D history ID ID ..
-                            for each server its next own instance, how many instances it
-                            executed, and the commands among them, or - for none
-  reply ID none             for each submitted command what it found at its key: nothing,
-  reply ID =TEXT            .. or this text,
-  reply ID pending          .. or no answer yet
+                            For each server: its next own instance, the number of instances
+                            that it executed, and the commands among them, or - for none
+  reply ID none             For each submitted command: it found no text at its key,
+  reply ID =TEXT            .. or it found this text,
+  reply ID pending          .. or it has no reply yet
 
 Usage: mencius replay [OPTIONS] < SCENARIO
 
 Options:
-      --strict  Ends with status 1 if any event was refused
+      --strict  Exits with status 1 if any event was refused
   -h, --help    Print help
 
 Exit status:
@@ -87,15 +88,15 @@ Exit status:
   3  a bad scenario: 21 NotJson, 22 BadShape, 23 BadLimit
   4  reading or writing failed: 24 ReadFailed, 25 WriteFailed
   5  memory ran out: 26 NoMemory
-From 3 on, standard error has the line `mencius: fault NUMBER NAME`, and of a scenario that
-is bad or cannot be read a second one, which says where it is wrong, unless memory for it
-ran out. Nothing was printed then, unless writing failed.
+With status 3 to 5, standard error has the line `mencius: fault NUMBER NAME`. If the scenario
+is bad or cannot be read, a second line says where it is wrong, unless memory for that line
+ran out. The program then printed nothing, unless writing failed.
 
 Example, at the top of the repository:
   echo '{\"version\":1,\"servers\":1,\"events\":[\"submit 0 1.0 set a x\",
     \"deliver 0 0\",\"deliver 1 0\",\"execute 0\"]}' | ./mencius replay
 
-`mencius trace` prints what each event did, and `mencius check` judges a scenario without
+`mencius trace` prints the effect of each event, and `mencius check` checks a scenario without
 stepping an event. docs/FORMATS.md describes the format in full, and examples/ has schedules
 to try.
 ";
@@ -103,40 +104,43 @@ to try.
 const TRACE_HELP: &str = "\
 Steps a new cluster through the scenario on standard input and prints what each event did
 
-The scenario is one of `replay`, whose help says what it has. One fact is printed a line.
-Servers, events, messages and instances are numbered from 0. A value V is a command's ID,
-or no-op.
+The scenario is a scenario of `replay`. The help of `replay` describes it. Each line of the
+output states one fact. Servers, events, messages and instances are numbered from 0. A value V
+is the ID of a command, or no-op.
 
-  servers N                 once, at the beginning
-  event INDEX TEXT          an event, by its place; up to the next one follows what it did:
-  refused NAME              it was refused, and so did nothing
+  servers N                 Once, at the start
+  event INDEX TEXT          An event, by its place. The lines up to the next event say what
+                            it did:
+  refused NAME              the cluster refused the event, so it did nothing
   promises P instance I ballot B count C of M
-                            P heard a promise, as C servers have promised; M are a majority
+                            P received a Promise. C servers have promised so far, and M
+                            are a majority
   acceptances P instance I ballot B count C of M
-                            P heard an acceptance, as C servers have accepted
-  ignored REASON            nothing came of a message: a greater ballot was promised
-                            (promised B), the receiver tries another one (tries B), it
-                            learned already (learned V), or it proposed already
+                            P received an Accepted. C servers have accepted so far
+  ignored REASON            the receiver ignored a message. It promised a greater ballot
+                            (promised B), or tries another ballot (tries B), or had already
+                            learned a value (learned V), or had already proposed one
   learned P instance I value V
-                            P learned what stands at an instance
+                            P learned the value of an instance
   sent NUMBER KIND from S to D ..
-                            a message that was sent, to a server or to all, and what it
-                            says: Suggest, Skip, Accepted, Prepare, Promise, Propose or
-                            Learn; a Skip gives up its sender's instances I to J, without J
+                            a message was sent, to one server or to all. The line shows its
+                            content. KIND is Suggest, Skip, Accepted, Prepare, Promise,
+                            Propose or Learn. A Skip gives up its sender's instances I to J,
+                            without J
   front P F                 the next own instance of P is now F
   executed P instance I value V
                             P executed its next instance
-  reply ID none             the reply of a command was given: nothing was at its key,
-  reply ID =TEXT            .. or this text
+  reply ID none             a command got its reply: there was no text at its key,
+  reply ID =TEXT            .. or there was this text
 
 After the last event:
 
   server S front F executed D next I waiting ID ID ..
-                            for each server its next own instance, how many instances it
-                            executed, which is the next, and which commands lost their
-                            instance and wait for a retry, or - for none
-  unheard NUMBER KIND to D  for each message and server that it goes to, also its sender:
-                            it was neither heard there nor lost
+                            For each server: its next own instance, the number of instances
+                            that it executed, the next one to execute, and the commands that
+                            lost their instance and wait for a retry, or - for none
+  unheard NUMBER KIND to D  For each message and each addressee, the sender included: the
+                            message was neither received there nor lost
 
 Usage: mencius trace < SCENARIO
 
@@ -144,14 +148,14 @@ Options:
   -h, --help  Print help
 
 Exit status:
-  0  done, whether events were refused or not
+  0  done, even if events were refused
   2  a bad command line
   3  a bad scenario: 21 NotJson, 22 BadShape, 23 BadLimit
   4  reading or writing failed: 24 ReadFailed, 25 WriteFailed
   5  memory ran out: 26 NoMemory
-From 3 on, standard error has the line `mencius: fault NUMBER NAME`, and of a scenario that
-is bad or cannot be read a second one, which says where it is wrong, unless memory for it
-ran out. Nothing was printed then, unless writing failed.
+With status 3 to 5, standard error has the line `mencius: fault NUMBER NAME`. If the scenario
+is bad or cannot be read, a second line says where it is wrong, unless memory for that line
+ran out. The program then printed nothing, unless writing failed.
 
 Examples, at the top of the repository:
   ./mencius trace < examples/duelling_revokers.json
@@ -163,47 +167,48 @@ docs/FORMATS.md describes the trace in full, and examples/ has schedules to try.
 const DRAW_HELP: &str = "\
 Steps a new cluster through the scenario on standard input and prints a picture of what each event did
 
-The scenario is one of `replay`, whose help says what it has. The picture is an SVG file: a
-lane for each server, time downwards, and an arrow for each message that was heard or lost.
-What a server sent, learned, executed or answered stands beside the mark of the event, and
-what it came to below its lane. The picture shows the trace, and nothing else.
+The scenario is a scenario of `replay`. The help of `replay` describes it. The picture is an
+SVG file. It has a lane for each server, time runs downwards, and each message that was
+received or lost has an arrow. Labels next to the mark of an event show each message that the
+server sent, and each value that it learned, executed or replied. The state of a server after
+the last event is at the foot of its lane. The picture shows exactly the facts of the trace.
 
-  dot                       asked from outside: a submission, a suspicion, a retry, an
+  dot                       an event from outside: a submission, a suspicion, a retry, or an
                             execution
-  ring                      a message was heard
-  cross                     a message was lost; its arrow has no point
-  diamond                   something was learned
+  ring                      a message was received
+  cross                     a message was lost. Its arrow has no point
+  diamond                   a value was learned
   square                    an instance was executed
-  barred ring               the event was refused, and beside it stands why
+  barred ring               the event was refused. A label gives the reason
 
-Beside a mark, i is an instance, b a ballot, and V@b a vote for V in that ballot. The colour
-is that of the server that owns the instance. A key at the foot of the picture says the rest.
+In a label, i is an instance, b a ballot, and V@b a vote for V in that ballot. A label has the
+colour of the server that owns the instance. A key at the foot of the picture explains the rest.
 
 Usage: mencius draw [OPTIONS] < SCENARIO
 
 Options:
-      --from <EVENT>  Leaves out the events before this one; they are numbered from 0
-      --to <EVENT>    Leaves out the events behind this one
+      --from <EVENT>  Leaves out the events before this one. Events are numbered from 0
+      --to <EVENT>    Leaves out the events after this one
       --dark          Draws light on dark
       --light         Draws dark on light
   -h, --help          Print help
 
-Without --dark and --light, or with both, the picture is light or dark as its reader prefers.
-An arrow from an event that is left out, or from more than 30 events above, is drawn as its
-end alone, and the event that sent the message is named.
+Without --dark and --light, or with both, the picture follows the setting of its reader. If an
+arrow starts at an event that is left out, or more than 30 events above its end, the picture
+shows only the end, with the number of the event that sent the message.
 
-A picture has at most 50000 levels: an event takes one, and one more for each thing that stands
-beside it but the first. More are refused as a BadLimit.
+A picture has at most 50000 levels. An event takes one level, plus one for each of its labels
+after the first. A picture with more levels is refused as a BadLimit.
 
 Exit status:
-  0  done, whether events were refused or not
-  2  a bad command line, or an EVENT that is no number
-  3  a bad scenario: 21 NotJson, 22 BadShape, 23 BadLimit; or too many levels: 23 BadLimit
+  0  done, even if events were refused
+  2  a bad command line, or an EVENT that is not a number
+  3  a bad scenario: 21 NotJson, 22 BadShape, 23 BadLimit, or too many levels: 23 BadLimit
   4  reading or writing failed: 24 ReadFailed, 25 WriteFailed
   5  memory ran out: 26 NoMemory
-From 3 on, standard error has the line `mencius: fault NUMBER NAME`, and of a scenario that
-is bad or cannot be read, or has too many levels, a second one, which says where it is wrong,
-unless memory for it ran out. Nothing was printed then, unless writing failed.
+With status 3 to 5, standard error has the line `mencius: fault NUMBER NAME`. If the scenario
+is bad, cannot be read or has too many levels, a second line says where it is wrong, unless
+memory for that line ran out. The program then printed nothing, unless writing failed.
 
 Examples, at the top of the repository:
   ./mencius draw < examples/duelling_revokers.json > picture.svg
@@ -215,17 +220,19 @@ docs/FORMATS.md describes the picture in full, and examples/ has schedules to tr
 const CHECK_HELP: &str = "\
 Says where the scenario on standard input is wrong
 
-The scenario is one of `replay` or one of `run`; the help of each says what it has. What has
-no events, but workers, seed, turns, loss or commands, is judged as a run's. No event of it
-is stepped, and no worker starts. Where its task would take it, a line is printed:
+The scenario is for `replay` or for `run`. The help of each describes its scenarios. If it has
+no events, but workers, seed, turns, loss or commands, it is checked as a scenario of `run`.
+The program steps no event and starts no worker. If the task would accept the scenario, the
+program prints one line:
 
-  ok servers N events E     of `replay`: how many servers and how many events it has
+  ok servers N events E     For `replay`: the numbers of servers and of events
   ok servers N workers W turns T commands C C ..
-                            of `run`: how many servers and workers, how many turns each
-                            worker takes, and how many commands there are for each server
+                            For `run`: the numbers of servers and of workers, the number of
+                            turns that each worker takes, and the number of commands for
+                            each server
 
-Where it would not, nothing is printed. Standard error then has the line of the fault that
-the task gives, and after it a line that says where and what it is.
+Otherwise it prints nothing on standard output. Standard error has the line of the fault that
+the task would report, and then a line that says where and what the fault is.
 
 Usage: mencius check < SCENARIO
 
@@ -233,16 +240,16 @@ Options:
   -h, --help  Print help
 
 Exit status:
-  0  done: it is a scenario
+  0  the task would accept the scenario
   2  a bad command line
   3  a bad scenario: 21 NotJson, 22 BadShape, 23 BadLimit
   4  reading or writing failed: 24 ReadFailed, 25 WriteFailed
   5  memory ran out: 26 NoMemory
-From 3 on, standard error has the line `mencius: fault NUMBER NAME`, and of a scenario that
-is bad or cannot be read a second one, which says where it is wrong, unless memory for it
-ran out. Nothing was printed then, unless writing failed.
+With status 3 to 5, standard error has the line `mencius: fault NUMBER NAME`. If the scenario
+is bad or cannot be read, a second line says where it is wrong, unless memory for that line
+ran out. The program then printed nothing, unless writing failed.
 
-Examples, at the top of the repository; the second finds a zero too many:
+Examples, at the top of the repository. The second reports a superfluous zero:
   ./mencius check < examples/one_command.json
   echo '{\"version\":1,\"servers\":3,\"events\":[\"deliver 00 0\"]}' | ./mencius check
 
@@ -250,48 +257,49 @@ docs/FORMATS.md describes the format in full.
 ";
 
 const JUDGE_HELP: &str = "\
-Judges what any replicated store did, by the log on standard input
+Judges the log of any replicated store on standard input
 
-The log says what an observer saw of a store, one observation a line, in the order in which
-it was seen. It is judged as it comes, however long it is. A server S is 0 to 255, a reader R
-0 to 4294967295; an ID, a KEY and a TEXT are those of `replay`.
+The log has one observation per line, in the order in which an observer made them. The program
+judges each line as it arrives, and the log may have any length. A server S is 0 to 255, and a
+reader R is 0 to 4294967295. ID, KEY and TEXT are as in `replay`.
 
-  submit ID set KEY TEXT    a client submitted a command, perhaps once more: also `get KEY`,
-                            `del KEY` and `cas KEY OLD NEW`
-  execute S ID              server S executed this command, its next one
-  reply ID none             a client got this reply to its command: nothing was at its key,
+  submit ID set KEY TEXT    A client submitted a command, perhaps again. The others are
+                            `get KEY`, `del KEY` and `cas KEY OLD NEW`
+  execute S ID              Server S executed this command next
+  reply ID none             A client got the reply to its command: no text was at its key,
   reply ID =TEXT            .. or this text
-  lookup R KEY none         reader R looked KEY up, and found nothing,
+  lookup R KEY none         Reader R looked KEY up, and found no text,
   lookup R KEY =TEXT        .. or this text
-  told R S                  reader R was told of all that server S has executed
-  # ..                      is passed over, as is an empty line
+  told R S                  Reader R now knows of all commands that server S has executed
+  # ..                      This line is skipped, as an empty line is
 
-What is printed is one line, at once where a promise is broken, or else at the end:
+The program prints one line. It prints a violation at once, and otherwise `ok` at the end:
 
   ok servers N commands C executed E replies R open O lookups L
-                            every promise is kept: N servers executed something, C commands
-                            were submitted, the longest history has E, and R had a reply, of
-                            which O stand in no history: those may be right or wrong
+                            Every promise is kept. N servers executed commands, C commands
+                            were submitted, the longest history has E commands, and R have a
+                            reply. O of these are in no history, so their replies may be
+                            right or wrong
   violation LINE OneCommand command ID
-                            another command was submitted under this ID before
+                            A different command was submitted under this ID before
   violation LINE Submitted command ID
-                            what was executed or answered was never submitted
+                            The executed or replied command was never submitted
   violation LINE Once server S place P command ID
-                            S executed it twice; places in a history count from 0
+                            S executed the command twice. Places in a history count from 0
   violation LINE SameOrder server S place P expected ID found ID
-                            another server executed another command there
+                            Another server executed a different command at this place
   violation LINE RealTime server S place P command ID behind ID
-                            the second had its reply before the first was submitted, and
-                            does not stand before it
+                            The second command had its reply before the first was submitted,
+                            but does not come before it
   violation LINE OneReply command ID expected =TEXT found none
-                            the command had another reply before
+                            The command had a different reply before
   violation LINE RightReply command ID place P expected none found =TEXT
-                            a map that executes the history answers something else
+                            A map that executes the history returns a different result
   violation LINE RightLookup reader R key KEY from N to M found =TEXT
-                            KEY holds that after none of the first N to M commands, and the
-                            reader had seen N
+                            The reader had seen N commands. KEY has this text after none of
+                            the prefixes with N to M commands
 
-LINE counts all lines of the log from 1. What stands behind it plays no part.
+LINE counts all lines of the log from 1. The lines after it do not change the verdict.
 
 Usage: mencius judge < LOG
 
@@ -305,74 +313,73 @@ Exit status:
   3  a bad line: 22 BadShape, 23 BadLimit
   4  reading or writing failed: 24 ReadFailed, 25 WriteFailed
   5  memory ran out: 26 NoMemory
-From 3 on, standard error has the line `mencius: fault NUMBER NAME`, and of a bad line a
-second one, which says which it is and how it is wrong, unless memory for it ran out. Nothing
-was printed then, unless writing failed. A line has at most 1024 bytes, and the last one ends
-too.
+With status 3 to 5, standard error has the line `mencius: fault NUMBER NAME`. If a line of the
+log is bad, a second line gives its number and says how it is wrong, unless memory for that
+line ran out. The program then printed nothing, unless writing failed. A line has at most 1024
+bytes. The last line must end with a line feed, too.
 
-Examples, at the top of the repository; the second breaks a promise:
+Examples, at the top of the repository. The second breaks a promise:
   printf 'submit 1.0 set a x\\nexecute 0 1.0\\nreply 1.0 none\\n' | ./mencius judge
   printf 'submit 1.0 set a x\\nexecute 0 1.0\\nreply 1.0 =y\\n' | ./mencius judge
 
-docs/FORMATS.md describes the log in full, and docs/TESTING_A_STORE.md says how to make one.
+docs/FORMATS.md describes the log in full, and docs/TESTING_A_STORE.md explains how to make one.
 ";
 
 const RUN_HELP: &str = "\
-Lets workers choose what happens to a new cluster and prints a report
+Lets workers choose the events of a new cluster and prints a report
 
-The workers share the cluster, each in a thread of its own. In each of its turns a worker
-draws three random words. They pick one event: submit the worker's next command, deliver or
-lose a message, suspect, retry or execute. The cluster takes the event or refuses it.
+The workers share the cluster, and each has its own thread. In each turn, a worker draws three
+random words. They pick one event: submit the worker's next command, deliver or lose a message,
+suspect, retry or execute. The cluster accepts or refuses the event.
 
-The scenario on standard input is one JSON object with these fields and no other; beta may
-be left out:
+The scenario on standard input is one JSON object with exactly these fields. beta is optional:
 
   version   1 or 2
   servers   1 to 7
-  beta      0 to 4095: how far ahead a suspicion looks, 0 where it is left out
+  beta      0 to 4095, how far ahead a suspicion looks. The default is 0
   workers   1 to 8
-  seed      0 to 18446744073709551615, which the random words grow from
+  seed      0 to 18446744073709551615, the start of the random words
   turns     0 to 100000, for each worker
-  loss      0 to 32: so many of 64 choices lose a message
-  commands  a list for each server of the commands that are submitted there, each a text,
-            `ID set KEY TEXT`, `ID get KEY` or `ID del KEY`, as in a scenario of `replay`,
-            or in version 2 `ID cas KEY OLD NEW`
+  loss      0 to 32, the number of choices among 64 that lose a message
+  commands  a list for each server, with the commands that are submitted there. A command is a
+            text, as in a scenario of `replay`: `ID set KEY TEXT`, `ID get KEY` or
+            `ID del KEY`, or in version 2 `ID cas KEY OLD NEW`
 
-What is printed, in this order:
+The output has these lines, in this order:
 
   {\"events\":[..],\"servers\":N,\"version\":V}
-                            with --journal: the accepted events as a scenario of `replay`,
-                            which prints the report again
+                            With --journal: the accepted events, as a scenario of `replay`.
+                            It replays to the same report
   servers .., server .., reply ..
-                            the report, as `replay` prints it
+                            The report, as `replay` prints it
   submit .., execute .., reply ..
-                            with --observations, in its place: what was seen of the servers,
-                            as a log that `judge` reads
-  lookup KEY =TEXT          with --lookup KEY: what the longest history leaves at KEY, this
-  lookup KEY none           .. text, or nothing
+                            With --observations, in place of the report: the observations
+                            of the servers, as a log that `judge` reads
+  lookup KEY =TEXT          With --lookup KEY: the longest history leaves this text at KEY,
+  lookup KEY none           .. or no text
 
-With one worker a scenario always prints the same, byte for byte. With more, it is the
-machine that decides whose turn comes next, and the journal says what came of it.
+With one worker, the same scenario always prints the same bytes. With more workers, the machine
+decides which worker takes the next turn. The journal records the result.
 
 Usage: mencius run [OPTIONS] < SCENARIO
 
 Options:
       --journal       First prints the accepted events, as a scenario of `replay`
-      --observations  Prints what was seen of the servers in place of the report
-      --lookup <KEY>  Last prints what the longest history leaves at KEY
+      --observations  Prints the observations of the servers in place of the report
+      --lookup <KEY>  Last prints the text that the longest history leaves at KEY
   -h, --help          Print help
 
 Exit status:
   0  done
-  2  a bad command line, or a KEY that is no key
+  2  a bad command line, or a KEY that is not a key
   3  a bad scenario: 21 NotJson, 22 BadShape, 23 BadLimit
   4  reading or writing failed: 24 ReadFailed, 25 WriteFailed
-  5  memory ran out: 26 NoMemory; a thread or the board failed: 27 BoardFailed
-From 3 on, standard error has the line `mencius: fault NUMBER NAME`, and of a scenario that
-is bad or cannot be read a second one, which says where it is wrong, unless memory for it
-ran out. Nothing was printed then, unless writing failed.
+  5  memory ran out: 26 NoMemory, or a thread or the board failed: 27 BoardFailed
+With status 3 to 5, standard error has the line `mencius: fault NUMBER NAME`. If the scenario
+is bad or cannot be read, a second line says where it is wrong, unless memory for that line
+ran out. The program then printed nothing, unless writing failed.
 
-Examples, at the top of the repository; the second replays a run, the third judges one:
+Examples, at the top of the repository. The second replays a run, and the third judges one:
   ./mencius run --lookup a < examples/calm_run.json
   ./mencius run --journal < examples/calm_run.json | sed -n 1p | ./mencius replay
   ./mencius run --observations < examples/lossy_run.json | ./mencius judge
